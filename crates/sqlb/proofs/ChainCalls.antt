@@ -1,0 +1,279 @@
+-- A chain call whose body is `release(self.hold_x(constants, arguments))`: the constants are variants without fields, and each argument is `Copy`.
+-- The proof of such a call is one use of these. `told` is what the builder has been told when it comes back.
+use Rattle.sqlb.proofs.Walking.{lit, join, split, fsplit, use1, ◌⊛◌, ◌≡◌, ℕ, List, [], ◌∷◌, refl, sym, subst, proved_at, leaves, Val, vptr, raw, ‵, tables, ◌$◌, ◌∵◌, !, qed, move, fjoin, nothing, use0, enter, addr, stop, no_more, and_then, of_opd, returns, alloc_all, pass_all, free_all, look_at, get, through, sets, lands_as, plain, calls_at, triple_of, Stays, stay_dropped, Goes-spent_ref, walk_of, framed, SProp, ent, sem, Item, Seq, Step, step, Go, prop, WpFn, no, by, Ura, Logic, RattleType, MutBor, id⊢, regoal, allocs, params', runs, at_ret}
+use Rattle.sqlb.proofs.Loans.{Good, Kept, Bare, kept_lawful, bare_lawful, held_says, says, returned, releases, Argument, Constant, also, keeps, put, puts, after, owned}
+use Rattle.std.specs.Prelude.{suc}
+use mir.Syntax.{Ty, Callee, Fn, Local, Body, ty_ref, mut, erased, named, value_local, local, seq, assign, call, return, place, copy, addr_of, rv_opd, deref, aggregate, int, w8}
+use base.Fml.{fsep}
+use types.Part.{agg}
+use base.Logic.{emp}
+use contract.Lifetimes.{Lfts, Outlives, toks}
+use contract.Running.{Running}
+use prog.Model.{Model}
+use prog.Wp.{Closed}
+use denote.Builtin.{RefMutOf}
+use denote.Laws.{Ises, Are}
+use denote.Memory.{pointee}
+use denote.Param.{layout}
+use denote.RattleType.{Denots, Valss, owns}
+use denote.Ref.{MutRef}
+use denote.Signature.{Signature, Slot, type_at, types_at}
+use denote.Triple.Clauses.{Ended, Clauses, closing, Lasts}
+use denote.Triple.End.{Kepts, Fins}
+use denote.Triple.Spec.{Meets}
+use denote.Triple.Walked.{AllGo, has_of, fits_of}
+use Rattle.std.specs.contracts.result.Result as RS
+use Rattle.sqlb.specs.Builder.{Told}
+use Rattle.sqlb.specs.contracts.builder.SqlBuilder.{the_row as R}
+use Rattle.sqlb.specs.contracts.error.SqlBuilderError.{the_row as E}
+use Rattle.sqlb.specs.contracts.builder.Held as held_type
+use Rattle.sqlb.specs.contracts.builder.release as o
+use Rattle.sqlb.proofs.builder.SqlBuilder.TheLaws as builder
+
+-- the locals that each method has: the result, the builder, what `hold_x` returned, and the builder that it was given
+abbrev pub l0 : Local
+l0 = local (layout (RS.the_row (MutRef (named 0) [] R) E)) value_local
+
+abbrev pub l1 : Local
+l1 = local (ty_ref (named 0) mut (pointee R.written)) value_local
+
+abbrev pub kept : Local
+kept = local (layout (RS.the_row (held_type.the_row (record { mir = erased; lft = [] })) E)) value_local
+
+abbrev pub lent : Local
+lent = local (ty_ref erased mut (pointee R.written)) value_local
+
+abbrev pub δ : Ty
+δ = builder.mir
+
+-- nothing is had of an argument at exit
+abbrev pub dropped : {m : ℕ} (ss : List (Slot m)) (ks : Kepts ss) → Stays ss ks
+dropped [] ks = tt
+dropped (s ∷ ss) ks = (stay_dropped s ks.0, dropped ss ks.1)
+
+abbrev pub fine : {m : ℕ} (κs : Lfts m) (ss : List (Slot m)) (ks : Kepts ss) (a : Denots (types_at ss κs)) (ws : Fins κs ss ks a) → fits_of κs ss ks (dropped ss ks) a ws
+fine κs [] ks a ws = tt
+fine κs (s ∷ ss) ks a ws = (tt, fine κs ss ks.1 a.1 ws.1)
+
+pub had : {M : Type 1} {𝓤 : Ura M} (𝓛 : Logic 𝓤) {m : ℕ} (κs : Lfts m) (ss : List (Slot m)) (ks : Kepts ss) (a : Denots (types_at ss κs)) (ws : Fins κs ss ks a) (vss : Valss (types_at ss κs))
+    → ent 𝓤 (emp 𝓤) (sem 𝓛 (has_of κs ss ks (dropped ss ks) a ws vss))
+had {𝓤 = 𝓤} 𝓛 κs [] ks a ws vss = id⊢ 𝓤 (emp 𝓤)
+had {𝓤 = 𝓤} 𝓛 κs (s ∷ ss) ks a ws vss = qed 𝓛 [] ∵ use0 𝓛 (‵ (has_of κs ss ks.1 (dropped ss ks.1) a.1 ws.1 vss.1)) (had 𝓛 κs ss ks.1 a.1 ws.1 vss.1) $ nothing ! $ fjoin ! $ by ! (id⊢ 𝓤 _)
+
+module _ {M : Type 1} {𝓤 : Ura M} (𝓛 : Logic 𝓤) (𝓜 : Model 𝓤 𝓛.H) (𝓡 : Running 𝓤 𝓛.H 𝓜) (n : ℕ) (os : List (Outlives (suc n))) where
+  abbrev pub self : Slot (suc n)
+  self = RefMutOf {n = suc n} (0 ∷ []) tt (plain (λ _. R)) (λ _. tt)
+
+  abbrev pub signature : List (Slot (suc n)) → (Lfts (suc n) → RattleType) → Signature
+  signature ss Out = record { lifetimes = suc n; outlives = os; params = self ∷ ss; result = plain Out }
+
+  -- the arguments' slots, what `ended` has of each, the `requires`, and what `ok` says
+  module _ (ss : List (Slot (suc n))) (ks : Kepts ss) (asks : (κs : Lfts (suc n)) → MutBor Told × Denots (types_at ss κs) → SProp 𝓤)
+      (told : (κs : Lfts (suc n)) → MutBor Told × (Denots (types_at ss κs)) → Told) where
+    abbrev pub D : Ended
+    D = record { signature = signature ss (λ κs. Kept 𝓛 κs.0); kept = (no, ks) }
+
+    abbrev pub T : Ended
+    T = record { signature = signature ss (λ κs. Bare 𝓛 κs.0); kept = (no, ks) }
+
+    abbrev pub e : Clauses 𝓤 D
+    e κs a = record { ghost = Unit {0}; requires = λ _. asks κs a; ensures = λ _ r _. held_says 𝓛 a.0 (λ m. m ≡ told κs a) r }
+
+    abbrev pub c : Clauses 𝓤 T
+    c κs a = record { ghost = Unit {0}; requires = λ _. asks κs a; ensures = λ _ r _. says 𝓛 a.0 (λ m. m ≡ told κs a) r }
+
+    abbrev pub hs : Stays T.signature.params T.kept
+    hs = (stay_dropped self no, dropped ss ks)
+
+    abbrev pub Held : Callee → Type 1
+    Held k = Meets 𝓛 D.signature (𝓡.run (𝓡.env k)) (closing 𝓛 D e)
+
+    abbrev pub Release : Callee → Type 1
+    Release k = Meets 𝓛 o.signature (𝓡.run (𝓡.env k)) (o.spec 𝓛 𝓜.mem 𝓡.returns)
+
+    abbrev pub Chains : Callee → Type 1
+    Chains k = Meets 𝓛 T.signature (𝓡.run (𝓡.env k)) (closing 𝓛 T c)
+
+    abbrev pub Is_code : Callee → Fn → Type 2
+    Is_code = Closed 𝓤 𝓛.H (tables 𝓤 𝓛.H 𝓜 𝓡 𝓡.env).C (tables 𝓤 𝓛.H 𝓜 𝓡 𝓡.env).Λ
+
+    abbrev pub Goes_all : Type 1
+    Goes_all = AllGo 𝓛 (suc n) ss ks (dropped ss ks)
+
+    abbrev pub Ghost : Type 0
+    Ghost = (walk_of 𝓛 T hs c).Ghost
+
+    abbrev pub pre_of : Ghost → SProp 𝓤
+    pre_of y = (triple_of 𝓛 D.signature (closing 𝓛 D e)).pre y
+
+    abbrev pub Walk : Ghost → Fn → Type 1
+    Walk y fn = ent 𝓤 ((walk_of 𝓛 T hs c).pre y) (WpFn 𝓤 𝓛.H (tables 𝓤 𝓛.H 𝓜 𝓡 𝓡.env).C (tables 𝓤 𝓛.H 𝓜 𝓡 𝓡.env).Λ fn ((walk_of 𝓛 T hs c).args y) ((walk_of 𝓛 T hs c).post y))
+
+    -- the theorem, from a walk at machine values that the arguments say
+    pub chains : (fn : Fn) (name : Callee) → Is_code name fn → Goes_all
+        → ((y : Ghost) → Are (types_at ss y.0.0) (Ises (types_at ss y.0.0)) y.0.3.1 y.0.4.1 → (vss : Valss (types_at ss y.0.0)) × ((y.0.4.1 ≡ vss) × Walk ((y.0.0, y.0.1, y.0.2, y.0.3, (vptr y.0.3.0.ref_ptr.0 y.0.3.0.ref_ptr.1 ∷ [], vss)), y.1) fn))
+        → Chains name
+    chains fn name closed goes walk =
+        proved_at 𝓛 T hs c 𝓜 𝓡 (Goes-spent_ref 𝓛 (suc n) (0 ∷ []) tt (plain (λ _. R)), goes) name fn closed (λ y are.
+        let w = walk y are.1 in
+        subst (λ (vss : Valss (types_at (self ∷ ss) y.0.0)). Walk ((y.0.0, y.0.1, y.0.2, y.0.3, vss), y.1) fn) (λ i. (sym are.0.0 i, sym w.1.0 i)) w.1.1)
+
+    pub ends : (y : Ghost) (u : Val) (t : (Bare 𝓛 y.0.0.0).Denot) (ws : Lasts T y.0.0 y.0.3)
+        → Seq Go 𝓛 (‵ ((Bare 𝓛 y.0.0.0).own_val t (u ∷ [])) ∷ raw (says 𝓛 y.0.3.0 (λ m. m ≡ told y.0.0 y.0.3) t) ∷ raw (toks 𝓛 (suc n) y.0.0 y.0.1) ∷ []) (prop ((walk_of 𝓛 T hs c).post y u))
+    ends y u t ws = use0 𝓛 (‵ (has_of y.0.0 (self ∷ ss) (no, ks) hs y.0.3 ws y.0.4)) (had 𝓛 y.0.0 (self ∷ ss) (no, ks) y.0.3 ws y.0.4) $ move ! (3 ∷ 0 ∷ 1 ∷ 2 ∷ []) $
+        by ! (leaves 𝓛 T hs c y u t ws (fine y.0.0 (self ∷ ss) (no, ks) y.0.3 ws))
+
+    -- the code is the function's
+    pub coded : (fn : Fn) (ls : List Local) (b : Body) → fn.locals ≡ ls → fn.body ≡ b → {Γ : List (Item 𝓤)} (vs : List Val) (Post : Val → SProp 𝓤)
+        → Step Go 𝓛 Γ (allocs ls (λ Ev. params' Ev vs (runs (tables 𝓤 𝓛.H 𝓜 𝓡 𝓡.env).C (tables 𝓤 𝓛.H 𝓜 𝓡 𝓡.env).Λ Ev b (at_ret Ev Post)))) Γ (prop (WpFn 𝓤 𝓛.H (tables 𝓤 𝓛.H 𝓜 𝓡 𝓡.env).C (tables 𝓤 𝓛.H 𝓜 𝓡 𝓡.env).Λ fn vs Post))
+    coded fn ls b el eb vs Post = step (λ k.
+        let 𝓣 = tables 𝓤 𝓛.H 𝓜 𝓡 𝓡.env in
+        enter ! 𝓣.C 𝓣.Λ fn vs Post $
+        regoal ! (λ (z : List Local × Body). allocs z.0 (λ Ev. params' Ev vs (runs 𝓣.C 𝓣.Λ Ev z.1 (at_ret Ev Post)))) {x = (ls, b)} (λ i. (el i, eb i)) refl $ k)
+
+  -- the constants, and then the arguments
+  module _ (Cs : List (Constant 𝓛)) (ss : List (Slot (suc n))) where
+    abbrev pub told' : ((κs : Lfts (suc n)) → MutBor Told × Denots (types_at (also 𝓛 Cs ss) κs) → Told) → (κs : Lfts (suc n)) → MutBor Told × Denots (types_at ss κs) → Told
+    told' told κs a = told κs (a.0, put 𝓛 κs Cs ss a.1)
+
+    abbrev pub asks' : ((κs : Lfts (suc n)) → MutBor Told × Denots (types_at (also 𝓛 Cs ss) κs) → SProp 𝓤) → (κs : Lfts (suc n)) → MutBor Told × Denots (types_at ss κs) → SProp 𝓤
+    asks' asked κs a = asked κs (a.0, put 𝓛 κs Cs ss a.1)
+
+    module _ (ks : Kepts ss) (asked : (κs : Lfts (suc n)) → MutBor Told × Denots (types_at (also 𝓛 Cs ss) κs) → SProp 𝓤) (told : (κs : Lfts (suc n)) → MutBor Told × Denots (types_at (also 𝓛 Cs ss) κs) → Told) where
+      abbrev pub more : Ghost ss ks (asks' asked) (told' told) → Ghost (also 𝓛 Cs ss) (keeps 𝓛 Cs ss ks) asked told
+      more y = ((y.0.0, y.0.1, y.0.2, (y.0.3.0, put 𝓛 y.0.0 Cs ss y.0.3.1), (y.0.4.0, puts 𝓛 y.0.0 Cs ss y.0.4.1)), tt)
+
+      pub widened : (y : Ghost ss ks (asks' asked) (told' told)) → ent 𝓤 (pre_of ss ks (asks' asked) (told' told) y) (pre_of (also 𝓛 Cs ss) (keeps 𝓛 Cs ss ks) asked told (more y))
+      widened y =
+          let a = y.0.3 in let κs = y.0.0 in let own = (type_at self κs).own_val a.0 y.0.4.0 in
+          qed 𝓛 (((raw (toks 𝓛 (suc n) κs y.0.1) ⊛ ‵ (fsep own (owns (types_at ss κs) a.1 y.0.4.1))) ⊛ raw (asked κs (a.0, put 𝓛 κs Cs ss a.1))) ∷ []) ∵
+          split ! $ split ! $ move ! (1 ∷ []) $ fsplit ! $ move ! (1 ∷ []) $ use1 𝓛 (‵ (owns (types_at (also 𝓛 Cs ss) κs) (put 𝓛 κs Cs ss a.1) (puts 𝓛 κs Cs ss y.0.4.1))) (owned 𝓛 κs Cs ss a.1 y.0.4.1) $
+          move ! (1 ∷ 0 ∷ []) $ fjoin ! $ move ! (1 ∷ 0 ∷ []) $ join ! $ join ! $ by ! (id⊢ 𝓤 _)
+
+    -- what a chain call with these constants and arguments owes
+    module _ (ks : Kepts ss) (asked : (κs : Lfts (suc n)) → MutBor Told × Denots (types_at (also 𝓛 Cs ss) κs) → SProp 𝓤)
+        (told : (κs : Lfts (suc n)) → MutBor Told × Denots (types_at (also 𝓛 Cs ss) κs) → Told) where
+      abbrev pub StepMeets : Callee → Type 1
+      StepMeets = Held (also 𝓛 Cs ss) (keeps 𝓛 Cs ss ks) asked told
+
+      abbrev pub Releases : Callee → Type 1
+      Releases = Release ss ks (asks' asked) (told' told)
+
+      abbrev pub Coded : Fn → Callee → Type 2
+      Coded fn name = Is_code ss ks (asks' asked) (told' told) name fn
+
+      abbrev pub Method : Callee → Type 1
+      Method = Chains ss ks (asks' asked) (told' told)
+
+      abbrev pub At_entry : Type 0
+      At_entry = Ghost ss ks (asks' asked) (told' told)
+
+      abbrev pub Walks : At_entry → Fn → Type 1
+      Walks = Walk ss ks (asks' asked) (told' told)
+
+      abbrev pub at_entry : At_entry → SProp 𝓤
+      at_entry = pre_of ss ks (asks' asked) (told' told)
+
+      abbrev pub at_step : At_entry → SProp 𝓤
+      at_step y = pre_of (also 𝓛 Cs ss) (keeps 𝓛 Cs ss ks) asked told (more ks asked told y)
+
+      abbrev pub StepEnded : Ended
+      StepEnded = D (also 𝓛 Cs ss) (keeps 𝓛 Cs ss ks) asked told
+
+      abbrev pub step_clauses : Clauses 𝓤 StepEnded
+      step_clauses = e (also 𝓛 Cs ss) (keeps 𝓛 Cs ss ks) asked told
+
+      -- the end of the call, from the end of the step
+      pub leaves_step : (y : At_entry) (u : Val) (t : (Bare 𝓛 y.0.0.0).Denot) (ws : Lasts StepEnded (more ks asked told y).0.0 (more ks asked told y).0.3)
+          → Seq Go 𝓛 (‵ ((Bare 𝓛 y.0.0.0).own_val t (u ∷ [])) ∷ raw (says 𝓛 y.0.3.0 (λ m. m ≡ told' told y.0.0 y.0.3) t) ∷ raw (toks 𝓛 (suc n) y.0.0 y.0.1) ∷ []) (prop ((walk_of 𝓛 (T ss ks (asks' asked) (told' told)) (hs ss ks (asks' asked) (told' told)) (c ss ks (asks' asked) (told' told))).post y u))
+      leaves_step y u t ws = ends ss ks (asks' asked) (told' told) y u t (ws.0, after 𝓛 y.0.0 Cs ss ks y.0.3.1 ws.1)
+
+  -- one constant and one argument
+  module _ (X : Constant 𝓛) (A : Argument 𝓛 (suc n)) where
+    abbrev Cs1 : List (Constant 𝓛)
+    Cs1 = X ∷ []
+
+    abbrev Q1 : List (Slot (suc n))
+    Q1 = plain A.row ∷ []
+
+    abbrev K1 : Kepts Q1
+    K1 = (A.kept, tt)
+
+    module _ (asked : (κs : Lfts (suc n)) → MutBor Told × Denots (types_at (also 𝓛 Cs1 Q1) κs) → SProp 𝓤)
+        (told : (κs : Lfts (suc n)) → MutBor Told × Denots (types_at (also 𝓛 Cs1 Q1) κs) → Told) (fn : Fn) (kg ko name : Callee) where
+      abbrev pub Code1 : Type 0
+      Code1 = (fn.locals ≡ l0 ∷ l1 ∷ local A.ty value_local ∷ kept ∷ lent ∷ local (layout X.row) value_local ∷ [])
+          × (fn.body ≡ seq (assign (place 4 []) (addr_of (place 1 (deref δ ∷ [])))) (seq (assign (place 5 []) (aggregate (int w8 X.tag ∷ [])))
+          (seq (call kg (copy (place 4 []) ∷ copy (place 5 []) ∷ copy (place 2 []) ∷ []) (place 3 [])) (seq (call ko (copy (place 3 []) ∷ []) (place 0 [])) return))))
+
+      abbrev pub Coded1 : Type 2
+      Coded1 = Coded Cs1 Q1 K1 asked told fn name
+
+      abbrev pub Method1 : Type 1
+      Method1 = Method Cs1 Q1 K1 asked told name
+
+      pub one_of_one : Code1 → Coded1 → StepMeets Cs1 Q1 K1 asked told kg → Releases Cs1 Q1 K1 asked told ko → Method1
+      one_of_one code closed met release_met =
+          let fm = framed 𝓤 𝓛.H 𝓜 (tables 𝓤 𝓛.H 𝓜 𝓡 𝓡.env) in
+          chains Q1 K1 (asks' Cs1 Q1 asked) (told' Cs1 Q1 told) fn name closed (A.goes, tt) (λ y₀ are.
+          let a = y₀.0.3 in let p = vptr a.0.ref_ptr.0 a.0.ref_ptr.1 in
+          let x = A.one y₀.0.0 a.1.0 y₀.0.4.1.0 are.0 in
+          let walk : (w : Val) → Good A.ty w → Walks Cs1 Q1 K1 asked told ((y₀.0.0, y₀.0.1, y₀.0.2, a, (p ∷ [], (w ∷ [], tt))), tt) fn = λ w good.
+          let y : At_entry Cs1 Q1 K1 asked told = ((y₀.0.0, y₀.0.1, y₀.0.2, a, (p ∷ [], (w ∷ [], tt))), tt) in
+          let z = more Cs1 Q1 K1 asked told y in
+          qed 𝓛 (raw (at_entry Cs1 Q1 K1 asked told y) ∷ []) ∵ coded Q1 K1 (asks' Cs1 Q1 asked) (told' Cs1 Q1 told) fn _ _ code.0 code.1 _ _ $
+          alloc_all ! (λ l. pass_all ! refl ((tt, tt), (good, tt)) $
+          sets ! (addr ! (through ! refl (stop !))) refl (tt, tt) $ sets ! (agg ! (and_then ! (lit ! X.is_byte) (no_more !))) refl X.good $
+          use1 𝓛 (raw (at_step Cs1 Q1 K1 asked told y)) (widened Cs1 Q1 K1 asked told y) $
+          calls_at ! fm _ met z (and_then ! (get ! refl) (and_then ! (get ! refl) (and_then ! (get ! refl) (no_more !)))) (λ v.
+          returned ! tt (StepEnded Cs1 Q1 K1 asked told) (step_clauses Cs1 Q1 K1 asked told) z v (λ r ws is.
+          lands_as ! refl refl ((kept_lawful 𝓛 y.0.0.0).typed r (v ∷ []) is).0 $
+          releases ! fm 𝓜.mem 𝓡.returns release_met n y.0.0 y.0.1 a.0 (λ m. m ≡ told z.0.0 z.0.3) r v (and_then ! (get ! refl) (no_more !)) (λ u t is'.
+          lands_as ! refl refl ((bare_lawful 𝓛 y.0.0.0).typed t (u ∷ []) is').0 $
+          returns ! (look_at ! 0 refl) $ free_all ! refl $ leaves_step Cs1 Q1 K1 asked told y u t ws)))) in
+          ((x.0 ∷ [], tt), ((λ i. (x.1.0 i, tt)), walk x.0 x.1.1)))
+
+  -- two constants and two arguments
+  module _ (X Y : Constant 𝓛) (A B : Argument 𝓛 (suc n)) where
+    abbrev Cs2 : List (Constant 𝓛)
+    Cs2 = X ∷ Y ∷ []
+
+    abbrev Q2 : List (Slot (suc n))
+    Q2 = plain A.row ∷ plain B.row ∷ []
+
+    abbrev K2 : Kepts Q2
+    K2 = (A.kept, (B.kept, tt))
+
+    module _ (asked : (κs : Lfts (suc n)) → MutBor Told × Denots (types_at (also 𝓛 Cs2 Q2) κs) → SProp 𝓤)
+        (told : (κs : Lfts (suc n)) → MutBor Told × Denots (types_at (also 𝓛 Cs2 Q2) κs) → Told) (fn : Fn) (kg ko name : Callee) where
+      abbrev pub Code2 : Type 0
+      Code2 = (fn.locals ≡ l0 ∷ l1 ∷ local A.ty value_local ∷ local B.ty value_local ∷ kept ∷ lent ∷ local (layout X.row) value_local ∷ local (layout Y.row) value_local ∷ [])
+          × (fn.body ≡ seq (assign (place 5 []) (addr_of (place 1 (deref δ ∷ [])))) (seq (assign (place 6 []) (aggregate (int w8 X.tag ∷ []))) (seq (assign (place 7 []) (aggregate (int w8 Y.tag ∷ [])))
+          (seq (call kg (copy (place 5 []) ∷ copy (place 6 []) ∷ copy (place 7 []) ∷ copy (place 2 []) ∷ copy (place 3 []) ∷ []) (place 4 [])) (seq (call ko (copy (place 4 []) ∷ []) (place 0 [])) return)))))
+
+      abbrev pub Coded2 : Type 2
+      Coded2 = Coded Cs2 Q2 K2 asked told fn name
+
+      abbrev pub Method2 : Type 1
+      Method2 = Method Cs2 Q2 K2 asked told name
+
+      pub two_of_two : Code2 → Coded2 → StepMeets Cs2 Q2 K2 asked told kg → Releases Cs2 Q2 K2 asked told ko → Method2
+      two_of_two code closed met release_met =
+          let fm = framed 𝓤 𝓛.H 𝓜 (tables 𝓤 𝓛.H 𝓜 𝓡 𝓡.env) in
+          chains Q2 K2 (asks' Cs2 Q2 asked) (told' Cs2 Q2 told) fn name closed (A.goes, (B.goes, tt)) (λ y₀ are.
+          let a = y₀.0.3 in let p = vptr a.0.ref_ptr.0 a.0.ref_ptr.1 in
+          let x = A.one y₀.0.0 a.1.0 y₀.0.4.1.0 are.0 in let x' = B.one y₀.0.0 a.1.1.0 y₀.0.4.1.1.0 are.1.0 in
+          let walk : (w w' : Val) → Good A.ty w → Good B.ty w' → Walks Cs2 Q2 K2 asked told ((y₀.0.0, y₀.0.1, y₀.0.2, a, (p ∷ [], (w ∷ [], (w' ∷ [], tt)))), tt) fn = λ w w' good good'.
+          let y : At_entry Cs2 Q2 K2 asked told = ((y₀.0.0, y₀.0.1, y₀.0.2, a, (p ∷ [], (w ∷ [], (w' ∷ [], tt)))), tt) in
+          let z = more Cs2 Q2 K2 asked told y in
+          qed 𝓛 (raw (at_entry Cs2 Q2 K2 asked told y) ∷ []) ∵ coded Q2 K2 (asks' Cs2 Q2 asked) (told' Cs2 Q2 told) fn _ _ code.0 code.1 _ _ $
+          alloc_all ! (λ l. pass_all ! refl ((tt, tt), (good, (good', tt))) $
+          sets ! (addr ! (through ! refl (stop !))) refl (tt, tt) $ sets ! (agg ! (and_then ! (lit ! X.is_byte) (no_more !))) refl X.good $ sets ! (agg ! (and_then ! (lit ! Y.is_byte) (no_more !))) refl Y.good $
+          use1 𝓛 (raw (at_step Cs2 Q2 K2 asked told y)) (widened Cs2 Q2 K2 asked told y) $
+          calls_at ! fm _ met z (and_then ! (get ! refl) (and_then ! (get ! refl) (and_then ! (get ! refl) (and_then ! (get ! refl) (and_then ! (get ! refl) (no_more !)))))) (λ v.
+          returned ! tt (StepEnded Cs2 Q2 K2 asked told) (step_clauses Cs2 Q2 K2 asked told) z v (λ r ws is.
+          lands_as ! refl refl ((kept_lawful 𝓛 y.0.0.0).typed r (v ∷ []) is).0 $
+          releases ! fm 𝓜.mem 𝓡.returns release_met n y.0.0 y.0.1 a.0 (λ m. m ≡ told z.0.0 z.0.3) r v (and_then ! (get ! refl) (no_more !)) (λ u t is'.
+          lands_as ! refl refl ((bare_lawful 𝓛 y.0.0.0).typed t (u ∷ []) is').0 $
+          returns ! (look_at ! 0 refl) $ free_all ! refl $ leaves_step Cs2 Q2 K2 asked told y u t ws)))) in
+          ((x.0 ∷ [], (x'.0 ∷ [], tt)), ((λ i. (x.1.0 i, (x'.1.0 i, tt))), walk x.0 x'.0 x.1.1 x'.1.1)))

@@ -1,0 +1,11 @@
+use Rattle.sqlb.proofs.Walking.{refl}
+use Rattle.sqlb.proofs.Constants as constants
+use Rattle.sqlb.proofs.Methods.{by_comparison}
+use Rattle.sqlb.specs.contracts.builder.SqlBuilder.and_where_gt.Key.{name as #self}
+use Rattle.sqlb.proofs.builder.SqlBuilder.and_where_gt.Statement.{statement}
+use Rattle.sqlb.proofs.builder.SqlBuilder.and_where_gt.Code as code
+
+pub and_where_gt_spec : {M : Type 1} → statement M
+and_where_gt_spec 𝓤 𝓛 𝓜 𝓡 w =
+    by_comparison 𝓤 𝓛 𝓜 𝓡 constants.and constants.gt code.function #self (refl, refl) (code.unfolded 𝓤 𝓛.H 𝓜 𝓡 w)
+    (code.calls-sqlb::builder::SqlBuilder::hold_comparison 𝓡.env w) (code.calls-sqlb::builder::release 𝓡.env w)

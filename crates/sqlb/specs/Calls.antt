@@ -1,0 +1,64 @@
+-- What a start, a list of calls and a finish say: each clause is a filter over the whole list.
+use Rattle.std.specs.Prelude.{ℕ, List, [], ◌∷◌, ◌++◌, Option, None, Some, Bool, true, map, codes, flat_map, filter_map}
+use Rattle.sqlb.specs.Clauses.{Clauses}
+use Rattle.sqlb.specs.Text.{Pieces, fixed, raw, joined}
+use Rattle.sqlb.specs.Filters.{cut, Group}
+use Rattle.sqlb.specs.declared.calls.Family.{Family}
+use Rattle.sqlb.specs.declared.calls.Family.TheVariants.{And}
+use Rattle.sqlb.specs.declared.calls.Relation.{Relation}
+use Rattle.sqlb.specs.declared.calls.Relation.TheVariants.{Gt}
+
+-- A start, a condition, a call and a finish, each text as its bytes.
+pub data StartText : Type 0 where
+  SelectFrom : List ℕ → StartText
+
+pub data ConditionText : Type 0 where
+  Raw : List ℕ → ConditionText
+  Compare : Relation → List ℕ → List ℕ → ConditionText
+
+pub data CallText : Type 0 where
+  Field : List ℕ → CallText
+  Fields : List (List ℕ) → CallText
+  Cond : Family → ConditionText → CallText
+
+pub data FinishText : Type 0 where
+  Sql : FinishText
+
+-- the sign of a comparison, with its blanks
+abbrev pub relation_text : Relation → List ℕ
+relation_text Gt = codes " > "
+
+-- a condition's pieces: a bare one as it stands, or `field > value`
+abbrev pub condition_pieces : ConditionText → Pieces
+condition_pieces (Raw condition) = raw condition
+condition_pieces (Compare relation field value) = raw field ++ (fixed (relation_text relation) ++ raw value)
+
+-- the fields that a call appends
+abbrev pub fields_in : CallText → List Pieces
+fields_in (Field field) = raw field ∷ []
+fields_in (Fields fields) = map raw fields
+fields_in (Cond family condition) = []
+
+-- the condition that a call adds, and its family
+abbrev pub condition_in : CallText → Option (Family × ConditionText)
+condition_in (Cond family condition) = Some (family, condition)
+condition_in _ = None
+
+-- whether a condition opens a group
+abbrev pub opens_group : Family × ConditionText → Bool
+opens_group (And, condition) = true
+
+-- the conditions of a group joined by OR
+abbrev pub group_pieces : Group (Family × ConditionText) → Pieces
+group_pieces group = joined (fixed (codes " OR ")) (map (λ c. condition_pieces c.1) (group.0 ∷ group.1))
+
+-- the conditions of all calls in order, cut before each that opens a group
+abbrev pub groups_of : List CallText → List Pieces
+groups_of calls = map group_pieces (cut opens_group (filter_map condition_in calls))
+
+abbrev pub table_of : StartText → Pieces
+table_of (SelectFrom table) = raw table
+
+-- the clauses that a start and the calls after it make
+abbrev pub clauses : StartText → List CallText → Clauses Pieces
+clauses start calls = record { table = table_of start; fields = flat_map fields_in calls; groups = groups_of calls }

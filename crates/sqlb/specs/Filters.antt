@@ -1,0 +1,37 @@
+-- Ways to read a whole list.
+use Rattle.std.specs.Prelude.{List, [], ◌∷◌, ◌++◌, Option, None, Some, Bool, true, false, ◌&&◌, ◌||◌, not, if◌then◌else◌}
+use Rattle.std.specs.List.{list_any}
+
+-- the first element, if there is one
+abbrev pub first : {X : Type 0} → List X → Option X
+first [] = None
+first (x ∷ xs) = Some x
+
+-- the list from its last element that passes on, or all of it where none passes
+abbrev pub since : {X : Type 0} → (X → Bool) → List X → List X
+since p [] = []
+since p (x ∷ xs) = if list_any p xs then since p xs else x ∷ xs
+
+-- whether some element passes p, and no element behind it passes q
+abbrev pub any_unfollowed : {X : Type 0} → (X → Bool) → (X → Bool) → List X → Bool
+any_unfollowed p q [] = false
+any_unfollowed p q (x ∷ xs) = (p x && not (list_any q xs)) || any_unfollowed p q xs
+
+-- an element that begins a group, and those that join it
+abbrev pub Group : Type 0 → Type 0
+Group X = X × List X
+
+-- x begins a group with those that stand first, or is the first of them
+abbrev pub begins : {X : Type 0} → Bool → X → List X × List (Group X) → List X × List (Group X)
+begins true x r = ([], (x, r.0) ∷ r.1)
+begins false x r = (x ∷ r.0, r.1)
+
+-- the elements before the first that passes, and the groups that each one that passes begins
+abbrev pub parted : {X : Type 0} → (X → Bool) → List X → List X × List (Group X)
+parted p [] = ([], [])
+parted p (x ∷ xs) = begins (p x) x (parted p xs)
+
+-- the list cut before each element that passes
+abbrev pub cut : {X : Type 0} → (X → Bool) → List X → List (Group X)
+cut p [] = []
+cut p (x ∷ xs) = (x, (parted p xs).0) ∷ (parted p xs).1

@@ -1,0 +1,10 @@
+pub mod Answers
+pub mod Builder
+pub mod Calls
+pub mod Chaining
+pub mod Clauses
+pub mod Error
+pub mod Filters
+pub mod Layout
+pub mod Statement
+pub mod Text

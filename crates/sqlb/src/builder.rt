@@ -1,0 +1,243 @@
+//! The builder: it is told clauses call by call, and prints a statement of them.
+ghost use Rattle.std.specs.Prelude.{◌≡◌, [], ◌∷◌, ◌++◌, List, ℕ, map, IfOk, OnOk, OnErr, string_bytes};
+ghost use Rattle.sqlb.specs.Builder.{texts, compare_text};
+ghost use Rattle.sqlb.specs.Calls.{relation_text};
+ghost use Rattle.sqlb.specs.Chaining.{released};
+ghost use Rattle.sqlb.specs.Clauses.{selected_from};
+ghost use Rattle.sqlb.specs.Error.{FailsOnlyByMemory};
+
+use crate::calls::{Family, Relation};
+use crate::error::SqlBuilderError;
+use std::alloc::{AllocError, Global};
+use std::marker::Model;
+
+/// A builder of a SELECT. Contracts see it as its clauses, each text as its bytes.
+#[derive(Drop)]
+pub struct SqlBuilder {
+    alloc: Global,
+    pub(crate) table: String,
+    pub(crate) fields: Vec<String>,
+    // The conditions that WHERE joins by AND, a text for each group.
+    pub(crate) groups: Vec<String>,
+}
+
+impl Model for SqlBuilder {
+    ghost use Rattle.std.specs.Prelude.{List, ℕ};
+    ghost use Rattle.std.specs.String.{string_bytes};
+    ghost use Rattle.sqlb.specs.Builder.{texts};
+    ghost use Rattle.sqlb.specs.Clauses.{Clauses};
+
+    ghost Value = { Clauses (List ℕ) };
+
+    ghost view = { λ b. record {
+        table = string_bytes b.table;
+        fields = texts b.fields.items;
+        groups = texts b.groups.items;
+    } };
+}
+
+/// A clause that takes one text.
+#[derive(Clone, Copy)]
+pub(crate) enum TextClause {
+    Field,
+    AndWhere,
+}
+
+/// A clause that takes a list of texts.
+#[derive(Clone, Copy)]
+pub(crate) enum ListClause {
+    Fields,
+}
+
+// A builder that a step has changed. A call that lends the builder back is proved
+// to leave it alone where it is refused only if the loan comes in a struct.
+#[derive(Drop)]
+pub(crate) struct Held<'a>(&'a mut SqlBuilder);
+
+pub(crate) fn release(held: Result<Held<'_>, SqlBuilderError>) -> Result<&mut SqlBuilder, SqlBuilderError>
+    ensures { result ≡ released held.entry }
+{
+    match held {
+        Ok(held) => {
+            let Held(builder) = held;
+            Ok(builder)
+        }
+        Err(error) => Err(error),
+    }
+}
+
+impl Relation {
+    fn text(self) -> &'static str
+        ensures { result.now ≡ relation_text self }
+    {
+        match self {
+            Relation::Gt => " > ",
+        }
+    }
+}
+
+fn comparison(
+    alloc: Global,
+    relation: Relation,
+    field: &str,
+    value: &str,
+) -> Result<String, AllocError>
+    ensures { IfOk result (λ s. string_bytes s ≡ compare_text relation field.now value.now) }
+{
+    let mut text = String::from_str(alloc, field)?;
+    text.push_str(relation.text())?;
+    text.push_str(value)?;
+    Ok(text)
+}
+
+fn copies(alloc: Global, items: &[&str]) -> Result<Vec<String>, AllocError>
+    ensures { IfOk result (λ copied. texts copied.items ≡ map (λ item. item.now) items.now) }
+{
+    let mut copied = Vec::with_capacity(alloc, items.len())?;
+    for item in items {
+        copied.push(String::from_str(alloc, item)?)?;
+    }
+    Ok(copied)
+}
+
+impl SqlBuilder {
+    ghost use Rattle.std.specs.Borrow.{sem};
+    ghost use Rattle.sqlb.specs.Builder.{with_fields, with_group, with_condition, with_text, with_texts};
+    ghost use Rattle.sqlb.specs.Chaining.{IsUnchangedIfErr, IsTold, IsUnchangedIfHeldErr, IsHeldTold};
+    ghost use Rattle.sqlb.specs.declared.calls.Family.TheVariants.{And};
+    ghost use Rattle.sqlb.specs.declared.calls.Relation.TheVariants.{Gt};
+
+    /// A SELECT from this table, with no field and no condition. It is refused only for want of
+    /// memory, as is each call below that changes the builder.
+    pub fn select_from(alloc: Global, table: &str) -> Result<SqlBuilder, SqlBuilderError>
+        ensures made { IfOk result (λ b. b ≡ selected_from table.now) }
+        ensures memory { FailsOnlyByMemory result }
+    {
+        Ok(SqlBuilder {
+            alloc,
+            table: String::from_str(alloc, table)?,
+            fields: Vec::new(alloc),
+            groups: Vec::new(alloc),
+        })
+    }
+
+    fn push_fields(&mut self, fields: &[&str]) -> Result<(), SqlBuilderError>
+        ensures ok { OnOk result (self.new ≡ with_fields (map (λ field. field.now) fields.now) self.old) }
+        ensures err { OnErr result (self.new ≡ self.old) }
+        ensures memory { FailsOnlyByMemory result }
+    {
+        let mut copied = copies(self.alloc, fields)?;
+        self.fields.append(&mut copied)?;
+        Ok(())
+    }
+
+    fn push_field(&mut self, field: &str) -> Result<(), SqlBuilderError>
+        ensures ok { OnOk result (self.new ≡ with_fields (field.now ∷ []) self.old) }
+        ensures err { OnErr result (self.new ≡ self.old) }
+        ensures memory { FailsOnlyByMemory result }
+    {
+        let copied = String::from_str(self.alloc, field)?;
+        self.fields.push(copied)?;
+        Ok(())
+    }
+
+    fn push_condition(&mut self, family: Family, condition: String) -> Result<(), SqlBuilderError>
+        ensures ok { OnOk result (self.new ≡ with_condition family (string_bytes condition) self.old) }
+        ensures err { OnErr result (self.new ≡ self.old) }
+        ensures memory { FailsOnlyByMemory result }
+    {
+        match family {
+            Family::And => self.groups.push(condition)?,
+        }
+        Ok(())
+    }
+
+    pub(crate) fn hold_text(&mut self, clause: TextClause, text: &str) -> Result<Held<'_>, SqlBuilderError>
+        ensures* refused { sem 𝓛 (IsUnchangedIfHeldErr self.entry result) }
+        ensures told { IsHeldTold self.entry (with_text clause text.now self.old) result }
+        ensures memory { FailsOnlyByMemory result }
+    {
+        match clause {
+            TextClause::Field => self.push_field(text)?,
+            TextClause::AndWhere => {
+                let condition = String::from_str(self.alloc, text)?;
+                self.push_condition(Family::And, condition)?;
+            }
+        }
+        Ok(Held(self))
+    }
+
+    pub(crate) fn hold_texts(&mut self, clause: ListClause, items: &[&str]) -> Result<Held<'_>, SqlBuilderError>
+        ensures* refused { sem 𝓛 (IsUnchangedIfHeldErr self.entry result) }
+        ensures told { IsHeldTold self.entry (with_texts clause (map (λ item. item.now) items.now) self.old) result }
+        ensures memory { FailsOnlyByMemory result }
+    {
+        match clause {
+            ListClause::Fields => self.push_fields(items)?,
+        }
+        Ok(Held(self))
+    }
+
+    pub(crate) fn hold_comparison(
+        &mut self,
+        family: Family,
+        relation: Relation,
+        field: &str,
+        value: &str,
+    ) -> Result<Held<'_>, SqlBuilderError>
+        ensures* refused { sem 𝓛 (IsUnchangedIfHeldErr self.entry result) }
+        ensures told { IsHeldTold self.entry
+            (with_condition family (compare_text relation field.now value.now) self.old) result }
+        ensures memory { FailsOnlyByMemory result }
+    {
+        let condition = comparison(self.alloc, relation, field, value)?;
+        self.push_condition(family, condition)?;
+        Ok(Held(self))
+    }
+}
+
+impl SqlBuilder {
+    ghost use Rattle.std.specs.Borrow.{sem};
+    ghost use Rattle.sqlb.specs.Builder.{with_fields, with_condition};
+    ghost use Rattle.sqlb.specs.Chaining.{IsUnchangedIfErr, IsTold};
+    ghost use Rattle.sqlb.specs.declared.calls.Family.TheVariants.{And};
+    ghost use Rattle.sqlb.specs.declared.calls.Relation.TheVariants.{Gt};
+
+    /// Appends a field.
+    pub fn field(&mut self, field: &str) -> Result<&mut Self, SqlBuilderError>
+        ensures* refused { sem 𝓛 (IsUnchangedIfErr self.entry result) }
+        ensures told { IsTold self.entry (with_fields (field.now ∷ []) self.old) result }
+        ensures memory { FailsOnlyByMemory result }
+    {
+        release(self.hold_text(TextClause::Field, field))
+    }
+
+    /// Appends fields.
+    pub fn fields(&mut self, fields: &[&str]) -> Result<&mut Self, SqlBuilderError>
+        ensures* refused { sem 𝓛 (IsUnchangedIfErr self.entry result) }
+        ensures told { IsTold self.entry
+            (with_fields (map (λ field. field.now) fields.now) self.old) result }
+        ensures memory { FailsOnlyByMemory result }
+    {
+        release(self.hold_texts(ListClause::Fields, fields))
+    }
+
+    /// Adds a condition, in a group of its own.
+    pub fn and_where(&mut self, condition: &str) -> Result<&mut Self, SqlBuilderError>
+        ensures* refused { sem 𝓛 (IsUnchangedIfErr self.entry result) }
+        ensures told { IsTold self.entry (with_condition And condition.now self.old) result }
+        ensures memory { FailsOnlyByMemory result }
+    {
+        release(self.hold_text(TextClause::AndWhere, condition))
+    }
+
+    /// Adds the condition `field > value`, in a group of its own.
+    pub fn and_where_gt(&mut self, field: &str, value: &str) -> Result<&mut Self, SqlBuilderError>
+        ensures* refused { sem 𝓛 (IsUnchangedIfErr self.entry result) }
+        ensures told { IsTold self.entry
+            (with_condition And (compare_text Gt field.now value.now) self.old) result }
+        ensures memory { FailsOnlyByMemory result }
+    {
+        release(self.hold_comparison(Family::And, Relation::Gt, field, value))
+    }
+}

@@ -1,0 +1,8 @@
+//! Reads lines of calls from standard input, and prints the statements that they make.
+#![tactic(auto)]
+
+mod builder;
+mod calls;
+mod error;
+
+fn main() {}
