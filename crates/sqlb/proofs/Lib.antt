@@ -2,4 +2,8 @@ pub mod ChainCalls
 pub mod Constants
 pub mod Loans
 pub mod Methods
+pub mod Natural
+pub mod Printed
+pub mod Runs
+pub mod Snoc
 pub mod Walking

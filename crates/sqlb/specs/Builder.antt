@@ -1,7 +1,8 @@
 -- What a call makes of a builder's clauses, each text as its bytes.
-use Rattle.std.specs.Prelude.{ℕ, List, [], ◌∷◌, ◌++◌, map, String, string_bytes}
+use Rattle.std.specs.Prelude.{◌≡◌, ℕ, List, [], ◌∷◌, ◌++◌, map, String, string_bytes, Result, OnOk}
 use Rattle.sqlb.specs.Clauses.{Clauses}
-use Rattle.sqlb.specs.Calls.{relation_text}
+use Rattle.sqlb.specs.Calls.{relation_text, ConditionText, Raw, Compare, CallText}
+use Rattle.sqlb.specs.Calls as call
 use Rattle.sqlb.specs.declared.calls.Family.{Family}
 use Rattle.sqlb.specs.declared.calls.Family.TheVariants.{And}
 use Rattle.sqlb.specs.declared.calls.Relation.{Relation}
@@ -34,6 +35,17 @@ with_condition And condition r = with_group condition r
 abbrev pub compare_text : Relation → List ℕ → List ℕ → List ℕ
 compare_text relation field value = field ++ (relation_text relation ++ value)
 
+-- a condition as it is printed
+abbrev pub condition_bytes : ConditionText → List ℕ
+condition_bytes (Raw condition) = condition
+condition_bytes (Compare relation field value) = compare_text relation field value
+
+-- what a call of a list of calls makes of them
+abbrev pub with_call : CallText → Told → Told
+with_call (call.Field field) r = with_fields (field ∷ []) r
+with_call (call.Fields fields) r = with_fields fields r
+with_call (call.Cond family condition) r = with_condition family (condition_bytes condition) r
+
 -- a text for a clause that takes one
 abbrev pub with_text : TextClause → List ℕ → Told → Told
 with_text Field text r = with_fields (text ∷ []) r
@@ -42,3 +54,7 @@ with_text AndWhere text r = with_condition And text r
 -- a list of texts for a clause that takes a list
 abbrev pub with_texts : ListClause → List (List ℕ) → Told → Told
 with_texts Fields texts r = with_fields texts r
+
+-- where a call that prints is not refused, it adds this text to what it prints to
+abbrev pub Adds : {E Z : Type 0} → Result (Unit {0}) E → String Z → String Z → List ℕ → Type 0
+Adds result old new text = OnOk result (string_bytes new ≡ string_bytes old ++ text)

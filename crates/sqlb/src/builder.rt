@@ -1,7 +1,6 @@
 //! The builder: it is told clauses call by call, and prints a statement of them.
 ghost use Rattle.std.specs.Prelude.{◌≡◌, [], ◌∷◌, ◌++◌, List, ℕ, map, IfOk, OnOk, OnErr, string_bytes};
 ghost use Rattle.sqlb.specs.Builder.{texts, compare_text};
-ghost use Rattle.sqlb.specs.Calls.{relation_text};
 ghost use Rattle.sqlb.specs.Chaining.{released};
 ghost use Rattle.sqlb.specs.Clauses.{selected_from};
 ghost use Rattle.sqlb.specs.Error.{FailsOnlyByMemory};
@@ -14,7 +13,7 @@ use std::marker::Model;
 /// A builder of a SELECT. Contracts see it as its clauses, each text as its bytes.
 #[derive(Drop)]
 pub struct SqlBuilder {
-    alloc: Global,
+    pub(crate) alloc: Global,
     pub(crate) table: String,
     pub(crate) fields: Vec<String>,
     // The conditions that WHERE joins by AND, a text for each group.
@@ -63,16 +62,6 @@ pub(crate) fn release(held: Result<Held<'_>, SqlBuilderError>) -> Result<&mut Sq
             Ok(builder)
         }
         Err(error) => Err(error),
-    }
-}
-
-impl Relation {
-    fn text(self) -> &'static str
-        ensures { result.now ≡ relation_text self }
-    {
-        match self {
-            Relation::Gt => " > ",
-        }
     }
 }
 

@@ -4,5 +4,6 @@
 mod builder;
 mod calls;
 mod error;
+mod printing;
 
 fn main() {}
