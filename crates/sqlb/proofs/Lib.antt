@@ -6,4 +6,5 @@ pub mod Natural
 pub mod Printed
 pub mod Runs
 pub mod Snoc
+pub mod Tables
 pub mod Walking

@@ -35,3 +35,8 @@ parted p (x ∷ xs) = begins (p x) x (parted p xs)
 abbrev pub cut : {X : Type 0} → (X → Bool) → List X → List (Group X)
 cut p [] = []
 cut p (x ∷ xs) = (x, (parted p xs).0) ∷ (parted p xs).1
+
+-- the elements before the first that passes
+abbrev pub until : {X : Type 0} → (X → Bool) → List X → List X
+until p [] = []
+until p (x ∷ xs) = if p x then [] else x ∷ until p xs

@@ -4,7 +4,11 @@ pub mod Calls
 pub mod Chaining
 pub mod Clauses
 pub mod Error
+pub mod Fault
 pub mod Filters
 pub mod Layout
+pub mod Lines
+pub mod Names
+pub mod Output
 pub mod Statement
 pub mod Text

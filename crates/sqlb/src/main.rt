@@ -4,6 +4,8 @@
 mod builder;
 mod calls;
 mod error;
+mod fault;
+mod names;
 mod printing;
 
 fn main() {}

@@ -1,0 +1,28 @@
+-- The names that a line may begin with: what each is, by how many arguments it takes.
+use Rattle.std.specs.Prelude.{ℕ, List, [], ◌∷◌, Option, bytes_eq, option_map, find, codes}
+use Rattle.sqlb.specs.declared.calls.Family.TheVariants.{And}
+use Rattle.sqlb.specs.declared.calls.Relation.TheVariants.{Gt}
+use Rattle.sqlb.specs.declared.names.Word.{Word}
+use Rattle.sqlb.specs.declared.names.Word.TheVariants as takes
+use Rattle.sqlb.specs.declared.names.Nullary.TheVariants as nullary
+use Rattle.sqlb.specs.declared.names.Unary.TheVariants as unary
+use Rattle.sqlb.specs.declared.names.Binary.TheVariants as binary
+use Rattle.sqlb.specs.declared.names.Variadic.TheVariants as variadic
+
+unfoldable pub names : List (List ℕ × Word)
+names =
+    (codes "select_from", takes.Unary unary.SelectFrom) ∷
+    (codes "field", takes.Unary unary.Field) ∷
+    (codes "fields", takes.Variadic variadic.Fields) ∷
+    (codes "and_where", takes.Unary (unary.Where And)) ∷
+    (codes "and_where_gt", takes.Binary (binary.Compare And Gt)) ∷
+    (codes "sql", takes.Nullary nullary.Sql) ∷
+    []
+
+-- what stands beside a name in a table, if the table has it
+abbrev pub found_in : List (List ℕ × Word) → List ℕ → Option Word
+found_in table name = option_map (λ entry. entry.1) (find (λ entry. bytes_eq entry.0 name) table)
+
+-- what a name stands for; names are compared exactly
+unfoldable pub named : List ℕ → Option Word
+named name = found_in names name

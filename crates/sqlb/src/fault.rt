@@ -1,0 +1,66 @@
+//! What stops a run.
+ghost use Rattle.std.specs.Prelude.{◌≡◌};
+ghost use Rattle.sqlb.specs.Fault.{fault_status, reason_text};
+
+use crate::error::SqlBuilderError;
+
+/// Why a line is not accepted.
+#[derive(Debug, Drop)]
+pub enum Reason {
+    /// Its name is none that is known.
+    UnknownCall,
+    /// Its arguments don't fit its name.
+    WrongArguments,
+    /// It is a call or a finish, and no statement is open.
+    NoStatement,
+    /// It is a start, and a statement is open.
+    StatementOpen,
+    /// It is the last line, and a statement is open behind it.
+    NoEnd,
+    /// It is not UTF-8.
+    NotUtf8,
+    /// It is a finish, and the statement is refused; never for want of memory.
+    Builder(SqlBuilderError),
+}
+
+/// What stops a run.
+#[derive(Debug, Drop)]
+pub enum Fault {
+    /// The line of this number, counted from 1, is not accepted.
+    At(usize, Reason),
+    /// A growth was refused.
+    Memory,
+    /// A read answered an error.
+    Read,
+    /// A write answered an error, or took no byte.
+    Write,
+}
+
+impl Reason {
+    /// The reason's text.
+    pub fn message(&self) -> &'static str
+        ensures { result.now ≡ reason_text self.now }
+    {
+        match self {
+            Reason::UnknownCall => "unknown call",
+            Reason::WrongArguments => "wrong arguments",
+            Reason::NoStatement => "no statement",
+            Reason::StatementOpen => "statement open",
+            Reason::NoEnd => "no end",
+            Reason::NotUtf8 => "not UTF-8",
+            Reason::Builder(refusal) => refusal.message(),
+        }
+    }
+}
+
+impl Fault {
+    /// The exit status: 1 for a line or for memory, 2 for a device that failed.
+    pub fn status(&self) -> u8
+        ensures { result ≡ fault_status self.now }
+    {
+        match self {
+            Fault::At(_, _) | Fault::Memory => 1,
+            Fault::Read | Fault::Write => 2,
+        }
+    }
+}
