@@ -4,6 +4,7 @@ pub mod Loans
 pub mod Methods
 pub mod Natural
 pub mod Printed
+pub mod Rows
 pub mod Runs
 pub mod Snoc
 pub mod Tables

@@ -2,12 +2,8 @@
 use Rattle.std.proofs.Common.{◌≡◌, ℕ, Bool, true, false, cond, List, [], ◌∷◌, map, refl}
 use Rattle.std.specs.Prelude.{Option, Some, bytes_eq, option_map, find}
 use Rattle.std.specs.Borrow.{Bor}
-use Rattle.sqlb.specs.Names.{found_in}
+use Rattle.sqlb.specs.Names.{found_behind, found_in}
 use Rattle.sqlb.specs.declared.names.Word.{Word}
-
--- what a search of the references finds
-abbrev found_behind : List (Bor (List ℕ) × Word) → List ℕ → Option Word
-found_behind table name = option_map (λ entry. entry.1) (find (λ entry. bytes_eq entry.0.now name) table)
 
 pick : (b : Bool) (entry : Bor (List ℕ) × Word) (found : Option (Bor (List ℕ) × Word)) (found' : Option (List ℕ × Word))
     → option_map (λ e. e.1) found ≡ option_map (λ e. e.1) found'

@@ -40,6 +40,10 @@ pub data CommandText : Type 0 where
   Call : CallText → CommandText
   Finish : FinishText → CommandText
 
+-- what a line says, or why it says nothing
+abbrev pub Said : Type 0
+Said = Result CommandText Reason
+
 abbrev pub nullary_command : Nullary → CommandText
 nullary_command Sql = Finish text.Sql
 
@@ -63,14 +67,18 @@ command (takes.Variadic word) arguments = Some (variadic_command word arguments)
 command _ _ = None
 
 -- the checks of a line by itself, in their order: its name is known, and its arguments fit
-abbrev pub said_with : Option Word → List (List ℕ) → Result CommandText Reason
+abbrev pub said_with : Option Word → List (List ℕ) → Said
 said_with None arguments = Err UnknownCall
 said_with (Some word) arguments = ok_or (command word arguments) WrongArguments
 
-abbrev pub said_in : List (List ℕ) → Result CommandText Reason
-said_in [] = Err UnknownCall
-said_in (name ∷ arguments) = said_with (named name) arguments
+abbrev pub said_in_words : List (List ℕ) → Said
+said_in_words [] = Err UnknownCall
+said_in_words (name ∷ arguments) = said_with (named name) arguments
 
--- what a line says, or the first of these checks that it fails; before them, it is UTF-8
-unfoldable pub said : List ℕ → Result CommandText Reason
-said line = if is_utf8 line then said_in (words line) else Err NotUtf8
+-- what a text says
+abbrev pub said_in : List ℕ → Said
+said_in text = said_in_words (words text)
+
+-- what a line says: it is UTF-8, before the other checks
+unfoldable pub said : List ℕ → Said
+said line = if is_utf8 line then said_in line else Err NotUtf8

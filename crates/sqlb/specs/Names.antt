@@ -1,5 +1,6 @@
 -- The names that a line may begin with: what each is, by how many arguments it takes.
 use Rattle.std.specs.Prelude.{ℕ, List, [], ◌∷◌, Option, bytes_eq, option_map, find, codes}
+use Rattle.std.specs.Borrow.{Bor}
 use Rattle.sqlb.specs.declared.calls.Family.TheVariants.{And}
 use Rattle.sqlb.specs.declared.calls.Relation.TheVariants.{Gt}
 use Rattle.sqlb.specs.declared.names.Word.{Word}
@@ -22,6 +23,10 @@ names =
 -- what stands beside a name in a table, if the table has it
 abbrev pub found_in : List (List ℕ × Word) → List ℕ → Option Word
 found_in table name = option_map (λ entry. entry.1) (find (λ entry. bytes_eq entry.0 name) table)
+
+-- the same of a table whose names are references
+abbrev pub found_behind : List (Bor (List ℕ) × Word) → List ℕ → Option Word
+found_behind table name = option_map (λ entry. entry.1) (find (λ entry. bytes_eq entry.0.now name) table)
 
 -- what a name stands for; names are compared exactly
 unfoldable pub named : List ℕ → Option Word

@@ -1,6 +1,6 @@
 //! The names that a line may begin with.
 ghost use Rattle.std.specs.Prelude.{◌≡◌, map};
-ghost use Rattle.sqlb.specs.Names.{found_in, named};
+ghost use Rattle.sqlb.specs.Names.{found_behind, found_in, named};
 
 use crate::calls::{Family, Relation};
 
@@ -51,14 +51,20 @@ const NAMES: [(&str, Word); 6] = [
     ("sql", Word::Nullary(Nullary::Sql)),
 ];
 
-#[tactic(auto, using(crate::proofs::Tables::found_behind_is))]
-fn find_in(table: &[(&str, Word)], name: &str) -> Option<Word>
-    ensures { result ≡ found_in (map (λ entry. (entry.0.now, entry.1)) table.now) name.now }
+fn find_behind(table: &[(&str, Word)], name: &str) -> Option<Word>
+    ensures { result ≡ found_behind table.now name.now }
 {
     table
         .iter()
         .find(|entry| entry.0 == name)
         .map(|entry| entry.1)
+}
+
+#[tactic(auto, using(crate::proofs::Tables::found_behind_is))]
+fn find_in(table: &[(&str, Word)], name: &str) -> Option<Word>
+    ensures { result ≡ found_in (map (λ entry. (entry.0.now, entry.1)) table.now) name.now }
+{
+    find_behind(table, name)
 }
 
 impl Word {
