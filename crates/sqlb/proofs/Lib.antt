@@ -1,11 +1,15 @@
 pub mod ChainCalls
 pub mod Constants
+pub mod DecimalDigits
+pub mod LineFeeds
 pub mod Loans
 pub mod Methods
 pub mod Natural
+pub mod Pieces
 pub mod Printed
 pub mod Rows
 pub mod Runs
+pub mod Said
 pub mod Snoc
 pub mod Tables
 pub mod Walking

@@ -5,7 +5,8 @@ use Rattle.std.proofs.lemmas.Fmt.{decimal_digit}
 use Rattle.std.proofs.lemmas.Bool.Decides.{nat_tests}
 use Rattle.std.proofs.lemmas.Str.Ascii.{IsAscii-nil, IsAscii-cons}
 use Rattle.std.specs.Str.{IsAscii}
-use Rattle.std.proofs.lemmas.Str.{IsUtf8-from_ascii, is_utf8-from_IsUtf8}
+use Rattle.std.proofs.lemmas.Str.{IsUtf8-from_ascii}
+use Rattle.sqlb.proofs.Said.{said_text}
 use Rattle.std.specs.List.{list_all}
 use Rattle.sqlb.specs.Calls.{SelectFrom, Field, Fields, Cond, Raw, Compare, Sql}
 use Rattle.sqlb.specs.Fault.{fault_text}
@@ -48,10 +49,8 @@ bytes_below (byte ∷ text) ascii =
     let parts = both (nat_lt byte 128) (is_ascii text) ascii in
     IsAscii-cons byte text (grind (arith, nat_tests)) (bytes_below text parts.1)
 
--- a text that is ASCII throughout is UTF-8
 said_ascii : (text : List ℕ) → is_ascii text ≡ true → said text ≡ said_in text
-unfolding said
-said_ascii text ascii = rw (is_utf8-from_IsUtf8 text (IsUtf8-from_ascii text (bytes_below text ascii))) refl
+said_ascii text ascii = said_text text (IsUtf8-from_ascii text (bytes_below text ascii))
 
 -- what each line of an ASCII input says
 saids_ascii : (texts : List (List ℕ)) → list_all is_ascii texts ≡ true → map said texts ≡ map said_in texts

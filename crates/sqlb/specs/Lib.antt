@@ -3,6 +3,7 @@ pub mod Builder
 pub mod Calls
 pub mod Chaining
 pub mod Clauses
+pub mod Device
 pub mod Error
 pub mod Fault
 pub mod Filters
@@ -10,5 +11,8 @@ pub mod Layout
 pub mod Lines
 pub mod Names
 pub mod Output
+pub mod Ran
+pub mod Script
 pub mod Statement
 pub mod Text
+pub mod Watch

@@ -36,27 +36,27 @@ words line = slice_split (λ byte. byte == 9) line
 
 -- What a line says: a start, a call or a finish.
 pub data CommandText : Type 0 where
-  Start : StartText → CommandText
-  Call : CallText → CommandText
-  Finish : FinishText → CommandText
+  Starts : StartText → CommandText
+  Calls : CallText → CommandText
+  Finishes : FinishText → CommandText
 
 -- what a line says, or why it says nothing
 abbrev pub Said : Type 0
 Said = Result CommandText Reason
 
 abbrev pub nullary_command : Nullary → CommandText
-nullary_command Sql = Finish text.Sql
+nullary_command Sql = Finishes text.Sql
 
 abbrev pub unary_command : Unary → List ℕ → CommandText
-unary_command SelectFrom table = Start (text.SelectFrom table)
-unary_command Field field = Call (text.Field field)
-unary_command (Where family) condition = Call (text.Cond family (text.Raw condition))
+unary_command SelectFrom table = Starts (text.SelectFrom table)
+unary_command Field field = Calls (text.Field field)
+unary_command (Where family) condition = Calls (text.Cond family (text.Raw condition))
 
 abbrev pub binary_command : Binary → List ℕ → List ℕ → CommandText
-binary_command (Compare family relation) field value = Call (text.Cond family (text.Compare relation field value))
+binary_command (Compare family relation) field value = Calls (text.Cond family (text.Compare relation field value))
 
 abbrev pub variadic_command : Variadic → List (List ℕ) → CommandText
-variadic_command Fields fields = Call (text.Fields fields)
+variadic_command Fields fields = Calls (text.Fields fields)
 
 -- what a name says of its arguments, if they fit
 abbrev pub command : Word → List (List ℕ) → Option CommandText

@@ -3,7 +3,7 @@ use Rattle.std.specs.Prelude.{ℕ, ◌-◌, List, [], ◌∷◌, ◌++◌, Bool,
 use Rattle.std.specs.List.{enumerate_from}
 use Rattle.sqlb.specs.Calls.{StartText, CallText, FinishText}
 use Rattle.sqlb.specs.Filters.{any_unfollowed, first, since, until}
-use Rattle.sqlb.specs.Lines.{lines, Said, Start, Call, Finish, said}
+use Rattle.sqlb.specs.Lines.{lines, Said, Starts, Calls, Finishes, said}
 use Rattle.sqlb.specs.Statement.{statement}
 use Rattle.sqlb.specs.declared.error.SqlBuilderError.{SqlBuilderError}
 use Rattle.sqlb.specs.declared.fault.Reason.{Reason}
@@ -15,19 +15,19 @@ pub record Opened : Type 0 where
   pub calls : List CallText
 
 abbrev pub start_in : Said → Option StartText
-start_in (Ok (Start start)) = Some start
+start_in (Ok (Starts start)) = Some start
 start_in _ = None
 
 abbrev pub call_in : Said → Option CallText
-call_in (Ok (Call call)) = Some call
+call_in (Ok (Calls call)) = Some call
 call_in _ = None
 
 abbrev pub is_start : Said → Bool
-is_start (Ok (Start start)) = true
+is_start (Ok (Starts start)) = true
 is_start _ = false
 
 abbrev pub is_finish : Said → Bool
-is_finish (Ok (Finish finish)) = true
+is_finish (Ok (Finishes finish)) = true
 is_finish _ = false
 
 -- whether the line behind these is inside a statement: some start line has no finish line behind it
@@ -50,12 +50,12 @@ finished (Err refusal) = Err (Builder refusal)
 -- what a line answers, by the statement that it is inside of: the first check that it fails, or the text that it finishes, if it finishes one
 abbrev pub answer : Option Opened → Said → Result (Option (List ℕ)) Reason
 answer inside (Err reason) = Err reason
-answer None (Ok (Start start)) = Ok None
-answer (Some inside) (Ok (Start start)) = Err StatementOpen
-answer None (Ok (Call call)) = Err NoStatement
-answer (Some inside) (Ok (Call call)) = Ok None
-answer None (Ok (Finish finish)) = Err NoStatement
-answer (Some inside) (Ok (Finish finish)) = finished (statement inside.start inside.calls finish)
+answer None (Ok (Starts start)) = Ok None
+answer (Some inside) (Ok (Starts start)) = Err StatementOpen
+answer None (Ok (Calls call)) = Err NoStatement
+answer (Some inside) (Ok (Calls call)) = Ok None
+answer None (Ok (Finishes finish)) = Err NoStatement
+answer (Some inside) (Ok (Finishes finish)) = finished (statement inside.start inside.calls finish)
 
 -- what line n answers, counted from 1
 abbrev pub answer_at : List Said → ℕ × Said → Result (Option (List ℕ)) Reason

@@ -5,7 +5,12 @@ mod builder;
 mod calls;
 mod error;
 mod fault;
+mod input;
+mod lines;
 mod names;
+mod output;
 mod printing;
+mod script;
+mod watched;
 
 fn main() {}

@@ -1,0 +1,176 @@
+//! Takes an input apart into lines, and reads what each says.
+ghost use Rattle.std.specs.Prelude.{◌≡◌, ◌==◌, ◌∷◌, ◌<◌, length, map, position, IfOk};
+ghost use Rattle.std.specs.List.{slice_split};
+ghost use Rattle.sqlb.specs.Builder.{texts};
+ghost use Rattle.sqlb.specs.Lines.{binary_command, lines, nullary_command, said, said_in, said_with, unary_command, variadic_command, words};
+ghost use Rattle.sqlb.specs.Script.{Answers, command_text};
+
+use crate::calls::{Call, Condition, Finish, Start};
+use crate::fault::Reason;
+use crate::names::{Binary, Nullary, Unary, Variadic, Word};
+use std::alloc::{AllocError, AllocFailed, Global};
+use std::str;
+
+/// What a line says.
+#[derive(Drop)]
+pub enum Command {
+    Start(Start),
+    Call(Call),
+    Finish(Finish),
+}
+
+/// Why a line is not run.
+#[derive(Debug, Drop)]
+pub enum LineError {
+    /// It is not accepted.
+    Refused(Reason),
+    /// A growth was refused.
+    Memory,
+}
+
+impl From<AllocError> for LineError {
+    ghost use Rattle.std.specs.Prelude.{◌≡◌};
+    ghost use Rattle.sqlb.specs.declared.lines.LineError.TheVariants.{Memory};
+
+    ghost from_gives = { λ _ error. error ≡ Memory };
+
+    fn from(_: AllocError) -> LineError {
+        LineError::Memory
+    }
+}
+
+impl<T: Drop> From<AllocFailed<T>> for LineError {
+    ghost use Rattle.std.specs.Prelude.{◌≡◌};
+    ghost use Rattle.sqlb.specs.declared.lines.LineError.TheVariants.{Memory};
+
+    ghost from_gives = { λ _ error. error ≡ Memory };
+
+    fn from(_: AllocFailed<T>) -> LineError {
+        LineError::Memory
+    }
+}
+
+fn find_line_feed(text: &[u8]) -> Option<usize>
+    ensures { result ≡ position (λ byte. byte == 10) text.now }
+{
+    text.iter().position(|byte| *byte == b'\n')
+}
+
+/// The first line of a text, and the text behind its line feed.
+pub fn split_line(text: &[u8]) -> (&[u8], &[u8])
+    requires { 0 < length text.now }
+    ensures lines { lines text.now ≡ result.0.now ∷ lines result.1.now }
+    ensures shorter { length result.1.now < length text.now }
+{
+    match find_line_feed(text) {
+        Some(end) => (&text[..end], &text[end + 1..]),
+        None => (text, &[]),
+    }
+}
+
+fn split_words(alloc: Global, line: &str) -> Result<Vec<&str>, AllocError>
+    ensures { IfOk result (λ parts. map (λ part. part.now) parts.items ≡ words line.now) }
+{
+    line.split('\t').collect(alloc)
+}
+
+fn owned(alloc: Global, items: &[&str]) -> Result<Vec<String>, AllocError>
+    ensures { IfOk result (λ copied. texts copied.items ≡ map (λ item. item.now) items.now) }
+{
+    let mut copied = Vec::with_capacity(alloc, items.len())?;
+    for item in items {
+        copied.push(String::from_str(alloc, item)?)?;
+    }
+    Ok(copied)
+}
+
+impl Nullary {
+    fn command(self) -> Command
+        ensures { command_text result ≡ nullary_command self }
+    {
+        match self {
+            Nullary::Sql => Command::Finish(Finish::Sql),
+        }
+    }
+}
+
+impl Unary {
+    fn command(self, alloc: Global, argument: &str) -> Result<Command, AllocError>
+        ensures { IfOk result (λ c. command_text c ≡ unary_command self argument.now) }
+    {
+        let argument = String::from_str(alloc, argument)?;
+        Ok(match self {
+            Unary::SelectFrom => Command::Start(Start::SelectFrom(argument)),
+            Unary::Field => Command::Call(Call::Field(argument)),
+            Unary::Where(family) => Command::Call(Call::Cond(family, Condition::Raw(argument))),
+        })
+    }
+}
+
+impl Binary {
+    fn command(self, alloc: Global, first: &str, second: &str) -> Result<Command, AllocError>
+        ensures { IfOk result (λ c. command_text c ≡ binary_command self first.now second.now) }
+    {
+        let first = String::from_str(alloc, first)?;
+        let second = String::from_str(alloc, second)?;
+        Ok(match self {
+            Binary::Compare(family, relation) => {
+                let condition = Condition::Compare(relation, first, second);
+                Command::Call(Call::Cond(family, condition))
+            }
+        })
+    }
+}
+
+impl Variadic {
+    fn command(self, alloc: Global, arguments: &[&str]) -> Result<Command, AllocError>
+        ensures { IfOk result (λ c. command_text c
+            ≡ variadic_command self (map (λ argument. argument.now) arguments.now)) }
+    {
+        let arguments = owned(alloc, arguments)?;
+        Ok(match self {
+            Variadic::Fields => Command::Call(Call::Fields(arguments)),
+        })
+    }
+}
+
+fn read_arguments(
+    alloc: Global,
+    word: Option<Word>,
+    arguments: &[&str],
+) -> Result<Command, LineError>
+    ensures { Answers command_text result
+        (said_with word (map (λ argument. argument.now) arguments.now)) }
+{
+    let Some(word) = word else {
+        return Err(LineError::Refused(Reason::UnknownCall));
+    };
+    match (word, arguments) {
+        (Word::Nullary(word), []) => Ok(word.command()),
+        (Word::Unary(word), [argument]) => Ok(word.command(alloc, argument)?),
+        (Word::Binary(word), [first, second]) => Ok(word.command(alloc, first, second)?),
+        (Word::Variadic(word), _) => Ok(word.command(alloc, arguments)?),
+        _ => Err(LineError::Refused(Reason::WrongArguments)),
+    }
+}
+
+fn read_words(alloc: Global, text: &str) -> Result<Command, LineError>
+    ensures { Answers command_text result (said_in text.now) }
+{
+    let parts = split_words(alloc, text)?;
+    let Some((name, arguments)) = parts.split_first() else {
+        return Err(LineError::Refused(Reason::UnknownCall));
+    };
+    read_arguments(alloc, Word::named(name), arguments)
+}
+
+/// What a line says. It is refused with `NotUtf8`, `UnknownCall` or `WrongArguments`, the first
+/// of them that holds.
+pub fn read_line(alloc: Global, line: &[u8]) -> Result<Command, LineError>
+    ensures { Answers command_text result (said line.now) }
+{
+    match str::from_utf8(line) {
+        Ok(text) => read_words(alloc, text),
+        Err(_) => Err(LineError::Refused(Reason::NotUtf8)),
+    }
+}

@@ -1,0 +1,83 @@
+//! Writes texts and faults.
+ghost use Rattle.std.specs.Prelude.{◌≡◌, ◌≤◌, ◌↔◌, ℕ, List, ◌++◌, true, false, flat_map, codes, decimal, drop, IsErr, IfErr};
+ghost use Rattle.std.specs.Io.KnownBytes.{Appends};
+ghost use Rattle.sqlb.specs.Device.{Wrote};
+ghost use Rattle.sqlb.specs.Fault.{fault_text};
+
+use crate::fault::Fault;
+use crate::watched::Watched;
+use std::io::Write;
+
+/// Writes all the bytes, and stops at the first write that fails.
+pub fn write_all<W: Write>(output: &mut Watched<W>, bytes: &[u8]) -> Result<(), Fault>
+    requires { output.old.failed ≡ false }
+    ensures wrote { (written : List ℕ) × Appends (W.contents output.old.inner)
+        (W.contents output.new.inner) written × Wrote result written bytes.now output.new.failed }
+    ensures ended { output.new.ended ≡ output.old.ended }
+{
+    let mut rest = bytes;
+    'pieces: while !rest.is_empty() {
+        match output.write_on(rest) {
+            Ok(0) | Err(_) => return Err(Fault::Write),
+            Ok(n) => rest = &rest[n..],
+        }
+    }
+    Ok(())
+}
+
+/// Writes all the parts, one after another, and stops at the first write that fails.
+pub fn write_parts<W: Write>(output: &mut Watched<W>, parts: &[&[u8]]) -> Result<(), Fault>
+    requires { output.old.failed ≡ false }
+    ensures wrote { (written : List ℕ) × Appends (W.contents output.old.inner)
+        (W.contents output.new.inner) written
+        × Wrote result written (flat_map (λ part. part.now) parts.now) output.new.failed }
+    ensures ended { output.new.ended ≡ output.old.ended }
+{
+    for part in parts {
+        write_all(output, part)?;
+    }
+    Ok(())
+}
+
+/// The most digits that a `usize` has.
+const MOST_DIGITS: usize = 20;
+
+// Writes the decimal digits of the number at the end of `digits`, and gives where they begin.
+// They don't go through `Display`, since nothing says that it succeeds.
+fn write_digits(number: usize, digits: &mut [u8; MOST_DIGITS]) -> usize
+    ensures digits { drop result digits.new ≡ decimal number }
+    ensures within { result ≤ 20 }
+{
+    let mut start = MOST_DIGITS;
+    let mut rest = number;
+    'digits: loop {
+        start -= 1;
+        digits[start] = b'0' + (rest % 10) as u8;
+        rest /= 10;
+        if rest == 0 {
+            return start;
+        }
+    }
+}
+
+/// Writes the fault as a line. It takes no memory; its only fault is `Write`, where the writer
+/// failed, and then a beginning of the line is written.
+pub fn write_fault<W: Write>(fault: &Fault, output: &mut Watched<W>) -> Result<(), Fault>
+    requires { output.old.failed ≡ false }
+    ensures wrote { (written : List ℕ) × Appends (W.contents output.old.inner)
+        (W.contents output.new.inner) written
+        × Wrote result written (fault_text fault.now ++ codes "\n") output.new.failed }
+    ensures ended { output.new.ended ≡ output.old.ended }
+{
+    match fault {
+        Fault::At(line, reason) => {
+            let mut digits = [0; MOST_DIGITS];
+            let start = write_digits(*line, &mut digits);
+            let reason = reason.message().as_bytes();
+            write_parts(output, &[b"line ", &digits[start..], b": ", reason, b"\n"])
+        }
+        Fault::Memory => write_all(output, b"Out of memory\n"),
+        Fault::Read => write_all(output, b"read failed\n"),
+        Fault::Write => write_all(output, b"write failed\n"),
+    }
+}
