@@ -11,5 +11,7 @@ pub mod Rows
 pub mod Runs
 pub mod Said
 pub mod Snoc
+pub mod SoFar
 pub mod Tables
+pub mod Unread
 pub mod Walking

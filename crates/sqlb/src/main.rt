@@ -10,6 +10,7 @@ mod lines;
 mod names;
 mod output;
 mod printing;
+mod run;
 mod script;
 mod watched;
 

@@ -9,15 +9,15 @@ use crate::watched::Watched;
 use std::io::Write;
 
 /// Writes all the bytes, and stops at the first write that fails.
-pub fn write_all<W: Write>(output: &mut Watched<W>, bytes: &[u8]) -> Result<(), Fault>
-    requires { output.old.failed ≡ false }
-    ensures wrote { (written : List ℕ) × Appends (W.contents output.old.inner)
-        (W.contents output.new.inner) written × Wrote result written bytes.now output.new.failed }
-    ensures ended { output.new.ended ≡ output.old.ended }
+pub fn write_all<W: Write>(writer: &mut Watched<W>, bytes: &[u8]) -> Result<(), Fault>
+    requires { writer.old.failed ≡ false }
+    ensures wrote { (written : List ℕ) × Appends (W.contents writer.old.inner)
+        (W.contents writer.new.inner) written × Wrote result written bytes.now writer.new.failed }
+    ensures ended { writer.new.ended ≡ writer.old.ended }
 {
     let mut rest = bytes;
     'pieces: while !rest.is_empty() {
-        match output.write_on(rest) {
+        match writer.write_on(rest) {
             Ok(0) | Err(_) => return Err(Fault::Write),
             Ok(n) => rest = &rest[n..],
         }
@@ -26,15 +26,15 @@ pub fn write_all<W: Write>(output: &mut Watched<W>, bytes: &[u8]) -> Result<(), 
 }
 
 /// Writes all the parts, one after another, and stops at the first write that fails.
-pub fn write_parts<W: Write>(output: &mut Watched<W>, parts: &[&[u8]]) -> Result<(), Fault>
-    requires { output.old.failed ≡ false }
-    ensures wrote { (written : List ℕ) × Appends (W.contents output.old.inner)
-        (W.contents output.new.inner) written
-        × Wrote result written (flat_map (λ part. part.now) parts.now) output.new.failed }
-    ensures ended { output.new.ended ≡ output.old.ended }
+pub fn write_parts<W: Write>(writer: &mut Watched<W>, parts: &[&[u8]]) -> Result<(), Fault>
+    requires { writer.old.failed ≡ false }
+    ensures wrote { (written : List ℕ) × Appends (W.contents writer.old.inner)
+        (W.contents writer.new.inner) written
+        × Wrote result written (flat_map (λ part. part.now) parts.now) writer.new.failed }
+    ensures ended { writer.new.ended ≡ writer.old.ended }
 {
     for part in parts {
-        write_all(output, part)?;
+        write_all(writer, part)?;
     }
     Ok(())
 }
@@ -62,22 +62,22 @@ fn write_digits(number: usize, digits: &mut [u8; MOST_DIGITS]) -> usize
 
 /// Writes the fault as a line. It takes no memory; its only fault is `Write`, where the writer
 /// failed, and then a beginning of the line is written.
-pub fn write_fault<W: Write>(fault: &Fault, output: &mut Watched<W>) -> Result<(), Fault>
-    requires { output.old.failed ≡ false }
-    ensures wrote { (written : List ℕ) × Appends (W.contents output.old.inner)
-        (W.contents output.new.inner) written
-        × Wrote result written (fault_text fault.now ++ codes "\n") output.new.failed }
-    ensures ended { output.new.ended ≡ output.old.ended }
+pub fn write_fault<W: Write>(fault: &Fault, writer: &mut Watched<W>) -> Result<(), Fault>
+    requires { writer.old.failed ≡ false }
+    ensures wrote { (written : List ℕ) × Appends (W.contents writer.old.inner)
+        (W.contents writer.new.inner) written
+        × Wrote result written (fault_text fault.now ++ codes "\n") writer.new.failed }
+    ensures ended { writer.new.ended ≡ writer.old.ended }
 {
     match fault {
         Fault::At(line, reason) => {
             let mut digits = [0; MOST_DIGITS];
             let start = write_digits(*line, &mut digits);
             let reason = reason.message().as_bytes();
-            write_parts(output, &[b"line ", &digits[start..], b": ", reason, b"\n"])
+            write_parts(writer, &[b"line ", &digits[start..], b": ", reason, b"\n"])
         }
-        Fault::Memory => write_all(output, b"Out of memory\n"),
-        Fault::Read => write_all(output, b"read failed\n"),
-        Fault::Write => write_all(output, b"write failed\n"),
+        Fault::Memory => write_all(writer, b"Out of memory\n"),
+        Fault::Read => write_all(writer, b"read failed\n"),
+        Fault::Write => write_all(writer, b"write failed\n"),
     }
 }

@@ -1,0 +1,70 @@
+//! Runs an input, from its bytes to the statements that it prints.
+ghost use Rattle.std.specs.Prelude.{◌≡◌, ◌↔◌, ℕ, List, true, false, IsErrOf};
+ghost use Rattle.std.specs.Io.KnownBytes.{Appends, Consumes, IsAtEnd};
+ghost use Rattle.sqlb.specs.Output.{output};
+ghost use Rattle.sqlb.specs.Ran.{EndsUnlessStopped, FailsOnlyToWrite, Ran};
+
+use crate::fault::{Fault, Reason};
+use crate::input::read_all;
+use crate::lines::{LineError, split_line};
+use crate::output::write_parts;
+use crate::script::Script;
+use crate::watched::Watched;
+use std::alloc::Global;
+use std::io::{Read, Write};
+
+// Runs the lines of a text, and writes each statement where it is finished.
+fn run_lines<W: Write>(alloc: Global, text: &[u8], writer: &mut Watched<W>) -> Result<(), Fault>
+    requires { writer.old.failed ≡ false }
+    ensures ran { (written : List ℕ) × Appends (W.contents writer.old.inner)
+        (W.contents writer.new.inner) written × Ran result written (output text.now) }
+    ensures failed { FailsOnlyToWrite result writer.new.failed }
+    ensures ended { writer.new.ended ≡ writer.old.ended }
+{
+    let mut script = Script::new();
+    let mut number = 0;
+    let mut rest = text;
+    'lines: while !rest.is_empty() {
+        let (line, behind) = split_line(rest);
+        number += 1;
+        rest = behind;
+        match script.take_line(alloc, line) {
+            Ok(Some(statement)) => write_parts(writer, &[statement.as_bytes(), b"\n"])?,
+            Ok(None) => {}
+            Err(LineError::Refused(reason)) => return Err(Fault::At(number, reason)),
+            Err(LineError::Memory) => return Err(Fault::Memory),
+        }
+    }
+    if script.is_open() {
+        return Err(Fault::At(number, Reason::NoEnd));
+    }
+    Ok(())
+}
+
+/// Reads the whole input, runs its lines, and writes each finished statement and a line feed.
+/// The first fault ends the run, with the statements before it written. No read or write is
+/// tried again after an error. A reader that never ends is answered `Memory`.
+pub fn run_input<R: Read, W: Write>(
+    alloc: Global,
+    reader: &mut Watched<R>,
+    writer: &mut Watched<W>,
+) -> Result<(), Fault>
+    requires reader_whole { reader.old.failed ≡ false }
+    requires reader_unended { reader.old.ended ≡ false }
+    requires writer_whole { writer.old.failed ≡ false }
+
+    // Some bytes were read, and what is written agrees with what they say to print.
+    ensures ran { (taken : List ℕ) × (written : List ℕ)
+        × Consumes (R.remaining reader.old.inner) (R.remaining reader.new.inner) taken
+        × Appends (W.contents writer.old.inner) (W.contents writer.new.inner) written
+        × Ran result written (output taken)
+        × EndsUnlessStopped result written reader.new.ended }
+    ensures end { reader.new.ended ≡ true → IsAtEnd (R.remaining reader.new.inner) }
+
+    // A device's fault is answered exactly where that device has failed.
+    ensures read { IsErrOf result Fault.Read ↔ (reader.new.failed ≡ true) }
+    ensures write { IsErrOf result Fault.Write ↔ (writer.new.failed ≡ true) }
+{
+    let text = read_all(alloc, reader)?;
+    run_lines(alloc, &text, writer)
+}
