@@ -233,8 +233,11 @@ module _ (old new : Option (List ℕ)) (text : List ℕ) (number : ℕ) (script 
         → (part : List ℕ) × Appends new newer part × Wrote {T = Unit {0}} (Err fault) part (t ++ codes "\n") failed → result ≡ Err fault
         → (written : List ℕ) × Appends old newer written × Ran result written (output text)
     fails-in newer t Write result failed accepts wrote is =
-        rw is (joined_texts so_far.texts ++ wrote.0, Appends-trans old new newer (joined_texts so_far.texts) wrote.0 so_far.written wrote.1,
-        stops-in t wrote.0 accepts (subst (λ (all : List ℕ). StartsWith all wrote.0) (line_text t) wrote.2.0))
+        rw is (
+          joined_texts so_far.texts ++ wrote.0,
+          Appends-trans old new newer (joined_texts so_far.texts) wrote.0 so_far.written wrote.1,
+          stops-in t wrote.0 accepts (subst (λ (all : List ℕ). StartsWith all wrote.0) (line_text t) wrote.2.0),
+        )
     fails-in newer t Read result failed accepts wrote is = absurd wrote.2
     fails-in newer t Memory result failed accepts wrote is = absurd wrote.2
     fails-in newer t (At n reason) result failed accepts wrote is = absurd wrote.2

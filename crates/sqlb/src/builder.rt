@@ -29,9 +29,9 @@ impl Model for SqlBuilder {
     ghost Value = { Clauses (List ℕ) };
 
     ghost view = { λ b. record {
-        table = string_bytes b.table;
-        fields = texts b.fields.items;
-        groups = texts b.groups.items;
+      table = string_bytes b.table;
+      fields = texts b.fields.items;
+      groups = texts b.groups.items;
     } };
 }
 
@@ -53,7 +53,9 @@ pub(crate) enum ListClause {
 #[derive(Drop)]
 pub(crate) struct Held<'a>(&'a mut SqlBuilder);
 
-pub(crate) fn release(held: Result<Held<'_>, SqlBuilderError>) -> Result<&mut SqlBuilder, SqlBuilderError>
+pub(crate) fn release(
+    held: Result<Held<'_>, SqlBuilderError>,
+) -> Result<&mut SqlBuilder, SqlBuilderError>
     ensures { result ≡ released held.entry }
 {
     match held {
@@ -141,7 +143,11 @@ impl SqlBuilder {
         Ok(())
     }
 
-    pub(crate) fn hold_text(&mut self, clause: TextClause, text: &str) -> Result<Held<'_>, SqlBuilderError>
+    pub(crate) fn hold_text(
+        &mut self,
+        clause: TextClause,
+        text: &str,
+    ) -> Result<Held<'_>, SqlBuilderError>
         ensures* refused { sem 𝓛 (IsUnchangedIfHeldErr self.entry result) }
         ensures told { IsHeldTold self.entry (with_text clause text.now self.old) result }
         ensures memory { FailsOnlyByMemory result }
@@ -156,7 +162,11 @@ impl SqlBuilder {
         Ok(Held(self))
     }
 
-    pub(crate) fn hold_texts(&mut self, clause: ListClause, items: &[&str]) -> Result<Held<'_>, SqlBuilderError>
+    pub(crate) fn hold_texts(
+        &mut self,
+        clause: ListClause,
+        items: &[&str],
+    ) -> Result<Held<'_>, SqlBuilderError>
         ensures* refused { sem 𝓛 (IsUnchangedIfHeldErr self.entry result) }
         ensures told { IsHeldTold self.entry (with_texts clause (map (λ item. item.now) items.now) self.old) result }
         ensures memory { FailsOnlyByMemory result }

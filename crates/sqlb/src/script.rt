@@ -32,8 +32,8 @@ impl Model for Script {
     ghost Value = { Option Opened };
 
     ghost view = { λ s. option_map (λ statement. record {
-        start = start_text statement.start;
-        calls = map call_text statement.calls.items;
+      start = start_text statement.start;
+      calls = map call_text statement.calls.items;
     }) s.statement };
 }
 

@@ -25,7 +25,7 @@ lines-preserved-in-Ok-Some g c =
       c.write_parts.ensures.ended ∙ c.lines.invariant.1,
       omega (arith, c.lines.invariant.2, c.split_line.ensures.shorter),
       so_far-next _ _ _ _ _ _ c.lines.invariant.3 _ c.split_line.result.1.now c.split_line.ensures.lines _ _ _ accepts c.in-Ok-Some.ensures.after
-      (subst (Appends _ _) (wrote.2.0 ∙ line_text _) wrote.1),
+          (subst (Appends _ _) (wrote.2.0 ∙ line_text _) wrote.1),
     )
 
 pub lines-preserved : goal.lines-preserved
@@ -43,8 +43,10 @@ returns-in-Err-Refused-clause-ran g c =
     let refused = rw c.in-Err-Refused.field-0-is at c.in-Err-Refused.ensures.answer in (
       joined_texts so_far.texts,
       so_far.written,
-      (rw c.in-Err-Refused.field-0-is (refused-fault _ _ _ _ _ _ so_far _ c.split_line.result.1.now c.split_line.ensures.lines _ refused),
-      refused-written _ _ _ _ _ _ so_far _ c.split_line.result.1.now c.split_line.ensures.lines _ refused),
+      (
+        rw c.in-Err-Refused.field-0-is (refused-fault _ _ _ _ _ _ so_far _ c.split_line.result.1.now c.split_line.ensures.lines _ refused),
+        refused-written _ _ _ _ _ _ so_far _ c.split_line.result.1.now c.split_line.ensures.lines _ refused,
+      ),
     )
 
 pub returns-in-Err-Memory-clause-ran : goal.returns-in-Err-Memory-clause-ran

@@ -1,0 +1,396 @@
+//! What no clause says: that calls succeed where there is memory, what is printed, and what a run
+//! does where a reader or a writer fails.
+ghost use Rattle.std.specs.Prelude.{◌<◌, ◌≤◌};
+
+use crate::builder::SqlBuilder;
+use crate::calls::{Call, Condition, Family, Finish, Relation, Start, run};
+use crate::error::SqlBuilderError;
+use crate::fault::{Fault, Reason};
+use crate::output::write_fault;
+use crate::run::run_input;
+use crate::watched::Watched;
+use std::alloc::{AllocError, Global};
+use std::io;
+use std::io::{ErrorKind, Read, Write};
+use std::process::Abort;
+use std::test::Fail;
+
+/// Gives a few bytes a call, and fails at one call alone.
+#[derive(Drop)]
+struct Slow<'a> {
+    rest: &'a [u8],
+    step: usize,
+    calls: usize,
+    fails_at: usize,
+    ghost moves: { 0 < step },
+}
+
+impl<'a> Slow<'a> {
+    fn new(rest: &'a [u8], step: usize, fails_at: usize) -> Self
+        requires { 0 < step }
+    {
+        Slow {
+            rest,
+            step,
+            calls: 0,
+            fails_at,
+        }
+    }
+}
+
+impl<'a> Read for Slow<'a> {
+    ghost use Rattle.std.specs.Prelude.{Some};
+
+    ghost remaining = { λ s. Some s.rest.now };
+
+    fn read(&mut self, buf: &mut [u8]) -> io::Result<usize> {
+        self.calls = self.calls.saturating_add(1);
+        if self.calls == self.fails_at {
+            return Err(io::Error::from(ErrorKind::BrokenPipe));
+        }
+        let count = self.step.min(buf.len()).min(self.rest.len());
+        let (front, back) = self.rest.split_at(count);
+        buf[..count].copy_from_slice(front);
+        self.rest = back;
+        Ok(count)
+    }
+}
+
+const HELD: usize = 128;
+
+/// Takes a few bytes a call into a few places, and fails at one call alone.
+#[derive(Drop)]
+struct Small {
+    bytes: [u8; HELD],
+    len: usize,
+    room: usize,
+    step: usize,
+    calls: usize,
+    fails_at: usize,
+    ghost fits: { (len ≤ room) × (room ≤ 128) },
+}
+
+impl Small {
+    fn new(room: usize, step: usize, fails_at: usize) -> Self
+        requires { room ≤ 128 }
+    {
+        Small {
+            bytes: [0; HELD],
+            len: 0,
+            room,
+            step,
+            calls: 0,
+            fails_at,
+        }
+    }
+
+    fn held(&self) -> &[u8] {
+        &self.bytes[..self.len]
+    }
+}
+
+impl Write for Small {
+    ghost use Rattle.std.specs.Prelude.{Some, take};
+
+    ghost contents = { λ s. Some (take s.len s.bytes) };
+
+    fn write(&mut self, buf: &[u8]) -> io::Result<usize> {
+        self.calls = self.calls.saturating_add(1);
+        if self.calls == self.fails_at {
+            return Err(io::Error::from(ErrorKind::StorageFull));
+        }
+        let count = self.step.min(buf.len()).min(self.room - self.len);
+        let end = self.len + count;
+        self.bytes[self.len..end].copy_from_slice(&buf[..count]);
+        self.len = end;
+        Ok(count)
+    }
+
+    fn flush(&mut self) -> io::Result<()> {
+        Ok(())
+    }
+}
+
+/// An input, what it prints, the line of its fault, and the exit status.
+type Row = (&'static [u8], &'static [u8], &'static [u8], u8);
+
+const ROWS: [Row; 18] = [
+    (
+        b"select_from\tcompany\nfield\tid\nfield\tname\nand_where_gt\tsalary\t25000\nsql\n",
+        b"SELECT id, name FROM company WHERE salary > 25000;\n",
+        b"",
+        0,
+    ),
+    (
+        b"select_from\tt\nsql\nfrobnicate\n",
+        b"SELECT * FROM t;\n",
+        b"line 3: unknown call\n",
+        1,
+    ),
+    (b"select_from\tt\n", b"", b"line 1: no end\n", 1),
+    (b"sql\n", b"", b"line 1: no statement\n", 1),
+    (
+        b"select_from\ta\nselect_from\tb\n",
+        b"",
+        b"line 2: statement open\n",
+        1,
+    ),
+    (b"select_from\t\nsql\n", b"", b"line 2: No table name\n", 1),
+    (b"\xff", b"", b"line 1: not UTF-8\n", 1),
+    (b"", b"", b"", 0),
+    (b"limit\n", b"", b"line 1: unknown call\n", 1),
+    (b"field\n", b"", b"line 1: wrong arguments\n", 1),
+    (b"\nsql\n", b"", b"line 1: unknown call\n", 1),
+    (
+        b"select_from\tt\nand_where\ta\nand_where\tb\nsql\n",
+        b"SELECT * FROM t WHERE (a) AND (b);\n",
+        b"",
+        0,
+    ),
+    (
+        b"select_from\tt\nfields\nsql\n",
+        b"SELECT * FROM t;\n",
+        b"",
+        0,
+    ),
+    (
+        b"select_from\tt\nfields\t\nsql\n",
+        b"SELECT  FROM t;\n",
+        b"",
+        0,
+    ),
+    // The last line needs no line feed; a carriage return is an ordinary character.
+    (
+        b"select_from\tt\nfields\ta\tb\nfield\t\xc3\xa9\r\nsql",
+        b"SELECT a, b, \xc3\xa9\r FROM t;\n",
+        b"",
+        0,
+    ),
+    (
+        b"select_from\tt\nsql\r\n",
+        b"",
+        b"line 2: unknown call\n",
+        1,
+    ),
+    // A line that is not UTF-8 does not hide an earlier fault.
+    (b"frobnicate\n\xff\n", b"", b"line 1: unknown call\n", 1),
+    (
+        b"select_from\tt\nsql\n\xe2\x82",
+        b"SELECT * FROM t;\n",
+        b"line 3: not UTF-8\n",
+        1,
+    ),
+];
+
+/// What is printed of a fault, and its exit status.
+fn fault_line(alloc: Global, answer: Result<(), Fault>) -> (Vec<u8>, u8) {
+    let mut line = Watched::new(Vec::new(alloc));
+    let status = match answer {
+        Ok(()) => 0,
+        Err(fault) => {
+            let _ = write_fault(&fault, &mut line);
+            fault.status()
+        }
+    };
+    (line.into_inner(), status)
+}
+
+#[test]
+fn prints_what_the_lines_say(rt: HostRuntime) -> Result<(), Fail> {
+    for (row, (input, prints, fault, status)) in ROWS.iter().enumerate() {
+        for step in [1, 7, 4096] {
+            let mut reader = Watched::new(Slow::new(input, step, 0));
+            let mut writer = Watched::new(Vec::new(rt.alloc()));
+            let answer = run_input(rt.alloc(), &mut reader, &mut writer);
+            assert!(rt;
+                reader.ended() && !reader.failed() && !writer.failed(),
+                "row {row}"
+            );
+            assert_eq!(rt; writer.into_inner().as_slice(), *prints, "row {row}");
+            let (line, exit) = fault_line(rt.alloc(), answer);
+            assert_eq!(rt; line.as_slice(), *fault, "row {row}");
+            assert_eq!(rt; exit, *status, "row {row}");
+        }
+    }
+    Ok(())
+}
+
+const TWO: &[u8] = b"select_from\tt\nsql\nselect_from\tbooks\nfield\ttitle\nsql\n";
+
+const TWO_PRINTS: &[u8] = b"SELECT * FROM t;\nSELECT title FROM books;\n";
+
+#[test]
+fn a_read_that_fails_ends_the_run(rt: HostRuntime) -> Result<(), Fail> {
+    for at in 1..=9 {
+        let mut reader = Watched::new(Slow::new(TWO, 7, at));
+        let mut writer = Watched::new(Small::new(HELD, HELD, 0));
+        let answer = run_input(rt.alloc(), &mut reader, &mut writer);
+        assert!(rt;
+            reader.failed() && !reader.ended() && !writer.failed(),
+            "at {at}"
+        );
+        // No read is tried again, and nothing is written.
+        assert_eq!(rt; reader.into_inner().calls, at);
+        assert_eq!(rt; writer.into_inner().calls, 0);
+        let (line, exit) = fault_line(rt.alloc(), answer);
+        assert_eq!(rt; line.as_slice(), b"read failed\n".as_slice(), "at {at}");
+        assert_eq!(rt; exit, 2, "at {at}");
+    }
+    Ok(())
+}
+
+#[test]
+fn a_write_that_fails_ends_the_run(rt: HostRuntime) -> Result<(), Fail> {
+    for at in 1..=9 {
+        let mut reader = Watched::new(TWO);
+        let mut writer = Watched::new(Small::new(HELD, 5, at));
+        let answer = run_input(rt.alloc(), &mut reader, &mut writer);
+        assert!(rt; reader.ended() && writer.failed(), "at {at}");
+        let writer = writer.into_inner();
+        // No write is tried again, and a beginning is written.
+        assert_eq!(rt; writer.calls, at);
+        assert!(rt; TWO_PRINTS.starts_with(writer.held()), "at {at}");
+        let (line, exit) = fault_line(rt.alloc(), answer);
+        assert_eq!(rt; line.as_slice(), b"write failed\n".as_slice(), "at {at}");
+        assert_eq!(rt; exit, 2, "at {at}");
+    }
+    Ok(())
+}
+
+#[test]
+fn a_writer_that_is_full_fails_the_run(rt: HostRuntime) -> Result<(), Fail> {
+    for room in [0, 1, 16, 17, 41] {
+        let mut reader = Watched::new(TWO);
+        let mut writer = Watched::new(Small::new(room, 2, 0));
+        let answer = run_input(rt.alloc(), &mut reader, &mut writer);
+        assert!(rt; matches!(&answer, Err(Fault::Write)), "room {room}");
+        assert!(rt; writer.failed(), "room {room}");
+        assert!(rt;
+            TWO_PRINTS.starts_with(writer.into_inner().held()),
+            "room {room}"
+        );
+    }
+    Ok(())
+}
+
+#[test]
+fn a_writer_that_takes_a_byte_a_time_gets_all(rt: HostRuntime) -> Result<(), Fail> {
+    let mut reader = Watched::new(TWO);
+    let mut writer = Watched::new(Small::new(HELD, 1, 0));
+    let answer = run_input(rt.alloc(), &mut reader, &mut writer);
+    assert!(rt; answer.is_ok());
+    assert_eq!(rt; writer.into_inner().held(), TWO_PRINTS);
+    Ok(())
+}
+
+#[test]
+fn prints_a_fault_as_one_line(rt: HostRuntime) -> Result<(), Fail> {
+    let fault = Fault::At(
+        usize::MAX,
+        Reason::Builder(SqlBuilderError::Memory(AllocError)),
+    );
+    let line: &[u8] = b"line 18446744073709551615: Out of memory\n";
+    let mut writer = Watched::new(Small::new(HELD, 3, 0));
+    assert!(rt; write_fault(&fault, &mut writer).is_ok());
+    assert_eq!(rt; writer.into_inner().held(), line);
+    for room in 0..41 {
+        let mut writer = Watched::new(Small::new(room, 3, 0));
+        assert!(rt;
+            matches!(write_fault(&fault, &mut writer), Err(Fault::Write)),
+            "room {room}"
+        );
+        assert!(rt;
+            writer.failed() && line.starts_with(writer.into_inner().held()),
+            "room {room}"
+        );
+    }
+    let (line, exit) = fault_line(rt.alloc(), Err(Fault::Memory));
+    assert_eq!(rt; line.as_slice(), b"Out of memory\n".as_slice());
+    assert_eq!(rt; exit, 1);
+    Ok(())
+}
+
+#[test]
+fn watched_gives_the_answers_of_what_it_holds(rt: HostRuntime) -> Result<(), Fail> {
+    let mut buf = [0; 4];
+    let mut reader = Watched::new(Slow::new(b"abcdef", 3, 2));
+    assert!(rt; !reader.failed() && !reader.ended());
+    assert_eq!(rt; reader.read(&mut buf)?, 3);
+    assert_eq!(rt; &buf[..3], b"abc".as_slice());
+    assert_eq!(rt;
+        reader.read(&mut buf).map_err(|e| e.kind()),
+        Err(ErrorKind::BrokenPipe)
+    );
+    assert!(rt; reader.failed() && !reader.ended());
+    // No room is no end, and the flags stay as they are.
+    assert_eq!(rt; reader.read(&mut [])?, 0);
+    assert!(rt; reader.failed() && !reader.ended());
+    assert_eq!(rt; reader.read(&mut buf)?, 3);
+    assert_eq!(rt; reader.read(&mut buf)?, 0);
+    assert!(rt; reader.failed() && reader.ended());
+
+    let mut writer = Watched::new(Small::new(4, 3, 2));
+    assert_eq!(rt; writer.write(b"")?, 0);
+    assert!(rt; !writer.failed());
+    assert_eq!(rt;
+        writer.write(b"abcd").map_err(|e| e.kind()),
+        Err(ErrorKind::StorageFull)
+    );
+    assert!(rt; writer.failed() && !writer.ended());
+    assert_eq!(rt; writer.write(b"abcd")?, 3);
+    assert_eq!(rt; writer.into_inner().held(), b"abc".as_slice());
+
+    let mut full = Watched::new(Small::new(0, 3, 0));
+    assert_eq!(rt; full.write(b"a")?, 0);
+    assert!(rt; full.failed());
+    Ok(())
+}
+
+#[test]
+fn builds_a_statement_by_a_chain(rt: HostRuntime) -> Result<(), Fail> {
+    let text = SqlBuilder::select_from(rt.alloc(), "company")?
+        .field("id")?
+        .fields(&["name", "age"])?
+        .and_where_gt("salary", "25000")?
+        .and_where("age < 30 OR age > 60")?
+        .sql()?;
+    let wanted =
+        "SELECT id, name, age FROM company WHERE (salary > 25000) AND (age < 30 OR age > 60);";
+    assert_eq!(rt; text.as_str(), wanted);
+    Ok(())
+}
+
+#[test]
+fn a_statement_is_refused_by_name(rt: HostRuntime) -> Result<(), Fail> {
+    let refusal = SqlBuilder::select_from(rt.alloc(), "")?.sql();
+    assert!(rt; matches!(&refusal, Err(SqlBuilderError::NoTableName)));
+    for (error, message) in [
+        (SqlBuilderError::NoTableName, "No table name"),
+        (SqlBuilderError::from(AllocError), "Out of memory"),
+    ] {
+        assert_eq!(rt; error.message(), message);
+        assert_eq!(rt; format!(in rt.alloc(); "{error}")?.as_str(), message);
+    }
+    Ok(())
+}
+
+#[test]
+fn runs_a_list_of_calls(rt: HostRuntime) -> Result<(), Fail> {
+    let text = |s: &str| String::from_str(rt.alloc(), s);
+    let calls = vec![in rt.alloc();
+        Call::Fields(vec![in rt.alloc(); text("a")?, text("b")?]?),
+        Call::Field(text("c")?),
+        Call::Cond(Family::And, Condition::Raw(text("d")?)),
+        Call::Cond(
+            Family::And,
+            Condition::Compare(Relation::Gt, text("e")?, text("1")?)
+        ),
+    ]?;
+    let start = Start::SelectFrom(text("t")?);
+    let statement = run(rt.alloc(), &start, &calls, &Finish::Sql)?;
+    assert_eq!(rt;
+        statement.as_str(),
+        "SELECT a, b, c FROM t WHERE (d) AND (e > 1);"
+    );
+    Ok(())
+}
