@@ -72,11 +72,7 @@ impl<R: Read> Watched<R> {
     {
         let answer = self.inner.read(buf);
         match &answer {
-            Ok(0) => {
-                if !buf.is_empty() {
-                    self.has_ended = true;
-                }
-            }
+            Ok(0) if !buf.is_empty() => self.has_ended = true,
             Ok(_) => {}
             Err(_) => self.has_failed = true,
         }
@@ -108,11 +104,7 @@ impl<W: Write> Watched<W> {
     {
         let answer = self.inner.write(buf);
         match &answer {
-            Ok(0) => {
-                if !buf.is_empty() {
-                    self.has_failed = true;
-                }
-            }
+            Ok(0) if !buf.is_empty() => self.has_failed = true,
             Ok(_) => {}
             Err(_) => self.has_failed = true,
         }
