@@ -7,6 +7,7 @@ pub mod Methods
 pub mod Natural
 pub mod Pieces
 pub mod Printed
+pub mod Reasons
 pub mod Rows
 pub mod Runs
 pub mod Said

@@ -1,9 +1,12 @@
 -- How a run ends, by what it read and what it wrote.
 use Rattle.std.specs.Prelude.{◌≡◌, ◌≢◌, ℕ, Bool, true, false, List, [], ◌++◌, Some, None, Result, Ok, Err, flat_map}
 use Rattle.std.specs.Io.{StartsWith}
+use Rattle.sqlb.specs.Error.{IsMemory}
 use Rattle.sqlb.specs.Output.{Output, printed_text}
 use Rattle.sqlb.specs.declared.fault.Fault.{Fault}
 use Rattle.sqlb.specs.declared.fault.Fault.TheVariants.{At, Memory, Read, Write}
+use Rattle.sqlb.specs.declared.fault.Reason.{Reason}
+use Rattle.sqlb.specs.declared.fault.Reason.TheVariants.{Builder}
 
 -- whole statements from the beginning, one after another
 abbrev pub AreWhole : List ℕ → List (List ℕ) → Type 0
@@ -34,3 +37,12 @@ FailsOnlyToWrite (Err (At line reason)) failed = failed ≡ false
 FailsOnlyToWrite (Err Memory) failed = failed ≡ false
 FailsOnlyToWrite (Err Write) failed = failed ≡ true
 FailsOnlyToWrite (Err Read) failed = ⊥
+
+-- want of memory is a fault of its own, and never a line's reason
+abbrev pub HoldsNoMemory : Reason → Type 0
+HoldsNoMemory (Builder refusal) = ¬ (IsMemory refusal)
+HoldsNoMemory _ = Unit {0}
+
+abbrev pub NamesNoMemory : Fault → Type 0
+NamesNoMemory (At line reason) = HoldsNoMemory reason
+NamesNoMemory _ = Unit {0}

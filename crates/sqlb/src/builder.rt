@@ -1,12 +1,13 @@
 //! The builder: it is told clauses call by call, and prints a statement of them.
 ghost use Rattle.std.specs.Prelude.{◌≡◌, [], ◌∷◌, ◌++◌, List, ℕ, map, IfOk, OnOk, OnErr, string_bytes};
-ghost use Rattle.sqlb.specs.Builder.{texts, compare_text};
+ghost use Rattle.sqlb.specs.Builder.{compare_text};
 ghost use Rattle.sqlb.specs.Chaining.{released};
 ghost use Rattle.sqlb.specs.Clauses.{selected_from};
 ghost use Rattle.sqlb.specs.Error.{FailsOnlyByMemory};
 
 use crate::calls::{Family, Relation};
 use crate::error::SqlBuilderError;
+use crate::texts::copies;
 use std::alloc::{AllocError, Global};
 use std::marker::Model;
 
@@ -79,16 +80,6 @@ fn comparison(
     text.push_str(relation.text())?;
     text.push_str(value)?;
     Ok(text)
-}
-
-fn copies(alloc: Global, items: &[&str]) -> Result<Vec<String>, AllocError>
-    ensures { IfOk result (λ copied. texts copied.items ≡ map (λ item. item.now) items.now) }
-{
-    let mut copied = Vec::with_capacity(alloc, items.len())?;
-    for item in items {
-        copied.push(String::from_str(alloc, item)?)?;
-    }
-    Ok(copied)
 }
 
 impl SqlBuilder {

@@ -1,7 +1,7 @@
 //! Lists of calls, as values, and the statement that a list makes.
 ghost use Rattle.std.specs.Prelude.{◌≡◌, ◌⊎◌, [], map, IfOk, IfErr, OnOk, string_bytes};
 ghost use Rattle.sqlb.specs.Answers.{call_text, finish_text, start_text};
-ghost use Rattle.sqlb.specs.Builder.{texts as texts_of, with_call};
+ghost use Rattle.sqlb.specs.Builder.{with_call};
 ghost use Rattle.sqlb.specs.Calls.{clauses, relation_text};
 ghost use Rattle.sqlb.specs.Clauses.{map_clauses};
 ghost use Rattle.sqlb.specs.Error.{FailsOnlyByMemory, IsMemory};
@@ -10,7 +10,8 @@ ghost use Rattle.sqlb.specs.Text.{pieces_text};
 
 use crate::builder::SqlBuilder;
 use crate::error::SqlBuilderError;
-use std::alloc::{AllocError, Global};
+use crate::texts::as_strs;
+use std::alloc::Global;
 
 /// How a list of calls begins.
 #[derive(Drop)]
@@ -77,16 +78,6 @@ fn begin(alloc: Global, start: &Start) -> Result<SqlBuilder, SqlBuilderError>
     match start {
         Start::SelectFrom(table) => SqlBuilder::select_from(alloc, table.as_str()),
     }
-}
-
-fn as_strs(alloc: Global, texts: &[String]) -> Result<Vec<&str>, AllocError>
-    ensures { IfOk result (λ strs. map (λ s. s.now) strs.items ≡ texts_of texts.now) }
-{
-    let mut strs = Vec::with_capacity(alloc, texts.len())?;
-    for text in texts {
-        strs.push(text.as_str())?;
-    }
-    Ok(strs)
 }
 
 fn make(alloc: Global, builder: &mut SqlBuilder, call: &Call) -> Result<(), SqlBuilderError>

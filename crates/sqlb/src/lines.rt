@@ -1,13 +1,13 @@
 //! Takes an input apart into lines, and reads what each says.
 ghost use Rattle.std.specs.Prelude.{◌≡◌, ◌==◌, ◌∷◌, ◌<◌, length, map, position, IfOk};
 ghost use Rattle.std.specs.List.{slice_split};
-ghost use Rattle.sqlb.specs.Builder.{texts};
 ghost use Rattle.sqlb.specs.Lines.{binary_command, lines, nullary_command, said, said_in, said_with, unary_command, variadic_command, words};
 ghost use Rattle.sqlb.specs.Script.{Answers, command_text};
 
 use crate::calls::{Call, Condition, Finish, Start};
 use crate::fault::Reason;
 use crate::names::{Binary, Nullary, Unary, Variadic, Word};
+use crate::texts::copies;
 use std::alloc::{AllocError, AllocFailed, Global};
 use std::str;
 
@@ -74,16 +74,6 @@ fn split_words(alloc: Global, line: &str) -> Result<Vec<&str>, AllocError>
     line.split('\t').collect(alloc)
 }
 
-fn owned(alloc: Global, items: &[&str]) -> Result<Vec<String>, AllocError>
-    ensures { IfOk result (λ copied. texts copied.items ≡ map (λ item. item.now) items.now) }
-{
-    let mut copied = Vec::with_capacity(alloc, items.len())?;
-    for item in items {
-        copied.push(String::from_str(alloc, item)?)?;
-    }
-    Ok(copied)
-}
-
 impl Nullary {
     fn command(self) -> Command
         ensures { command_text result ≡ nullary_command self }
@@ -127,7 +117,7 @@ impl Variadic {
         ensures { IfOk result (λ c. command_text c
             ≡ variadic_command self (map (λ argument. argument.now) arguments.now)) }
     {
-        let arguments = owned(alloc, arguments)?;
+        let arguments = copies(alloc, arguments)?;
         Ok(match self {
             Variadic::Fields => Command::Call(Call::Fields(arguments)),
         })

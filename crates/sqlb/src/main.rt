@@ -1,7 +1,7 @@
 //! Reads lines of calls from standard input, and prints the statements that they make.
 #![tactic(auto)]
 
-ghost use Rattle.std.specs.Prelude.{◌≡◌, false};
+ghost use Rattle.std.specs.Prelude.{◌≡◌, false, true, IsErrOf, OnOk};
 
 mod builder;
 mod calls;
@@ -16,6 +16,7 @@ mod run;
 mod script;
 #[cfg(test)]
 mod tests;
+mod texts;
 mod watched;
 
 use crate::fault::Fault;
@@ -37,6 +38,8 @@ fn run_buffered<R: Read, W: Write + Drop>(
 ) -> Result<(), Fault>
     requires reader_whole { reader.old.failed ≡ false }
     requires reader_unended { reader.old.ended ≡ false }
+    ensures ok { OnOk result (reader.new.ended ≡ true) }
+    ensures read { IsErrOf result Fault.Read → reader.new.failed ≡ true }
 {
     let Ok(buffered) = BufWriter::with_capacity(alloc, BUFFER, writer) else {
         return Err(Fault::Memory);

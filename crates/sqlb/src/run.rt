@@ -1,8 +1,8 @@
 //! Runs an input, from its bytes to the statements that it prints.
-ghost use Rattle.std.specs.Prelude.{◌≡◌, ◌↔◌, ℕ, List, true, false, IsErrOf};
+ghost use Rattle.std.specs.Prelude.{◌≡◌, ◌↔◌, ℕ, List, true, false, IfErr, IsErrOf};
 ghost use Rattle.std.specs.Io.KnownBytes.{Appends, Consumes, IsAtEnd};
 ghost use Rattle.sqlb.specs.Output.{output};
-ghost use Rattle.sqlb.specs.Ran.{EndsUnlessStopped, FailsOnlyToWrite, Ran};
+ghost use Rattle.sqlb.specs.Ran.{EndsUnlessStopped, FailsOnlyToWrite, NamesNoMemory, Ran};
 
 use crate::fault::{Fault, Reason};
 use crate::input::read_all;
@@ -19,6 +19,7 @@ fn run_lines<W: Write>(alloc: Global, text: &[u8], writer: &mut Watched<W>) -> R
     ensures ran { (written : List ℕ) × Appends (W.contents writer.old.inner)
         (W.contents writer.new.inner) written × Ran result written (output text.now) }
     ensures failed { FailsOnlyToWrite result writer.new.failed }
+    ensures no_memory { IfErr result NamesNoMemory }
     ensures ended { writer.new.ended ≡ writer.old.ended }
 {
     let mut script = Script::new();
@@ -64,6 +65,9 @@ pub fn run_input<R: Read, W: Write>(
     // A device's fault is answered exactly where that device has failed.
     ensures read { IsErrOf result Fault.Read ↔ (reader.new.failed ≡ true) }
     ensures write { IsErrOf result Fault.Write ↔ (writer.new.failed ≡ true) }
+
+    // Want of memory is answered as `Memory`, and never as a line's reason.
+    ensures no_memory { IfErr result NamesNoMemory }
 {
     let text = read_all(alloc, reader)?;
     run_lines(alloc, &text, writer)

@@ -4,6 +4,7 @@ use Rattle.std.specs.Io.KnownBytes.{Appends}
 use Rattle.std.proofs.KnownBytes.{Appends-nil}
 use Rattle.std.proofs.lemmas.Bool.Decides.{nat_tests}
 use Rattle.std.proofs.lemmas.Result.{err_from_is_err_and}
+use Rattle.sqlb.proofs.Reasons.{refused-holds_no_memory}
 use Rattle.sqlb.proofs.SoFar.{ends-fault, ends-written, fails-in, joined_texts, line_text, lines-empty, refused-fault, refused-written, so_far-first, so_far-next, stops-whole}
 use Rattle.sqlb.proofs.run.run_lines.Goals as goal
 
@@ -69,3 +70,8 @@ returns-clause-ran g c =
     let end = lines-empty c.lines.rest.now none in
     let still_open = sym c.is_open.ensures ∙ c.if-is_open.false in
     (joined_texts so_far.texts, so_far.written, (rw still_open at (ends-fault _ _ _ _ _ _ so_far end), ends-written _ _ _ _ _ _ so_far end))
+
+pub returns-in-Err-Refused-clause-no_memory : goal.returns-in-Err-Refused-clause-no_memory
+returns-in-Err-Refused-clause-no_memory g c =
+    let refused = rw c.in-Err-Refused.field-0-is at c.in-Err-Refused.ensures.answer in
+    rw c.in-Err-Refused.field-0-is (refused-holds_no_memory c.lines.script c.split_line.result.0.now _ refused)

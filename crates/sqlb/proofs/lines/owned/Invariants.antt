@@ -1,6 +1,0 @@
-use Rattle.std.proofs.Common.{◌≡◌, map, take}
-use Rattle.sqlb.specs.Builder.{texts}
-use Rattle.sqlb.proofs.lines.owned.Given as goal
-
-abbrev pub invariant-loop-item : goal.invariant-loop-item
-invariant-loop-item l = texts l.copied.items ≡ map (λ item. item.now) (take l.item-index l.items)
