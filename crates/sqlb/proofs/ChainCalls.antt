@@ -1,9 +1,9 @@
 -- A chain call whose body is `release(self.hold_x(constants, arguments))`: the constants are variants without fields, and each argument is `Copy`.
 -- The proof of such a call is one use of these. `told` is what the builder has been told when it comes back.
-use Rattle.sqlb.proofs.Walking.{lit, join, split, fsplit, use1, ◌⊛◌, ◌≡◌, ℕ, List, [], ◌∷◌, refl, sym, subst, proved_at, leaves, Val, vptr, raw, ‵, tables, ◌$◌, ◌∵◌, !, qed, move, fjoin, nothing, use0, enter, addr, stop, no_more, and_then, of_opd, returns, alloc_all, pass_all, free_all, look_at, get, through, sets, lands_as, plain, calls_at, triple_of, Stays, stay_dropped, Goes-spent_ref, walk_of, framed, SProp, ent, sem, Item, Seq, Step, step, Go, prop, WpFn, no, by, Ura, Logic, RattleType, MutBor, id⊢, regoal, allocs, params', runs, at_ret}
+use Rattle.sqlb.proofs.Walking.{lit, join, split, fsplit, use1, ◌⊛◌, ◌≡◌, ℕ, List, [], ◌∷◌, refl, sym, subst, proved_at, leaves, Val, vptr, raw, ‵, tables, ◌$◌, ◌∵◌, !, qed, move, fjoin, nothing, use0, enter, addr, stop, no_more, and_then, returns, alloc_all, pass_all, free_all, look_at, get, through, sets, lands_as, plain, calls_at, triple_of, Stays, stay_dropped, Goes-spent_ref, walk_of, framed, SProp, ent, sem, Item, Seq, Step, step, Go, prop, WpFn, no, by, Ura, Logic, RattleType, MutBor, id⊢, regoal, allocs, params', runs, at_ret}
 use Rattle.sqlb.proofs.Loans.{Good, Kept, Bare, kept_lawful, bare_lawful, held_says, says, returned, releases, Argument, Constant, also, keeps, put, puts, after, owned}
 use Rattle.std.specs.Prelude.{suc}
-use mir.Syntax.{Ty, Callee, Fn, Local, Body, ty_ref, mut, erased, named, value_local, local, seq, assign, call, return, place, copy, addr_of, rv_opd, deref, aggregate, int, w8}
+use mir.Syntax.{Ty, Callee, Fn, Local, Body, ty_ref, mut, erased, named, value_local, local, seq, assign, call, return, place, copy, addr_of, deref, aggregate, int, w8}
 use base.Fml.{fsep}
 use types.Part.{agg}
 use base.Logic.{emp}

@@ -1,6 +1,6 @@
 -- What the proofs of the chain calls share. A chain call is `release(self.hold_x(..))`.
-use Rattle.sqlb.proofs.Walking.{qed, by, use0, fjoin, ◌∵◌, !, plain, no, yes, Goes-dropped, stay_dropped, ◌≡◌, ℕ, List, [], ◌∷◌, refl, sym, subst, MutBor, id⊢, ftrue, named, Val, fact, ‵, raw, ◌⊛◌, some, later, ◌$◌, move, drop, use1, use2, split, join, await, pick, shows, MutRef, nothing, heard, peeks, calls_at, lasts, triple_of, Ura, Logic, sem, Item, Seq, Goal, Soaks, SProp, ent, sep, RattleType}
-use mir.Syntax.{Width, ty_int, Ty, Callee, Opd as Operand, Body, seq, call, Place}
+use Rattle.sqlb.proofs.Walking.{qed, by, use0, fjoin, ◌∵◌, !, plain, yes, Goes-dropped, stay_dropped, ◌≡◌, ℕ, List, [], ◌∷◌, refl, sym, subst, MutBor, id⊢, ftrue, named, Val, fact, ‵, raw, ◌⊛◌, some, later, ◌$◌, move, drop, use1, use2, split, join, await, pick, shows, MutRef, nothing, heard, peeks, calls_at, lasts, triple_of, Ura, Logic, sem, Item, Seq, Goal, Soaks, SProp, ent, sep, RattleType}
+use mir.Syntax.{Ty, Callee, Opd as Operand, Body, seq, call, Place}
 use mir.Val.{has_ty, WT}
 use lib.Dec.{T}
 use types.Kit.{runs, lands, Post}
@@ -15,9 +15,7 @@ use denote.Enum.Enum.{Enum-Lawful}
 use denote.Enum.Declared.{shape}
 use denote.Struct.Recorded.{recorded_lawful}
 use denote.Ref.{mut_Lawful}
-use denote.Param.{param, layout}
-use denote.Param.Laws.{Laws, param_laws}
-use denote.Plain.{UInt, uint_Lawful}
+use denote.Param.{layout}
 use denote.Slice.{ShrSlice, shr_slice_Lawful}
 use denote.Enum.Declared.{Declared, variants, row as enum_row}
 use denote.Enum.Enum.{Plainss}

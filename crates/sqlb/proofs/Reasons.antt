@@ -3,8 +3,6 @@ use Rattle.std.proofs.Common.{◌≡◌, ℕ, Bool, true, false, List, [], ◌�
 use Rattle.std.specs.Prelude.{Option, None, Some, Result, Ok, Err, IfErr, ok_or}
 use Rattle.std.specs.Str.{is_utf8}
 use Rattle.sqlb.specs.Calls.{StartText, CallText, FinishText, Sql, clauses}
-use Rattle.sqlb.specs.Clauses.{map_clauses}
-use Rattle.sqlb.specs.Error.{IsMemory}
 use Rattle.sqlb.specs.Layout.{refusal, sql}
 use Rattle.sqlb.specs.Lines.{CommandText, Starts, Calls, Finishes, Said, command, said, said_in, said_in_words, said_with, words}
 use Rattle.sqlb.specs.Names.{named}
@@ -12,7 +10,6 @@ use Rattle.sqlb.specs.Output.{Opened, answer, finished}
 use Rattle.sqlb.specs.Ran.{HoldsNoMemory}
 use Rattle.sqlb.specs.Statement.{statement, text_unless_refused, unless_refused}
 use Rattle.sqlb.specs.Text.{Pieces, fixed, pieces_text}
-use Rattle.sqlb.specs.declared.error.SqlBuilderError.{SqlBuilderError}
 use Rattle.sqlb.specs.declared.fault.Reason.{Reason}
 use Rattle.sqlb.specs.declared.fault.Reason.TheVariants.{NotUtf8, WrongArguments}
 use Rattle.sqlb.specs.declared.names.Word.{Word}

@@ -1,5 +1,5 @@
 -- Worked rows: what the definitions give, by computing.
-use Rattle.std.specs.Prelude.{◌≡◌, ℕ, List, [], ◌∷◌, ◌++◌, Option, Some, None, Result, Ok, Err, codes, refl, map, Bool, true, false, ◌&&◌, nat_lt}
+use Rattle.std.specs.Prelude.{◌≡◌, ℕ, List, [], ◌∷◌, ◌++◌, Option, Some, None, Ok, Err, codes, refl, map, Bool, true, false, ◌&&◌, nat_lt}
 use Rattle.std.proofs.Common.{ap, ◌∙◌, arith, lit<}
 use Rattle.std.proofs.lemmas.Fmt.{decimal_digit}
 use Rattle.std.proofs.lemmas.Bool.Decides.{nat_tests}
@@ -8,7 +8,7 @@ use Rattle.std.specs.Str.{IsAscii}
 use Rattle.std.proofs.lemmas.Str.{IsUtf8-from_ascii}
 use Rattle.sqlb.proofs.Said.{said_text}
 use Rattle.std.specs.List.{list_all}
-use Rattle.sqlb.specs.Calls.{SelectFrom, Field, Fields, Cond, Raw, Compare, Sql}
+use Rattle.sqlb.specs.Calls.{SelectFrom, Field, Cond, Raw, Compare, Sql}
 use Rattle.sqlb.specs.Fault.{fault_text}
 use Rattle.sqlb.specs.Lines.{lines, said, said_in}
 use Rattle.sqlb.specs.Names.{named, names}

@@ -1,5 +1,5 @@
 -- One more element at the end, for each way to read a whole list.
-use Rattle.std.proofs.Common.{◌≡◌, List, [], ◌∷◌, ◌++◌, Bool, true, false, ◌||◌, ◌&&◌, not, if◌then◌else◌, refl, ap}
+use Rattle.std.proofs.Common.{◌≡◌, List, [], ◌∷◌, ◌++◌, Bool, true, false, ◌||◌, ◌&&◌, not, if◌then◌else◌, refl}
 use Rattle.std.specs.List.{list_any}
 use Rattle.sqlb.specs.Filters.{any_unfollowed, begins, cut, Group, parted, since}
 

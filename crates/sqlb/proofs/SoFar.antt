@@ -3,7 +3,7 @@ use Rattle.std.proofs.Common.{◌≡◌, ℕ, ◌+◌, ◌-◌, Bool, true, fals
 use Rattle.std.specs.Prelude.{is_err, is_some, option_map}
 use Rattle.std.specs.Io.{StartsWith}
 use Rattle.std.specs.Io.KnownBytes.{Appends}
-use Rattle.std.specs.List.{enumerate_from, cons_option}
+use Rattle.std.specs.List.{enumerate_from}
 use Rattle.std.proofs.KnownBytes.{Appends-nil, Appends-trans}
 use Rattle.std.proofs.lemmas.List.{append-nil, length-map, map-append}
 use Rattle.std.proofs.lemmas.List.Elements.{filter_map-append}
@@ -14,8 +14,8 @@ use Rattle.sqlb.specs.Calls.{StartText, CallText}
 use Rattle.sqlb.specs.Device.{Wrote}
 use Rattle.sqlb.specs.Filters.{first, since, until}
 use Rattle.sqlb.specs.Lines.{lines, Said, said, Starts, Calls, Finishes}
-use Rattle.sqlb.specs.Output.{Opened, Output, answer, answer_at, answers, call_in, end_fault, fault_at, is_finish, is_inside, is_start, opened, opened_by, output, output_of, printed, printed_text, start_in}
-use Rattle.sqlb.specs.Ran.{AreWhole, FailsOnlyToWrite, Ran}
+use Rattle.sqlb.specs.Output.{Opened, answer, answer_at, answers, call_in, end_fault, fault_at, is_finish, is_inside, is_start, opened, opened_by, output, printed, printed_text, start_in}
+use Rattle.sqlb.specs.Ran.{AreWhole, Ran}
 use Rattle.sqlb.specs.Script.{open_after}
 use Rattle.sqlb.specs.declared.fault.Fault.{Fault}
 use Rattle.sqlb.specs.declared.fault.Fault.TheVariants.{At, Memory, Read, Write}

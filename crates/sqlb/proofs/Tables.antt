@@ -1,6 +1,6 @@
 -- A table whose names are references, beside the same table with the names themselves.
 use Rattle.std.proofs.Common.{◌≡◌, ℕ, Bool, true, false, cond, List, [], ◌∷◌, map, refl}
-use Rattle.std.specs.Prelude.{Option, Some, bytes_eq, option_map, find}
+use Rattle.std.specs.Prelude.{Option, Some, bytes_eq, option_map}
 use Rattle.std.specs.Borrow.{Bor}
 use Rattle.sqlb.specs.Names.{found_behind, found_in}
 use Rattle.sqlb.specs.declared.names.Word.{Word}

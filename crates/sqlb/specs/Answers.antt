@@ -1,5 +1,5 @@
 -- How what `run` is handed reads as bytes.
-use Rattle.std.specs.Prelude.{ℕ, List, map, string_bytes}
+use Rattle.std.specs.Prelude.{string_bytes}
 use Rattle.sqlb.specs.Builder.{texts}
 use Rattle.sqlb.specs.Calls as text
 use Rattle.sqlb.specs.Calls.{StartText, ConditionText, CallText, FinishText}

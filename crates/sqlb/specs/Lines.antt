@@ -1,8 +1,7 @@
 -- The lines of an input, and what each says.
-use Rattle.std.specs.Prelude.{ℕ, ◌==◌, List, [], ◌∷◌, Option, Some, None, Result, Ok, Err, if◌then◌else◌, ok_or}
+use Rattle.std.specs.Prelude.{ℕ, ◌==◌, List, [], ◌∷◌, Option, Some, None, Result, Err, if◌then◌else◌, ok_or}
 use Rattle.std.specs.List.{slice_split}
 use Rattle.std.specs.Str.{is_utf8}
-use Rattle.sqlb.specs.Answers.{start_text, call_text, finish_text}
 use Rattle.sqlb.specs.Calls as text
 use Rattle.sqlb.specs.Calls.{StartText, CallText, FinishText}
 use Rattle.sqlb.specs.Names.{named}

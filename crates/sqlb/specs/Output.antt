@@ -1,7 +1,7 @@
 -- What a whole input says to print, and where it stops.
 use Rattle.std.specs.Prelude.{ℕ, ◌-◌, List, [], ◌∷◌, ◌++◌, Bool, true, false, Option, Some, None, Result, Ok, Err, if◌then◌else◌, take, map, filter_map, flat_map, length, codes, is_err, is_some, option_map}
 use Rattle.std.specs.List.{enumerate_from}
-use Rattle.sqlb.specs.Calls.{StartText, CallText, FinishText}
+use Rattle.sqlb.specs.Calls.{StartText, CallText}
 use Rattle.sqlb.specs.Filters.{any_unfollowed, first, since, until}
 use Rattle.sqlb.specs.Lines.{lines, Said, Starts, Calls, Finishes, said}
 use Rattle.sqlb.specs.Statement.{statement}

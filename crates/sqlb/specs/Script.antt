@@ -1,5 +1,5 @@
 -- What the lines of an input do one after another.
-use Rattle.std.specs.Prelude.{◌≡◌, ℕ, List, [], ◌∷◌, ◌++◌, Option, Some, None, Result, Ok, Err, map, option_map}
+use Rattle.std.specs.Prelude.{◌≡◌, [], ◌∷◌, ◌++◌, Option, Some, None, Result, Ok, Err, option_map}
 use Rattle.sqlb.specs.Answers.{start_text, call_text, finish_text}
 use Rattle.sqlb.specs.Lines.{CommandText, Said, Starts, Calls, Finishes}
 use Rattle.sqlb.specs.Output.{Opened}
