@@ -23,7 +23,7 @@ use denote.Triple.End.{Kepts, Fins}
 use denote.Triple.Spec.{Meets}
 use denote.Triple.Walked.{AllGo, has_of, fits_of}
 use Rattle.std.specs.contracts.result.Result as RS
-use Rattle.sqlb.specs.Builder.{Told}
+use Rattle.sqlb.specs.Builder.{ClauseTexts}
 use Rattle.sqlb.specs.contracts.builder.SqlBuilder.{the_row as R}
 use Rattle.sqlb.specs.contracts.error.SqlBuilderError.{the_row as E}
 use Rattle.sqlb.specs.contracts.builder.Held as held_type
@@ -68,8 +68,8 @@ module _ {M : Type 1} {𝓤 : Ura M} (𝓛 : Logic 𝓤) (𝓜 : Model 𝓤 𝓛
   signature ss Out = record { lifetimes = suc n; outlives = os; params = self ∷ ss; result = plain Out }
 
   -- the arguments' slots, what `ended` has of each, the `requires`, and what `ok` says
-  module _ (ss : List (Slot (suc n))) (ks : Kepts ss) (asks : (κs : Lfts (suc n)) → MutBor Told × Denots (types_at ss κs) → SProp 𝓤)
-      (told : (κs : Lfts (suc n)) → MutBor Told × (Denots (types_at ss κs)) → Told) where
+  module _ (ss : List (Slot (suc n))) (ks : Kepts ss) (asks : (κs : Lfts (suc n)) → MutBor ClauseTexts × Denots (types_at ss κs) → SProp 𝓤)
+      (told : (κs : Lfts (suc n)) → MutBor ClauseTexts × (Denots (types_at ss κs)) → ClauseTexts) where
     abbrev pub D : Ended
     D = record { signature = signature ss (λ κs. Kept 𝓛 κs.0); kept = (no, ks) }
 
@@ -133,13 +133,13 @@ module _ {M : Type 1} {𝓤 : Ura M} (𝓛 : Logic 𝓤) (𝓜 : Model 𝓤 𝓛
 
   -- the constants, and then the arguments
   module _ (Cs : List (Constant 𝓛)) (ss : List (Slot (suc n))) where
-    abbrev pub told' : ((κs : Lfts (suc n)) → MutBor Told × Denots (types_at (also 𝓛 Cs ss) κs) → Told) → (κs : Lfts (suc n)) → MutBor Told × Denots (types_at ss κs) → Told
+    abbrev pub told' : ((κs : Lfts (suc n)) → MutBor ClauseTexts × Denots (types_at (also 𝓛 Cs ss) κs) → ClauseTexts) → (κs : Lfts (suc n)) → MutBor ClauseTexts × Denots (types_at ss κs) → ClauseTexts
     told' told κs a = told κs (a.0, put 𝓛 κs Cs ss a.1)
 
-    abbrev pub asks' : ((κs : Lfts (suc n)) → MutBor Told × Denots (types_at (also 𝓛 Cs ss) κs) → SProp 𝓤) → (κs : Lfts (suc n)) → MutBor Told × Denots (types_at ss κs) → SProp 𝓤
+    abbrev pub asks' : ((κs : Lfts (suc n)) → MutBor ClauseTexts × Denots (types_at (also 𝓛 Cs ss) κs) → SProp 𝓤) → (κs : Lfts (suc n)) → MutBor ClauseTexts × Denots (types_at ss κs) → SProp 𝓤
     asks' asked κs a = asked κs (a.0, put 𝓛 κs Cs ss a.1)
 
-    module _ (ks : Kepts ss) (asked : (κs : Lfts (suc n)) → MutBor Told × Denots (types_at (also 𝓛 Cs ss) κs) → SProp 𝓤) (told : (κs : Lfts (suc n)) → MutBor Told × Denots (types_at (also 𝓛 Cs ss) κs) → Told) where
+    module _ (ks : Kepts ss) (asked : (κs : Lfts (suc n)) → MutBor ClauseTexts × Denots (types_at (also 𝓛 Cs ss) κs) → SProp 𝓤) (told : (κs : Lfts (suc n)) → MutBor ClauseTexts × Denots (types_at (also 𝓛 Cs ss) κs) → ClauseTexts) where
       abbrev pub more : Ghost ss ks (asks' asked) (told' told) → Ghost (also 𝓛 Cs ss) (keeps 𝓛 Cs ss ks) asked told
       more y = ((y.0.0, y.0.1, y.0.2, (y.0.3.0, put 𝓛 y.0.0 Cs ss y.0.3.1), (y.0.4.0, puts 𝓛 y.0.0 Cs ss y.0.4.1)), tt)
 
@@ -151,8 +151,8 @@ module _ {M : Type 1} {𝓤 : Ura M} (𝓛 : Logic 𝓤) (𝓜 : Model 𝓤 𝓛
           move ! (1 ∷ 0 ∷ []) $ fjoin ! $ move ! (1 ∷ 0 ∷ []) $ join ! $ join ! $ by ! (id⊢ 𝓤 _)
 
     -- what a chain call with these constants and arguments owes
-    module _ (ks : Kepts ss) (asked : (κs : Lfts (suc n)) → MutBor Told × Denots (types_at (also 𝓛 Cs ss) κs) → SProp 𝓤)
-        (told : (κs : Lfts (suc n)) → MutBor Told × Denots (types_at (also 𝓛 Cs ss) κs) → Told) where
+    module _ (ks : Kepts ss) (asked : (κs : Lfts (suc n)) → MutBor ClauseTexts × Denots (types_at (also 𝓛 Cs ss) κs) → SProp 𝓤)
+        (told : (κs : Lfts (suc n)) → MutBor ClauseTexts × Denots (types_at (also 𝓛 Cs ss) κs) → ClauseTexts) where
       abbrev pub StepMeets : Callee → Type 1
       StepMeets = Held (also 𝓛 Cs ss) (keeps 𝓛 Cs ss ks) asked told
 
@@ -199,8 +199,8 @@ module _ {M : Type 1} {𝓤 : Ura M} (𝓛 : Logic 𝓤) (𝓜 : Model 𝓤 𝓛
     abbrev K1 : Kepts Q1
     K1 = (A.kept, tt)
 
-    module _ (asked : (κs : Lfts (suc n)) → MutBor Told × Denots (types_at (also 𝓛 Cs1 Q1) κs) → SProp 𝓤)
-        (told : (κs : Lfts (suc n)) → MutBor Told × Denots (types_at (also 𝓛 Cs1 Q1) κs) → Told) (fn : Fn) (kg ko name : Callee) where
+    module _ (asked : (κs : Lfts (suc n)) → MutBor ClauseTexts × Denots (types_at (also 𝓛 Cs1 Q1) κs) → SProp 𝓤)
+        (told : (κs : Lfts (suc n)) → MutBor ClauseTexts × Denots (types_at (also 𝓛 Cs1 Q1) κs) → ClauseTexts) (fn : Fn) (kg ko name : Callee) where
       abbrev pub Code1 : Type 0
       Code1 = (fn.locals ≡ l0 ∷ l1 ∷ local A.ty value_local ∷ kept ∷ lent ∷ local (layout X.row) value_local ∷ [])
           × (fn.body ≡ seq (assign (place 4 []) (addr_of (place 1 (deref δ ∷ [])))) (seq (assign (place 5 []) (aggregate (int w8 X.tag ∷ [])))
@@ -244,8 +244,8 @@ module _ {M : Type 1} {𝓤 : Ura M} (𝓛 : Logic 𝓤) (𝓜 : Model 𝓤 𝓛
     abbrev K2 : Kepts Q2
     K2 = (A.kept, (B.kept, tt))
 
-    module _ (asked : (κs : Lfts (suc n)) → MutBor Told × Denots (types_at (also 𝓛 Cs2 Q2) κs) → SProp 𝓤)
-        (told : (κs : Lfts (suc n)) → MutBor Told × Denots (types_at (also 𝓛 Cs2 Q2) κs) → Told) (fn : Fn) (kg ko name : Callee) where
+    module _ (asked : (κs : Lfts (suc n)) → MutBor ClauseTexts × Denots (types_at (also 𝓛 Cs2 Q2) κs) → SProp 𝓤)
+        (told : (κs : Lfts (suc n)) → MutBor ClauseTexts × Denots (types_at (also 𝓛 Cs2 Q2) κs) → ClauseTexts) (fn : Fn) (kg ko name : Callee) where
       abbrev pub Code2 : Type 0
       Code2 = (fn.locals ≡ l0 ∷ l1 ∷ local A.ty value_local ∷ local B.ty value_local ∷ kept ∷ lent ∷ local (layout X.row) value_local ∷ local (layout Y.row) value_local ∷ [])
           × (fn.body ≡ seq (assign (place 5 []) (addr_of (place 1 (deref δ ∷ [])))) (seq (assign (place 6 []) (aggregate (int w8 X.tag ∷ []))) (seq (assign (place 7 []) (aggregate (int w8 Y.tag ∷ [])))

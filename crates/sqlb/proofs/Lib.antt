@@ -1,6 +1,7 @@
 pub mod ChainCalls
 pub mod Constants
 pub mod DecimalDigits
+pub mod Flushed
 pub mod LineFeeds
 pub mod Loans
 pub mod Methods
@@ -10,7 +11,7 @@ pub mod Printed
 pub mod Reasons
 pub mod Rows
 pub mod Runs
-pub mod Said
+pub mod LineTexts
 pub mod Snoc
 pub mod SoFar
 pub mod Tables

@@ -1,4 +1,4 @@
--- A text is its first line and the lines of the text behind it.
+-- A text is its first line and the lines of the text after it.
 use Rattle.std.proofs.Common.{◌≡◌, ℕ, ◌+◌, ◌<◌, ◌≤◌, ◌==◌, Bool, true, false, List, [], ◌∷◌, length, take, drop, arith, refl, ap, ◌∙◌, subst, cond}
 use Rattle.std.specs.Prelude.{position, Some, None}
 use Rattle.std.specs.List.{slice_split, position_or_len}

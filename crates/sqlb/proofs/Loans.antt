@@ -38,8 +38,8 @@ use contract.Monad.{Fun}
 use Rattle.std.specs.contracts.result.Result as RS
 use Rattle.std.specs.Prelude.{Result, Ok, Err, IfOk, suc}
 use Rattle.std.specs.Borrow.{RestsIfErr}
-use Rattle.sqlb.specs.Builder.{Told}
-use Rattle.sqlb.specs.Chaining.{released}
+use Rattle.sqlb.specs.Builder.{ClauseTexts}
+use Rattle.sqlb.specs.Chaining.{released_builder}
 use Rattle.sqlb.specs.Error.{FailsOnlyByMemory}
 use Rattle.sqlb.specs.declared.builder.Held.{Held}
 use Rattle.sqlb.specs.declared.error.SqlBuilderError.{SqlBuilderError}
@@ -80,19 +80,19 @@ module _ {M : Type 1} {𝓤 : Ura M} (𝓛 : Logic 𝓤) where
   bare_lawful κ = result_Lawful _ _ (mut_Lawful 𝓛 (named 0) κ R) ((error_laws.the_row_laws).lawful 𝓛)
 
   -- the clauses of `hold_x`, and those of `x`
-  module _ (s : MutBor Told) (P : Told → Type 0) where
+  module _ (s : MutBor ClauseTexts) (P : ClauseTexts → Type 0) where
     abbrev pub held_says : Result Held SqlBuilderError → SProp 𝓤
     held_says r = sep 𝓤 (sem 𝓛 (RestsIfErr R s (λ h. h.0.ghost_name) r (λ n. n ≡ s.now))) (sep 𝓤 (fact 𝓤 (IfOk r (λ h. (h.0.ghost_name ≡ s.ghost_name) × P (h.0.now)))) (fact 𝓤 (FailsOnlyByMemory r)))
 
-    abbrev pub says : Result (MutBor Told) SqlBuilderError → SProp 𝓤
+    abbrev pub says : Result (MutBor ClauseTexts) SqlBuilderError → SProp 𝓤
     says r = sep 𝓤 (sem 𝓛 (RestsIfErr R s (λ b. b.ghost_name) r (λ n. n ≡ s.now))) (sep 𝓤 (fact 𝓤 (IfOk r (λ b. (b.ghost_name ≡ s.ghost_name) × P b.now))) (fact 𝓤 (FailsOnlyByMemory r)))
 
-    passes : (r : Result Held SqlBuilderError) → ent 𝓤 (held_says r) (says (released r))
+    passes : (r : Result Held SqlBuilderError) → ent 𝓤 (held_says r) (says (released_builder r))
     passes (Ok h) = id⊢ 𝓤 _
     passes (Err e) = id⊢ 𝓤 _
 
-    pub passed : (r : Result Held SqlBuilderError) (t : Result (MutBor Told) SqlBuilderError) → t ≡ released r → ent 𝓤 (held_says r) (says t)
-    passed r t e = subst (λ (u : Result (MutBor Told) SqlBuilderError). ent 𝓤 (held_says r) (says u)) (sym e) (passes r)
+    pub passed : (r : Result Held SqlBuilderError) (t : Result (MutBor ClauseTexts) SqlBuilderError) → t ≡ released_builder r → ent 𝓤 (held_says r) (says t)
+    passed r t e = subst (λ (u : Result (MutBor ClauseTexts) SqlBuilderError). ent 𝓤 (held_says r) (says u)) (sym e) (passes r)
 
 module _ {M : Type 1} {𝓤 : Ura M} {𝓛 : Logic 𝓤} {K : Type 0} {Γ : List (Item 𝓤)} {G : Goal 𝓤 𝓛.H} where
   -- what a call left: the result, the `ensures` and the tokens
@@ -111,9 +111,9 @@ module _ {M : Type 1} {𝓤 : Ura M} {𝓛 : Logic 𝓤} {K : Type 0} {Γ : List
   -- the call of `release`
   pub releases : K → FmC 𝓤 𝓛.H 𝓛.laws C → {rest : Body} (mem : Memory → SProp 𝓤) (run : Routine → Fun 𝓤)
       → Triple 𝓤 (C f) (triple_of 𝓛 o.signature (o.spec 𝓛 mem run))
-      → (n : ℕ) (κs : Lfts (suc n)) (qs : Shares (suc n)) (s : MutBor Told) (P : Told → Type 0) (r : Result Held SqlBuilderError) (v : Val)
+      → (n : ℕ) (κs : Lfts (suc n)) (qs : Shares (suc n)) (s : MutBor ClauseTexts) (P : ClauseTexts → Type 0) (r : Result Held SqlBuilderError) (v : Val)
       → Opds K 𝓛 (raw ((triple_of 𝓛 o.signature (o.spec 𝓛 mem run)).pre (((κs.0, tt), (qs.0, tt), tt, (r, tt), (v ∷ [], tt)), tt)) ∷ raw (toks 𝓛 n κs.1 qs.1) ∷ raw (held_says 𝓛 s P r) ∷ Γ) En xs (v ∷ [])
-      → ((u : Val) (t : Result (MutBor Told) SqlBuilderError) → Is (Bare 𝓛 κs.0) t (u ∷ [])
+      → ((u : Val) (t : Result (MutBor ClauseTexts) SqlBuilderError) → Is (Bare 𝓛 κs.0) t (u ∷ [])
       → Seq K 𝓛 (‵ ((Bare 𝓛 κs.0).own_val t (u ∷ [])) ∷ raw (says 𝓛 s P t) ∷ raw (toks 𝓛 (suc n) κs qs) ∷ Γ) (lands C Λ En dest u rest q))
       → Seq K 𝓛 (‵ ((Kept 𝓛 κs.0).own_val r (v ∷ [])) ∷ raw (held_says 𝓛 s P r) ∷ raw (toks 𝓛 (suc n) κs qs) ∷ Γ) (runs C Λ En (seq (call f xs dest) rest) q)
   releases t fm mem run met n κs qs s P r v os k =

@@ -10,7 +10,7 @@ use prog.Wired.{Wired}
 use denote.RattleType.{Denots}
 use denote.Signature.{types_at}
 use Rattle.std.specs.Prelude.{map}
-use Rattle.sqlb.specs.Builder.{Told, with_text, with_texts, with_condition, compare_text}
+use Rattle.sqlb.specs.Builder.{ClauseTexts, with_text, with_texts, with_condition, compare_text}
 use Rattle.sqlb.proofs.builder.release.Met.{met as release_met}
 use Rattle.sqlb.proofs.builder.release.Symbol as release_code
 use Rattle.sqlb.specs.contracts.builder.TextClause as text_clause
@@ -43,7 +43,7 @@ module _ {M : Type 1} (𝓤 : Ura M) (𝓛 : Logic 𝓤) (𝓜 : Model 𝓤 𝓛
     abbrev asked-text : (κs : Lfts 2) → Denots (types_at text_step.signature.params κs) → SProp 𝓤
     asked-text κs a = (text_step.clauses 𝓛 𝓜.mem 𝓡.returns κs a).requires tt
 
-    abbrev told-text : (κs : Lfts 2) → Denots (types_at text_step.signature.params κs) → Told
+    abbrev told-text : (κs : Lfts 2) → Denots (types_at text_step.signature.params κs) → ClauseTexts
     told-text κs a = with_text a.1.0 a.1.1.0.now a.0.now
 
     pub by_text : calls.Code1 𝓛 𝓜 𝓡 1 [] clause argument asked-text told-text fn text_code.name release_code.name name
@@ -64,7 +64,7 @@ module _ {M : Type 1} (𝓤 : Ura M) (𝓛 : Logic 𝓤) (𝓜 : Model 𝓤 𝓛
     abbrev asked-texts : (κs : Lfts 3) → Denots (types_at texts_step.signature.params κs) → SProp 𝓤
     asked-texts κs a = (texts_step.clauses 𝓛 𝓜.mem 𝓡.returns κs a).requires tt
 
-    abbrev told-texts : (κs : Lfts 3) → Denots (types_at texts_step.signature.params κs) → Told
+    abbrev told-texts : (κs : Lfts 3) → Denots (types_at texts_step.signature.params κs) → ClauseTexts
     told-texts κs a = with_texts a.1.0 (map (λ item. item.now) a.1.1.0.now) a.0.now
 
     pub by_texts : calls.Code1 𝓛 𝓜 𝓡 2 texts_step.signature.outlives list items asked-texts told-texts fn texts_code.name release_code.name name
@@ -91,7 +91,7 @@ module _ {M : Type 1} (𝓤 : Ura M) (𝓛 : Logic 𝓤) (𝓜 : Model 𝓤 𝓛
     abbrev asked-comparison : (κs : Lfts 3) → Denots (types_at comparison_step.signature.params κs) → SProp 𝓤
     asked-comparison κs a = (comparison_step.clauses 𝓛 𝓜.mem 𝓡.returns κs a).requires tt
 
-    abbrev told-comparison : (κs : Lfts 3) → Denots (types_at comparison_step.signature.params κs) → Told
+    abbrev told-comparison : (κs : Lfts 3) → Denots (types_at comparison_step.signature.params κs) → ClauseTexts
     told-comparison κs a = with_condition a.1.0 (compare_text a.1.1.0 a.1.1.1.0.now a.1.1.1.1.0.now) a.0.now
 
     pub by_comparison : calls.Code2 𝓛 𝓜 𝓡 2 [] group sign left right asked-comparison told-comparison fn comparison_code.name release_code.name name

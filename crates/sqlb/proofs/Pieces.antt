@@ -27,11 +27,11 @@ goes_on a b c text rest n so_far now = (
   so_far.2 ∙ ap (λ l. so_far.0 ++ l) (cut_at n rest) ∙ sym (append_assoc so_far.0 (take n rest) (drop n rest)),
 )
 
--- the slice behind n bytes
+-- the slice after n bytes
 pub take_rest : (n : ℕ) (rest : List ℕ) → n ≤ length rest → take (length rest - n) (drop n rest) ≡ drop n rest
 take_rest n rest h = grind (arith, common_steps)
 
--- a beginning of what comes next, behind what is done
+-- a beginning of what comes next, after what is done
 pub begins : (front part text more : List ℕ) → StartsWith text part → StartsWith (front ++ text ++ more) (front ++ part)
 begins front part text more h =
     let left = drop (length part) text in
@@ -49,7 +49,7 @@ fails_after a b c front text more whole Read result failed f e w r = absurd w.2
 fails_after a b c front text more whole Memory result failed f e w r = absurd w.2
 fails_after a b c front text more whole (At n reason) result failed f e w r = absurd w.2
 
--- the parts before one, that one, and the parts behind it
+-- the parts before one, that one, and the parts after it
 pub parts_at : {X : Type 0} (f : X → List ℕ) (parts : List X) (i : ℕ) (d : X) → i < length parts
     → flat_map f parts ≡ flat_map f (take i parts) ++ f (get_or parts i d) ++ flat_map f (drop (i + 1) parts)
 parts_at f parts i d h =

@@ -6,13 +6,13 @@ use Rattle.std.proofs.lemmas.Bool.Decides.{nat_tests}
 use Rattle.std.proofs.lemmas.Str.Ascii.{IsAscii-nil, IsAscii-cons}
 use Rattle.std.specs.Str.{IsAscii}
 use Rattle.std.proofs.lemmas.Str.{IsUtf8-from_ascii}
-use Rattle.sqlb.proofs.Said.{said_text}
+use Rattle.sqlb.proofs.LineTexts.{command_of-text}
 use Rattle.std.specs.List.{list_all}
 use Rattle.sqlb.specs.Calls.{SelectFrom, Field, Cond, Raw, Compare, Sql}
 use Rattle.sqlb.specs.Fault.{fault_text}
-use Rattle.sqlb.specs.Lines.{lines, said, said_in}
-use Rattle.sqlb.specs.Names.{named, names}
-use Rattle.sqlb.specs.Output.{Output, opened, output, output_of}
+use Rattle.sqlb.specs.Lines.{lines, command_of, command_in}
+use Rattle.sqlb.specs.Names.{meaning_of, names}
+use Rattle.sqlb.specs.Output.{Output, open_statement, output, output_of}
 use Rattle.sqlb.specs.Statement.{statement}
 use Rattle.sqlb.specs.Text.{quote}
 use Rattle.sqlb.specs.declared.calls.Family.TheVariants.{And}
@@ -49,83 +49,83 @@ bytes_below (byte ∷ text) ascii =
     let parts = both (nat_lt byte 128) (is_ascii text) ascii in
     IsAscii-cons byte text (grind (arith, nat_tests)) (bytes_below text parts.1)
 
-said_ascii : (text : List ℕ) → is_ascii text ≡ true → said text ≡ said_in text
-said_ascii text ascii = said_text text (IsUtf8-from_ascii text (bytes_below text ascii))
+command_of-ascii : (text : List ℕ) → is_ascii text ≡ true → command_of text ≡ command_in text
+command_of-ascii text ascii = command_of-text text (IsUtf8-from_ascii text (bytes_below text ascii))
 
 -- what each line of an ASCII input says
-saids_ascii : (texts : List (List ℕ)) → list_all is_ascii texts ≡ true → map said texts ≡ map said_in texts
-saids_ascii [] ascii = refl
-saids_ascii (text ∷ texts) ascii =
+commands-ascii : (texts : List (List ℕ)) → list_all is_ascii texts ≡ true → map command_of texts ≡ map command_in texts
+commands-ascii [] ascii = refl
+commands-ascii (text ∷ texts) ascii =
     let parts = both (is_ascii text) (list_all is_ascii texts) ascii in
-    rw (said_ascii text parts.0, saids_ascii texts parts.1) refl
+    rw (command_of-ascii text parts.0, commands-ascii texts parts.1) refl
 
 -- so the output of an ASCII input computes
-row : (input : List ℕ) (out : Output) → list_all is_ascii (lines input) ≡ true → output_of (map said_in (lines input)) ≡ out → output input ≡ out
+row : (input : List ℕ) (out : Output) → list_all is_ascii (lines input) ≡ true → output_of (map command_in (lines input)) ≡ out → output input ≡ out
 unfolding output
-row input out ascii computed = ap output_of (saids_ascii (lines input) ascii) ∙ computed
+row input out ascii computed = ap output_of (commands-ascii (lines input) ascii) ∙ computed
 
 -- the output of an input: its statements, and the fault that stops it
 abbrev gives : List (List ℕ) → Option (ℕ × Reason) → Output
 gives texts stop = record { statements = texts; fault = stop }
 
 output-stored : output (codes "select_from" ++ 9 ∷ [] ++ codes "company" ++ 10 ∷ [] ++ codes "field" ++ 9 ∷ [] ++ codes "id" ++ 10 ∷ [] ++ codes "field" ++ 9 ∷ [] ++ codes "name" ++ 10 ∷ [] ++ codes "and_where_gt" ++ 9 ∷ [] ++ codes "salary" ++ 9 ∷ [] ++ codes "25000" ++ 10 ∷ [] ++ codes "sql" ++ 10 ∷ []) ≡ gives ((codes "SELECT id, name FROM company WHERE salary > 25000;" ++ 10 ∷ []) ∷ []) None
-unfolding opened named names
+unfolding open_statement meaning_of names
 output-stored = row _ _ refl refl
 
 output-unknown : output (codes "select_from" ++ 9 ∷ [] ++ codes "t" ++ 10 ∷ [] ++ codes "sql" ++ 10 ∷ [] ++ codes "frobnicate" ++ 10 ∷ []) ≡ gives ((codes "SELECT * FROM t;" ++ 10 ∷ []) ∷ []) (Some (3, UnknownCall))
-unfolding opened named names
+unfolding open_statement meaning_of names
 output-unknown = row _ _ refl refl
 
 output-no_end : output (codes "select_from" ++ 9 ∷ [] ++ codes "t" ++ 10 ∷ []) ≡ gives ([]) (Some (1, NoEnd))
-unfolding opened named names
+unfolding open_statement meaning_of names
 output-no_end = row _ _ refl refl
 
 output-no_statement : output (codes "sql" ++ 10 ∷ []) ≡ gives ([]) (Some (1, NoStatement))
-unfolding opened named names
+unfolding open_statement meaning_of names
 output-no_statement = row _ _ refl refl
 
 output-statement_open : output (codes "select_from" ++ 9 ∷ [] ++ codes "a" ++ 10 ∷ [] ++ codes "select_from" ++ 9 ∷ [] ++ codes "b" ++ 10 ∷ []) ≡ gives ([]) (Some (2, StatementOpen))
-unfolding opened named names
+unfolding open_statement meaning_of names
 output-statement_open = row _ _ refl refl
 
 output-refused : output (codes "select_from" ++ 9 ∷ 10 ∷ [] ++ codes "sql" ++ 10 ∷ []) ≡ gives ([]) (Some (2, Builder NoTableName))
-unfolding opened named names
+unfolding open_statement meaning_of names
 output-refused = row _ _ refl refl
 
 output-limit_unknown : output (codes "limit" ++ 10 ∷ []) ≡ gives ([]) (Some (1, UnknownCall))
-unfolding opened named names
+unfolding open_statement meaning_of names
 output-limit_unknown = row _ _ refl refl
 
 output-field_alone : output (codes "field" ++ 10 ∷ []) ≡ gives ([]) (Some (1, WrongArguments))
-unfolding opened named names
+unfolding open_statement meaning_of names
 output-field_alone = row _ _ refl refl
 
 output-empty_line : output (10 ∷ []) ≡ gives ([]) (Some (1, UnknownCall))
-unfolding opened named names
+unfolding open_statement meaning_of names
 output-empty_line = row _ _ refl refl
 
 output-groups : output (codes "select_from" ++ 9 ∷ [] ++ codes "t" ++ 10 ∷ [] ++ codes "and_where" ++ 9 ∷ [] ++ codes "a" ++ 10 ∷ [] ++ codes "and_where" ++ 9 ∷ [] ++ codes "b" ++ 10 ∷ [] ++ codes "sql" ++ 10 ∷ []) ≡ gives ((codes "SELECT * FROM t WHERE (a) AND (b);" ++ 10 ∷ []) ∷ []) None
-unfolding opened named names
+unfolding open_statement meaning_of names
 output-groups = row _ _ refl refl
 
 output-no_fields : output (codes "select_from" ++ 9 ∷ [] ++ codes "t" ++ 10 ∷ [] ++ codes "fields" ++ 10 ∷ [] ++ codes "sql" ++ 10 ∷ []) ≡ gives ((codes "SELECT * FROM t;" ++ 10 ∷ []) ∷ []) None
-unfolding opened named names
+unfolding open_statement meaning_of names
 output-no_fields = row _ _ refl refl
 
 output-empty_field : output (codes "select_from" ++ 9 ∷ [] ++ codes "t" ++ 10 ∷ [] ++ codes "fields" ++ 9 ∷ 10 ∷ [] ++ codes "sql" ++ 10 ∷ []) ≡ gives ((codes "SELECT  FROM t;" ++ 10 ∷ []) ∷ []) None
-unfolding opened named names
+unfolding open_statement meaning_of names
 output-empty_field = row _ _ refl refl
 
 output-last_line_open : output (codes "select_from" ++ 9 ∷ [] ++ codes "t" ++ 10 ∷ [] ++ codes "sql") ≡ gives ((codes "SELECT * FROM t;" ++ 10 ∷ []) ∷ []) None
-unfolding opened named names
+unfolding open_statement meaning_of names
 output-last_line_open = row _ _ refl refl
 
 not_utf8 : output_of (Err NotUtf8 ∷ []) ≡ gives [] (Some (1, NotUtf8))
-unfolding opened
+unfolding open_statement
 not_utf8 = refl
 
 output-no_bytes : output ([]) ≡ gives ([]) None
-unfolding opened named names
+unfolding open_statement meaning_of names
 output-no_bytes = row _ _ refl refl
 
 fault_line : fault_text (At 3 UnknownCall) ≡ codes "line 3: unknown call"

@@ -6,13 +6,13 @@ use Rattle.std.proofs.lemmas.Grind.{flat_map-append}
 use Rattle.std.specs.List.{cons_option}
 use Rattle.std.specs.Prelude.{IfSome}
 use Rattle.sqlb.specs.Answers.{call_text, finish_text}
-use Rattle.sqlb.specs.Builder.{Told, condition_bytes, with_call}
+use Rattle.sqlb.specs.Builder.{ClauseTexts, condition_bytes, with_call}
 use Rattle.sqlb.specs.Calls.{StartText, ConditionText, Raw, Compare, CallText, Field, Fields, Cond, clauses, condition_in, condition_pieces, fields_in, group_pieces, groups_of, opens_group}
 use Rattle.sqlb.specs.Clauses.{Clauses, map_clauses}
 use Rattle.sqlb.specs.Filters.{Group, cut}
-use Rattle.sqlb.specs.Layout.{plain, refusal, sql}
-use Rattle.sqlb.specs.Statement.{finished, text_unless_refused, unless_refused}
-use Rattle.sqlb.specs.Text.{Pieces, fixed, piece_text, pieces_text, raw}
+use Rattle.sqlb.specs.Layout.{byte_atoms, refusal, sql}
+use Rattle.sqlb.specs.Statement.{pieces_at, text_unless_refused, unless_refused}
+use Rattle.sqlb.specs.Text.{Pieces, fixed_piece, piece_text, pieces_text, raw_piece}
 use Rattle.sqlb.specs.declared.calls.Call.{Call}
 use Rattle.sqlb.specs.declared.calls.Family.{Family}
 use Rattle.sqlb.specs.declared.calls.Family.TheVariants.{And}
@@ -25,10 +25,10 @@ use Rattle.sqlb.proofs.Snoc.{cut-snoc, put_in}
 pub pieces_text-append : (x y : Pieces) → pieces_text (x ++ y) ≡ pieces_text x ++ pieces_text y
 pieces_text-append x y = flat_map-append piece_text x y
 
-pieces_text-fixed : (w : List ℕ) → pieces_text (fixed w) ≡ plain w
-pieces_text-fixed w = append-nil w
+pieces_text-fixed_piece : (w : List ℕ) → pieces_text (fixed_piece w) ≡ byte_atoms w
+pieces_text-fixed_piece w = append-nil w
 
-texts_of_raw : (ts : List (List ℕ)) → map pieces_text (map raw ts) ≡ ts
+texts_of_raw : (ts : List (List ℕ)) → map pieces_text (map raw_piece ts) ≡ ts
 texts_of_raw [] = refl
 texts_of_raw (t ∷ ts) = simp (append-nil, texts_of_raw ts)
 
@@ -63,7 +63,7 @@ groups-snoc calls c = rw (filter_map-append condition_in calls (c ∷ [])) (by (
 
 -- the clauses' texts
 
-abbrev told_by : StartText → List CallText → Told
+abbrev told_by : StartText → List CallText → ClauseTexts
 told_by start calls = map_clauses pieces_text (clauses start calls)
 
 pub clauses-snoc : (start : StartText) (calls : List CallText) (c : CallText) → told_by start (calls ++ c ∷ []) ≡ with_call c (told_by start calls)
@@ -79,17 +79,17 @@ pub one_more_call : (start : StartText) (calls : List Call) (i : ℕ) (c : Call)
 one_more_call start calls i c l e =
     rw (take_more calls i c l) (rw (sym e) (rw (map-append call_text (take i calls) (c ∷ [])) (clauses-snoc start (map call_text (take i calls)) (call_text c))))
 
-printed_text : (r : Clauses Pieces) → pieces_text (sql fixed r) ≡ sql plain (map_clauses pieces_text r)
-printed_text r = layout_of_sql fixed plain pieces_text refl pieces_text-append pieces_text-fixed r
+output_text : (r : Clauses Pieces) → pieces_text (sql fixed_piece r) ≡ sql byte_atoms (map_clauses pieces_text r)
+output_text r = layout_of_sql fixed_piece byte_atoms pieces_text refl pieces_text-append pieces_text-fixed_piece r
 
 -- what the builder prints is the statement of the pieces
 pub statement_printed : {Z : Type 0} (f : Finish) (r : Clauses Pieces) (result : Result (String Z) SqlBuilderError)
-    → IfOk result (λ s. string_bytes s ≡ sql plain (map_clauses pieces_text r)) → IfSome (refusal (map_clauses pieces_text r)) (λ e. result ≡ Err e)
-    → IfOk result (λ s. text_unless_refused (finished (finish_text f) r) ≡ Ok (string_bytes s))
+    → IfOk result (λ s. string_bytes s ≡ sql byte_atoms (map_clauses pieces_text r)) → IfSome (refusal (map_clauses pieces_text r)) (λ e. result ≡ Err e)
+    → IfOk result (λ s. text_unless_refused (pieces_at (finish_text f) r) ≡ Ok (string_bytes s))
 statement_printed {Z = Z} finish.Sql r result = by result (refusal (map_clauses pieces_text r))
   where
-    by : (result : Result (String Z) SqlBuilderError) (o : Option SqlBuilderError) → IfOk result (λ s. string_bytes s ≡ sql plain (map_clauses pieces_text r))
-        → IfSome o (λ e. result ≡ Err e) → IfOk result (λ s. text_unless_refused (unless_refused o (sql fixed r)) ≡ Ok (string_bytes s))
+    by : (result : Result (String Z) SqlBuilderError) (o : Option SqlBuilderError) → IfOk result (λ s. string_bytes s ≡ sql byte_atoms (map_clauses pieces_text r))
+        → IfSome o (λ e. result ≡ Err e) → IfOk result (λ s. text_unless_refused (unless_refused o (sql fixed_piece r)) ≡ Ok (string_bytes s))
     by (Err e) o text refused = tt
-    by (Ok s) None text refused = ap Ok (printed_text r ∙ sym text)
+    by (Ok s) None text refused = ap Ok (output_text r ∙ sym text)
     by (Ok s) (Some e) text refused = cc

@@ -1,7 +1,7 @@
 -- One more element at the end, for each way to read a whole list.
 use Rattle.std.proofs.Common.{◌≡◌, List, [], ◌∷◌, ◌++◌, Bool, true, false, ◌||◌, ◌&&◌, not, if◌then◌else◌, refl}
 use Rattle.std.specs.List.{list_any}
-use Rattle.sqlb.specs.Filters.{any_unfollowed, begins, cut, Group, parted, since}
+use Rattle.sqlb.specs.Filters.{any_unfollowed, begins, cut, Group, lead_and_groups, since}
 
 pub any-snoc : {X : Type 0} (p : X → Bool) (xs : List X) (y : X) → list_any p (xs ++ y ∷ []) ≡ (p y || list_any p xs)
 any-snoc p [] y = refl
@@ -53,19 +53,19 @@ put_in opens y [] = (y, []) ∷ []
 put_in true y (g ∷ gs) = (g ∷ gs) ++ (y, []) ∷ []
 put_in false y (g ∷ gs) = into_last y g gs
 
--- the same behind elements that stand before the first group
+-- the same after elements that stand before the first group
 abbrev put : {X : Type 0} → Bool → X → List X × List (Group X) → List X × List (Group X)
 put true y (lead, gs) = (lead, gs ++ (y, []) ∷ [])
 put false y (lead, []) = (lead ++ y ∷ [], [])
 put false y (lead, (g ∷ gs)) = (lead, into_last y g gs)
 
-parted-snoc : {X : Type 0} (p : X → Bool) (xs : List X) (y : X) → parted p (xs ++ y ∷ []) ≡ put (p y) y (parted p xs)
-parted-snoc p [] y = alone (p y)
+lead_and_groups-snoc : {X : Type 0} (p : X → Bool) (xs : List X) (y : X) → lead_and_groups p (xs ++ y ∷ []) ≡ put (p y) y (lead_and_groups p xs)
+lead_and_groups-snoc p [] y = alone (p y)
   where
     alone : (b : Bool) → begins b y ([], []) ≡ put b y ([], [])
     alone true = refl
     alone false = refl
-parted-snoc {X = X} p (x ∷ xs) y = rw (parted-snoc p xs y) (commute (p x) (p y) (parted p xs))
+lead_and_groups-snoc {X = X} p (x ∷ xs) y = rw (lead_and_groups-snoc p xs y) (commute (p x) (p y) (lead_and_groups p xs))
   where
     commute : (a b : Bool) (r : List X × List (Group X)) → begins a x (put b y r) ≡ put b y (begins a x r)
     commute true true (lead, gs) = refl
@@ -77,7 +77,7 @@ parted-snoc {X = X} p (x ∷ xs) y = rw (parted-snoc p xs y) (commute (p x) (p y
 
 pub cut-snoc : {X : Type 0} (p : X → Bool) (xs : List X) (y : X) → cut p (xs ++ y ∷ []) ≡ put_in (p y) y (cut p xs)
 cut-snoc p [] y = refl
-cut-snoc {X = X} p (x ∷ xs) y = rw (parted-snoc p xs y) (heads (p y) (parted p xs))
+cut-snoc {X = X} p (x ∷ xs) y = rw (lead_and_groups-snoc p xs y) (heads (p y) (lead_and_groups p xs))
   where
     heads : (b : Bool) (r : List X × List (Group X)) → (x, (put b y r).0) ∷ (put b y r).1 ≡ put_in b y ((x, r.0) ∷ r.1)
     heads true (lead, gs) = refl

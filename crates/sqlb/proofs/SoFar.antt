@@ -13,8 +13,8 @@ use Rattle.sqlb.proofs.Snoc.{any_unfollowed-snoc, since-snoc}
 use Rattle.sqlb.specs.Calls.{StartText, CallText}
 use Rattle.sqlb.specs.Device.{Wrote}
 use Rattle.sqlb.specs.Filters.{first, since, until}
-use Rattle.sqlb.specs.Lines.{lines, Said, said, Starts, Calls, Finishes}
-use Rattle.sqlb.specs.Output.{Opened, answer, answer_at, answers, call_in, end_fault, fault_at, is_finish, is_inside, is_start, opened, opened_by, output, printed, printed_text, start_in}
+use Rattle.sqlb.specs.Lines.{lines, CommandResult, command_of, Starts, Calls, Finishes}
+use Rattle.sqlb.specs.Output.{OpenStatement, answer, answer_at, answers, call_in, end_fault, fault_at, is_finish, is_inside, is_start, open_statement, open_statement_in, output, printed_line, output_text, start_in}
 use Rattle.sqlb.specs.Ran.{AreWhole, Ran}
 use Rattle.sqlb.specs.Script.{open_after}
 use Rattle.sqlb.specs.declared.fault.Fault.{Fault}
@@ -25,65 +25,65 @@ use Rattle.sqlb.specs.declared.fault.Reason.TheVariants.{NoEnd}
 abbrev pub Answer : Type 0
 Answer = Result (Option (List ℕ)) Reason
 
--- the statement that is open behind one more line
+-- the statement that is open after one more line
 
--- an open statement with these calls behind its own
-abbrev with_calls : List CallText → Opened → Opened
-with_calls more opened = record { start = opened.start; calls = opened.calls ++ more }
+-- an open statement with these calls after its own
+abbrev with_calls : List CallText → OpenStatement → OpenStatement
+with_calls more open_statement = record { start = open_statement.start; calls = open_statement.calls ++ more }
 
-opened_by-snoc : (xs : List Said) (s : Said) → filter_map start_in (s ∷ []) ≡ [] → opened_by (xs ++ s ∷ []) ≡ option_map (with_calls (filter_map call_in (s ∷ []))) (opened_by xs)
-opened_by-snoc xs s no_start =
+open_statement_in-snoc : (xs : List CommandResult) (s : CommandResult) → filter_map start_in (s ∷ []) ≡ [] → open_statement_in (xs ++ s ∷ []) ≡ option_map (with_calls (filter_map call_in (s ∷ []))) (open_statement_in xs)
+open_statement_in-snoc xs s no_start =
     rw (filter_map-append start_in xs (s ∷ []), filter_map-append call_in xs (s ∷ []), no_start, append-nil (filter_map start_in xs)) (by (first (filter_map start_in xs)) (filter_map call_in (s ∷ [])))
   where
-    by : (o : Option StartText) (more : List CallText) → option_map {U = Opened} (λ start. record { start = start; calls = filter_map call_in xs ++ more }) o
-        ≡ option_map (with_calls more) (option_map {U = Opened} (λ start. record { start = start; calls = filter_map call_in xs }) o)
+    by : (o : Option StartText) (more : List CallText) → option_map {U = OpenStatement} (λ start. record { start = start; calls = filter_map call_in xs ++ more }) o
+        ≡ option_map (with_calls more) (option_map {U = OpenStatement} (λ start. record { start = start; calls = filter_map call_in xs }) o)
     by None more = refl
     by (Some start) more = refl
 
 -- a line that is no start and no finish
-opened-goes_on : (before : List Said) (s : Said) → is_start s ≡ false → is_finish s ≡ false → filter_map start_in (s ∷ []) ≡ []
-    → opened (before ++ s ∷ []) ≡ option_map (with_calls (filter_map call_in (s ∷ []))) (opened before)
-unfolding opened
-opened-goes_on before s no_start no_finish none =
+open_statement-goes_on : (before : List CommandResult) (s : CommandResult) → is_start s ≡ false → is_finish s ≡ false → filter_map start_in (s ∷ []) ≡ []
+    → open_statement (before ++ s ∷ []) ≡ option_map (with_calls (filter_map call_in (s ∷ []))) (open_statement before)
+unfolding open_statement
+open_statement-goes_on before s no_start no_finish none =
     rw (any_unfollowed-snoc is_start is_finish before s, since-snoc is_start before s, no_start, no_finish) (by (is_inside before))
   where
-    by : (inside : Bool) → (if inside then opened_by (since is_start before ++ s ∷ []) else None) ≡ option_map (with_calls (filter_map call_in (s ∷ []))) (if inside then opened_by (since is_start before) else None)
-    by true = opened_by-snoc (since is_start before) s none
+    by : (inside : Bool) → (if inside then open_statement_in (since is_start before ++ s ∷ []) else None) ≡ option_map (with_calls (filter_map call_in (s ∷ []))) (if inside then open_statement_in (since is_start before) else None)
+    by true = open_statement_in-snoc (since is_start before) s none
     by false = refl
 
-no_more_calls : (o : Option Opened) → option_map (with_calls []) o ≡ o
+no_more_calls : (o : Option OpenStatement) → option_map (with_calls []) o ≡ o
 no_more_calls None = refl
-no_more_calls (Some opened) = rw (append-nil opened.calls) refl
+no_more_calls (Some open_statement) = rw (append-nil open_statement.calls) refl
 
-pub opened-snoc : (before : List Said) (s : Said) → opened (before ++ s ∷ []) ≡ open_after (opened before) s
-unfolding opened
-opened-snoc before (Ok (Starts start)) = rw (any_unfollowed-snoc is_start is_finish before (Ok (Starts start)), since-snoc is_start before (Ok (Starts start))) refl
-opened-snoc before (Ok (Finishes finish)) = rw (any_unfollowed-snoc is_start is_finish before (Ok (Finishes finish))) refl
-opened-snoc before (Ok (Calls call)) = opened-goes_on before (Ok (Calls call)) refl refl refl
-opened-snoc before (Err reason) = opened-goes_on before (Err reason) refl refl refl ∙ no_more_calls (opened before)
+pub open_statement-snoc : (before : List CommandResult) (s : CommandResult) → open_statement (before ++ s ∷ []) ≡ open_after (open_statement before) s
+unfolding open_statement
+open_statement-snoc before (Ok (Starts start)) = rw (any_unfollowed-snoc is_start is_finish before (Ok (Starts start)), since-snoc is_start before (Ok (Starts start))) refl
+open_statement-snoc before (Ok (Finishes finish)) = rw (any_unfollowed-snoc is_start is_finish before (Ok (Finishes finish))) refl
+open_statement-snoc before (Ok (Calls call)) = open_statement-goes_on before (Ok (Calls call)) refl refl refl
+open_statement-snoc before (Err reason) = open_statement-goes_on before (Err reason) refl refl refl ∙ no_more_calls (open_statement before)
 
 -- what each line answers, by the lines before it
 
-abbrev pub answers_from : List Said → List Said → List Answer
+abbrev pub answers_from : List CommandResult → List CommandResult → List Answer
 answers_from before [] = []
-answers_from before (s ∷ ss) = answer (opened before) s ∷ answers_from (before ++ s ∷ []) ss
+answers_from before (s ∷ ss) = answer (open_statement before) s ∷ answers_from (before ++ s ∷ []) ss
 
-answers_from-is : (before saids : List Said) → map (answer_at (before ++ saids)) (enumerate_from (length before + 1) saids) ≡ answers_from before saids
+answers_from-is : (before commands : List CommandResult) → map (answer_at (before ++ commands)) (enumerate_from (length before + 1) commands) ≡ answers_from before commands
 answers_from-is before [] = refl
 answers_from-is before (s ∷ ss) =
     let here : take (length before + 1 - 1) (before ++ s ∷ ss) ≡ before = grind (arith, common_steps) in
     let longer : length before + 1 + 1 ≡ length (before ++ s ∷ []) + 1 = omega (arith, length-append before (s ∷ [])) in
-    let grouped = ap (λ (all : List Said). map (answer_at all) (enumerate_from (length (before ++ s ∷ []) + 1) ss)) (sym (append_assoc before (s ∷ []) ss)) in
-    rw (here, longer) (ap (λ (rest : List Answer). answer (opened before) s ∷ rest) (grouped ∙ answers_from-is (before ++ s ∷ []) ss))
+    let grouped = ap (λ (all : List CommandResult). map (answer_at all) (enumerate_from (length (before ++ s ∷ []) + 1) ss)) (sym (append_assoc before (s ∷ []) ss)) in
+    rw (here, longer) (ap (λ (rest : List Answer). answer (open_statement before) s ∷ rest) (grouped ∙ answers_from-is (before ++ s ∷ []) ss))
 
-answers-is : (saids : List Said) → answers saids ≡ answers_from [] saids
-answers-is saids = answers_from-is [] saids
+answers-is : (commands : List CommandResult) → answers commands ≡ answers_from [] commands
+answers-is commands = answers_from-is [] commands
 
-answers_from-append : (before xs ys : List Said) → answers_from before (xs ++ ys) ≡ answers_from before xs ++ answers_from (before ++ xs) ys
+answers_from-append : (before xs ys : List CommandResult) → answers_from before (xs ++ ys) ≡ answers_from before xs ++ answers_from (before ++ xs) ys
 answers_from-append before [] ys = rw (append-nil before) refl
 answers_from-append before (x ∷ xs) ys = rw (answers_from-append (before ++ x ∷ []) xs ys, append_assoc before (x ∷ []) xs) refl
 
--- lines that are accepted, and others behind them
+-- lines that are accepted, and others after them
 
 until-accepted : (texts : List (Option (List ℕ))) (more : List Answer) → until is_err (map Ok texts ++ more) ≡ map Ok texts ++ until is_err more
 until-accepted [] more = refl
@@ -95,13 +95,13 @@ faults-accepted n (t ∷ ts) more = faults-accepted (n + 1) ts more ∙ ap (λ m
 
 -- the texts that accepted lines finish, each with its line feed
 abbrev pub finished_texts : List (Option (List ℕ)) → List (List ℕ)
-finished_texts texts = filter_map printed (map Ok texts)
+finished_texts texts = filter_map printed_line (map Ok texts)
 
 abbrev pub joined_texts : List (Option (List ℕ)) → List ℕ
 joined_texts texts = flat_map (λ statement. statement) (finished_texts texts)
 
 finished_texts-append : (xs ys : List (Option (List ℕ))) → finished_texts (xs ++ ys) ≡ finished_texts xs ++ finished_texts ys
-finished_texts-append xs ys = ap (filter_map printed) (map-append Ok xs ys) ∙ filter_map-append printed (map Ok xs) (map Ok ys)
+finished_texts-append xs ys = ap (filter_map printed_line) (map-append Ok xs ys) ∙ filter_map-append printed_line (map Ok xs) (map Ok ys)
 
 joined_texts-append : (xs ys : List (Option (List ℕ))) → joined_texts (xs ++ ys) ≡ joined_texts xs ++ joined_texts ys
 joined_texts-append xs ys = ap (flat_map (λ statement. statement)) (finished_texts-append xs ys) ∙ flat_map-append (λ statement. statement) (finished_texts xs) (finished_texts ys)
@@ -114,67 +114,67 @@ abbrev no_end : Bool → ℕ → List (ℕ × Reason)
 no_end is_open n = if is_open then (n, NoEnd) ∷ [] else []
 
 -- how far a run has come: the lines before this one are all accepted, and the texts that they finish are written
-pub record SoFar (old new : Option (List ℕ)) (text : List ℕ) (number : ℕ) (script : Option Opened) (rest : List ℕ) : Type 0 where
-  pub done : List Said
+pub record SoFar (old new : Option (List ℕ)) (text : List ℕ) (number : ℕ) (script : Option OpenStatement) (rest : List ℕ) : Type 0 where
+  pub done : List CommandResult
   pub texts : List (Option (List ℕ))
-  pub split : map said (lines text) ≡ done ++ map said (lines rest)
+  pub split : map command_of (lines text) ≡ done ++ map command_of (lines rest)
   pub counted : number ≡ length done
   pub accepted : answers_from [] done ≡ map Ok texts
-  pub open_now : script ≡ opened done
+  pub open_now : script ≡ open_statement done
   pub written : Appends old new (joined_texts texts)
 
 pub so_far-first : (old : Option (List ℕ)) (text : List ℕ) → SoFar old old text 0 None text
-unfolding opened
+unfolding open_statement
 so_far-first old text = record { done = []; texts = []; split = refl; counted = refl; accepted = refl; open_now = refl; written = Appends-nil old }
 
-module _ (old new : Option (List ℕ)) (text : List ℕ) (number : ℕ) (script : Option Opened) (rest : List ℕ) (so_far : SoFar old new text number script rest) where
+module _ (old new : Option (List ℕ)) (text : List ℕ) (number : ℕ) (script : Option OpenStatement) (rest : List ℕ) (so_far : SoFar old new text number script rest) where
   counted-texts : number ≡ length so_far.texts
   counted-texts =
       let accept : Option (List ℕ) → Answer = λ text. Ok text in
       so_far.counted ∙ sym (length-answers_from [] so_far.done) ∙ ap length so_far.accepted ∙ length-map so_far.texts accept
     where
-      length-answers_from : (before saids : List Said) → length (answers_from before saids) ≡ length saids
+      length-answers_from : (before commands : List CommandResult) → length (answers_from before commands) ≡ length commands
       length-answers_from before [] = refl
       length-answers_from before (s ∷ ss) = ap suc (length-answers_from (before ++ s ∷ []) ss)
 
   -- what the answers are, from here on
-  answers-split : answers (map said (lines text)) ≡ map Ok so_far.texts ++ answers_from so_far.done (map said (lines rest))
+  answers-split : answers (map command_of (lines text)) ≡ map Ok so_far.texts ++ answers_from so_far.done (map command_of (lines rest))
   answers-split =
-      answers-is (map said (lines text)) ∙ ap (answers_from []) so_far.split ∙ answers_from-append [] so_far.done (map said (lines rest))
-      ∙ ap (λ (l : List Answer). l ++ answers_from so_far.done (map said (lines rest))) so_far.accepted
+      answers-is (map command_of (lines text)) ∙ ap (answers_from []) so_far.split ∙ answers_from-append [] so_far.done (map command_of (lines rest))
+      ∙ ap (λ (l : List Answer). l ++ answers_from so_far.done (map command_of (lines rest))) so_far.accepted
 
   -- the statements, from here on
-  statements-split : (output text).statements ≡ finished_texts so_far.texts ++ filter_map printed (until is_err (answers_from so_far.done (map said (lines rest))))
+  statements-split : (output text).statements ≡ finished_texts so_far.texts ++ filter_map printed_line (until is_err (answers_from so_far.done (map command_of (lines rest))))
   unfolding output
   statements-split =
-      ap (λ (l : List Answer). filter_map printed (until is_err l)) answers-split
-      ∙ ap (filter_map printed) (until-accepted so_far.texts (answers_from so_far.done (map said (lines rest))))
-      ∙ filter_map-append printed (map Ok so_far.texts) (until is_err (answers_from so_far.done (map said (lines rest))))
+      ap (λ (l : List Answer). filter_map printed_line (until is_err l)) answers-split
+      ∙ ap (filter_map printed_line) (until-accepted so_far.texts (answers_from so_far.done (map command_of (lines rest))))
+      ∙ filter_map-append printed_line (map Ok so_far.texts) (until is_err (answers_from so_far.done (map command_of (lines rest))))
 
-  fault-split : (output text).fault ≡ first (filter_map fault_at (enumerate_from (1 + number) (answers_from so_far.done (map said (lines rest)))) ++ end_fault (map said (lines text)))
+  fault-split : (output text).fault ≡ first (filter_map fault_at (enumerate_from (1 + number) (answers_from so_far.done (map command_of (lines rest)))) ++ end_fault (map command_of (lines text)))
   unfolding output
   fault-split =
-      ap (λ (l : List Answer). first (filter_map fault_at (enumerate_from 1 l) ++ end_fault (map said (lines text)))) answers-split
-      ∙ ap (λ (l : List (ℕ × Reason)). first (l ++ end_fault (map said (lines text)))) (faults-accepted 1 so_far.texts (answers_from so_far.done (map said (lines rest))))
-      ∙ ap (λ (n : ℕ). first (filter_map fault_at (enumerate_from (1 + n) (answers_from so_far.done (map said (lines rest)))) ++ end_fault (map said (lines text)))) (sym counted-texts)
+      ap (λ (l : List Answer). first (filter_map fault_at (enumerate_from 1 l) ++ end_fault (map command_of (lines text)))) answers-split
+      ∙ ap (λ (l : List (ℕ × Reason)). first (l ++ end_fault (map command_of (lines text)))) (faults-accepted 1 so_far.texts (answers_from so_far.done (map command_of (lines rest))))
+      ∙ ap (λ (n : ℕ). first (filter_map fault_at (enumerate_from (1 + n) (answers_from so_far.done (map command_of (lines rest)))) ++ end_fault (map command_of (lines text)))) (sym counted-texts)
 
   -- memory runs out
   pub stops-whole : AreWhole (joined_texts so_far.texts) (output text).statements
-  stops-whole = (finished_texts so_far.texts, filter_map printed (until is_err (answers_from so_far.done (map said (lines rest)))), statements-split, refl)
+  stops-whole = (finished_texts so_far.texts, filter_map printed_line (until is_err (answers_from so_far.done (map command_of (lines rest)))), statements-split, refl)
 
   -- the end of the lines
   module _ (end : lines rest ≡ []) where
-    all_done : map said (lines text) ≡ so_far.done
-    all_done = so_far.split ∙ ap (λ (ls : List (List ℕ)). so_far.done ++ map said ls) end ∙ append-nil so_far.done
+    all_done : map command_of (lines text) ≡ so_far.done
+    all_done = so_far.split ∙ ap (λ (ls : List (List ℕ)). so_far.done ++ map command_of ls) end ∙ append-nil so_far.done
 
-    pub ends-written : joined_texts so_far.texts ≡ printed_text (output text)
-    ends-written = ap (flat_map (λ statement. statement)) (sym (statements-split ∙ ap (λ (ls : List (List ℕ)). finished_texts so_far.texts ++ filter_map printed (until is_err (answers_from so_far.done (map said ls)))) end ∙ append-nil (finished_texts so_far.texts)))
+    pub ends-written : joined_texts so_far.texts ≡ output_text (output text)
+    ends-written = ap (flat_map (λ statement. statement)) (sym (statements-split ∙ ap (λ (ls : List (List ℕ)). finished_texts so_far.texts ++ filter_map printed_line (until is_err (answers_from so_far.done (map command_of ls)))) end ∙ append-nil (finished_texts so_far.texts)))
 
     pub ends-fault : (output text).fault ≡ (if is_some script then Some (number, NoEnd) else None)
     ends-fault =
-        fault-split ∙ ap (λ (ls : List (List ℕ)). first (filter_map fault_at (enumerate_from (1 + number) (answers_from so_far.done (map said ls))) ++ end_fault (map said (lines text)))) end
-        ∙ ap (λ (saids : List Said). first (end_fault saids)) all_done
-        ∙ ap (λ (o : Option Opened). first (no_end (is_some o) (length so_far.done))) (sym so_far.open_now)
+        fault-split ∙ ap (λ (ls : List (List ℕ)). first (filter_map fault_at (enumerate_from (1 + number) (answers_from so_far.done (map command_of ls))) ++ end_fault (map command_of (lines text)))) end
+        ∙ ap (λ (commands : List CommandResult). first (end_fault commands)) all_done
+        ∙ ap (λ (o : Option OpenStatement). first (no_end (is_some o) (length so_far.done))) (sym so_far.open_now)
         ∙ ap (λ (n : ℕ). first (no_end (is_some script) n)) (sym so_far.counted)
         ∙ by (is_some script)
       where
@@ -183,53 +183,53 @@ module _ (old new : Option (List ℕ)) (text : List ℕ) (number : ℕ) (script 
         by false = refl
 
   -- one more line
-  module _ (line behind : List ℕ) (next : lines rest ≡ line ∷ lines behind) where
-    answer-here : answer (opened so_far.done) (said line) ≡ answer script (said line)
-    answer-here = ap (λ (o : Option Opened). answer o (said line)) (sym so_far.open_now)
+  module _ (line remaining : List ℕ) (next : lines rest ≡ line ∷ lines remaining) where
+    answer-here : answer (open_statement so_far.done) (command_of line) ≡ answer script (command_of line)
+    answer-here = ap (λ (o : Option OpenStatement). answer o (command_of line)) (sym so_far.open_now)
 
     -- the line is accepted
-    pub so_far-next : (newer : Option (List ℕ)) (after : Option Opened) (o : Option (List ℕ)) → answer script (said line) ≡ Ok o → after ≡ open_after script (said line)
-        → Appends new newer (joined_texts (o ∷ [])) → SoFar old newer text (number + 1) after behind
+    pub so_far-next : (newer : Option (List ℕ)) (after : Option OpenStatement) (o : Option (List ℕ)) → answer script (command_of line) ≡ Ok o → after ≡ open_after script (command_of line)
+        → Appends new newer (joined_texts (o ∷ [])) → SoFar old newer text (number + 1) after remaining
     so_far-next newer after o accepts opens now = record {
-      done = so_far.done ++ said line ∷ [];
+      done = so_far.done ++ command_of line ∷ [];
       texts = so_far.texts ++ o ∷ [];
-      split = so_far.split ∙ ap (λ (ls : List (List ℕ)). so_far.done ++ map said ls) next ∙ sym (append_assoc so_far.done (said line ∷ []) (map said (lines behind)));
-      counted = omega (arith, so_far.counted, length-append so_far.done (said line ∷ []));
-      accepted = answers_from-append [] so_far.done (said line ∷ []) ∙ ap (λ (l : List Answer). l ++ answer (opened so_far.done) (said line) ∷ []) so_far.accepted
+      split = so_far.split ∙ ap (λ (ls : List (List ℕ)). so_far.done ++ map command_of ls) next ∙ sym (append_assoc so_far.done (command_of line ∷ []) (map command_of (lines remaining)));
+      counted = omega (arith, so_far.counted, length-append so_far.done (command_of line ∷ []));
+      accepted = answers_from-append [] so_far.done (command_of line ∷ []) ∙ ap (λ (l : List Answer). l ++ answer (open_statement so_far.done) (command_of line) ∷ []) so_far.accepted
           ∙ ap (λ (a : Answer). map Ok so_far.texts ++ a ∷ []) (answer-here ∙ accepts) ∙ sym (map-append Ok so_far.texts (o ∷ []));
-      open_now = opens ∙ ap (λ (w : Option Opened). open_after w (said line)) so_far.open_now ∙ sym (opened-snoc so_far.done (said line));
+      open_now = opens ∙ ap (λ (w : Option OpenStatement). open_after w (command_of line)) so_far.open_now ∙ sym (open_statement-snoc so_far.done (command_of line));
       written = subst (Appends old newer) (sym (joined_texts-append so_far.texts (o ∷ []))) (Appends-trans old new newer (joined_texts so_far.texts) (joined_texts (o ∷ [])) so_far.written now);
     }
 
     -- the line is refused
-    module _ (reason : Reason) (refused : answer script (said line) ≡ Err reason) where
-      refused-here : answers_from so_far.done (map said (lines rest)) ≡ Err reason ∷ answers_from (so_far.done ++ said line ∷ []) (map said (lines behind))
-      refused-here = ap (λ (ls : List (List ℕ)). answers_from so_far.done (map said ls)) next
-          ∙ ap (λ (a : Answer). a ∷ answers_from (so_far.done ++ said line ∷ []) (map said (lines behind))) (answer-here ∙ refused)
+    module _ (reason : Reason) (refused : answer script (command_of line) ≡ Err reason) where
+      refused-here : answers_from so_far.done (map command_of (lines rest)) ≡ Err reason ∷ answers_from (so_far.done ++ command_of line ∷ []) (map command_of (lines remaining))
+      refused-here = ap (λ (ls : List (List ℕ)). answers_from so_far.done (map command_of ls)) next
+          ∙ ap (λ (a : Answer). a ∷ answers_from (so_far.done ++ command_of line ∷ []) (map command_of (lines remaining))) (answer-here ∙ refused)
 
-      pub refused-written : joined_texts so_far.texts ≡ printed_text (output text)
-      refused-written = ap (flat_map (λ statement. statement)) (sym (statements-split ∙ ap (λ (l : List Answer). finished_texts so_far.texts ++ filter_map printed (until is_err l)) refused-here ∙ append-nil (finished_texts so_far.texts)))
+      pub refused-written : joined_texts so_far.texts ≡ output_text (output text)
+      refused-written = ap (flat_map (λ statement. statement)) (sym (statements-split ∙ ap (λ (l : List Answer). finished_texts so_far.texts ++ filter_map printed_line (until is_err l)) refused-here ∙ append-nil (finished_texts so_far.texts)))
 
       pub refused-fault : (output text).fault ≡ Some (number + 1, reason)
-      refused-fault = fault-split ∙ ap (λ (l : List Answer). first (filter_map fault_at (enumerate_from (1 + number) l) ++ end_fault (map said (lines text)))) refused-here
+      refused-fault = fault-split ∙ ap (λ (l : List Answer). first (filter_map fault_at (enumerate_from (1 + number) l) ++ end_fault (map command_of (lines text)))) refused-here
           ∙ ap (λ (n : ℕ). Some (n, reason)) (omega arith)
 
     -- the line's statement is written in part
-    pub stops-in : (t : List ℕ) (part : List ℕ) → answer script (said line) ≡ Ok (Some t) → StartsWith (joined_texts (Some t ∷ [])) part
-        → StartsWith (printed_text (output text)) (joined_texts so_far.texts ++ part)
+    pub stops-in : (t : List ℕ) (part : List ℕ) → answer script (command_of line) ≡ Ok (Some t) → StartsWith (joined_texts (Some t ∷ [])) part
+        → StartsWith (output_text (output text)) (joined_texts so_far.texts ++ part)
     stops-in t part accepts starts =
-        let later = filter_map printed (until is_err (answers_from (so_far.done ++ said line ∷ []) (map said (lines behind)))) in
-        let here : answers_from so_far.done (map said (lines rest)) ≡ Ok (Some t) ∷ answers_from (so_far.done ++ said line ∷ []) (map said (lines behind))
-        = ap (λ (ls : List (List ℕ)). answers_from so_far.done (map said ls)) next ∙ ap (λ (a : Answer). a ∷ answers_from (so_far.done ++ said line ∷ []) (map said (lines behind))) (answer-here ∙ accepts) in
-        let whole : printed_text (output text) ≡ joined_texts so_far.texts ++ joined_texts (Some t ∷ []) ++ flat_map (λ statement. statement) later
-        = ap (flat_map (λ statement. statement)) (statements-split ∙ ap (λ (l : List Answer). finished_texts so_far.texts ++ filter_map printed (until is_err l)) here)
+        let later = filter_map printed_line (until is_err (answers_from (so_far.done ++ command_of line ∷ []) (map command_of (lines remaining)))) in
+        let here : answers_from so_far.done (map command_of (lines rest)) ≡ Ok (Some t) ∷ answers_from (so_far.done ++ command_of line ∷ []) (map command_of (lines remaining))
+        = ap (λ (ls : List (List ℕ)). answers_from so_far.done (map command_of ls)) next ∙ ap (λ (a : Answer). a ∷ answers_from (so_far.done ++ command_of line ∷ []) (map command_of (lines remaining))) (answer-here ∙ accepts) in
+        let whole : output_text (output text) ≡ joined_texts so_far.texts ++ joined_texts (Some t ∷ []) ++ flat_map (λ statement. statement) later
+        = ap (flat_map (λ statement. statement)) (statements-split ∙ ap (λ (l : List Answer). finished_texts so_far.texts ++ filter_map printed_line (until is_err l)) here)
         ∙ flat_map-append (λ statement. statement) (finished_texts so_far.texts) ((t ++ codes "\n") ∷ later)
         ∙ ap (λ (l : List ℕ). joined_texts so_far.texts ++ (l ++ flat_map (λ statement. statement) later)) (sym (append-nil (t ++ codes "\n")))
         ∙ sym (append_assoc (joined_texts so_far.texts) (joined_texts (Some t ∷ [])) (flat_map (λ statement. statement) later)) in
         subst (λ (all : List ℕ). StartsWith all (joined_texts so_far.texts ++ part)) (sym whole) (begins (joined_texts so_far.texts) part (joined_texts (Some t ∷ [])) (flat_map (λ statement. statement) later) starts)
 
     -- a write that fails in the line's statement fails the run
-    pub fails-in : {T : Type 0} (newer : Option (List ℕ)) (t : List ℕ) (fault : Fault) (result : Result T Fault) (failed : Bool) → answer script (said line) ≡ Ok (Some t)
+    pub fails-in : {T : Type 0} (newer : Option (List ℕ)) (t : List ℕ) (fault : Fault) (result : Result T Fault) (failed : Bool) → answer script (command_of line) ≡ Ok (Some t)
         → (part : List ℕ) × Appends new newer part × Wrote {T = Unit {0}} (Err fault) part (t ++ codes "\n") failed → result ≡ Err fault
         → (written : List ℕ) × Appends old newer written × Ran result written (output text)
     fails-in newer t Write result failed accepts wrote is =
@@ -242,7 +242,7 @@ module _ (old new : Option (List ℕ)) (text : List ℕ) (number : ℕ) (script 
     fails-in newer t Memory result failed accepts wrote is = absurd wrote.2
     fails-in newer t (At n reason) result failed accepts wrote is = absurd wrote.2
 
--- a text behind which nothing is left has no line left
+-- a text of which nothing is left has no line left
 pub lines-empty : (rest : List ℕ) → length rest ≡ 0 → lines rest ≡ []
 lines-empty [] none = refl
 lines-empty (byte ∷ bytes) none = absurd (omega (arith, none))

@@ -15,5 +15,5 @@ abbrev pub map_clauses : {T U : Type 0} → (T → U) → Clauses T → Clauses 
 map_clauses f r = record { table = f r.table; fields = map f r.fields; groups = map f r.groups }
 
 -- a SELECT from this table, told nothing else
-abbrev pub selected_from : {T : Type 0} → T → Clauses T
-selected_from table = record { table = table; fields = []; groups = [] }
+abbrev pub new_select : {T : Type 0} → T → Clauses T
+new_select table = record { table = table; fields = []; groups = [] }

@@ -4,7 +4,7 @@ use Rattle.std.specs.Io.{StartsWith}
 use Rattle.sqlb.specs.declared.fault.Fault.{Fault}
 use Rattle.sqlb.specs.declared.fault.Fault.TheVariants.{At, Memory, Read, Write}
 
--- The text is written, or the writer failed behind a beginning of it.
+-- The text is written, or the writer failed after a beginning of it.
 abbrev pub Wrote : {T : Type 0} → Result T Fault → List ℕ → List ℕ → Bool → Type 0
 Wrote (Ok done) written text failed = (written ≡ text) × (failed ≡ false)
 Wrote (Err Write) written text failed = StartsWith text written × (failed ≡ true)

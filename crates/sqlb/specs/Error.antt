@@ -8,6 +8,7 @@ abbrev pub message_text : SqlBuilderError → List ℕ
 message_text NoTableName = codes "No table name"
 message_text (Memory error) = codes "Out of memory"
 
+-- the refusal is want of memory
 abbrev pub IsMemory : SqlBuilderError → Type 0
 IsMemory (Memory error) = Unit {0}
 IsMemory NoTableName = ⊥

@@ -12,7 +12,7 @@ abbrev pub since : {X : Type 0} → (X → Bool) → List X → List X
 since p [] = []
 since p (x ∷ xs) = if list_any p xs then since p xs else x ∷ xs
 
--- whether some element passes p, and no element behind it passes q
+-- whether some element passes p, and no element after it passes q
 abbrev pub any_unfollowed : {X : Type 0} → (X → Bool) → (X → Bool) → List X → Bool
 any_unfollowed p q [] = false
 any_unfollowed p q (x ∷ xs) = (p x && not (list_any q xs)) || any_unfollowed p q xs
@@ -27,14 +27,14 @@ begins true x r = ([], (x, r.0) ∷ r.1)
 begins false x r = (x ∷ r.0, r.1)
 
 -- the elements before the first that passes, and the groups that each one that passes begins
-abbrev pub parted : {X : Type 0} → (X → Bool) → List X → List X × List (Group X)
-parted p [] = ([], [])
-parted p (x ∷ xs) = begins (p x) x (parted p xs)
+abbrev pub lead_and_groups : {X : Type 0} → (X → Bool) → List X → List X × List (Group X)
+lead_and_groups p [] = ([], [])
+lead_and_groups p (x ∷ xs) = begins (p x) x (lead_and_groups p xs)
 
 -- the list cut before each element that passes
 abbrev pub cut : {X : Type 0} → (X → Bool) → List X → List (Group X)
 cut p [] = []
-cut p (x ∷ xs) = (x, (parted p xs).0) ∷ (parted p xs).1
+cut p (x ∷ xs) = (x, (lead_and_groups p xs).0) ∷ (lead_and_groups p xs).1
 
 -- the elements before the first that passes
 abbrev pub until : {X : Type 0} → (X → Bool) → List X → List X

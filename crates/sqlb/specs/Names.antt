@@ -3,14 +3,15 @@ use Rattle.std.specs.Prelude.{ℕ, List, [], ◌∷◌, Option, bytes_eq, option
 use Rattle.std.specs.Borrow.{Bor}
 use Rattle.sqlb.specs.declared.calls.Family.TheVariants.{And}
 use Rattle.sqlb.specs.declared.calls.Relation.TheVariants.{Gt}
-use Rattle.sqlb.specs.declared.names.Word.{Word}
-use Rattle.sqlb.specs.declared.names.Word.TheVariants as takes
+use Rattle.sqlb.specs.declared.names.Meaning.{Meaning}
+use Rattle.sqlb.specs.declared.names.Meaning.TheVariants as takes
 use Rattle.sqlb.specs.declared.names.Nullary.TheVariants as nullary
 use Rattle.sqlb.specs.declared.names.Unary.TheVariants as unary
 use Rattle.sqlb.specs.declared.names.Binary.TheVariants as binary
 use Rattle.sqlb.specs.declared.names.Variadic.TheVariants as variadic
 
-unfoldable pub names : List (List ℕ × Word)
+-- each name, and what it stands for
+unfoldable pub names : List (List ℕ × Meaning)
 names =
     (codes "select_from", takes.Unary unary.SelectFrom) ∷
     (codes "field", takes.Unary unary.Field) ∷
@@ -21,13 +22,13 @@ names =
     []
 
 -- what stands beside a name in a table, if the table has it
-abbrev pub found_in : List (List ℕ × Word) → List ℕ → Option Word
+abbrev pub found_in : List (List ℕ × Meaning) → List ℕ → Option Meaning
 found_in table name = option_map (λ entry. entry.1) (find (λ entry. bytes_eq entry.0 name) table)
 
 -- the same of a table whose names are references
-abbrev pub found_behind : List (Bor (List ℕ) × Word) → List ℕ → Option Word
-found_behind table name = option_map (λ entry. entry.1) (find (λ entry. bytes_eq entry.0.now name) table)
+abbrev pub found_by_reference : List (Bor (List ℕ) × Meaning) → List ℕ → Option Meaning
+found_by_reference table name = option_map (λ entry. entry.1) (find (λ entry. bytes_eq entry.0.now name) table)
 
 -- what a name stands for; names are compared exactly
-unfoldable pub named : List ℕ → Option Word
-named name = found_in names name
+unfoldable pub meaning_of : List ℕ → Option Meaning
+meaning_of name = found_in names name

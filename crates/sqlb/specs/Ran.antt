@@ -2,7 +2,7 @@
 use Rattle.std.specs.Prelude.{◌≡◌, ◌≢◌, ℕ, Bool, true, false, List, [], ◌++◌, Some, None, Result, Ok, Err, flat_map}
 use Rattle.std.specs.Io.{StartsWith}
 use Rattle.sqlb.specs.Error.{IsMemory}
-use Rattle.sqlb.specs.Output.{Output, printed_text}
+use Rattle.sqlb.specs.Output.{Output, output_text}
 use Rattle.sqlb.specs.declared.fault.Fault.{Fault}
 use Rattle.sqlb.specs.declared.fault.Fault.TheVariants.{At, Memory, Read, Write}
 use Rattle.sqlb.specs.declared.fault.Reason.{Reason}
@@ -16,10 +16,10 @@ AreWhole written statements =
 -- What is written agrees with the output, as far as the answer says: all of it where the answer is the output's fault or Ok,
 -- whole statements where memory ran out, a beginning where a write failed, and nothing where a read failed.
 abbrev pub Ran : {T : Type 0} → Result T Fault → List ℕ → Output → Type 0
-Ran (Ok done) written out = (out.fault ≡ None) × (written ≡ printed_text out)
-Ran (Err (At line reason)) written out = (out.fault ≡ Some (line, reason)) × (written ≡ printed_text out)
+Ran (Ok done) written out = (out.fault ≡ None) × (written ≡ output_text out)
+Ran (Err (At line reason)) written out = (out.fault ≡ Some (line, reason)) × (written ≡ output_text out)
 Ran (Err Memory) written out = AreWhole written out.statements
-Ran (Err Write) written out = StartsWith (printed_text out) written
+Ran (Err Write) written out = StartsWith (output_text out) written
 Ran (Err Read) written out = written ≡ []
 
 -- The reader has ended, unless a read failed, or memory ran out with nothing written.
@@ -43,6 +43,15 @@ abbrev pub HoldsNoMemory : Reason → Type 0
 HoldsNoMemory (Builder refusal) = ¬ (IsMemory refusal)
 HoldsNoMemory _ = Unit {0}
 
+-- the same of a fault
 abbrev pub NamesNoMemory : Fault → Type 0
 NamesNoMemory (At line reason) = HoldsNoMemory reason
 NamesNoMemory _ = Unit {0}
+
+-- what is promised unless a write failed
+abbrev pub UnlessWriteFails : {T : Type 0} → Result T Fault → Type 0 → Type 0
+UnlessWriteFails (Ok done) P = P
+UnlessWriteFails (Err (At line reason)) P = P
+UnlessWriteFails (Err Memory) P = P
+UnlessWriteFails (Err Write) P = Unit {0}
+UnlessWriteFails (Err Read) P = P

@@ -1,8 +1,8 @@
 -- What the lines of an input do one after another.
 use Rattle.std.specs.Prelude.{◌≡◌, [], ◌∷◌, ◌++◌, Option, Some, None, Result, Ok, Err, option_map}
 use Rattle.sqlb.specs.Answers.{start_text, call_text, finish_text}
-use Rattle.sqlb.specs.Lines.{CommandText, Said, Starts, Calls, Finishes}
-use Rattle.sqlb.specs.Output.{Opened}
+use Rattle.sqlb.specs.Lines.{CommandText, CommandResult, Starts, Calls, Finishes}
+use Rattle.sqlb.specs.Output.{OpenStatement}
 use Rattle.sqlb.specs.declared.fault.Reason.{Reason}
 use Rattle.sqlb.specs.declared.lines.Command.{Command}
 use Rattle.sqlb.specs.declared.lines.Command.TheVariants as command
@@ -15,10 +15,10 @@ command_text (command.Start start) = Starts (start_text start)
 command_text (command.Call call) = Calls (call_text call)
 command_text (command.Finish finish) = Finishes (finish_text finish)
 
--- the statement that is open behind a line, by what was open before it
-abbrev pub open_after : Option Opened → Said → Option Opened
+-- the statement that is open after a line, by what was open before it
+abbrev pub open_after : Option OpenStatement → CommandResult → Option OpenStatement
 open_after before (Ok (Starts start)) = Some (record { start = start; calls = [] })
-open_after before (Ok (Calls call)) = option_map (λ opened. record { start = opened.start; calls = opened.calls ++ call ∷ [] }) before
+open_after before (Ok (Calls call)) = option_map (λ open_statement. record { start = open_statement.start; calls = open_statement.calls ++ call ∷ [] }) before
 open_after before (Ok (Finishes finish)) = None
 open_after before (Err reason) = before
 

@@ -2,17 +2,17 @@
 use Rattle.std.specs.Prelude.{ℕ, List, [], ◌∷◌, ◌++◌, ◌==◌, flat_map, if◌then◌else◌}
 
 -- the lists one after another, with `between` between each and the next
-abbrev pub joined : {A : Type 0} → List A → List (List A) → List A
-joined between [] = []
-joined between (x ∷ xs) = x ++ flat_map (λ y. between ++ y) xs
+abbrev pub join_with : {A : Type 0} → List A → List (List A) → List A
+join_with between [] = []
+join_with between (x ∷ xs) = x ++ flat_map (λ y. between ++ y) xs
 
--- the text with each single quote doubled
-abbrev pub doubled : List ℕ → List ℕ
-doubled text = flat_map (λ byte. if byte == 39 then 39 ∷ 39 ∷ [] else byte ∷ []) text
+-- the text with each single quote doubled_quotes
+abbrev pub doubled_quotes : List ℕ → List ℕ
+doubled_quotes text = flat_map (λ byte. if byte == 39 then 39 ∷ 39 ∷ [] else byte ∷ []) text
 
--- the text as an SQL string: between single quotes, each single quote in it doubled
+-- the text as an SQL string: between single quotes, each single quote in it doubled_quotes
 abbrev pub quote : List ℕ → List ℕ
-quote text = 39 ∷ doubled text ++ 39 ∷ []
+quote text = 39 ∷ doubled_quotes text ++ 39 ∷ []
 
 -- A piece of a statement: words and signs of the product, a text between single quotes, or a text as it was handed in.
 pub data Piece : Type 0 where
@@ -20,6 +20,7 @@ pub data Piece : Type 0 where
   Quoted : List ℕ → Piece
   Raw : List ℕ → Piece
 
+-- a text, piece by piece
 abbrev pub Pieces : Type 0
 Pieces = List Piece
 
@@ -29,12 +30,14 @@ piece_text (Fixed text) = text
 piece_text (Quoted text) = quote text
 piece_text (Raw text) = text
 
--- the pieces joined
+-- the pieces join_with
 abbrev pub pieces_text : Pieces → List ℕ
 pieces_text pieces = flat_map piece_text pieces
 
-abbrev pub fixed : List ℕ → Pieces
-fixed text = Fixed text ∷ []
+-- a text of the product's own
+abbrev pub fixed_piece : List ℕ → Pieces
+fixed_piece text = Fixed text ∷ []
 
-abbrev pub raw : List ℕ → Pieces
-raw text = Raw text ∷ []
+-- a text as it was handed in
+abbrev pub raw_piece : List ℕ → Pieces
+raw_piece text = Raw text ∷ []

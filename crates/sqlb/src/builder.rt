@@ -1,8 +1,8 @@
 //! The builder: it is told clauses call by call, and prints a statement of them.
 ghost use Rattle.std.specs.Prelude.{◌≡◌, [], ◌∷◌, ◌++◌, List, ℕ, map, IfOk, OnOk, OnErr, string_bytes};
 ghost use Rattle.sqlb.specs.Builder.{compare_text};
-ghost use Rattle.sqlb.specs.Chaining.{released};
-ghost use Rattle.sqlb.specs.Clauses.{selected_from};
+ghost use Rattle.sqlb.specs.Chaining.{released_builder};
+ghost use Rattle.sqlb.specs.Clauses.{new_select};
 ghost use Rattle.sqlb.specs.Error.{FailsOnlyByMemory};
 
 use crate::calls::{Family, Relation};
@@ -57,7 +57,7 @@ pub(crate) struct Held<'a>(&'a mut SqlBuilder);
 pub(crate) fn release(
     held: Result<Held<'_>, SqlBuilderError>,
 ) -> Result<&mut SqlBuilder, SqlBuilderError>
-    ensures { result ≡ released held.entry }
+    ensures { result ≡ released_builder held.entry }
 {
     match held {
         Ok(held) => {
@@ -85,14 +85,14 @@ fn comparison(
 impl SqlBuilder {
     ghost use Rattle.std.specs.Borrow.{sem};
     ghost use Rattle.sqlb.specs.Builder.{with_fields, with_group, with_condition, with_text, with_texts};
-    ghost use Rattle.sqlb.specs.Chaining.{IsUnchangedIfErr, IsTold, IsUnchangedIfHeldErr, IsHeldTold};
+    ghost use Rattle.sqlb.specs.Chaining.{IsUnchangedIfErr, IsChangedTo, IsUnchangedIfHeldErr, IsHeldChangedTo};
     ghost use Rattle.sqlb.specs.declared.calls.Family.TheVariants.{And};
     ghost use Rattle.sqlb.specs.declared.calls.Relation.TheVariants.{Gt};
 
     /// A SELECT from this table, with no field and no condition. It is refused only for want of
     /// memory, as is each call below that changes the builder.
     pub fn select_from(alloc: Global, table: &str) -> Result<SqlBuilder, SqlBuilderError>
-        ensures made { IfOk result (λ b. b ≡ selected_from table.now) }
+        ensures made { IfOk result (λ b. b ≡ new_select table.now) }
         ensures memory { FailsOnlyByMemory result }
     {
         Ok(SqlBuilder {
@@ -140,7 +140,7 @@ impl SqlBuilder {
         text: &str,
     ) -> Result<Held<'_>, SqlBuilderError>
         ensures* refused { sem 𝓛 (IsUnchangedIfHeldErr self.entry result) }
-        ensures told { IsHeldTold self.entry (with_text clause text.now self.old) result }
+        ensures changed { IsHeldChangedTo self.entry (with_text clause text.now self.old) result }
         ensures memory { FailsOnlyByMemory result }
     {
         match clause {
@@ -159,7 +159,7 @@ impl SqlBuilder {
         items: &[&str],
     ) -> Result<Held<'_>, SqlBuilderError>
         ensures* refused { sem 𝓛 (IsUnchangedIfHeldErr self.entry result) }
-        ensures told { IsHeldTold self.entry (with_texts clause (map (λ item. item.now) items.now) self.old) result }
+        ensures changed { IsHeldChangedTo self.entry (with_texts clause (map (λ item. item.now) items.now) self.old) result }
         ensures memory { FailsOnlyByMemory result }
     {
         match clause {
@@ -176,7 +176,7 @@ impl SqlBuilder {
         value: &str,
     ) -> Result<Held<'_>, SqlBuilderError>
         ensures* refused { sem 𝓛 (IsUnchangedIfHeldErr self.entry result) }
-        ensures told { IsHeldTold self.entry
+        ensures changed { IsHeldChangedTo self.entry
             (with_condition family (compare_text relation field.now value.now) self.old) result }
         ensures memory { FailsOnlyByMemory result }
     {
@@ -189,14 +189,14 @@ impl SqlBuilder {
 impl SqlBuilder {
     ghost use Rattle.std.specs.Borrow.{sem};
     ghost use Rattle.sqlb.specs.Builder.{with_fields, with_condition};
-    ghost use Rattle.sqlb.specs.Chaining.{IsUnchangedIfErr, IsTold};
+    ghost use Rattle.sqlb.specs.Chaining.{IsUnchangedIfErr, IsChangedTo};
     ghost use Rattle.sqlb.specs.declared.calls.Family.TheVariants.{And};
     ghost use Rattle.sqlb.specs.declared.calls.Relation.TheVariants.{Gt};
 
     /// Appends a field.
     pub fn field(&mut self, field: &str) -> Result<&mut Self, SqlBuilderError>
         ensures* refused { sem 𝓛 (IsUnchangedIfErr self.entry result) }
-        ensures told { IsTold self.entry (with_fields (field.now ∷ []) self.old) result }
+        ensures changed { IsChangedTo self.entry (with_fields (field.now ∷ []) self.old) result }
         ensures memory { FailsOnlyByMemory result }
     {
         release(self.hold_text(TextClause::Field, field))
@@ -205,7 +205,7 @@ impl SqlBuilder {
     /// Appends fields.
     pub fn fields(&mut self, fields: &[&str]) -> Result<&mut Self, SqlBuilderError>
         ensures* refused { sem 𝓛 (IsUnchangedIfErr self.entry result) }
-        ensures told { IsTold self.entry
+        ensures changed { IsChangedTo self.entry
             (with_fields (map (λ field. field.now) fields.now) self.old) result }
         ensures memory { FailsOnlyByMemory result }
     {
@@ -215,7 +215,7 @@ impl SqlBuilder {
     /// Adds a condition, in a group of its own.
     pub fn and_where(&mut self, condition: &str) -> Result<&mut Self, SqlBuilderError>
         ensures* refused { sem 𝓛 (IsUnchangedIfErr self.entry result) }
-        ensures told { IsTold self.entry (with_condition And condition.now self.old) result }
+        ensures changed { IsChangedTo self.entry (with_condition And condition.now self.old) result }
         ensures memory { FailsOnlyByMemory result }
     {
         release(self.hold_text(TextClause::AndWhere, condition))
@@ -224,7 +224,7 @@ impl SqlBuilder {
     /// Adds the condition `field > value`, in a group of its own.
     pub fn and_where_gt(&mut self, field: &str, value: &str) -> Result<&mut Self, SqlBuilderError>
         ensures* refused { sem 𝓛 (IsUnchangedIfErr self.entry result) }
-        ensures told { IsTold self.entry
+        ensures changed { IsChangedTo self.entry
             (with_condition And (compare_text Gt field.now value.now) self.old) result }
         ensures memory { FailsOnlyByMemory result }
     {

@@ -18,7 +18,7 @@ pub enum SqlBuilderError {
 impl SqlBuilderError {
     /// The refusal's text, which Display prints too. It takes no memory.
     pub fn message(&self) -> &'static str
-        ensures { result.now ≡ message_text self.now }
+        ensures text { result.now ≡ message_text self.now }
     {
         match self {
             SqlBuilderError::NoTableName => "No table name",

@@ -15,7 +15,7 @@ pub enum Reason {
     NoStatement,
     /// It is a start, and a statement is open.
     StatementOpen,
-    /// It is the last line, and a statement is open behind it.
+    /// It is the last line, and a statement is open after it.
     NoEnd,
     /// It is not UTF-8.
     NotUtf8,
@@ -39,7 +39,7 @@ pub enum Fault {
 impl Reason {
     /// The reason's text.
     pub fn message(&self) -> &'static str
-        ensures { result.now ≡ reason_text self.now }
+        ensures text { result.now ≡ reason_text self.now }
     {
         match self {
             Reason::UnknownCall => "unknown call",
@@ -56,7 +56,7 @@ impl Reason {
 impl Fault {
     /// The exit status: 1 for a line or for memory, 2 for a device that failed.
     pub fn status(&self) -> u8
-        ensures { result ≡ fault_status self.now }
+        ensures status { result ≡ fault_status self.now }
     {
         match self {
             Fault::At(_, _) | Fault::Memory => 1,

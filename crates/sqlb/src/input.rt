@@ -8,12 +8,13 @@ use crate::watched::Watched;
 use std::alloc::Global;
 use std::io::Read;
 
+/// How much is read at once.
 const PIECE: usize = 65536;
 
 /// Reads to the end, and keeps every byte. A reader that never ends is answered `Memory`.
-pub fn read_all<R: Read>(alloc: Global, reader: &mut Watched<R>) -> Result<Vec<u8>, Fault>
-    requires whole { reader.old.failed ≡ false }
-    requires unended { reader.old.ended ≡ false }
+pub(crate) fn read_all<R: Read>(alloc: Global, reader: &mut Watched<R>) -> Result<Vec<u8>, Fault>
+    requires not_failed { reader.old.failed ≡ false }
+    requires not_ended { reader.old.ended ≡ false }
     ensures took { (taken : List ℕ) × Consumes (R.remaining reader.old.inner)
         (R.remaining reader.new.inner) taken × IfOk result (λ kept. kept.items ≡ taken) }
     ensures end { OnOk result (IsAtEnd (R.remaining reader.new.inner)) }

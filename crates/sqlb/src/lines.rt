@@ -1,27 +1,30 @@
 //! Takes an input apart into lines, and reads what each says.
 ghost use Rattle.std.specs.Prelude.{◌≡◌, ◌==◌, ◌∷◌, ◌<◌, length, map, position, IfOk};
 ghost use Rattle.std.specs.List.{slice_split};
-ghost use Rattle.sqlb.specs.Lines.{binary_command, lines, nullary_command, said, said_in, said_with, unary_command, variadic_command, words};
+ghost use Rattle.sqlb.specs.Lines.{binary_command, lines, nullary_command, command_of, command_in, command_with, unary_command, variadic_command, parts_of};
 ghost use Rattle.sqlb.specs.Script.{Answers, command_text};
 
 use crate::calls::{Call, Condition, Finish, Start};
 use crate::fault::Reason;
-use crate::names::{Binary, Nullary, Unary, Variadic, Word};
+use crate::names::{Binary, Meaning, Nullary, Unary, Variadic};
 use crate::texts::copies;
 use std::alloc::{AllocError, AllocFailed, Global};
 use std::str;
 
 /// What a line says.
 #[derive(Drop)]
-pub enum Command {
+pub(crate) enum Command {
+    /// It opens a statement.
     Start(Start),
+    /// It adds to the open statement.
     Call(Call),
+    /// It prints the open statement.
     Finish(Finish),
 }
 
 /// Why a line is not run.
-#[derive(Debug, Drop)]
-pub enum LineError {
+#[derive(Drop)]
+pub(crate) enum LineError {
     /// It is not accepted.
     Refused(Reason),
     /// A growth was refused.
@@ -56,9 +59,9 @@ fn find_line_feed(text: &[u8]) -> Option<usize>
     text.iter().position(|byte| *byte == b'\n')
 }
 
-/// The first line of a text, and the text behind its line feed.
-pub fn split_line(text: &[u8]) -> (&[u8], &[u8])
-    requires { 0 < length text.now }
+/// The first line of a text, and the text after its line feed.
+pub(crate) fn split_line(text: &[u8]) -> (&[u8], &[u8])
+    requires some { 0 < length text.now }
     ensures lines { lines text.now ≡ result.0.now ∷ lines result.1.now }
     ensures shorter { length result.1.now < length text.now }
 {
@@ -68,8 +71,8 @@ pub fn split_line(text: &[u8]) -> (&[u8], &[u8])
     }
 }
 
-fn split_words(alloc: Global, line: &str) -> Result<Vec<&str>, AllocError>
-    ensures { IfOk result (λ parts. map (λ part. part.now) parts.items ≡ words line.now) }
+fn split_parts(alloc: Global, line: &str) -> Result<Vec<&str>, AllocError>
+    ensures { IfOk result (λ split. map (λ part. part.now) split.items ≡ parts_of line.now) }
 {
     line.split('\t').collect(alloc)
 }
@@ -126,41 +129,41 @@ impl Variadic {
 
 fn read_arguments(
     alloc: Global,
-    word: Option<Word>,
+    meaning: Option<Meaning>,
     arguments: &[&str],
 ) -> Result<Command, LineError>
     ensures { Answers command_text result
-        (said_with word (map (λ argument. argument.now) arguments.now)) }
+        (command_with meaning (map (λ argument. argument.now) arguments.now)) }
 {
-    let Some(word) = word else {
+    let Some(meaning) = meaning else {
         return Err(LineError::Refused(Reason::UnknownCall));
     };
-    match (word, arguments) {
-        (Word::Nullary(word), []) => Ok(word.command()),
-        (Word::Unary(word), [argument]) => Ok(word.command(alloc, argument)?),
-        (Word::Binary(word), [first, second]) => Ok(word.command(alloc, first, second)?),
-        (Word::Variadic(word), _) => Ok(word.command(alloc, arguments)?),
+    match (meaning, arguments) {
+        (Meaning::Nullary(meaning), []) => Ok(meaning.command()),
+        (Meaning::Unary(meaning), [argument]) => Ok(meaning.command(alloc, argument)?),
+        (Meaning::Binary(meaning), [first, second]) => Ok(meaning.command(alloc, first, second)?),
+        (Meaning::Variadic(meaning), _) => Ok(meaning.command(alloc, arguments)?),
         _ => Err(LineError::Refused(Reason::WrongArguments)),
     }
 }
 
-fn read_words(alloc: Global, text: &str) -> Result<Command, LineError>
-    ensures { Answers command_text result (said_in text.now) }
+fn read_text(alloc: Global, text: &str) -> Result<Command, LineError>
+    ensures { Answers command_text result (command_in text.now) }
 {
-    let parts = split_words(alloc, text)?;
+    let parts = split_parts(alloc, text)?;
     let Some((name, arguments)) = parts.split_first() else {
         return Err(LineError::Refused(Reason::UnknownCall));
     };
-    read_arguments(alloc, Word::named(name), arguments)
+    read_arguments(alloc, Meaning::of(name), arguments)
 }
 
 /// What a line says. It is refused with `NotUtf8`, `UnknownCall` or `WrongArguments`, the first
 /// of them that holds.
-pub fn read_line(alloc: Global, line: &[u8]) -> Result<Command, LineError>
-    ensures { Answers command_text result (said line.now) }
+pub(crate) fn read_line(alloc: Global, line: &[u8]) -> Result<Command, LineError>
+    ensures command { Answers command_text result (command_of line.now) }
 {
     match str::from_utf8(line) {
-        Ok(text) => read_words(alloc, text),
+        Ok(text) => read_text(alloc, text),
         Err(_) => Err(LineError::Refused(Reason::NotUtf8)),
     }
 }

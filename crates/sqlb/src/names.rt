@@ -1,12 +1,12 @@
 //! The names that a line may begin with.
 ghost use Rattle.std.specs.Prelude.{◌≡◌, map};
-ghost use Rattle.sqlb.specs.Names.{found_behind, found_in, named};
+ghost use Rattle.sqlb.specs.Names.{found_by_reference, found_in, meaning_of};
 
 use crate::calls::{Family, Relation};
 
 /// What a name stands for, by how many arguments it takes.
 #[derive(Clone, Copy)]
-pub enum Word {
+pub(crate) enum Meaning {
     /// It takes none.
     Nullary(Nullary),
     /// It takes one.
@@ -17,42 +17,47 @@ pub enum Word {
     Variadic(Variadic),
 }
 
+/// A name that takes no argument.
 #[derive(Clone, Copy)]
-pub enum Nullary {
+pub(crate) enum Nullary {
     Sql,
 }
 
+/// A name that takes one.
 #[derive(Clone, Copy)]
-pub enum Unary {
+pub(crate) enum Unary {
     SelectFrom,
     Field,
     Where(Family),
 }
 
+/// A name that takes two.
 #[derive(Clone, Copy)]
-pub enum Binary {
+pub(crate) enum Binary {
     Compare(Family, Relation),
 }
 
+/// A name that takes any number.
 #[derive(Clone, Copy)]
-pub enum Variadic {
+pub(crate) enum Variadic {
     Fields,
 }
 
-const NAMES: [(&str, Word); 6] = [
-    ("select_from", Word::Unary(Unary::SelectFrom)),
-    ("field", Word::Unary(Unary::Field)),
-    ("fields", Word::Variadic(Variadic::Fields)),
-    ("and_where", Word::Unary(Unary::Where(Family::And))),
+const NAMES: [(&str, Meaning); 6] = [
+    ("select_from", Meaning::Unary(Unary::SelectFrom)),
+    ("field", Meaning::Unary(Unary::Field)),
+    ("fields", Meaning::Variadic(Variadic::Fields)),
+    ("and_where", Meaning::Unary(Unary::Where(Family::And))),
     (
         "and_where_gt",
-        Word::Binary(Binary::Compare(Family::And, Relation::Gt)),
+        Meaning::Binary(Binary::Compare(Family::And, Relation::Gt)),
     ),
-    ("sql", Word::Nullary(Nullary::Sql)),
+    ("sql", Meaning::Nullary(Nullary::Sql)),
 ];
 
-fn find_behind(table: &[(&str, Word)], name: &str) -> Option<Word>
-    ensures { result ≡ found_behind table.now name.now }
+// A table of references, which is what the code has; `find_in` says the same of the names.
+fn find_by_reference(table: &[(&str, Meaning)], name: &str) -> Option<Meaning>
+    ensures { result ≡ found_by_reference table.now name.now }
 {
     table
         .iter()
@@ -60,18 +65,18 @@ fn find_behind(table: &[(&str, Word)], name: &str) -> Option<Word>
         .map(|entry| entry.1)
 }
 
-#[tactic(auto, using(crate::proofs::Tables::found_behind_is))]
-fn find_in(table: &[(&str, Word)], name: &str) -> Option<Word>
+#[tactic(auto, using(crate::proofs::Tables::found_by_reference_is))]
+fn find_in(table: &[(&str, Meaning)], name: &str) -> Option<Meaning>
     ensures { result ≡ found_in (map (λ entry. (entry.0.now, entry.1)) table.now) name.now }
 {
-    find_behind(table, name)
+    find_by_reference(table, name)
 }
 
-impl Word {
+impl Meaning {
     /// What the name stands for, if it is known. Names are compared exactly.
-    #[tactic(auto, unfolding(crate::specs::Names::named, crate::specs::Names::names))]
-    pub fn named(name: &str) -> Option<Word>
-        ensures { result ≡ named name.now }
+    #[tactic(auto, unfolding(crate::specs::Names::meaning_of, crate::specs::Names::names))]
+    pub(crate) fn of(name: &str) -> Option<Meaning>
+        ensures meaning { result ≡ meaning_of name.now }
     {
         find_in(&NAMES, name)
     }

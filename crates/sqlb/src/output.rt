@@ -1,5 +1,5 @@
 //! Writes texts and faults.
-ghost use Rattle.std.specs.Prelude.{◌≡◌, ◌≤◌, ◌↔◌, ℕ, List, ◌++◌, true, false, flat_map, codes, decimal, drop, IsErr, IfErr};
+ghost use Rattle.std.specs.Prelude.{◌≡◌, ◌≤◌, ℕ, List, ◌++◌, false, flat_map, codes, decimal, drop};
 ghost use Rattle.std.specs.Io.KnownBytes.{Appends};
 ghost use Rattle.sqlb.specs.Device.{Wrote};
 ghost use Rattle.sqlb.specs.Fault.{fault_text};
@@ -9,8 +9,8 @@ use crate::watched::Watched;
 use std::io::Write;
 
 /// Writes all the bytes, and stops at the first write that fails.
-pub fn write_all<W: Write>(writer: &mut Watched<W>, bytes: &[u8]) -> Result<(), Fault>
-    requires { writer.old.failed ≡ false }
+pub(crate) fn write_all<W: Write>(writer: &mut Watched<W>, bytes: &[u8]) -> Result<(), Fault>
+    requires not_failed { writer.old.failed ≡ false }
     ensures wrote { (written : List ℕ) × Appends (W.contents writer.old.inner)
         (W.contents writer.new.inner) written × Wrote result written bytes.now writer.new.failed }
     ensures ended { writer.new.ended ≡ writer.old.ended }
@@ -26,8 +26,8 @@ pub fn write_all<W: Write>(writer: &mut Watched<W>, bytes: &[u8]) -> Result<(), 
 }
 
 /// Writes all the parts, one after another, and stops at the first write that fails.
-pub fn write_parts<W: Write>(writer: &mut Watched<W>, parts: &[&[u8]]) -> Result<(), Fault>
-    requires { writer.old.failed ≡ false }
+pub(crate) fn write_parts<W: Write>(writer: &mut Watched<W>, parts: &[&[u8]]) -> Result<(), Fault>
+    requires not_failed { writer.old.failed ≡ false }
     ensures wrote { (written : List ℕ) × Appends (W.contents writer.old.inner)
         (W.contents writer.new.inner) written
         × Wrote result written (flat_map (λ part. part.now) parts.now) writer.new.failed }
@@ -63,7 +63,7 @@ fn write_digits(number: usize, digits: &mut [u8; MOST_DIGITS]) -> usize
 /// Writes the fault as a line. It takes no memory; its only fault is `Write`, where the writer
 /// failed, and then a beginning of the line is written.
 pub fn write_fault<W: Write>(fault: &Fault, writer: &mut Watched<W>) -> Result<(), Fault>
-    requires { writer.old.failed ≡ false }
+    requires not_failed { writer.old.failed ≡ false }
     ensures wrote { (written : List ℕ) × Appends (W.contents writer.old.inner)
         (W.contents writer.new.inner) written
         × Wrote result written (fault_text fault.now ++ codes "\n") writer.new.failed }

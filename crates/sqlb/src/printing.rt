@@ -1,10 +1,10 @@
 //! Prints a builder's clauses as a statement.
-ghost use Rattle.std.specs.Prelude.{◌≡◌, ◌++◌, List, ℕ, IsNone, IfOk, IfSome, codes, string_bytes, flat_map};
+ghost use Rattle.std.specs.Prelude.{◌≡◌, ◌++◌, IsNone, IfOk, IfSome, string_bytes, flat_map};
 ghost use Rattle.sqlb.specs.Builder.{texts, Adds};
 ghost use Rattle.sqlb.specs.Error.{FailsOnlyByMemory};
-ghost use Rattle.sqlb.specs.Layout.{comma_list, fields_or_star, flat, plain, query_sections, refusal, sql, where_sections};
+ghost use Rattle.sqlb.specs.Layout.{fields_or_star, concat_sections, byte_atoms, query_sections, refusal, sql, where_sections};
 ghost use Rattle.sqlb.specs.Statement.{unless_refused};
-ghost use Rattle.sqlb.specs.Text.{joined};
+ghost use Rattle.sqlb.specs.Text.{join_with};
 
 use crate::builder::SqlBuilder;
 use crate::error::SqlBuilderError;
@@ -24,7 +24,7 @@ fn push_each(out: &mut String, before: &str, parts: &[String]) -> Result<(), All
 
 // The texts, with `between` between each and the next.
 fn push_joined(out: &mut String, between: &str, parts: &[String]) -> Result<(), AllocError>
-    ensures { Adds result out.old out.new (joined between.now (texts parts.now)) }
+    ensures { Adds result out.old out.new (join_with between.now (texts parts.now)) }
 {
     if let [first, rest @ ..] = parts {
         out.push_str(first.as_str())?;
@@ -34,7 +34,7 @@ fn push_joined(out: &mut String, between: &str, parts: &[String]) -> Result<(), 
 }
 
 fn push_fields(out: &mut String, fields: &[String]) -> Result<(), AllocError>
-    ensures { Adds result out.old out.new (fields_or_star plain (texts fields.now)) }
+    ensures { Adds result out.old out.new (fields_or_star byte_atoms (texts fields.now)) }
 {
     if fields.is_empty() {
         out.push_str("*")?;
@@ -47,7 +47,7 @@ fn push_fields(out: &mut String, fields: &[String]) -> Result<(), AllocError>
 // The brackets of two neighbours are written at once.
 #[tactic(auto, using(crate::proofs::Printed::several_groups, std::proofs::lemmas::List::append_assoc))]
 fn push_where(out: &mut String, groups: &[String]) -> Result<(), AllocError>
-    ensures { Adds result out.old out.new (flat plain (where_sections plain (texts groups.now))) }
+    ensures { Adds result out.old out.new (concat_sections byte_atoms (where_sections byte_atoms (texts groups.now))) }
 {
     match groups {
         [] => {}
@@ -67,7 +67,7 @@ fn push_where(out: &mut String, groups: &[String]) -> Result<(), AllocError>
 impl SqlBuilder {
     #[tactic(auto, using(crate::proofs::Printed::query_is, std::proofs::lemmas::List::append_assoc))]
     fn push_query(&self, out: &mut String) -> Result<(), AllocError>
-        ensures { Adds result out.old out.new (flat plain (query_sections plain self.now)) }
+        ensures { Adds result out.old out.new (concat_sections byte_atoms (query_sections byte_atoms self.now)) }
     {
         out.push_str("SELECT ")?;
         push_fields(out, &self.fields)?;
@@ -89,7 +89,7 @@ impl SqlBuilder {
     /// The statement, ended by `;`. It is refused with `NoTableName` where the table text is
     /// empty, before it asks for memory, and else only for want of memory.
     pub fn sql(&self) -> Result<String, SqlBuilderError>
-        ensures text { IfOk result (λ s. string_bytes s ≡ sql plain self.now) }
+        ensures text { IfOk result (λ s. string_bytes s ≡ sql byte_atoms self.now) }
         ensures refused { IfSome (refusal self.now) (λ refusal. result ≡ Err refusal) }
         ensures memory { IsNone (refusal self.now) → FailsOnlyByMemory result }
     {

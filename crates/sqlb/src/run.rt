@@ -1,8 +1,9 @@
 //! Runs an input, from its bytes to the statements that it prints.
 ghost use Rattle.std.specs.Prelude.{◌≡◌, ◌↔◌, ℕ, List, true, false, IfErr, IsErrOf};
 ghost use Rattle.std.specs.Io.KnownBytes.{Appends, Consumes, IsAtEnd};
+ghost use Rattle.std.specs.Io.Buffered.{writer_contents};
 ghost use Rattle.sqlb.specs.Output.{output};
-ghost use Rattle.sqlb.specs.Ran.{EndsUnlessStopped, FailsOnlyToWrite, NamesNoMemory, Ran};
+ghost use Rattle.sqlb.specs.Ran.{EndsUnlessStopped, FailsOnlyToWrite, NamesNoMemory, Ran, UnlessWriteFails};
 
 use crate::fault::{Fault, Reason};
 use crate::input::read_all;
@@ -11,11 +12,11 @@ use crate::output::write_parts;
 use crate::script::Script;
 use crate::watched::Watched;
 use std::alloc::Global;
-use std::io::{Read, Write};
+use std::io::{BufWriter, Read, Write};
 
 // Runs the lines of a text, and writes each statement where it is finished.
 fn run_lines<W: Write>(alloc: Global, text: &[u8], writer: &mut Watched<W>) -> Result<(), Fault>
-    requires { writer.old.failed ≡ false }
+    requires not_failed { writer.old.failed ≡ false }
     ensures ran { (written : List ℕ) × Appends (W.contents writer.old.inner)
         (W.contents writer.new.inner) written × Ran result written (output text.now) }
     ensures failed { FailsOnlyToWrite result writer.new.failed }
@@ -26,9 +27,9 @@ fn run_lines<W: Write>(alloc: Global, text: &[u8], writer: &mut Watched<W>) -> R
     let mut number = 0;
     let mut rest = text;
     'lines: while !rest.is_empty() {
-        let (line, behind) = split_line(rest);
+        let (line, after) = split_line(rest);
         number += 1;
-        rest = behind;
+        rest = after;
         match script.take_line(alloc, line) {
             Ok(Some(statement)) => write_parts(writer, &[statement.as_bytes(), b"\n"])?,
             Ok(None) => {}
@@ -50,9 +51,9 @@ pub fn run_input<R: Read, W: Write>(
     reader: &mut Watched<R>,
     writer: &mut Watched<W>,
 ) -> Result<(), Fault>
-    requires reader_whole { reader.old.failed ≡ false }
-    requires reader_unended { reader.old.ended ≡ false }
-    requires writer_whole { writer.old.failed ≡ false }
+    requires reader_not_failed { reader.old.failed ≡ false }
+    requires reader_not_ended { reader.old.ended ≡ false }
+    requires writer_not_failed { writer.old.failed ≡ false }
 
     // Some bytes were read, and what is written agrees with what they say to print.
     ensures ran { (taken : List ℕ) × (written : List ℕ)
@@ -71,4 +72,38 @@ pub fn run_input<R: Read, W: Write>(
 {
     let text = read_all(alloc, reader)?;
     run_lines(alloc, &text, writer)
+}
+
+/// Runs an input as `run_input` does, flushes the buffer before it answers, and gives the writer
+/// back. A flush that fails is the fault `Write`. Where a write or the flush has failed, what is
+/// still held back is lost.
+pub(crate) fn run_flushed<R: Read, W: Write + Drop>(
+    alloc: Global,
+    reader: &mut Watched<R>,
+    writer: BufWriter<W>,
+) -> (W, Result<(), Fault>)
+    requires reader_not_failed { reader.old.failed ≡ false }
+    requires reader_not_ended { reader.old.ended ≡ false }
+    ensures ran { UnlessWriteFails result.1 ((taken : List ℕ) × (written : List ℕ)
+        × Consumes (R.remaining reader.old.inner) (R.remaining reader.new.inner) taken
+        × Appends (writer_contents W.contents writer) (W.contents result.0) written
+        × Ran result.1 written (output taken)
+        × EndsUnlessStopped result.1 written reader.new.ended) }
+    ensures read { IsErrOf result.1 Fault.Read → reader.new.failed ≡ true }
+    ensures no_memory { IfErr result.1 NamesNoMemory }
+{
+    let mut writer = Watched::new(writer);
+    let answer = run_input(alloc, reader, &mut writer);
+    let has_failed = writer.failed();
+    let mut buffered = writer.into_inner();
+    // Dropped whole, a buffered writer would try once more to write what it holds.
+    if has_failed {
+        return (buffered.into_parts().0, Err(Fault::Write));
+    }
+    let flushed = buffered.flush();
+    let writer = buffered.into_parts().0;
+    match flushed {
+        Ok(()) => (writer, answer),
+        Err(_) => (writer, Err(Fault::Write)),
+    }
 }

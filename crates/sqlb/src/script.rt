@@ -1,8 +1,8 @@
 //! Runs lines one after another.
-ghost use Rattle.std.specs.Prelude.{◌≡◌, None, OnOk, is_some, option_map, string_bytes};
-ghost use Rattle.sqlb.specs.Lines.{said};
-ghost use Rattle.sqlb.specs.Output.{answer, opened};
-ghost use Rattle.sqlb.specs.Script.{Answers, command_text, open_after};
+ghost use Rattle.std.specs.Prelude.{◌≡◌, None, OnErr, OnOk, is_some, option_map, string_bytes};
+ghost use Rattle.sqlb.specs.Lines.{command_of};
+ghost use Rattle.sqlb.specs.Output.{answer};
+ghost use Rattle.sqlb.specs.Script.{Answers, open_after};
 
 use crate::calls::{Call, Finish, Start, run};
 use crate::error::SqlBuilderError;
@@ -20,16 +20,16 @@ struct Statement {
 
 /// The statement that is open, if one is.
 #[derive(Drop)]
-pub struct Script {
+pub(crate) struct Script {
     statement: Option<Statement>,
 }
 
 impl Model for Script {
     ghost use Rattle.std.specs.Prelude.{Option, map, option_map};
     ghost use Rattle.sqlb.specs.Answers.{call_text, start_text};
-    ghost use Rattle.sqlb.specs.Output.{Opened};
+    ghost use Rattle.sqlb.specs.Output.{OpenStatement};
 
-    ghost Value = { Option Opened };
+    ghost Value = { Option OpenStatement };
 
     ghost view = { λ s. option_map (λ statement. record {
       start = start_text statement.start;
@@ -42,23 +42,30 @@ impl Script {
     ghost use Rattle.sqlb.specs.Lines.{Starts, Calls, Finishes};
 
     /// No statement is open.
-    pub fn new() -> Self
-        ensures { result ≡ None }
+    pub(crate) fn new() -> Self
+        ensures closed { result ≡ None }
     {
         Script { statement: None }
     }
 
-    pub fn is_open(&self) -> bool
-        ensures { result ≡ is_some self.now }
+    /// Whether a statement is open.
+    pub(crate) fn is_open(&self) -> bool
+        ensures is_open { result ≡ is_some self.now }
     {
         self.statement.is_some()
     }
 
-    /// Runs a line, and gives the statement that it finishes.
-    pub fn take_line(&mut self, alloc: Global, line: &[u8]) -> Result<Option<String>, LineError>
+    /// Runs a line, and gives the statement that it finishes. Where it is refused, by the first
+    /// check that it fails or for want of memory, the same statement stays open.
+    pub(crate) fn take_line(
+        &mut self,
+        alloc: Global,
+        line: &[u8],
+    ) -> Result<Option<String>, LineError>
         ensures answer { Answers (option_map (λ s. string_bytes s)) result
-            (answer self.old (said line.now)) }
-        ensures after { OnOk result (self.new ≡ open_after self.old (said line.now)) }
+            (answer self.old (command_of line.now)) }
+        ensures after { OnOk result (self.new ≡ open_after self.old (command_of line.now)) }
+        ensures err { OnErr result (self.new ≡ self.old) }
     {
         match read_line(alloc, line)? {
             Command::Start(start) => self.take_start(alloc, start),
@@ -70,7 +77,9 @@ impl Script {
     fn take_start(&mut self, alloc: Global, start: Start) -> Result<Option<String>, LineError>
         ensures answer { Answers (option_map (λ s. string_bytes s)) result
             (answer self.old (Ok (Starts (start_text start)))) }
-        ensures after { OnOk result (self.new ≡ open_after self.old (Ok (Starts (start_text start)))) }
+        ensures after { OnOk result
+            (self.new ≡ open_after self.old (Ok (Starts (start_text start)))) }
+        ensures err { OnErr result (self.new ≡ self.old) }
     {
         if self.statement.is_some() {
             return Err(LineError::Refused(Reason::StatementOpen));
@@ -85,7 +94,9 @@ impl Script {
     fn take_call(&mut self, call: Call) -> Result<Option<String>, LineError>
         ensures answer { Answers (option_map (λ s. string_bytes s)) result
             (answer self.old (Ok (Calls (call_text call)))) }
-        ensures after { OnOk result (self.new ≡ open_after self.old (Ok (Calls (call_text call)))) }
+        ensures after { OnOk result
+            (self.new ≡ open_after self.old (Ok (Calls (call_text call)))) }
+        ensures err { OnErr result (self.new ≡ self.old) }
     {
         match &mut self.statement {
             None => Err(LineError::Refused(Reason::NoStatement)),
@@ -101,12 +112,16 @@ impl Script {
             (answer self.old (Ok (Finishes (finish_text finish.now)))) }
         ensures after { OnOk result
             (self.new ≡ open_after self.old (Ok (Finishes (finish_text finish.now)))) }
+        ensures err { OnErr result (self.new ≡ self.old) }
     {
-        let Some(statement) = self.statement.take() else {
+        let Some(statement) = &self.statement else {
             return Err(LineError::Refused(Reason::NoStatement));
         };
         match run(alloc, &statement.start, &statement.calls, finish) {
-            Ok(text) => Ok(Some(text)),
+            Ok(text) => {
+                self.statement = None;
+                Ok(Some(text))
+            }
             Err(SqlBuilderError::Memory(_)) => Err(LineError::Memory),
             Err(refusal) => Err(LineError::Refused(Reason::Builder(refusal))),
         }

@@ -5,8 +5,8 @@ ghost use Rattle.sqlb.specs.Builder.{texts};
 use std::alloc::{AllocError, Global};
 
 /// A copy of each text.
-pub fn copies(alloc: Global, items: &[&str]) -> Result<Vec<String>, AllocError>
-    ensures { IfOk result (λ copied. texts copied.items ≡ map (λ item. item.now) items.now) }
+pub(crate) fn copies(alloc: Global, items: &[&str]) -> Result<Vec<String>, AllocError>
+    ensures copied { IfOk result (λ copied. texts copied.items ≡ map (λ item. item.now) items.now) }
 {
     let mut copied = Vec::with_capacity(alloc, items.len())?;
     for item in items {
@@ -16,8 +16,8 @@ pub fn copies(alloc: Global, items: &[&str]) -> Result<Vec<String>, AllocError>
 }
 
 /// Each text, lent.
-pub fn as_strs(alloc: Global, strings: &[String]) -> Result<Vec<&str>, AllocError>
-    ensures { IfOk result (λ strs. map (λ s. s.now) strs.items ≡ texts strings.now) }
+pub(crate) fn as_strs(alloc: Global, strings: &[String]) -> Result<Vec<&str>, AllocError>
+    ensures lent { IfOk result (λ strs. map (λ s. s.now) strs.items ≡ texts strings.now) }
 {
     let mut strs = Vec::with_capacity(alloc, strings.len())?;
     for string in strings {

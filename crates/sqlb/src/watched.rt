@@ -41,21 +41,21 @@ impl<T> Watched<T> {
 
     /// The reader or the writer that it holds.
     pub fn into_inner(self) -> T
-        ensures { result ≡ self.inner }
+        ensures inner { result ≡ self.inner }
     {
         self.inner
     }
 
     /// Whether a call answered an error, or a write took no byte of a slice that wasn't empty.
     pub fn failed(&self) -> bool
-        ensures { result ≡ self.now.failed }
+        ensures failed { result ≡ self.now.failed }
     {
         self.has_failed
     }
 
     /// Whether a read answered 0 bytes for a slice that wasn't empty.
     pub fn ended(&self) -> bool
-        ensures { result ≡ self.now.ended }
+        ensures ended { result ≡ self.now.ended }
     {
         self.has_ended
     }
@@ -81,8 +81,8 @@ impl<R: Read> Watched<R> {
 
     // A read by one who tries no failed read again, and reads nothing past the end.
     pub(crate) fn read_on(&mut self, buf: &mut [u8]) -> io::Result<usize>
-        requires whole { self.old.failed ≡ false }
-        requires unended { self.old.ended ≡ false }
+        requires not_failed { self.old.failed ≡ false }
+        requires not_ended { self.old.ended ≡ false }
         ensures bound { ReadsAtMost result buf.new }
         ensures bytes { ReadConsumes (R.remaining self.old.inner) (R.remaining self.new.inner)
             result buf.new }
@@ -113,7 +113,7 @@ impl<W: Write> Watched<W> {
 
     // A write by one who tries no failed write again.
     pub(crate) fn write_on(&mut self, buf: &[u8]) -> io::Result<usize>
-        requires { self.old.failed ≡ false }
+        requires not_failed { self.old.failed ≡ false }
         ensures bound { WritesAtMost result buf.now }
         ensures bytes { WriteAppends (W.contents self.old.inner) (W.contents self.new.inner)
             result buf.now }

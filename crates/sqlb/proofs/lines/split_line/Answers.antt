@@ -9,4 +9,4 @@ returns-in-Some-clause-lines c =
     rw (take_rest (c.in-Some.end + 1) c.args.text.now (inside_at c.args.text.now c.in-Some.end found)) (line_at c.args.text.now c.in-Some.end found)
 
 pub returns-in-None-clause-lines : goal.returns-in-None-clause-lines
-returns-in-None-clause-lines c = last_line c.args.text.now (sym c.find_line_feed.ensures ∙ c.in-None.is) c.requires
+returns-in-None-clause-lines c = last_line c.args.text.now (sym c.find_line_feed.ensures ∙ c.in-None.is) c.requires.some

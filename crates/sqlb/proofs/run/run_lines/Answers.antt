@@ -9,7 +9,7 @@ use Rattle.sqlb.proofs.SoFar.{ends-fault, ends-written, fails-in, joined_texts, 
 use Rattle.sqlb.proofs.run.run_lines.Goals as goal
 
 pub lines-init : goal.lines-init
-lines-init g c = (c.requires, refl, omega arith, rw c.new-script.ensures (so_far-first _ c.args.text.now))
+lines-init g c = (c.requires.not_failed, refl, omega arith, rw c.new-script.ensures.closed (so_far-first _ c.args.text.now))
 
 pub returns-in_err-write_parts-in-Ok-Some-clause-ran : goal.returns-in_err-write_parts-in-Ok-Some-clause-ran
 returns-in_err-write_parts-in-Ok-Some-clause-ran g c =
@@ -60,7 +60,7 @@ returns-then-is_open-clause-ran g c =
     let so_far = c.lines.invariant.3 in
     let none : length c.lines.rest.now ≡ 0 = grind (arith, nat_tests, c.is_empty.ensures, c.lines-test.false) in
     let end = lines-empty c.lines.rest.now none in
-    let still_open : is_some c.lines.script ≡ true = sym c.is_open.ensures ∙ c.if-is_open.true in
+    let still_open : is_some c.lines.script ≡ true = sym c.is_open.ensures.is_open ∙ c.if-is_open.true in
     (joined_texts so_far.texts, so_far.written, (rw still_open at (ends-fault _ _ _ _ _ _ so_far end), ends-written _ _ _ _ _ _ so_far end))
 
 pub returns-clause-ran : goal.returns-clause-ran
@@ -68,7 +68,7 @@ returns-clause-ran g c =
     let so_far = c.lines.invariant.3 in
     let none : length c.lines.rest.now ≡ 0 = grind (arith, nat_tests, c.is_empty.ensures, c.lines-test.false) in
     let end = lines-empty c.lines.rest.now none in
-    let still_open = sym c.is_open.ensures ∙ c.if-is_open.false in
+    let still_open = sym c.is_open.ensures.is_open ∙ c.if-is_open.false in
     (joined_texts so_far.texts, so_far.written, (rw still_open at (ends-fault _ _ _ _ _ _ so_far end), ends-written _ _ _ _ _ _ so_far end))
 
 pub returns-in-Err-Refused-clause-no_memory : goal.returns-in-Err-Refused-clause-no_memory
