@@ -7,12 +7,12 @@ use crate::calls::{Call, Condition, Family, Finish, Relation, Start, run};
 use crate::error::SqlBuilderError;
 use crate::fault::{Fault, Reason};
 use crate::output::write_fault;
-use crate::run::run_input;
+use crate::run::{run_flushed, run_input};
 use crate::watched::Watched;
-use std::alloc::{AllocError, Global};
+use std::alloc::{AllocError, AllocFailed, Global};
+use std::error::Error;
 use std::io;
-use std::io::{ErrorKind, Read, Write};
-use std::process::Abort;
+use std::io::{BufWriter, ErrorKind, Read, Write};
 use std::test::Fail;
 
 /// Gives a few bytes a call, and fails at one call alone.
@@ -200,13 +200,13 @@ fn prints_what_the_lines_say(rt: HostRuntime) -> Result<(), Fail> {
     for (row, (input, prints, fault, status)) in ROWS.iter().enumerate() {
         for step in [1, 7, 4096] {
             let mut reader = Watched::new(Slow::new(input, step, 0));
-            let mut writer = Watched::new(Vec::new(rt.alloc()));
+            let mut writer = Watched::new(Small::new(HELD, step, 0));
             let answer = run_input(rt.alloc(), &mut reader, &mut writer);
             assert!(rt;
                 reader.ended() && !reader.failed() && !writer.failed(),
                 "row {row}"
             );
-            assert_eq!(rt; writer.into_inner().as_slice(), *prints, "row {row}");
+            assert_eq!(rt; writer.into_inner().held(), *prints, "row {row}");
             let (line, exit) = fault_line(rt.alloc(), answer);
             assert_eq!(rt; line.as_slice(), *fault, "row {row}");
             assert_eq!(rt; exit, *status, "row {row}");
@@ -230,8 +230,8 @@ fn a_read_that_fails_ends_the_run(rt: HostRuntime) -> Result<(), Fail> {
             "at {at}"
         );
         // No read is tried again, and nothing is written.
-        assert_eq!(rt; reader.into_inner().calls, at);
-        assert_eq!(rt; writer.into_inner().calls, 0);
+        assert_eq!(rt; reader.into_inner().calls, at, "at {at}");
+        assert_eq!(rt; writer.into_inner().calls, 0, "at {at}");
         let (line, exit) = fault_line(rt.alloc(), answer);
         assert_eq!(rt; line.as_slice(), b"read failed\n".as_slice(), "at {at}");
         assert_eq!(rt; exit, 2, "at {at}");
@@ -248,7 +248,7 @@ fn a_write_that_fails_ends_the_run(rt: HostRuntime) -> Result<(), Fail> {
         assert!(rt; reader.ended() && writer.failed(), "at {at}");
         let writer = writer.into_inner();
         // No write is tried again, and a beginning is written.
-        assert_eq!(rt; writer.calls, at);
+        assert_eq!(rt; writer.calls, at, "at {at}");
         assert!(rt; TWO_PRINTS.starts_with(writer.held()), "at {at}");
         let (line, exit) = fault_line(rt.alloc(), answer);
         assert_eq!(rt; line.as_slice(), b"write failed\n".as_slice(), "at {at}");
@@ -265,21 +265,27 @@ fn a_writer_that_is_full_fails_the_run(rt: HostRuntime) -> Result<(), Fail> {
         let answer = run_input(rt.alloc(), &mut reader, &mut writer);
         assert!(rt; matches!(&answer, Err(Fault::Write)), "room {room}");
         assert!(rt; writer.failed(), "room {room}");
-        assert!(rt;
-            TWO_PRINTS.starts_with(writer.into_inner().held()),
-            "room {room}"
-        );
+        let writer = writer.into_inner();
+        assert!(rt; TWO_PRINTS.starts_with(writer.held()), "room {room}");
+        // A text ends in a step of its own: none is tried again once no byte is taken.
+        assert_eq!(rt; writer.calls, room.div_ceil(2) + 1, "room {room}");
     }
     Ok(())
 }
 
 #[test]
-fn a_writer_that_takes_a_byte_a_time_gets_all(rt: HostRuntime) -> Result<(), Fail> {
-    let mut reader = Watched::new(TWO);
-    let mut writer = Watched::new(Small::new(HELD, 1, 0));
-    let answer = run_input(rt.alloc(), &mut reader, &mut writer);
-    assert!(rt; answer.is_ok());
-    assert_eq!(rt; writer.into_inner().held(), TWO_PRINTS);
+fn a_buffered_run_is_flushed(rt: HostRuntime) -> Result<(), Fail> {
+    for room in [42, 41, 0] {
+        let mut reader = Watched::new(TWO);
+        let writer = BufWriter::with_capacity(rt.alloc(), 24, Small::new(room, 7, 0))?;
+        let (writer, answer) = run_flushed(rt.alloc(), &mut reader, writer);
+        let is_held = writer.held() == TWO_PRINTS;
+        assert_eq!(rt; is_held, room == 42, "room {room}");
+        assert!(rt; TWO_PRINTS.starts_with(writer.held()), "room {room}");
+        let (line, _) = fault_line(rt.alloc(), answer);
+        let wanted: &[u8] = if room == 42 { b"" } else { b"write failed\n" };
+        assert_eq!(rt; line.as_slice(), wanted, "room {room}");
+    }
     Ok(())
 }
 
@@ -360,6 +366,10 @@ fn builds_a_statement_by_a_chain(rt: HostRuntime) -> Result<(), Fail> {
     Ok(())
 }
 
+fn error_text<E: Error>(alloc: Global, error: &E) -> Result<String, AllocError> {
+    format!(in alloc; "{error}")
+}
+
 #[test]
 fn a_statement_is_refused_by_name(rt: HostRuntime) -> Result<(), Fail> {
     let refusal = SqlBuilder::select_from(rt.alloc(), "")?.sql();
@@ -367,9 +377,14 @@ fn a_statement_is_refused_by_name(rt: HostRuntime) -> Result<(), Fail> {
     for (error, message) in [
         (SqlBuilderError::NoTableName, "No table name"),
         (SqlBuilderError::from(AllocError), "Out of memory"),
+        (
+            SqlBuilderError::from(AllocFailed { value: 1 }),
+            "Out of memory",
+        ),
     ] {
         assert_eq!(rt; error.message(), message);
-        assert_eq!(rt; format!(in rt.alloc(); "{error}")?.as_str(), message);
+        let text = error_text(rt.alloc(), &error)?;
+        assert_eq!(rt; text.as_str(), message);
     }
     Ok(())
 }
