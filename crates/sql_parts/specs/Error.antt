@@ -1,0 +1,21 @@
+-- The texts of refusals, and which calls are refused for want of memory alone.
+use Rattle.std.specs.Prelude.{ℕ, List, codes, Result, IfErr}
+use Rattle.sql_parts.specs.declared.error.SqlBuilderError.{SqlBuilderError}
+use Rattle.sql_parts.specs.declared.error.SqlBuilderError.TheVariants.{NoTableName, NoValues, NoSetFields, NoArguments, Memory}
+
+-- a refusal's text
+abbrev pub message_text : SqlBuilderError → List ℕ
+message_text NoTableName = codes "No table name"
+message_text NoValues = codes "No values"
+message_text NoSetFields = codes "No set fields"
+message_text NoArguments = codes "No arguments"
+message_text (Memory error) = codes "Out of memory"
+
+-- the refusal is want of memory
+abbrev pub IsMemory : SqlBuilderError → Type 0
+IsMemory (Memory error) = Unit {0}
+IsMemory _ = ⊥
+
+-- a refusal comes only where a growth was refused
+abbrev pub FailsOnlyByMemory : {T : Type 0} → Result T SqlBuilderError → Type 0
+FailsOnlyByMemory result = IfErr result IsMemory

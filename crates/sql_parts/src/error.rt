@@ -1,0 +1,72 @@
+//! Why a call is refused.
+ghost use Rattle.std.specs.Prelude.{◌≡◌};
+ghost use Rattle.sql_parts.specs.Error.{message_text};
+
+use std::alloc::{AllocError, AllocFailed};
+use std::error::Error;
+use std::fmt;
+
+/// Why a call is refused.
+#[derive(Debug, Drop)]
+pub enum SqlBuilderError {
+    /// The table text is empty.
+    NoTableName,
+    /// An INSERT has neither rows nor a query, or a SELECT of values has none.
+    NoValues,
+    /// An UPDATE sets nothing.
+    NoSetFields,
+    /// A text with a place for an argument is to be bound to an empty list.
+    NoArguments,
+    /// A growth was refused.
+    Memory(AllocError),
+}
+
+impl SqlBuilderError {
+    /// The refusal's text, which Display prints too. It takes no memory.
+    pub fn message(&self) -> &'static str
+        ensures text { result.now ≡ message_text self.now }
+    {
+        match self {
+            SqlBuilderError::NoTableName => "No table name",
+            SqlBuilderError::NoValues => "No values",
+            SqlBuilderError::NoSetFields => "No set fields",
+            SqlBuilderError::NoArguments => "No arguments",
+            SqlBuilderError::Memory(_) => "Out of memory",
+        }
+    }
+}
+
+impl fmt::Display for SqlBuilderError {
+    ghost use Rattle.std.specs.Prelude.{Some};
+    ghost use Rattle.sql_parts.specs.Error.{message_text};
+
+    ghost output = { λ e. Some (message_text e) };
+
+    fn fmt<W: fmt::Write>(&self, f: &mut fmt::Formatter<W>) -> fmt::Result {
+        f.write_str(self.message())
+    }
+}
+
+impl Error for SqlBuilderError {}
+
+impl From<AllocError> for SqlBuilderError {
+    ghost use Rattle.std.specs.Prelude.{◌≡◌};
+    ghost use Rattle.sql_parts.specs.declared.error.SqlBuilderError.TheVariants.{Memory};
+
+    ghost from_gives = { λ error refusal. refusal ≡ Memory error };
+
+    fn from(error: AllocError) -> SqlBuilderError {
+        SqlBuilderError::Memory(error)
+    }
+}
+
+impl<T: Drop> From<AllocFailed<T>> for SqlBuilderError {
+    ghost use Rattle.std.specs.Prelude.{◌≡◌, alloc_error};
+    ghost use Rattle.sql_parts.specs.declared.error.SqlBuilderError.TheVariants.{Memory};
+
+    ghost from_gives = { λ _ refusal. refusal ≡ Memory alloc_error };
+
+    fn from(_: AllocFailed<T>) -> SqlBuilderError {
+        SqlBuilderError::Memory(AllocError)
+    }
+}
