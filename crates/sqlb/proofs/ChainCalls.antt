@@ -1,9 +1,9 @@
--- A chain call whose body is `release(self.hold_x(constants, arguments))`: the constants are variants without fields, and each argument is `Copy`.
+-- A chain call whose body is `release(self.hold_x(constants, arguments))`: the constants are variants without fields, and each argument is moved or copied.
 -- The proof of such a call is one use of these. `told` is what the builder has been told when it comes back.
-use Rattle.sqlb.proofs.Walking.{lit, join, split, fsplit, use1, ◌⊛◌, ◌≡◌, ℕ, List, [], ◌∷◌, refl, sym, subst, proved_at, leaves, Val, vptr, raw, ‵, tables, ◌$◌, ◌∵◌, !, qed, move, fjoin, nothing, use0, enter, addr, stop, no_more, and_then, returns, alloc_all, pass_all, free_all, look_at, get, through, sets, lands_as, plain, calls_at, triple_of, Stays, stay_dropped, Goes-spent_ref, walk_of, framed, SProp, ent, sem, Item, Seq, Step, step, Go, prop, WpFn, no, by, Ura, Logic, RattleType, MutBor, id⊢, regoal, allocs, params', runs, at_ret}
+use Rattle.sqlb.proofs.Walking.{lit, join, split, fsplit, use1, ◌⊛◌, ◌≡◌, ℕ, List, [], ◌∷◌, refl, sym, subst, proved_at, leaves, Val, vptr, raw, ‵, tables, ◌$◌, ◌∵◌, !, qed, move, fjoin, nothing, use0, enter, addr, stop, no_more, and_then, returns, alloc_all, pass_all, free_all, look_at, get, through, sets, of_opd, lands_as, plain, calls_at, triple_of, Stays, stay_dropped, Goes-spent_ref, walk_of, framed, SProp, ent, sem, Item, Seq, Step, step, Go, prop, WpFn, no, by, Ura, Logic, RattleType, MutBor, id⊢, regoal, allocs, params', runs, at_ret}
 use Rattle.sqlb.proofs.Loans.{Good, Kept, Bare, kept_lawful, bare_lawful, held_says, says, returned, releases, Argument, Constant, also, keeps, put, puts, after, owned}
 use Rattle.std.specs.Prelude.{suc}
-use mir.Syntax.{Ty, Callee, Fn, Local, Body, ty_ref, mut, erased, named, value_local, local, seq, assign, call, return, place, copy, addr_of, deref, aggregate, int, w8}
+use mir.Syntax.{Ty, Callee, Fn, Local, Body, ty_ref, mut, erased, named, value_local, local, seq, assign, call, return, place, copy, addr_of, rv_opd, deref, aggregate, int, w8}
 use base.Fml.{fsep}
 use types.Part.{agg}
 use base.Logic.{emp}
@@ -25,7 +25,7 @@ use denote.Triple.Walked.{AllGo, has_of, fits_of}
 use Rattle.std.specs.contracts.result.Result as RS
 use Rattle.sqlb.specs.Builder.{ClauseTexts}
 use Rattle.sqlb.specs.contracts.builder.SqlBuilder.{the_row as R}
-use Rattle.sqlb.specs.contracts.error.SqlBuilderError.{the_row as E}
+use Rattle.sql_parts.specs.contracts.error.SqlBuilderError.{the_row as E}
 use Rattle.sqlb.specs.contracts.builder.Held as held_type
 use Rattle.sqlb.specs.contracts.builder.release as o
 use Rattle.sqlb.proofs.builder.SqlBuilder.TheLaws as builder
@@ -188,92 +188,141 @@ module _ {M : Type 1} {𝓤 : Ura M} (𝓛 : Logic 𝓤) (𝓜 : Model 𝓤 𝓛
           → Seq Go 𝓛 (‵ ((Bare 𝓛 y.0.0.0).own_val t (u ∷ [])) ∷ raw (says 𝓛 y.0.3.0 (λ m. m ≡ told' told y.0.0 y.0.3) t) ∷ raw (toks 𝓛 (suc n) y.0.0 y.0.1) ∷ []) (prop ((walk_of 𝓛 (T ss ks (asks' asked) (told' told)) (hs ss ks (asks' asked) (told' told)) (c ss ks (asks' asked) (told' told))).post y u))
       leaves_step y u t ws = ends ss ks (asks' asked) (told' told) y u t (ws.0, after 𝓛 y.0.0 Cs ss ks y.0.3.1 ws.1)
 
-  -- one constant and one argument
+  -- one constant and one argument that is moved
   module _ (X : Constant 𝓛) (A : Argument 𝓛 (suc n)) where
-    abbrev Cs1 : List (Constant 𝓛)
-    Cs1 = X ∷ []
+    abbrev Cs-text : List (Constant 𝓛)
+    Cs-text = X ∷ []
 
-    abbrev Q1 : List (Slot (suc n))
-    Q1 = plain A.row ∷ []
+    abbrev Q-text : List (Slot (suc n))
+    Q-text = plain A.row ∷ []
 
-    abbrev K1 : Kepts Q1
-    K1 = (A.kept, tt)
+    abbrev K-text : Kepts Q-text
+    K-text = (A.kept, tt)
 
-    module _ (asked : (κs : Lfts (suc n)) → MutBor ClauseTexts × Denots (types_at (also 𝓛 Cs1 Q1) κs) → SProp 𝓤)
-        (told : (κs : Lfts (suc n)) → MutBor ClauseTexts × Denots (types_at (also 𝓛 Cs1 Q1) κs) → ClauseTexts) (fn : Fn) (kg ko name : Callee) where
-      abbrev pub Code1 : Type 0
-      Code1 = (fn.locals ≡ l0 ∷ l1 ∷ local A.ty value_local ∷ kept ∷ lent ∷ local (layout X.row) value_local ∷ [])
-          × (fn.body ≡ seq (assign (place 4 []) (addr_of (place 1 (deref δ ∷ [])))) (seq (assign (place 5 []) (aggregate (int w8 X.tag ∷ [])))
-          (seq (call kg (copy (place 4 []) ∷ copy (place 5 []) ∷ copy (place 2 []) ∷ []) (place 3 [])) (seq (call ko (copy (place 3 []) ∷ []) (place 0 [])) return))))
+    module _ (asked : (κs : Lfts (suc n)) → MutBor ClauseTexts × Denots (types_at (also 𝓛 Cs-text Q-text) κs) → SProp 𝓤)
+        (told : (κs : Lfts (suc n)) → MutBor ClauseTexts × Denots (types_at (also 𝓛 Cs-text Q-text) κs) → ClauseTexts) (fn : Fn) (kg ko name : Callee) where
+      abbrev pub Code-text : Type 0
+      Code-text = (fn.locals ≡ l0 ∷ l1 ∷ local A.ty value_local ∷ kept ∷ lent ∷ local (layout X.row) value_local ∷ local A.ty value_local ∷ [])
+          × (fn.body ≡ seq (assign (place 4 []) (addr_of (place 1 (deref δ ∷ [])))) (seq (assign (place 5 []) (aggregate (int w8 X.tag ∷ []))) (seq (assign (place 6 []) (rv_opd (copy (place 2 [])))) (
+          seq (call kg (copy (place 4 []) ∷ copy (place 5 []) ∷ copy (place 6 []) ∷ []) (place 3 [])) (seq (call ko (copy (place 3 []) ∷ []) (place 0 [])) (return))))))
 
-      abbrev pub Coded1 : Type 2
-      Coded1 = Coded Cs1 Q1 K1 asked told fn name
+      abbrev pub Coded-text : Type 2
+      Coded-text = Coded Cs-text Q-text K-text asked told fn name
 
-      abbrev pub Method1 : Type 1
-      Method1 = Method Cs1 Q1 K1 asked told name
+      abbrev pub Method-text : Type 1
+      Method-text = Method Cs-text Q-text K-text asked told name
 
-      pub one_of_one : Code1 → Coded1 → StepMeets Cs1 Q1 K1 asked told kg → Releases Cs1 Q1 K1 asked told ko → Method1
-      one_of_one code closed met release_met =
+      pub by-text : Code-text → Coded-text → StepMeets Cs-text Q-text K-text asked told kg → Releases Cs-text Q-text K-text asked told ko → Method-text
+      by-text code closed met release_met =
           let fm = framed 𝓤 𝓛.H 𝓜 (tables 𝓤 𝓛.H 𝓜 𝓡 𝓡.env) in
-          chains Q1 K1 (asks' Cs1 Q1 asked) (told' Cs1 Q1 told) fn name closed (A.goes, tt) (λ y₀ are.
+          chains Q-text K-text (asks' Cs-text Q-text asked) (told' Cs-text Q-text told) fn name closed (A.goes, tt) (λ y₀ are.
           let a = y₀.0.3 in let p = vptr a.0.ref_ptr.0 a.0.ref_ptr.1 in
           let x = A.one y₀.0.0 a.1.0 y₀.0.4.1.0 are.0 in
-          let walk : (w : Val) → Good A.ty w → Walks Cs1 Q1 K1 asked told ((y₀.0.0, y₀.0.1, y₀.0.2, a, (p ∷ [], (w ∷ [], tt))), tt) fn = λ w good.
-          let y : At_entry Cs1 Q1 K1 asked told = ((y₀.0.0, y₀.0.1, y₀.0.2, a, (p ∷ [], (w ∷ [], tt))), tt) in
-          let z = more Cs1 Q1 K1 asked told y in
-          qed 𝓛 (raw (at_entry Cs1 Q1 K1 asked told y) ∷ []) ∵ coded Q1 K1 (asks' Cs1 Q1 asked) (told' Cs1 Q1 told) fn _ _ code.0 code.1 _ _ $
+          let walk : (w : Val) → Good A.ty w → Walks Cs-text Q-text K-text asked told ((y₀.0.0, y₀.0.1, y₀.0.2, a, (p ∷ [], (w ∷ [], tt))), tt) fn = λ w good.
+          let y : At_entry Cs-text Q-text K-text asked told = ((y₀.0.0, y₀.0.1, y₀.0.2, a, (p ∷ [], (w ∷ [], tt))), tt) in
+          let z = more Cs-text Q-text K-text asked told y in
+          qed 𝓛 (raw (at_entry Cs-text Q-text K-text asked told y) ∷ []) ∵ coded Q-text K-text (asks' Cs-text Q-text asked) (told' Cs-text Q-text told) fn _ _ code.0 code.1 _ _ $
           alloc_all ! (λ l. pass_all ! refl ((tt, tt), (good, tt)) $
           sets ! (addr ! (through ! refl (stop !))) refl (tt, tt) $ sets ! (agg ! (and_then ! (lit ! X.is_byte) (no_more !))) refl X.good $
-          use1 𝓛 (raw (at_step Cs1 Q1 K1 asked told y)) (widened Cs1 Q1 K1 asked told y) $
+          sets ! (of_opd ! (get ! refl)) refl good $
+          use1 𝓛 (raw (at_step Cs-text Q-text K-text asked told y)) (widened Cs-text Q-text K-text asked told y) $
           calls_at ! fm _ met z (and_then ! (get ! refl) (and_then ! (get ! refl) (and_then ! (get ! refl) (no_more !)))) (λ v.
-          returned ! tt (StepEnded Cs1 Q1 K1 asked told) (step_clauses Cs1 Q1 K1 asked told) z v (λ r ws is.
+          returned ! tt (StepEnded Cs-text Q-text K-text asked told) (step_clauses Cs-text Q-text K-text asked told) z v (λ r ws is.
           lands_as ! refl refl ((kept_lawful 𝓛 y.0.0.0).typed r (v ∷ []) is).0 $
           releases ! fm 𝓜.mem 𝓡.returns release_met n y.0.0 y.0.1 a.0 (λ m. m ≡ told z.0.0 z.0.3) r v (and_then ! (get ! refl) (no_more !)) (λ u t is'.
           lands_as ! refl refl ((bare_lawful 𝓛 y.0.0.0).typed t (u ∷ []) is').0 $
-          returns ! (look_at ! 0 refl) $ free_all ! refl $ leaves_step Cs1 Q1 K1 asked told y u t ws)))) in
+          returns ! (look_at ! 0 refl) $ free_all ! refl $ leaves_step Cs-text Q-text K-text asked told y u t ws)))) in
           ((x.0 ∷ [], tt), ((λ i. (x.1.0 i, tt)), walk x.0 x.1.1)))
 
-  -- two constants and two arguments
-  module _ (X Y : Constant 𝓛) (A B : Argument 𝓛 (suc n)) where
-    abbrev Cs2 : List (Constant 𝓛)
-    Cs2 = X ∷ Y ∷ []
+  -- one constant and one argument that is copied
+  module _ (X : Constant 𝓛) (A : Argument 𝓛 (suc n)) where
+    abbrev Cs-list : List (Constant 𝓛)
+    Cs-list = X ∷ []
 
-    abbrev Q2 : List (Slot (suc n))
-    Q2 = plain A.row ∷ plain B.row ∷ []
+    abbrev Q-list : List (Slot (suc n))
+    Q-list = plain A.row ∷ []
 
-    abbrev K2 : Kepts Q2
-    K2 = (A.kept, (B.kept, tt))
+    abbrev K-list : Kepts Q-list
+    K-list = (A.kept, tt)
 
-    module _ (asked : (κs : Lfts (suc n)) → MutBor ClauseTexts × Denots (types_at (also 𝓛 Cs2 Q2) κs) → SProp 𝓤)
-        (told : (κs : Lfts (suc n)) → MutBor ClauseTexts × Denots (types_at (also 𝓛 Cs2 Q2) κs) → ClauseTexts) (fn : Fn) (kg ko name : Callee) where
-      abbrev pub Code2 : Type 0
-      Code2 = (fn.locals ≡ l0 ∷ l1 ∷ local A.ty value_local ∷ local B.ty value_local ∷ kept ∷ lent ∷ local (layout X.row) value_local ∷ local (layout Y.row) value_local ∷ [])
-          × (fn.body ≡ seq (assign (place 5 []) (addr_of (place 1 (deref δ ∷ [])))) (seq (assign (place 6 []) (aggregate (int w8 X.tag ∷ []))) (seq (assign (place 7 []) (aggregate (int w8 Y.tag ∷ [])))
-          (seq (call kg (copy (place 5 []) ∷ copy (place 6 []) ∷ copy (place 7 []) ∷ copy (place 2 []) ∷ copy (place 3 []) ∷ []) (place 4 [])) (seq (call ko (copy (place 4 []) ∷ []) (place 0 [])) return)))))
+    module _ (asked : (κs : Lfts (suc n)) → MutBor ClauseTexts × Denots (types_at (also 𝓛 Cs-list Q-list) κs) → SProp 𝓤)
+        (told : (κs : Lfts (suc n)) → MutBor ClauseTexts × Denots (types_at (also 𝓛 Cs-list Q-list) κs) → ClauseTexts) (fn : Fn) (kg ko name : Callee) where
+      abbrev pub Code-list : Type 0
+      Code-list = (fn.locals ≡ l0 ∷ l1 ∷ local A.ty value_local ∷ kept ∷ lent ∷ local (layout X.row) value_local ∷ [])
+          × (fn.body ≡ seq (assign (place 4 []) (addr_of (place 1 (deref δ ∷ [])))) (seq (assign (place 5 []) (aggregate (int w8 X.tag ∷ []))) (seq (call kg (copy (place 4 []) ∷ copy (place 5 []) ∷ copy (place 2 []) ∷ []) (place 3 [])) (
+          seq (call ko (copy (place 3 []) ∷ []) (place 0 [])) (return)))))
 
-      abbrev pub Coded2 : Type 2
-      Coded2 = Coded Cs2 Q2 K2 asked told fn name
+      abbrev pub Coded-list : Type 2
+      Coded-list = Coded Cs-list Q-list K-list asked told fn name
 
-      abbrev pub Method2 : Type 1
-      Method2 = Method Cs2 Q2 K2 asked told name
+      abbrev pub Method-list : Type 1
+      Method-list = Method Cs-list Q-list K-list asked told name
 
-      pub two_of_two : Code2 → Coded2 → StepMeets Cs2 Q2 K2 asked told kg → Releases Cs2 Q2 K2 asked told ko → Method2
-      two_of_two code closed met release_met =
+      pub by-list : Code-list → Coded-list → StepMeets Cs-list Q-list K-list asked told kg → Releases Cs-list Q-list K-list asked told ko → Method-list
+      by-list code closed met release_met =
           let fm = framed 𝓤 𝓛.H 𝓜 (tables 𝓤 𝓛.H 𝓜 𝓡 𝓡.env) in
-          chains Q2 K2 (asks' Cs2 Q2 asked) (told' Cs2 Q2 told) fn name closed (A.goes, (B.goes, tt)) (λ y₀ are.
+          chains Q-list K-list (asks' Cs-list Q-list asked) (told' Cs-list Q-list told) fn name closed (A.goes, tt) (λ y₀ are.
           let a = y₀.0.3 in let p = vptr a.0.ref_ptr.0 a.0.ref_ptr.1 in
-          let x = A.one y₀.0.0 a.1.0 y₀.0.4.1.0 are.0 in let x' = B.one y₀.0.0 a.1.1.0 y₀.0.4.1.1.0 are.1.0 in
-          let walk : (w w' : Val) → Good A.ty w → Good B.ty w' → Walks Cs2 Q2 K2 asked told ((y₀.0.0, y₀.0.1, y₀.0.2, a, (p ∷ [], (w ∷ [], (w' ∷ [], tt)))), tt) fn = λ w w' good good'.
-          let y : At_entry Cs2 Q2 K2 asked told = ((y₀.0.0, y₀.0.1, y₀.0.2, a, (p ∷ [], (w ∷ [], (w' ∷ [], tt)))), tt) in
-          let z = more Cs2 Q2 K2 asked told y in
-          qed 𝓛 (raw (at_entry Cs2 Q2 K2 asked told y) ∷ []) ∵ coded Q2 K2 (asks' Cs2 Q2 asked) (told' Cs2 Q2 told) fn _ _ code.0 code.1 _ _ $
-          alloc_all ! (λ l. pass_all ! refl ((tt, tt), (good, (good', tt))) $
-          sets ! (addr ! (through ! refl (stop !))) refl (tt, tt) $ sets ! (agg ! (and_then ! (lit ! X.is_byte) (no_more !))) refl X.good $ sets ! (agg ! (and_then ! (lit ! Y.is_byte) (no_more !))) refl Y.good $
-          use1 𝓛 (raw (at_step Cs2 Q2 K2 asked told y)) (widened Cs2 Q2 K2 asked told y) $
-          calls_at ! fm _ met z (and_then ! (get ! refl) (and_then ! (get ! refl) (and_then ! (get ! refl) (and_then ! (get ! refl) (and_then ! (get ! refl) (no_more !)))))) (λ v.
-          returned ! tt (StepEnded Cs2 Q2 K2 asked told) (step_clauses Cs2 Q2 K2 asked told) z v (λ r ws is.
+          let x = A.one y₀.0.0 a.1.0 y₀.0.4.1.0 are.0 in
+          let walk : (w : Val) → Good A.ty w → Walks Cs-list Q-list K-list asked told ((y₀.0.0, y₀.0.1, y₀.0.2, a, (p ∷ [], (w ∷ [], tt))), tt) fn = λ w good.
+          let y : At_entry Cs-list Q-list K-list asked told = ((y₀.0.0, y₀.0.1, y₀.0.2, a, (p ∷ [], (w ∷ [], tt))), tt) in
+          let z = more Cs-list Q-list K-list asked told y in
+          qed 𝓛 (raw (at_entry Cs-list Q-list K-list asked told y) ∷ []) ∵ coded Q-list K-list (asks' Cs-list Q-list asked) (told' Cs-list Q-list told) fn _ _ code.0 code.1 _ _ $
+          alloc_all ! (λ l. pass_all ! refl ((tt, tt), (good, tt)) $
+          sets ! (addr ! (through ! refl (stop !))) refl (tt, tt) $ sets ! (agg ! (and_then ! (lit ! X.is_byte) (no_more !))) refl X.good $
+          use1 𝓛 (raw (at_step Cs-list Q-list K-list asked told y)) (widened Cs-list Q-list K-list asked told y) $
+          calls_at ! fm _ met z (and_then ! (get ! refl) (and_then ! (get ! refl) (and_then ! (get ! refl) (no_more !)))) (λ v.
+          returned ! tt (StepEnded Cs-list Q-list K-list asked told) (step_clauses Cs-list Q-list K-list asked told) z v (λ r ws is.
           lands_as ! refl refl ((kept_lawful 𝓛 y.0.0.0).typed r (v ∷ []) is).0 $
           releases ! fm 𝓜.mem 𝓡.returns release_met n y.0.0 y.0.1 a.0 (λ m. m ≡ told z.0.0 z.0.3) r v (and_then ! (get ! refl) (no_more !)) (λ u t is'.
           lands_as ! refl refl ((bare_lawful 𝓛 y.0.0.0).typed t (u ∷ []) is').0 $
-          returns ! (look_at ! 0 refl) $ free_all ! refl $ leaves_step Cs2 Q2 K2 asked told y u t ws)))) in
+          returns ! (look_at ! 0 refl) $ free_all ! refl $ leaves_step Cs-list Q-list K-list asked told y u t ws)))) in
+          ((x.0 ∷ [], tt), ((λ i. (x.1.0 i, tt)), walk x.0 x.1.1)))
+
+  -- two constants and two arguments that are moved
+  module _ (X Y : Constant 𝓛) (A B : Argument 𝓛 (suc n)) where
+    abbrev Cs-comparison : List (Constant 𝓛)
+    Cs-comparison = X ∷ Y ∷ []
+
+    abbrev Q-comparison : List (Slot (suc n))
+    Q-comparison = plain A.row ∷ plain B.row ∷ []
+
+    abbrev K-comparison : Kepts Q-comparison
+    K-comparison = (A.kept, (B.kept, tt))
+
+    module _ (asked : (κs : Lfts (suc n)) → MutBor ClauseTexts × Denots (types_at (also 𝓛 Cs-comparison Q-comparison) κs) → SProp 𝓤)
+        (told : (κs : Lfts (suc n)) → MutBor ClauseTexts × Denots (types_at (also 𝓛 Cs-comparison Q-comparison) κs) → ClauseTexts) (fn : Fn) (kg ko name : Callee) where
+      abbrev pub Code-comparison : Type 0
+      Code-comparison = (fn.locals ≡ l0 ∷ l1 ∷ local A.ty value_local ∷ local B.ty value_local ∷ kept ∷ lent ∷ local (layout X.row) value_local ∷ local (layout Y.row) value_local ∷ local A.ty value_local ∷ local B.ty value_local ∷ [])
+          × (fn.body ≡ seq (assign (place 5 []) (addr_of (place 1 (deref δ ∷ [])))) (seq (assign (place 6 []) (aggregate (int w8 X.tag ∷ []))) (seq (assign (place 7 []) (aggregate (int w8 Y.tag ∷ []))) (
+          seq (assign (place 8 []) (rv_opd (copy (place 2 [])))) (seq (assign (place 9 []) (rv_opd (copy (place 3 [])))) (seq (call kg (copy (place 5 []) ∷ copy (place 6 []) ∷ copy (place 7 []) ∷ copy (place 8 []) ∷ copy (place 9 []) ∷ []) (place 4 [])) (
+          seq (call ko (copy (place 4 []) ∷ []) (place 0 [])) (return))))))))
+
+      abbrev pub Coded-comparison : Type 2
+      Coded-comparison = Coded Cs-comparison Q-comparison K-comparison asked told fn name
+
+      abbrev pub Method-comparison : Type 1
+      Method-comparison = Method Cs-comparison Q-comparison K-comparison asked told name
+
+      pub by-comparison : Code-comparison → Coded-comparison → StepMeets Cs-comparison Q-comparison K-comparison asked told kg → Releases Cs-comparison Q-comparison K-comparison asked told ko → Method-comparison
+      by-comparison code closed met release_met =
+          let fm = framed 𝓤 𝓛.H 𝓜 (tables 𝓤 𝓛.H 𝓜 𝓡 𝓡.env) in
+          chains Q-comparison K-comparison (asks' Cs-comparison Q-comparison asked) (told' Cs-comparison Q-comparison told) fn name closed (A.goes, (B.goes, tt)) (λ y₀ are.
+          let a = y₀.0.3 in let p = vptr a.0.ref_ptr.0 a.0.ref_ptr.1 in
+          let x = A.one y₀.0.0 a.1.0 y₀.0.4.1.0 are.0 in
+          let x' = B.one y₀.0.0 a.1.1.0 y₀.0.4.1.1.0 are.1.0 in
+          let walk : (w w' : Val) → Good A.ty w → Good B.ty w' → Walks Cs-comparison Q-comparison K-comparison asked told ((y₀.0.0, y₀.0.1, y₀.0.2, a, (p ∷ [], (w ∷ [], (w' ∷ [], tt)))), tt) fn = λ w w' good good'.
+          let y : At_entry Cs-comparison Q-comparison K-comparison asked told = ((y₀.0.0, y₀.0.1, y₀.0.2, a, (p ∷ [], (w ∷ [], (w' ∷ [], tt)))), tt) in
+          let z = more Cs-comparison Q-comparison K-comparison asked told y in
+          qed 𝓛 (raw (at_entry Cs-comparison Q-comparison K-comparison asked told y) ∷ []) ∵ coded Q-comparison K-comparison (asks' Cs-comparison Q-comparison asked) (told' Cs-comparison Q-comparison told) fn _ _ code.0 code.1 _ _ $
+          alloc_all ! (λ l. pass_all ! refl ((tt, tt), (good, (good', tt))) $
+          sets ! (addr ! (through ! refl (stop !))) refl (tt, tt) $ sets ! (agg ! (and_then ! (lit ! X.is_byte) (no_more !))) refl X.good $ sets ! (agg ! (and_then ! (lit ! Y.is_byte) (no_more !))) refl Y.good $
+          sets ! (of_opd ! (get ! refl)) refl good $ sets ! (of_opd ! (get ! refl)) refl good' $
+          use1 𝓛 (raw (at_step Cs-comparison Q-comparison K-comparison asked told y)) (widened Cs-comparison Q-comparison K-comparison asked told y) $
+          calls_at ! fm _ met z (and_then ! (get ! refl) (and_then ! (get ! refl) (and_then ! (get ! refl) (and_then ! (get ! refl) (and_then ! (get ! refl) (no_more !)))))) (λ v.
+          returned ! tt (StepEnded Cs-comparison Q-comparison K-comparison asked told) (step_clauses Cs-comparison Q-comparison K-comparison asked told) z v (λ r ws is.
+          lands_as ! refl refl ((kept_lawful 𝓛 y.0.0.0).typed r (v ∷ []) is).0 $
+          releases ! fm 𝓜.mem 𝓡.returns release_met n y.0.0 y.0.1 a.0 (λ m. m ≡ told z.0.0 z.0.3) r v (and_then ! (get ! refl) (no_more !)) (λ u t is'.
+          lands_as ! refl refl ((bare_lawful 𝓛 y.0.0.0).typed t (u ∷ []) is').0 $
+          returns ! (look_at ! 0 refl) $ free_all ! refl $ leaves_step Cs-comparison Q-comparison K-comparison asked told y u t ws)))) in
           ((x.0 ∷ [], (x'.0 ∷ [], tt)), ((λ i. (x.1.0 i, (x'.1.0 i, tt))), walk x.0 x'.0 x.1.1 x'.1.1)))

@@ -1,7 +1,7 @@
 -- A buffered writer that is flushed.
 use Rattle.std.proofs.Common.{◌≡◌, List, ℕ, [], refl, ap}
 use Rattle.std.specs.Prelude.{Option, None, Some, Result, Ok, Err}
-use Rattle.std.specs.Io.KnownBytes.{append_known, Keeps}
+use Rattle.std.specs.Io.KnownBytes.{append_known}
 use Rattle.std.proofs.lemmas.List.{append-nil}
 use Rattle.sqlb.specs.Ran.{UnlessWriteFails}
 use Rattle.sqlb.specs.declared.fault.Fault.{Fault}

@@ -1,5 +1,5 @@
 -- What the proofs of the chain calls share. A chain call is `release(self.hold_x(..))`.
-use Rattle.sqlb.proofs.Walking.{qed, by, use0, fjoin, ◌∵◌, !, plain, yes, Goes-dropped, stay_dropped, ◌≡◌, ℕ, List, [], ◌∷◌, refl, sym, subst, MutBor, id⊢, ftrue, named, Val, fact, ‵, raw, ◌⊛◌, some, later, ◌$◌, move, drop, use1, use2, split, join, await, pick, shows, MutRef, nothing, heard, peeks, calls_at, lasts, triple_of, Ura, Logic, sem, Item, Seq, Goal, Soaks, SProp, ent, sep, RattleType}
+use Rattle.sqlb.proofs.Walking.{qed, by, use0, fjoin, ◌∵◌, !, plain, no, yes, Goes-dropped, stay_dropped, ◌≡◌, ℕ, List, [], ◌∷◌, refl, sym, subst, MutBor, id⊢, ftrue, named, Val, fact, ‵, raw, ◌⊛◌, some, later, ◌$◌, move, drop, use1, use2, split, join, await, pick, shows, MutRef, nothing, heard, peeks, calls_at, lasts, triple_of, Ura, Logic, sem, Item, Seq, Goal, Soaks, SProp, ent, sep, RattleType}
 use mir.Syntax.{Ty, Callee, Opd as Operand, Body, seq, call, Place}
 use mir.Val.{has_ty, WT}
 use lib.Dec.{T}
@@ -15,7 +15,8 @@ use denote.Enum.Enum.{Enum-Lawful}
 use denote.Enum.Declared.{shape}
 use denote.Struct.Recorded.{recorded_lawful}
 use denote.Ref.{mut_Lawful}
-use denote.Param.{layout}
+use denote.Param.{param, layout}
+use denote.Param.Laws.{Laws, param_laws}
 use denote.Slice.{ShrSlice, shr_slice_Lawful}
 use denote.Enum.Declared.{Declared, variants, row as enum_row}
 use denote.Enum.Enum.{Plainss}
@@ -25,10 +26,9 @@ use mir.Syntax.{w8}
 use lib.Dec.{ltb}
 use base.Logic.{emp}
 use Prim.Native.Nat.{◌^◌}
-use denote.Signature.{type_at, named_lft, Slot, types_at}
+use denote.Signature.{type_at, Slot, types_at}
 use denote.RattleType.{Denots, Valss, owns}
 use denote.Triple.End.{Kepts, Fins}
-use denote.Text.{Str, str-laws}
 use denote.Triple.Clauses.{Ended, Clauses, Lasts, at_exit, closing}
 use denote.Triple.Entry.{alive, Res}
 use denote.Triple.Statement.{Triple}
@@ -40,15 +40,15 @@ use Rattle.std.specs.Prelude.{Result, Ok, Err, IfOk, suc}
 use Rattle.std.specs.Borrow.{RestsIfErr}
 use Rattle.sqlb.specs.Builder.{ClauseTexts}
 use Rattle.sqlb.specs.Chaining.{released_builder}
-use Rattle.sqlb.specs.Error.{FailsOnlyByMemory}
+use Rattle.sql_parts.specs.Error.{FailsOnlyByMemory}
 use Rattle.sqlb.specs.declared.builder.Held.{Held}
-use Rattle.sqlb.specs.declared.error.SqlBuilderError.{SqlBuilderError}
+use Rattle.sql_parts.specs.declared.error.SqlBuilderError.{SqlBuilderError}
 use Rattle.sqlb.specs.contracts.builder.SqlBuilder.{the_row as R}
-use Rattle.sqlb.specs.contracts.error.SqlBuilderError.{the_row as E}
+use Rattle.sql_parts.specs.contracts.error.SqlBuilderError.{the_row as E}
 use Rattle.sqlb.specs.contracts.builder.release as o
 use Rattle.sqlb.specs.contracts.builder.Held as held
 use Rattle.sqlb.proofs.builder.Held.TheLaws as held_laws
-use Rattle.sqlb.proofs.error.SqlBuilderError.TheLaws as error_laws
+use Rattle.sql_parts.proofs.error.SqlBuilderError.TheLaws as error_laws
 
 abbrev pub Good : Ty → Val → Type 0
 Good τ v = T (has_ty τ v) × WT v
@@ -137,24 +137,24 @@ pub record Argument {M : Type 1} {𝓤 : Ura M} (𝓛 : Logic 𝓤) (m : ℕ) : 
   pub one : (κs : Lfts m) → Singly (row κs) ty
   pub goes : Goes 𝓛 m (plain row) kept (stay_dropped (plain row) kept)
 
--- a `&str` at the lifetime j
-abbrev pub text : {M : Type 1} {𝓤 : Ura M} (𝓛 : Logic 𝓤) (m j : ℕ) (ok : Within m j) → Argument 𝓛 m
-text 𝓛 m j ok = record {
-  row = λ κs. Str (named j) (lft_at m j ok κs);
-  kept = yes;
-  ty = layout (Str (named j) []);
-  one = λ κs x vs is. one (layout (Str (named j) [])) vs (((str-laws (named_lft m j ok κs)).lawful 𝓛).typed x vs is);
-  goes = Goes-dropped 𝓛 m (plain (λ κs. Str (named j) (lft_at m j ok κs))) yes (λ κs x w. refl);
+-- a value of the i-th type parameter
+abbrev pub generic : {M : Type 1} {𝓤 : Ura M} (𝓛 : Logic 𝓤) (m i : ℕ) (S : RattleType) → Laws S → Argument 𝓛 m
+generic 𝓛 m i S LS = record {
+  row = λ _. param i S;
+  kept = no;
+  ty = layout S;
+  one = λ κs x vs is. one (layout S) vs (((param_laws i S LS).lawful 𝓛).typed x vs is);
+  goes = Goes-dropped 𝓛 m (plain (λ _. param i S)) no (λ κs x w. refl);
 }
 
--- a `&[&str]` at the lifetime j, of texts at the lifetime k
-abbrev pub texts : {M : Type 1} {𝓤 : Ura M} (𝓛 : Logic 𝓤) (m j k : ℕ) (ok : Within m j) (ok' : Within m k) → Argument 𝓛 m
-texts 𝓛 m j k ok ok' = record {
-  row = λ κs. ShrSlice (named j) (lft_at m j ok κs) (Str (named k) (lft_at m k ok' κs));
+-- a `&[S]` at the lifetime j, S being the i-th type parameter
+abbrev pub slice : {M : Type 1} {𝓤 : Ura M} (𝓛 : Logic 𝓤) (m j : ℕ) (ok : Within m j) (i : ℕ) (S : RattleType) → Argument 𝓛 m
+slice 𝓛 m j ok i S = record {
+  row = λ κs. ShrSlice (named j) (lft_at m j ok κs) (param i S);
   kept = yes;
-  ty = layout (ShrSlice (named j) [] (Str (named k) []));
-  one = λ κs x vs is. one (layout (ShrSlice (named j) [] (Str (named k) []))) vs ((shr_slice_Lawful 𝓛 (named j) (lft_at m j ok κs) (Str (named k) (lft_at m k ok' κs))).typed x vs is);
-  goes = Goes-dropped 𝓛 m (plain (λ κs. ShrSlice (named j) (lft_at m j ok κs) (Str (named k) (lft_at m k ok' κs)))) yes (λ κs x w. refl);
+  ty = layout (ShrSlice (named j) [] (param i S));
+  one = λ κs x vs is. one (layout (ShrSlice (named j) [] (param i S))) vs ((shr_slice_Lawful 𝓛 (named j) (lft_at m j ok κs) (param i S)).typed x vs is);
+  goes = Goes-dropped 𝓛 m (plain (λ κs. ShrSlice (named j) (lft_at m j ok κs) (param i S))) yes (λ κs x w. refl);
 }
 
 -- a variant without fields of an enum whose values are its tags

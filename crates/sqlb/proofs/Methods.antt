@@ -1,15 +1,19 @@
 -- The chain calls of each step. A chain call's proof is one use of these.
-use Rattle.sqlb.proofs.Walking.{[], Ura, Logic, SProp}
-use Rattle.sqlb.proofs.Loans.{Variant, Constant, Argument, constant, text, texts}
+use Rattle.sqlb.proofs.Walking.{[], ◌∷◌, a_type, dcons, dnil, bounded, inst_fn, Ura, Logic, RattleType, SProp}
+use Rattle.sqlb.proofs.Loans.{Variant, constant, generic, slice}
 use Rattle.sqlb.proofs.ChainCalls as calls
-use mir.Syntax.{Callee, Fn}
+use mir.Syntax.{Args, Callee, Dict, Fn}
 use contract.Lifetimes.{Lfts}
 use contract.Running.{Running}
 use prog.Model.{Model}
 use prog.Wired.{Wired}
+use denote.Param.Glue.{Met as Drops}
+use denote.Param.Laws.{Laws}
 use denote.RattleType.{Denots}
 use denote.Signature.{types_at}
 use Rattle.std.specs.Prelude.{map}
+use Rattle.sql_parts.specs.declared.text.ToText.{Ghosts}
+use Rattle.sql_parts.specs.contracts.text.ToText.TheBound.{Met}
 use Rattle.sqlb.specs.Builder.{ClauseTexts, with_text, with_texts, with_condition, compare_text}
 use Rattle.sqlb.proofs.builder.release.Met.{met as release_met}
 use Rattle.sqlb.proofs.builder.release.Symbol as release_code
@@ -33,70 +37,73 @@ use Rattle.sqlb.proofs.builder.SqlBuilder.hold_comparison.Symbol as comparison_c
 
 module _ {M : Type 1} (𝓤 : Ura M) (𝓛 : Logic 𝓤) (𝓜 : Model 𝓤 𝓛.H) (𝓡 : Running 𝓤 𝓛.H 𝓜) where
   -- a call with one text, by its clause
-  module _ (X : Variant text_clause.the_type) (fn : Fn) (name : Callee) where
-    abbrev clause : Constant 𝓛
-    clause = constant 𝓛 text_clause.the_type text_clause_laws.the_plain X
+  module _ (X : Variant text_clause.the_type) (fn : Fn) (name : Args → Callee) (S : RattleType) (LS : Laws S)
+      (s : Ghosts S.Denot) (d : Dict) (d' : Dict)
+      (ms : Met 𝓛 𝓜 𝓡 𝓡.env S s d) (md : Drops 𝓛 𝓜 𝓡 𝓡.env S d') where
+    abbrev pub types-text : Args
+    types-text = bounded (a_type ∷ []) (S, tt) (dcons d (dcons d' dnil))
 
-    abbrev argument : Argument 𝓛 2
-    argument = text 𝓛 2 1 tt
+    abbrev asked-text : (κs : Lfts 2) → Denots (types_at (text_step.signature S).params κs) → SProp 𝓤
+    asked-text κs a = (text_step.clauses S s d d' 𝓛 𝓜.mem 𝓡.returns κs a).requires tt
 
-    abbrev asked-text : (κs : Lfts 2) → Denots (types_at text_step.signature.params κs) → SProp 𝓤
-    asked-text κs a = (text_step.clauses 𝓛 𝓜.mem 𝓡.returns κs a).requires tt
+    abbrev told-text : (κs : Lfts 2) → Denots (types_at (text_step.signature S).params κs) → ClauseTexts
+    told-text κs a = with_text a.1.0 (s.text a.1.1.0) a.0.now
 
-    abbrev told-text : (κs : Lfts 2) → Denots (types_at text_step.signature.params κs) → ClauseTexts
-    told-text κs a = with_text a.1.0 a.1.1.0.now a.0.now
-
-    pub by_text : calls.Code1 𝓛 𝓜 𝓡 1 [] clause argument asked-text told-text fn text_code.name release_code.name name
-        → calls.Coded1 𝓛 𝓜 𝓡 1 [] clause argument asked-text told-text fn text_code.name release_code.name name
+    pub by_text : calls.Code-text 𝓛 𝓜 𝓡 1 [] (constant 𝓛 text_clause.the_type text_clause_laws.the_plain X) (generic 𝓛 2 0 S LS)
+        asked-text told-text (inst_fn types-text fn) (text_code.name types-text) release_code.name (name types-text)
+        → calls.Coded-text 𝓛 𝓜 𝓡 1 [] (constant 𝓛 text_clause.the_type text_clause_laws.the_plain X) (generic 𝓛 2 0 S LS)
+        asked-text told-text (inst_fn types-text fn) (text_code.name types-text) release_code.name (name types-text)
         → Wired 𝓡.env text_code.code → Wired 𝓡.env release_code.code
-        → calls.Method1 𝓛 𝓜 𝓡 1 [] clause argument asked-text told-text fn text_code.name release_code.name name
-    by_text code closed w w' = calls.one_of_one 𝓛 𝓜 𝓡 1 [] clause argument asked-text told-text fn text_code.name release_code.name name
-        code closed (text_met.met 𝓤 𝓛 𝓜 𝓡 w) (release_met 𝓤 𝓛 𝓜 𝓡 w')
+        → calls.Method-text 𝓛 𝓜 𝓡 1 [] (constant 𝓛 text_clause.the_type text_clause_laws.the_plain X) (generic 𝓛 2 0 S LS)
+        asked-text told-text (inst_fn types-text fn) (text_code.name types-text) release_code.name (name types-text)
+    by_text code closed w w' = calls.by-text 𝓛 𝓜 𝓡 1 [] (constant 𝓛 text_clause.the_type text_clause_laws.the_plain X) (generic 𝓛 2 0 S LS)
+        asked-text told-text (inst_fn types-text fn) (text_code.name types-text) release_code.name (name types-text)
+        code closed (text_met.met 𝓤 𝓛 𝓜 𝓡 w S LS s d d' ms md) (release_met 𝓤 𝓛 𝓜 𝓡 w')
 
   -- a call with a list of texts, by its clause
-  module _ (X : Variant list_clause.the_type) (fn : Fn) (name : Callee) where
-    abbrev list : Constant 𝓛
-    list = constant 𝓛 list_clause.the_type list_clause_laws.the_plain X
+  module _ (X : Variant list_clause.the_type) (fn : Fn) (name : Args → Callee) (S : RattleType) (LS : Laws S)
+      (s : Ghosts S.Denot) (d : Dict) (d' : Dict)
+      (ms : Met 𝓛 𝓜 𝓡 𝓡.env S s d) (md : Drops 𝓛 𝓜 𝓡 𝓡.env S d') where
+    abbrev pub types-texts : Args
+    types-texts = bounded (a_type ∷ []) (S, tt) (dcons d (dcons d' dnil))
 
-    abbrev items : Argument 𝓛 3
-    items = texts 𝓛 3 1 2 tt tt
+    abbrev asked-texts : (κs : Lfts 3) → Denots (types_at (texts_step.signature S).params κs) → SProp 𝓤
+    asked-texts κs a = (texts_step.clauses S s d d' 𝓛 𝓜.mem 𝓡.returns κs a).requires tt
 
-    abbrev asked-texts : (κs : Lfts 3) → Denots (types_at texts_step.signature.params κs) → SProp 𝓤
-    asked-texts κs a = (texts_step.clauses 𝓛 𝓜.mem 𝓡.returns κs a).requires tt
+    abbrev told-texts : (κs : Lfts 3) → Denots (types_at (texts_step.signature S).params κs) → ClauseTexts
+    told-texts κs a = with_texts a.1.0 (map s.text a.1.1.0.now) a.0.now
 
-    abbrev told-texts : (κs : Lfts 3) → Denots (types_at texts_step.signature.params κs) → ClauseTexts
-    told-texts κs a = with_texts a.1.0 (map (λ item. item.now) a.1.1.0.now) a.0.now
-
-    pub by_texts : calls.Code1 𝓛 𝓜 𝓡 2 texts_step.signature.outlives list items asked-texts told-texts fn texts_code.name release_code.name name
-        → calls.Coded1 𝓛 𝓜 𝓡 2 texts_step.signature.outlives list items asked-texts told-texts fn texts_code.name release_code.name name
+    pub by_texts : calls.Code-list 𝓛 𝓜 𝓡 2 ((texts_step.signature S).outlives) (constant 𝓛 list_clause.the_type list_clause_laws.the_plain X) (slice 𝓛 3 1 tt 0 S)
+        asked-texts told-texts (inst_fn types-texts fn) (texts_code.name types-texts) release_code.name (name types-texts)
+        → calls.Coded-list 𝓛 𝓜 𝓡 2 ((texts_step.signature S).outlives) (constant 𝓛 list_clause.the_type list_clause_laws.the_plain X) (slice 𝓛 3 1 tt 0 S)
+        asked-texts told-texts (inst_fn types-texts fn) (texts_code.name types-texts) release_code.name (name types-texts)
         → Wired 𝓡.env texts_code.code → Wired 𝓡.env release_code.code
-        → calls.Method1 𝓛 𝓜 𝓡 2 texts_step.signature.outlives list items asked-texts told-texts fn texts_code.name release_code.name name
-    by_texts code closed w w' = calls.one_of_one 𝓛 𝓜 𝓡 2 texts_step.signature.outlives list items asked-texts told-texts fn texts_code.name release_code.name name
-        code closed (texts_met.met 𝓤 𝓛 𝓜 𝓡 w) (release_met 𝓤 𝓛 𝓜 𝓡 w')
+        → calls.Method-list 𝓛 𝓜 𝓡 2 ((texts_step.signature S).outlives) (constant 𝓛 list_clause.the_type list_clause_laws.the_plain X) (slice 𝓛 3 1 tt 0 S)
+        asked-texts told-texts (inst_fn types-texts fn) (texts_code.name types-texts) release_code.name (name types-texts)
+    by_texts code closed w w' = calls.by-list 𝓛 𝓜 𝓡 2 ((texts_step.signature S).outlives) (constant 𝓛 list_clause.the_type list_clause_laws.the_plain X) (slice 𝓛 3 1 tt 0 S)
+        asked-texts told-texts (inst_fn types-texts fn) (texts_code.name types-texts) release_code.name (name types-texts)
+        code closed (texts_met.met 𝓤 𝓛 𝓜 𝓡 w S LS s d d' ms md) (release_met 𝓤 𝓛 𝓜 𝓡 w')
 
   -- a call that compares two texts, by its family and its relation
-  module _ (X : Variant family.the_type) (Y : Variant relation.the_type) (fn : Fn) (name : Callee) where
-    abbrev group : Constant 𝓛
-    group = constant 𝓛 family.the_type family_laws.the_plain X
+  module _ (X : Variant family.the_type) (Y : Variant relation.the_type) (fn : Fn) (name : Args → Callee) (S T : RattleType) (LS : Laws S) (LT : Laws T)
+      (s : Ghosts S.Denot) (d : Dict) (t : Ghosts T.Denot) (e : Dict) (d' e' : Dict)
+      (ms : Met 𝓛 𝓜 𝓡 𝓡.env S s d) (mt : Met 𝓛 𝓜 𝓡 𝓡.env T t e) (md : Drops 𝓛 𝓜 𝓡 𝓡.env S d') (me : Drops 𝓛 𝓜 𝓡 𝓡.env T e') where
+    abbrev pub types-comparison : Args
+    types-comparison = bounded (a_type ∷ a_type ∷ []) (S, (T, tt)) (dcons d (dcons e (dcons d' (dcons e' dnil))))
 
-    abbrev sign : Constant 𝓛
-    sign = constant 𝓛 relation.the_type relation_laws.the_plain Y
+    abbrev asked-comparison : (κs : Lfts 3) → Denots (types_at (comparison_step.signature S T).params κs) → SProp 𝓤
+    asked-comparison κs a = (comparison_step.clauses S T s d t e d' e' 𝓛 𝓜.mem 𝓡.returns κs a).requires tt
 
-    abbrev left : Argument 𝓛 3
-    left = text 𝓛 3 1 tt
+    abbrev told-comparison : (κs : Lfts 3) → Denots (types_at (comparison_step.signature S T).params κs) → ClauseTexts
+    told-comparison κs a = with_condition a.1.0 (compare_text a.1.1.0 (s.text a.1.1.1.0) (t.text a.1.1.1.1.0)) a.0.now
 
-    abbrev right : Argument 𝓛 3
-    right = text 𝓛 3 2 tt
-
-    abbrev asked-comparison : (κs : Lfts 3) → Denots (types_at comparison_step.signature.params κs) → SProp 𝓤
-    asked-comparison κs a = (comparison_step.clauses 𝓛 𝓜.mem 𝓡.returns κs a).requires tt
-
-    abbrev told-comparison : (κs : Lfts 3) → Denots (types_at comparison_step.signature.params κs) → ClauseTexts
-    told-comparison κs a = with_condition a.1.0 (compare_text a.1.1.0 a.1.1.1.0.now a.1.1.1.1.0.now) a.0.now
-
-    pub by_comparison : calls.Code2 𝓛 𝓜 𝓡 2 [] group sign left right asked-comparison told-comparison fn comparison_code.name release_code.name name
-        → calls.Coded2 𝓛 𝓜 𝓡 2 [] group sign left right asked-comparison told-comparison fn comparison_code.name release_code.name name
+    pub by_comparison : calls.Code-comparison 𝓛 𝓜 𝓡 2 [] (constant 𝓛 family.the_type family_laws.the_plain X) (constant 𝓛 relation.the_type relation_laws.the_plain Y) (generic 𝓛 3 0 S LS) (generic 𝓛 3 1 T LT)
+        asked-comparison told-comparison (inst_fn types-comparison fn) (comparison_code.name types-comparison) release_code.name (name types-comparison)
+        → calls.Coded-comparison 𝓛 𝓜 𝓡 2 [] (constant 𝓛 family.the_type family_laws.the_plain X) (constant 𝓛 relation.the_type relation_laws.the_plain Y) (generic 𝓛 3 0 S LS) (generic 𝓛 3 1 T LT)
+        asked-comparison told-comparison (inst_fn types-comparison fn) (comparison_code.name types-comparison) release_code.name (name types-comparison)
         → Wired 𝓡.env comparison_code.code → Wired 𝓡.env release_code.code
-        → calls.Method2 𝓛 𝓜 𝓡 2 [] group sign left right asked-comparison told-comparison fn comparison_code.name release_code.name name
-    by_comparison code closed w w' = calls.two_of_two 𝓛 𝓜 𝓡 2 [] group sign left right asked-comparison told-comparison fn comparison_code.name release_code.name name
-        code closed (comparison_met.met 𝓤 𝓛 𝓜 𝓡 w) (release_met 𝓤 𝓛 𝓜 𝓡 w')
+        → calls.Method-comparison 𝓛 𝓜 𝓡 2 [] (constant 𝓛 family.the_type family_laws.the_plain X) (constant 𝓛 relation.the_type relation_laws.the_plain Y) (generic 𝓛 3 0 S LS) (generic 𝓛 3 1 T LT)
+        asked-comparison told-comparison (inst_fn types-comparison fn) (comparison_code.name types-comparison) release_code.name (name types-comparison)
+    by_comparison code closed w w' = calls.by-comparison 𝓛 𝓜 𝓡 2 [] (constant 𝓛 family.the_type family_laws.the_plain X) (constant 𝓛 relation.the_type relation_laws.the_plain Y) (generic 𝓛 3 0 S LS) (generic 𝓛 3 1 T LT)
+        asked-comparison told-comparison (inst_fn types-comparison fn) (comparison_code.name types-comparison) release_code.name (name types-comparison)
+        code closed (comparison_met.met 𝓤 𝓛 𝓜 𝓡 w S T LS LT s d t e d' e' ms mt md me) (release_met 𝓤 𝓛 𝓜 𝓡 w')

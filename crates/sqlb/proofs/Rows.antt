@@ -17,7 +17,7 @@ use Rattle.sqlb.specs.Statement.{statement}
 use Rattle.sqlb.specs.Text.{quote}
 use Rattle.sqlb.specs.declared.calls.Family.TheVariants.{And}
 use Rattle.sqlb.specs.declared.calls.Relation.TheVariants.{Gt}
-use Rattle.sqlb.specs.declared.error.SqlBuilderError.TheVariants.{NoTableName}
+use Rattle.sql_parts.specs.declared.error.SqlBuilderError.TheVariants.{NoTableName}
 use Rattle.sqlb.specs.declared.fault.Reason.{Reason}
 use Rattle.sqlb.specs.declared.fault.Reason.TheVariants.{UnknownCall, WrongArguments, NoStatement, StatementOpen, NoEnd, NotUtf8, Builder}
 use Rattle.sqlb.specs.declared.fault.Fault.TheVariants.{At}

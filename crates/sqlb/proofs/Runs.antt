@@ -18,7 +18,7 @@ use Rattle.sqlb.specs.declared.calls.Family.{Family}
 use Rattle.sqlb.specs.declared.calls.Family.TheVariants.{And}
 use Rattle.sqlb.specs.declared.calls.Finish.{Finish}
 use Rattle.sqlb.specs.declared.calls.Finish.TheVariants as finish
-use Rattle.sqlb.specs.declared.error.SqlBuilderError.{SqlBuilderError}
+use Rattle.sql_parts.specs.declared.error.SqlBuilderError.{SqlBuilderError}
 use Rattle.sqlb.proofs.Natural.{layout_of_sql}
 use Rattle.sqlb.proofs.Snoc.{cut-snoc, put_in}
 

@@ -2,8 +2,8 @@
 use Rattle.std.specs.Prelude.{ℕ, List, [], ◌∷◌, ◌++◌, Option, None, Some, map, codes, flat_map}
 use Rattle.sqlb.specs.Clauses.{Clauses}
 use Rattle.sqlb.specs.Text.{join_with}
-use Rattle.sqlb.specs.declared.error.SqlBuilderError.{SqlBuilderError}
-use Rattle.sqlb.specs.declared.error.SqlBuilderError.TheVariants.{NoTableName}
+use Rattle.sql_parts.specs.declared.error.SqlBuilderError.{SqlBuilderError}
+use Rattle.sql_parts.specs.declared.error.SqlBuilderError.TheVariants.{NoTableName}
 
 -- A clause in print: the words that open it, and what follows them.
 pub record Section (A : Type 0) : Type 0 where

@@ -4,7 +4,6 @@ pub mod Calls
 pub mod Chaining
 pub mod Clauses
 pub mod Device
-pub mod Error
 pub mod Fault
 pub mod Filters
 pub mod Layout

@@ -5,7 +5,7 @@ use Rattle.sqlb.specs.Calls.{StartText, CallText}
 use Rattle.sqlb.specs.Filters.{any_unfollowed, first, since, until}
 use Rattle.sqlb.specs.Lines.{lines, CommandResult, Starts, Calls, Finishes, command_of}
 use Rattle.sqlb.specs.Statement.{statement}
-use Rattle.sqlb.specs.declared.error.SqlBuilderError.{SqlBuilderError}
+use Rattle.sql_parts.specs.declared.error.SqlBuilderError.{SqlBuilderError}
 use Rattle.sqlb.specs.declared.fault.Reason.{Reason}
 use Rattle.sqlb.specs.declared.fault.Reason.TheVariants.{NoStatement, StatementOpen, NoEnd, Builder}
 

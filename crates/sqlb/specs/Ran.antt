@@ -1,7 +1,7 @@
 -- How a run ends, by what it read and what it wrote.
 use Rattle.std.specs.Prelude.{◌≡◌, ◌≢◌, ℕ, Bool, true, false, List, [], ◌++◌, Some, None, Result, Ok, Err, flat_map}
 use Rattle.std.specs.Io.{StartsWith}
-use Rattle.sqlb.specs.Error.{IsMemory}
+use Rattle.sql_parts.specs.Error.{IsMemory}
 use Rattle.sqlb.specs.Output.{Output, output_text}
 use Rattle.sqlb.specs.declared.fault.Fault.{Fault}
 use Rattle.sqlb.specs.declared.fault.Fault.TheVariants.{At, Memory, Read, Write}

@@ -4,7 +4,7 @@ use Rattle.sqlb.specs.Clauses.{Clauses, map_clauses}
 use Rattle.sqlb.specs.Text.{Pieces, pieces_text, fixed_piece}
 use Rattle.sqlb.specs.Layout.{sql, refusal}
 use Rattle.sqlb.specs.Calls.{StartText, CallText, FinishText, Sql, clauses}
-use Rattle.sqlb.specs.declared.error.SqlBuilderError.{SqlBuilderError}
+use Rattle.sql_parts.specs.declared.error.SqlBuilderError.{SqlBuilderError}
 
 -- the refusal where there is one, else the value
 abbrev pub unless_refused : {X : Type 0} → Option SqlBuilderError → X → Result X SqlBuilderError

@@ -3,12 +3,12 @@ ghost use Rattle.std.specs.Prelude.{◌≡◌, [], ◌∷◌, ◌++◌, List, �
 ghost use Rattle.sqlb.specs.Builder.{compare_text};
 ghost use Rattle.sqlb.specs.Chaining.{released_builder};
 ghost use Rattle.sqlb.specs.Clauses.{new_select};
-ghost use Rattle.sqlb.specs.Error.{FailsOnlyByMemory};
+ghost use Rattle.sql_parts.specs.Error.{FailsOnlyByMemory};
 
 use crate::calls::{Family, Relation};
-use crate::error::SqlBuilderError;
 use crate::texts::copies;
-use std::alloc::{AllocError, Global};
+use sql_parts::{SqlBuilderError, ToText};
+use std::alloc::Global;
 use std::marker::Model;
 
 /// A builder of a SELECT. Contracts see it as its clauses, each text as its bytes.
@@ -68,17 +68,19 @@ pub(crate) fn release(
     }
 }
 
-fn comparison(
+fn comparison<S: ToText, T: ToText>(
     alloc: Global,
     relation: Relation,
-    field: &str,
-    value: &str,
-) -> Result<String, AllocError>
-    ensures { IfOk result (λ s. string_bytes s ≡ compare_text relation field.now value.now) }
+    field: S,
+    value: T,
+) -> Result<String, SqlBuilderError>
+    ensures made { IfOk result (λ s. string_bytes s ≡ compare_text relation (S.text field) (T.text value)) }
+    ensures memory { FailsOnlyByMemory result }
 {
-    let mut text = String::from_str(alloc, field)?;
+    let mut text = field.to_text(alloc)?;
     text.push_str(relation.text())?;
-    text.push_str(value)?;
+    let value = value.to_text(alloc)?;
+    text.push_str(value.as_str())?;
     Ok(text)
 }
 
@@ -91,20 +93,20 @@ impl SqlBuilder {
 
     /// A SELECT from this table, with no field and no condition. It is refused only for want of
     /// memory, as is each call below that changes the builder.
-    pub fn select_from(alloc: Global, table: &str) -> Result<SqlBuilder, SqlBuilderError>
-        ensures made { IfOk result (λ b. b ≡ new_select table.now) }
+    pub fn select_from<S: ToText>(alloc: Global, table: S) -> Result<SqlBuilder, SqlBuilderError>
+        ensures made { IfOk result (λ b. b ≡ new_select (S.text table)) }
         ensures memory { FailsOnlyByMemory result }
     {
         Ok(SqlBuilder {
             alloc,
-            table: String::from_str(alloc, table)?,
+            table: table.to_text(alloc)?,
             fields: Vec::new(alloc),
             groups: Vec::new(alloc),
         })
     }
 
-    fn push_fields(&mut self, fields: &[&str]) -> Result<(), SqlBuilderError>
-        ensures ok { OnOk result (self.new ≡ with_fields (map (λ field. field.now) fields.now) self.old) }
+    fn push_fields<S: ToText>(&mut self, fields: &[S]) -> Result<(), SqlBuilderError>
+        ensures ok { OnOk result (self.new ≡ with_fields (map S.text fields.now) self.old) }
         ensures err { OnErr result (self.new ≡ self.old) }
         ensures memory { FailsOnlyByMemory result }
     {
@@ -113,12 +115,12 @@ impl SqlBuilder {
         Ok(())
     }
 
-    fn push_field(&mut self, field: &str) -> Result<(), SqlBuilderError>
-        ensures ok { OnOk result (self.new ≡ with_fields (field.now ∷ []) self.old) }
+    fn push_field<S: ToText>(&mut self, field: S) -> Result<(), SqlBuilderError>
+        ensures ok { OnOk result (self.new ≡ with_fields (S.text field ∷ []) self.old) }
         ensures err { OnErr result (self.new ≡ self.old) }
         ensures memory { FailsOnlyByMemory result }
     {
-        let copied = String::from_str(self.alloc, field)?;
+        let copied = field.to_text(self.alloc)?;
         self.fields.push(copied)?;
         Ok(())
     }
@@ -134,32 +136,32 @@ impl SqlBuilder {
         Ok(())
     }
 
-    pub(crate) fn hold_text(
+    pub(crate) fn hold_text<S: ToText>(
         &mut self,
         clause: TextClause,
-        text: &str,
+        text: S,
     ) -> Result<Held<'_>, SqlBuilderError>
         ensures* refused { sem 𝓛 (IsUnchangedIfHeldErr self.entry result) }
-        ensures changed { IsHeldChangedTo self.entry (with_text clause text.now self.old) result }
+        ensures changed { IsHeldChangedTo self.entry (with_text clause (S.text text) self.old) result }
         ensures memory { FailsOnlyByMemory result }
     {
         match clause {
             TextClause::Field => self.push_field(text)?,
             TextClause::AndWhere => {
-                let condition = String::from_str(self.alloc, text)?;
+                let condition = text.to_text(self.alloc)?;
                 self.push_condition(Family::And, condition)?;
             }
         }
         Ok(Held(self))
     }
 
-    pub(crate) fn hold_texts(
+    pub(crate) fn hold_texts<S: ToText>(
         &mut self,
         clause: ListClause,
-        items: &[&str],
+        items: &[S],
     ) -> Result<Held<'_>, SqlBuilderError>
         ensures* refused { sem 𝓛 (IsUnchangedIfHeldErr self.entry result) }
-        ensures changed { IsHeldChangedTo self.entry (with_texts clause (map (λ item. item.now) items.now) self.old) result }
+        ensures changed { IsHeldChangedTo self.entry (with_texts clause (map S.text items.now) self.old) result }
         ensures memory { FailsOnlyByMemory result }
     {
         match clause {
@@ -168,16 +170,16 @@ impl SqlBuilder {
         Ok(Held(self))
     }
 
-    pub(crate) fn hold_comparison(
+    pub(crate) fn hold_comparison<S: ToText, T: ToText>(
         &mut self,
         family: Family,
         relation: Relation,
-        field: &str,
-        value: &str,
+        field: S,
+        value: T,
     ) -> Result<Held<'_>, SqlBuilderError>
         ensures* refused { sem 𝓛 (IsUnchangedIfHeldErr self.entry result) }
         ensures changed { IsHeldChangedTo self.entry
-            (with_condition family (compare_text relation field.now value.now) self.old) result }
+            (with_condition family (compare_text relation (S.text field) (T.text value)) self.old) result }
         ensures memory { FailsOnlyByMemory result }
     {
         let condition = comparison(self.alloc, relation, field, value)?;
@@ -194,38 +196,42 @@ impl SqlBuilder {
     ghost use Rattle.sqlb.specs.declared.calls.Relation.TheVariants.{Gt};
 
     /// Appends a field.
-    pub fn field(&mut self, field: &str) -> Result<&mut Self, SqlBuilderError>
+    pub fn field<S: ToText>(&mut self, field: S) -> Result<&mut Self, SqlBuilderError>
         ensures* refused { sem 𝓛 (IsUnchangedIfErr self.entry result) }
-        ensures changed { IsChangedTo self.entry (with_fields (field.now ∷ []) self.old) result }
+        ensures changed { IsChangedTo self.entry (with_fields (S.text field ∷ []) self.old) result }
         ensures memory { FailsOnlyByMemory result }
     {
         release(self.hold_text(TextClause::Field, field))
     }
 
     /// Appends fields.
-    pub fn fields(&mut self, fields: &[&str]) -> Result<&mut Self, SqlBuilderError>
+    pub fn fields<S: ToText>(&mut self, fields: &[S]) -> Result<&mut Self, SqlBuilderError>
         ensures* refused { sem 𝓛 (IsUnchangedIfErr self.entry result) }
         ensures changed { IsChangedTo self.entry
-            (with_fields (map (λ field. field.now) fields.now) self.old) result }
+            (with_fields (map S.text fields.now) self.old) result }
         ensures memory { FailsOnlyByMemory result }
     {
         release(self.hold_texts(ListClause::Fields, fields))
     }
 
     /// Adds a condition, in a group of its own.
-    pub fn and_where(&mut self, condition: &str) -> Result<&mut Self, SqlBuilderError>
+    pub fn and_where<S: ToText>(&mut self, condition: S) -> Result<&mut Self, SqlBuilderError>
         ensures* refused { sem 𝓛 (IsUnchangedIfErr self.entry result) }
-        ensures changed { IsChangedTo self.entry (with_condition And condition.now self.old) result }
+        ensures changed { IsChangedTo self.entry (with_condition And (S.text condition) self.old) result }
         ensures memory { FailsOnlyByMemory result }
     {
         release(self.hold_text(TextClause::AndWhere, condition))
     }
 
     /// Adds the condition `field > value`, in a group of its own.
-    pub fn and_where_gt(&mut self, field: &str, value: &str) -> Result<&mut Self, SqlBuilderError>
+    pub fn and_where_gt<S: ToText, T: ToText>(
+        &mut self,
+        field: S,
+        value: T,
+    ) -> Result<&mut Self, SqlBuilderError>
         ensures* refused { sem 𝓛 (IsUnchangedIfErr self.entry result) }
         ensures changed { IsChangedTo self.entry
-            (with_condition And (compare_text Gt field.now value.now) self.old) result }
+            (with_condition And (compare_text Gt (S.text field) (T.text value)) self.old) result }
         ensures memory { FailsOnlyByMemory result }
     {
         release(self.hold_comparison(Family::And, Relation::Gt, field, value))

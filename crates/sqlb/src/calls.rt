@@ -4,13 +4,12 @@ ghost use Rattle.sqlb.specs.Answers.{call_text, finish_text, start_text};
 ghost use Rattle.sqlb.specs.Builder.{with_call};
 ghost use Rattle.sqlb.specs.Calls.{clauses, relation_text};
 ghost use Rattle.sqlb.specs.Clauses.{map_clauses};
-ghost use Rattle.sqlb.specs.Error.{FailsOnlyByMemory, IsMemory};
+ghost use Rattle.sql_parts.specs.Error.{FailsOnlyByMemory, IsMemory};
 ghost use Rattle.sqlb.specs.Statement.{statement};
 ghost use Rattle.sqlb.specs.Text.{pieces_text};
 
 use crate::builder::SqlBuilder;
-use crate::error::SqlBuilderError;
-use crate::texts::as_strs;
+use sql_parts::SqlBuilderError;
 use std::alloc::Global;
 
 /// How a list of calls begins.
@@ -80,14 +79,13 @@ fn begin(alloc: Global, start: &Start) -> Result<SqlBuilder, SqlBuilderError>
     }
 }
 
-fn make(alloc: Global, builder: &mut SqlBuilder, call: &Call) -> Result<(), SqlBuilderError>
+fn make(builder: &mut SqlBuilder, call: &Call) -> Result<(), SqlBuilderError>
     ensures made { OnOk result (builder.new ≡ with_call (call_text call.now) builder.old) }
     ensures memory { FailsOnlyByMemory result }
 {
     match call {
         Call::Fields(fields) => {
-            let fields = as_strs(alloc, fields)?;
-            builder.fields(&fields)?;
+            builder.fields(fields.as_slice())?;
         }
         Call::Field(field) => {
             builder.field(field.as_str())?;
@@ -110,7 +108,7 @@ fn build(alloc: Global, start: &Start, calls: &[Call]) -> Result<SqlBuilder, Sql
 {
     let mut builder = begin(alloc, start)?;
     for call in calls {
-        make(alloc, &mut builder, call)?;
+        make(&mut builder, call)?;
     }
     Ok(builder)
 }

@@ -2,7 +2,7 @@
 ghost use Rattle.std.specs.Prelude.{◌≡◌};
 ghost use Rattle.sqlb.specs.Fault.{fault_status, reason_text};
 
-use crate::error::SqlBuilderError;
+use sql_parts::SqlBuilderError;
 
 /// Why a line is not accepted.
 #[derive(Debug, Drop)]

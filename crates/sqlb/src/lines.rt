@@ -1,5 +1,5 @@
 //! Takes an input apart into lines, and reads what each says.
-ghost use Rattle.std.specs.Prelude.{◌≡◌, ◌==◌, ◌∷◌, ◌<◌, length, map, position, IfOk};
+ghost use Rattle.std.specs.Prelude.{◌≡◌, ◌==◌, ◌∷◌, ◌<◌, length, map, position, string_bytes, IfOk};
 ghost use Rattle.std.specs.List.{slice_split};
 ghost use Rattle.sqlb.specs.Lines.{binary_command, lines, nullary_command, command_of, command_in, command_with, unary_command, variadic_command, parts_of};
 ghost use Rattle.sqlb.specs.Script.{Answers, command_text};
@@ -7,7 +7,6 @@ ghost use Rattle.sqlb.specs.Script.{Answers, command_text};
 use crate::calls::{Call, Condition, Finish, Start};
 use crate::fault::Reason;
 use crate::names::{Binary, Meaning, Nullary, Unary, Variadic};
-use crate::texts::copies;
 use std::alloc::{AllocError, AllocFailed, Global};
 use std::str;
 
@@ -77,6 +76,17 @@ fn split_parts(alloc: Global, line: &str) -> Result<Vec<&str>, AllocError>
     line.split('\t').collect(alloc)
 }
 
+fn owned(alloc: Global, arguments: &[&str]) -> Result<Vec<String>, AllocError>
+    ensures { IfOk result (λ owned. map (λ argument. string_bytes argument) owned.items
+        ≡ map (λ argument. argument.now) arguments.now) }
+{
+    let mut owned = Vec::with_capacity(alloc, arguments.len())?;
+    for argument in arguments {
+        owned.push(String::from_str(alloc, argument)?)?;
+    }
+    Ok(owned)
+}
+
 impl Nullary {
     fn command(self) -> Command
         ensures { command_text result ≡ nullary_command self }
@@ -120,7 +130,7 @@ impl Variadic {
         ensures { IfOk result (λ c. command_text c
             ≡ variadic_command self (map (λ argument. argument.now) arguments.now)) }
     {
-        let arguments = copies(alloc, arguments)?;
+        let arguments = owned(alloc, arguments)?;
         Ok(match self {
             Variadic::Fields => Command::Call(Call::Fields(arguments)),
         })

@@ -3,7 +3,6 @@
 
 mod builder;
 mod calls;
-mod error;
 mod fault;
 mod input;
 mod lines;

@@ -1,13 +1,13 @@
 //! Prints a builder's clauses as a statement.
 ghost use Rattle.std.specs.Prelude.{◌≡◌, ◌++◌, IsNone, IfOk, IfSome, string_bytes, flat_map};
 ghost use Rattle.sqlb.specs.Builder.{texts, Adds};
-ghost use Rattle.sqlb.specs.Error.{FailsOnlyByMemory};
+ghost use Rattle.sql_parts.specs.Error.{FailsOnlyByMemory};
 ghost use Rattle.sqlb.specs.Layout.{fields_or_star, concat_sections, byte_atoms, query_sections, refusal, sql, where_sections};
 ghost use Rattle.sqlb.specs.Statement.{unless_refused};
 ghost use Rattle.sqlb.specs.Text.{join_with};
 
 use crate::builder::SqlBuilder;
-use crate::error::SqlBuilderError;
+use sql_parts::SqlBuilderError;
 use std::alloc::AllocError;
 
 // Each text, with `before` in front of it.

@@ -5,9 +5,9 @@ ghost use Rattle.sqlb.specs.Output.{answer};
 ghost use Rattle.sqlb.specs.Script.{Answers, open_after};
 
 use crate::calls::{Call, Finish, Start, run};
-use crate::error::SqlBuilderError;
 use crate::fault::Reason;
 use crate::lines::{Command, LineError, read_line};
+use sql_parts::SqlBuilderError;
 use std::alloc::Global;
 use std::marker::Model;
 

@@ -4,11 +4,11 @@ ghost use Rattle.std.specs.Prelude.{◌<◌, ◌≤◌};
 
 use crate::builder::SqlBuilder;
 use crate::calls::{Call, Condition, Family, Finish, Relation, Start, run};
-use crate::error::SqlBuilderError;
 use crate::fault::{Fault, Reason};
 use crate::output::write_fault;
 use crate::run::{run_flushed, run_input};
 use crate::watched::Watched;
+use sql_parts::SqlBuilderError;
 use std::alloc::{AllocError, AllocFailed, Global};
 use std::error::Error;
 use std::io;

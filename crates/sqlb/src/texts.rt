@@ -1,27 +1,19 @@
-//! Lists of texts, owned and lent.
+//! Copies of lists of texts.
 ghost use Rattle.std.specs.Prelude.{◌≡◌, map, IfOk};
+ghost use Rattle.sql_parts.specs.Error.{FailsOnlyByMemory};
 ghost use Rattle.sqlb.specs.Builder.{texts};
 
-use std::alloc::{AllocError, Global};
+use sql_parts::{SqlBuilderError, ToText};
+use std::alloc::Global;
 
-/// A copy of each text.
-pub(crate) fn copies(alloc: Global, items: &[&str]) -> Result<Vec<String>, AllocError>
-    ensures copied { IfOk result (λ copied. texts copied.items ≡ map (λ item. item.now) items.now) }
+/// Each text.
+pub(crate) fn copies<S: ToText>(alloc: Global, items: &[S]) -> Result<Vec<String>, SqlBuilderError>
+    ensures copied { IfOk result (λ copied. texts copied.items ≡ map S.text items.now) }
+    ensures memory { FailsOnlyByMemory result }
 {
     let mut copied = Vec::with_capacity(alloc, items.len())?;
     for item in items {
-        copied.push(String::from_str(alloc, item)?)?;
+        copied.push(item.to_text(alloc)?)?;
     }
     Ok(copied)
-}
-
-/// Each text, lent.
-pub(crate) fn as_strs(alloc: Global, strings: &[String]) -> Result<Vec<&str>, AllocError>
-    ensures lent { IfOk result (λ strs. map (λ s. s.now) strs.items ≡ texts strings.now) }
-{
-    let mut strs = Vec::with_capacity(alloc, strings.len())?;
-    for string in strings {
-        strs.push(string.as_str())?;
-    }
-    Ok(strs)
 }

@@ -3,4 +3,4 @@ use Rattle.sqlb.specs.Builder.{texts}
 use Rattle.sqlb.proofs.texts.copies.Given as goal
 
 abbrev pub invariant-loop-item : goal.invariant-loop-item
-invariant-loop-item l = texts l.copied.items ≡ map (λ item. item.now) (take l.item-index l.items)
+invariant-loop-item g l = texts l.copied.items ≡ map g.S.ToText.text (take l.item-index l.items)

@@ -6,6 +6,7 @@ use Rattle.sqlb.proofs.builder.SqlBuilder.and_where_gt.Statement.{statement}
 use Rattle.sqlb.proofs.builder.SqlBuilder.and_where_gt.Code as code
 
 pub and_where_gt_spec : {M : Type 1} → statement M
-and_where_gt_spec 𝓤 𝓛 𝓜 𝓡 w =
-    by_comparison 𝓤 𝓛 𝓜 𝓡 constants.and constants.gt code.function #self (refl, refl) (code.unfolded 𝓤 𝓛.H 𝓜 𝓡 w)
+and_where_gt_spec 𝓤 𝓛 𝓜 𝓡 w S T LS LT s d t e d' e' ms mt md me =
+    by_comparison 𝓤 𝓛 𝓜 𝓡 constants.and constants.gt code.function #self S T LS LT s d t e d' e' ms mt md me
+    (refl, refl) (code.unfolded 𝓤 𝓛.H 𝓜 𝓡 w (S, (T, tt)) d e d' e')
     (code.calls-sqlb::builder::SqlBuilder::hold_comparison 𝓡.env w) (code.calls-sqlb::builder::release 𝓡.env w)

@@ -6,6 +6,7 @@ use Rattle.sqlb.proofs.builder.SqlBuilder.field.Statement.{statement}
 use Rattle.sqlb.proofs.builder.SqlBuilder.field.Code as code
 
 pub field_spec : {M : Type 1} → statement M
-field_spec 𝓤 𝓛 𝓜 𝓡 w =
-    by_text 𝓤 𝓛 𝓜 𝓡 constants.field code.function #self (refl, refl) (code.unfolded 𝓤 𝓛.H 𝓜 𝓡 w)
+field_spec 𝓤 𝓛 𝓜 𝓡 w S LS s d d' ms md =
+    by_text 𝓤 𝓛 𝓜 𝓡 constants.field code.function #self S LS s d d' ms md
+    (refl, refl) (code.unfolded 𝓤 𝓛.H 𝓜 𝓡 w (S, tt) d d')
     (code.calls-sqlb::builder::SqlBuilder::hold_text 𝓡.env w) (code.calls-sqlb::builder::release 𝓡.env w)
