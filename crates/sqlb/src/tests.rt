@@ -9,7 +9,7 @@ use crate::output::write_fault;
 use crate::run::{run_flushed, run_input};
 use crate::watched::Watched;
 use sql_parts::SqlBuilderError;
-use std::alloc::Global;
+use std::alloc::{AllocError, Global};
 use std::io;
 use std::io::{BufWriter, ErrorKind, Read, Write};
 use std::test::Fail;
