@@ -2,7 +2,7 @@
 use Rattle.std.specs.Prelude.{List, [], ◌∷◌, ◌++◌, Option, None, Bool, true, false, ◌&&◌, ◌||◌, not, if◌then◌else◌, filter_map}
 use Rattle.std.specs.List.{list_any, last_or}
 
--- what the last element says of which f knows what it says
+-- what f says of the last element of which it says something
 abbrev pub last_said : {X Y : Type 0} → (X → Option Y) → List X → Option Y
 last_said f xs = last_or None (filter_map f xs)
 
