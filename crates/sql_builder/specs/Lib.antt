@@ -1,3 +1,5 @@
+pub mod Answers
+pub mod Builder
 pub mod Calls
 pub mod Clauses
 pub mod Filters
