@@ -1,0 +1,220 @@
+-- What a call makes of a builder's clauses, each text as its bytes.
+use Rattle.std.specs.Prelude.{◌≡◌, ℕ, List, [], ◌∷◌, ◌++◌, Option, None, Some, Bool, true, false, codes, map, String, string_bytes, Result, OnOk}
+use Rattle.sql_builder.specs.Calls as call
+use Rattle.sql_builder.specs.Calls.{CallText, ConditionText, kind_of, StartText}
+use Rattle.sql_builder.specs.Clauses.{Clauses, new_clauses}
+use Rattle.sql_builder.specs.Layout.{byte_atoms}
+use Rattle.sql_builder.specs.Phrases.{comparison, constraint, count, count_as, equation, further_table, join, order, row}
+use Rattle.sql_builder.specs.Text.{quote}
+use Rattle.sql_builder.specs.declared.calls.Family.{Family}
+use Rattle.sql_builder.specs.declared.calls.Family.TheVariants.{And}
+use Rattle.sql_builder.specs.declared.calls.Relation.{Relation}
+use Rattle.sql_builder.specs.declared.clauses.JoinOperator.{JoinOperator}
+use Rattle.sql_builder.specs.declared.clauses.JoinOperator.TheVariants as operator
+use Rattle.sql_builder.specs.declared.steps.ListClause.{ListClause}
+use Rattle.sql_builder.specs.declared.steps.ListClause.TheVariants as list
+use Rattle.sql_builder.specs.declared.steps.PairClause.{PairClause}
+use Rattle.sql_builder.specs.declared.steps.PairClause.TheVariants as pair
+use Rattle.sql_builder.specs.declared.steps.TextClause.{TextClause}
+use Rattle.sql_builder.specs.declared.steps.TextClause.TheVariants as text
+use Rattle.sql_builder.specs.declared.steps.WordClause.{WordClause}
+use Rattle.sql_builder.specs.declared.steps.WordClause.TheVariants as word
+
+-- a builder's clauses, each text as its bytes
+abbrev pub ClauseTexts : Type 0
+ClauseTexts = Clauses (List ℕ)
+
+-- the bytes of each text
+abbrev pub texts : {Z : Type 0} → List (String Z) → List (List ℕ)
+texts strings = map (λ s. string_bytes s) strings
+
+-- the last list goes on with t, where there is a list
+abbrev pub extend_last : {A : Type 0} → List A → List (List A) → List (List A)
+extend_last t [] = []
+extend_last t (x ∷ []) = (x ++ t) ∷ []
+extend_last t (x ∷ y ∷ xs) = x ∷ extend_last t (y ∷ xs)
+
+-- what a builder has been told by its start alone
+abbrev pub started : StartText → ClauseTexts
+started start = new_clauses (kind_of start) (table start) (call.start_fields start)
+  where
+    table : StartText → List ℕ
+    table (call.SelectFrom name) = name
+    table (call.SelectValues values) = []
+    table (call.InsertInto name) = name
+    table (call.UpdateTable name) = name
+    table (call.DeleteFrom name) = name
+
+-- the next join is NATURAL
+abbrev pub with_natural : ClauseTexts → ClauseTexts
+with_natural r = record r { natural = true }
+
+-- the operator of the joins to come
+abbrev pub with_operator : JoinOperator → ClauseTexts → ClauseTexts
+with_operator operator r = record r { operator = Some operator }
+
+-- equal rows are selected once
+abbrev pub with_distinct : ClauseTexts → ClauseTexts
+with_distinct r = record r { distinct = true }
+
+-- a further table
+abbrev pub with_table : List ℕ → ClauseTexts → ClauseTexts
+with_table table r = record r { table = r.table ++ further_table byte_atoms table }
+
+-- a join as was chosen; it ends a waiting NATURAL
+abbrev pub with_join : List ℕ → ClauseTexts → ClauseTexts
+with_join table r = record r { joins = r.joins ++ join byte_atoms r.natural r.operator table ∷ []; natural = false }
+
+-- a constraint of the last join; where there is none, nothing changes
+abbrev pub with_on : List ℕ → ClauseTexts → ClauseTexts
+with_on condition r = record r { joins = extend_last (constraint byte_atoms condition) r.joins }
+
+-- these fields, after those that are there
+abbrev pub with_fields : List (List ℕ) → ClauseTexts → ClauseTexts
+with_fields fields r = record r { fields = r.fields ++ fields }
+
+-- these fields alone
+abbrev pub with_fields_set : List (List ℕ) → ClauseTexts → ClauseTexts
+with_fields_set fields r = record r { fields = fields }
+
+-- one more thing that UPDATE sets
+abbrev pub with_set : List ℕ → ClauseTexts → ClauseTexts
+with_set equation r = record r { sets = r.sets ++ equation ∷ [] }
+
+-- one more row, and no query
+abbrev pub with_row : List (List ℕ) → ClauseTexts → ClauseTexts
+with_row values r = record r { rows = r.rows ++ row byte_atoms values ∷ []; query = None }
+
+-- a query, and no rows
+abbrev pub with_query : List ℕ → ClauseTexts → ClauseTexts
+with_query query r = record r { rows = []; query = Some query }
+
+-- what is returned
+abbrev pub with_returning : List ℕ → ClauseTexts → ClauseTexts
+with_returning fields r = record r { returning = Some fields }
+
+-- one more field to group by
+abbrev pub with_group_field : List ℕ → ClauseTexts → ClauseTexts
+with_group_field field r = record r { group_fields = r.group_fields ++ field ∷ [] }
+
+-- the condition of HAVING
+abbrev pub with_having : List ℕ → ClauseTexts → ClauseTexts
+with_having condition r = record r { having = Some condition }
+
+-- one more union, of all rows or of different ones
+abbrev pub with_union : Bool → List ℕ → ClauseTexts → ClauseTexts
+with_union all query r = record r { unions = r.unions ++ (all, query) ∷ [] }
+
+-- one more field to order by, which may be descending
+abbrev pub with_order : Bool → List ℕ → ClauseTexts → ClauseTexts
+with_order descending field r = record r { order_fields = r.order_fields ++ order byte_atoms descending field ∷ [] }
+
+-- the limit
+abbrev pub with_limit : List ℕ → ClauseTexts → ClauseTexts
+with_limit limit r = record r { limit = Some limit }
+
+-- the offset
+abbrev pub with_offset : List ℕ → ClauseTexts → ClauseTexts
+with_offset offset r = record r { offset = Some offset }
+
+-- a condition that opens a group of its own
+abbrev pub with_group : List ℕ → ClauseTexts → ClauseTexts
+with_group condition r = record r { groups = r.groups ++ condition ∷ [] }
+
+-- a condition of this family
+abbrev pub with_condition : Family → List ℕ → ClauseTexts → ClauseTexts
+with_condition And condition r = with_group condition r
+
+-- a field compared with a value
+abbrev pub with_comparison : Family → Relation → List ℕ → List ℕ → ClauseTexts → ClauseTexts
+with_comparison family relation field value r = with_condition family (comparison byte_atoms relation field value) r
+
+-- a condition's text
+abbrev pub condition_bytes : ConditionText → List ℕ
+condition_bytes (call.Raw condition) = condition
+condition_bytes (call.Compare relation field value) = comparison byte_atoms relation field value
+
+-- a call without a text that takes no memory
+abbrev pub with_word : WordClause → ClauseTexts → ClauseTexts
+with_word word.Natural r = with_natural r
+with_word word.Left r = with_operator operator.Left r
+with_word word.LeftOuter r = with_operator operator.LeftOuter r
+with_word word.Right r = with_operator operator.Right r
+with_word word.RightOuter r = with_operator operator.RightOuter r
+with_word word.Inner r = with_operator operator.Inner r
+with_word word.Cross r = with_operator operator.Cross r
+with_word word.Distinct r = with_distinct r
+
+-- a call with one text
+abbrev pub with_text : TextClause → List ℕ → ClauseTexts → ClauseTexts
+with_text text.AndTable table r = with_table table r
+with_text text.Join table r = with_join table r
+with_text text.On condition r = with_on condition r
+with_text text.Field field r = with_fields (field ∷ []) r
+with_text text.SetField field r = with_fields_set (field ∷ []) r
+with_text text.Count field r = with_fields (count byte_atoms field ∷ []) r
+with_text text.Select query r = with_query query r
+with_text text.Returning fields r = with_returning fields r
+with_text text.GroupBy field r = with_group_field field r
+with_text text.Having condition r = with_having condition r
+with_text text.Union query r = with_union false query r
+with_text text.UnionAll query r = with_union true query r
+with_text text.OrderAsc field r = with_order false field r
+with_text text.OrderDesc field r = with_order true field r
+with_text text.Limit limit r = with_limit limit r
+with_text text.Offset offset r = with_offset offset r
+with_text text.AndWhere condition r = with_condition And condition r
+
+-- a call with two texts
+abbrev pub with_pair : PairClause → List ℕ → List ℕ → ClauseTexts → ClauseTexts
+with_pair pair.OnEq left right r = with_on (equation byte_atoms left right) r
+with_pair pair.CountAs field name r = with_fields (count_as byte_atoms field name ∷ []) r
+with_pair pair.SetTo field value r = with_set (equation byte_atoms field value) r
+with_pair pair.SetStr field value r = with_set (equation byte_atoms field (quote value)) r
+
+-- a call with a list of texts
+abbrev pub with_texts : ListClause → List (List ℕ) → ClauseTexts → ClauseTexts
+with_texts list.Fields fields r = with_fields fields r
+with_texts list.SetFields fields r = with_fields_set fields r
+with_texts list.Values values r = with_row values r
+
+-- what a call of a list of calls makes of them
+abbrev pub with_call : CallText → ClauseTexts → ClauseTexts
+with_call call.Natural r = with_word word.Natural r
+with_call call.Left r = with_word word.Left r
+with_call call.LeftOuter r = with_word word.LeftOuter r
+with_call call.Right r = with_word word.Right r
+with_call call.RightOuter r = with_word word.RightOuter r
+with_call call.Inner r = with_word word.Inner r
+with_call call.Cross r = with_word word.Cross r
+with_call call.Distinct r = with_word word.Distinct r
+with_call (call.AndTable table) r = with_text text.AndTable table r
+with_call (call.Join table) r = with_text text.Join table r
+with_call (call.On condition) r = with_text text.On condition r
+with_call (call.OnEq left right) r = with_pair pair.OnEq left right r
+with_call (call.Fields fields) r = with_texts list.Fields fields r
+with_call (call.SetFields fields) r = with_texts list.SetFields fields r
+with_call (call.Field field) r = with_text text.Field field r
+with_call (call.SetField field) r = with_text text.SetField field r
+with_call (call.Count field) r = with_text text.Count field r
+with_call (call.CountAs field name) r = with_pair pair.CountAs field name r
+with_call (call.SetTo field value) r = with_pair pair.SetTo field value r
+with_call (call.SetStr field value) r = with_pair pair.SetStr field value r
+with_call (call.Values values) r = with_texts list.Values values r
+with_call (call.Select query) r = with_text text.Select query r
+with_call (call.Returning fields) r = with_text text.Returning fields r
+with_call call.ReturningId r = with_text text.Returning (codes "id") r
+with_call (call.GroupBy field) r = with_text text.GroupBy field r
+with_call (call.Having condition) r = with_text text.Having condition r
+with_call (call.Union query) r = with_text text.Union query r
+with_call (call.UnionAll query) r = with_text text.UnionAll query r
+with_call (call.OrderBy field descending) r = with_order descending field r
+with_call (call.OrderAsc field) r = with_text text.OrderAsc field r
+with_call (call.OrderDesc field) r = with_text text.OrderDesc field r
+with_call (call.Limit limit) r = with_text text.Limit limit r
+with_call (call.Offset offset) r = with_text text.Offset offset r
+with_call (call.Cond family condition) r = with_condition family (condition_bytes condition) r
+
+-- where a call that prints is not refused, it adds this text to what it prints to
+abbrev pub Adds : {E Z : Type 0} → Result (Unit {0}) E → String Z → String Z → List ℕ → Type 0
+Adds result old new text = OnOk result (string_bytes new ≡ string_bytes old ++ text)

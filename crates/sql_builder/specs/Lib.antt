@@ -1,0 +1,9 @@
+pub mod Answers
+pub mod Builder
+pub mod Calls
+pub mod Clauses
+pub mod Filters
+pub mod Layout
+pub mod Phrases
+pub mod Statement
+pub mod Text

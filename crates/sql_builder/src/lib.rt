@@ -1,0 +1,6 @@
+//! A builder of SQL statements, and lists of its calls as values.
+#![tactic(auto)]
+
+pub mod calls;
+mod clauses;
+mod steps;
