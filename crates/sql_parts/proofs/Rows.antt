@@ -1,0 +1,1 @@
+-- Worked rows: what the definitions give, by computing.
