@@ -11,3 +11,6 @@ pub use arg::{Literal, SqlArg};
 pub use error::SqlBuilderError;
 pub use quoting::{baquote, brquote, dquote, esc, quote};
 pub use text::ToText;
+
+#[cfg(test)]
+mod tests;
