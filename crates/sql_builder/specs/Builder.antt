@@ -1,5 +1,7 @@
 -- What a call makes of a builder's clauses, each text as its bytes.
-use Rattle.std.specs.Prelude.{◌≡◌, ℕ, List, [], ◌∷◌, ◌++◌, Option, None, Some, Bool, true, false, codes, map, String, string_bytes, Result, OnOk}
+use Rattle.std.specs.Prelude.{◌≡◌, ℕ, List, [], ◌∷◌, ◌++◌, Option, None, Some, Bool, true, false, codes, flat_map, map, String, string_bytes, Result, Ok, Err, OnOk}
+use Rattle.sql_parts.specs.Error.{IsMemory}
+use Rattle.sql_parts.specs.declared.error.SqlBuilderError.{SqlBuilderError}
 use Rattle.sql_builder.specs.Calls as call
 use Rattle.sql_builder.specs.Calls.{CallText, ConditionText, kind_of, StartText}
 use Rattle.sql_builder.specs.Clauses.{Clauses, new_clauses}
@@ -9,6 +11,7 @@ use Rattle.sql_builder.specs.Text.{quote}
 use Rattle.sql_builder.specs.declared.calls.Family.{Family}
 use Rattle.sql_builder.specs.declared.calls.Family.TheVariants.{And}
 use Rattle.sql_builder.specs.declared.calls.Relation.{Relation}
+use Rattle.sql_builder.specs.declared.clauses.Join.{Join}
 use Rattle.sql_builder.specs.declared.clauses.JoinOperator.{JoinOperator}
 use Rattle.sql_builder.specs.declared.clauses.JoinOperator.TheVariants as operator
 use Rattle.sql_builder.specs.declared.steps.ListClause.{ListClause}
@@ -17,8 +20,6 @@ use Rattle.sql_builder.specs.declared.steps.PairClause.{PairClause}
 use Rattle.sql_builder.specs.declared.steps.PairClause.TheVariants as pair
 use Rattle.sql_builder.specs.declared.steps.TextClause.{TextClause}
 use Rattle.sql_builder.specs.declared.steps.TextClause.TheVariants as text
-use Rattle.sql_builder.specs.declared.steps.WordClause.{WordClause}
-use Rattle.sql_builder.specs.declared.steps.WordClause.TheVariants as word
 
 -- a builder's clauses, each text as its bytes
 abbrev pub ClauseTexts : Type 0
@@ -27,6 +28,14 @@ ClauseTexts = Clauses (List ℕ)
 -- the bytes of each text
 abbrev pub texts : {Z : Type 0} → List (String Z) → List (List ℕ)
 texts strings = map (λ s. string_bytes s) strings
+
+-- a join's text, with its constraints behind it
+abbrev pub join_text : Join → List ℕ
+join_text j = join byte_atoms j.natural j.operator (string_bytes j.table) ++ flat_map (constraint byte_atoms) (texts j.constraints.items)
+
+-- the table text, with the further tables behind it
+abbrev pub table_text : {Z : Type 0} → String Z → List (String Z) → List ℕ
+table_text table further = string_bytes table ++ flat_map (further_table byte_atoms) (texts further)
 
 -- the last list goes on with t, where there is a list
 abbrev pub extend_last : {A : Type 0} → List A → List (List A) → List (List A)
@@ -134,17 +143,6 @@ abbrev pub condition_bytes : ConditionText → List ℕ
 condition_bytes (call.Raw condition) = condition
 condition_bytes (call.Compare relation field value) = comparison byte_atoms relation field value
 
--- a call without a text that takes no memory
-abbrev pub with_word : WordClause → ClauseTexts → ClauseTexts
-with_word word.Natural r = with_natural r
-with_word word.Left r = with_operator operator.Left r
-with_word word.LeftOuter r = with_operator operator.LeftOuter r
-with_word word.Right r = with_operator operator.Right r
-with_word word.RightOuter r = with_operator operator.RightOuter r
-with_word word.Inner r = with_operator operator.Inner r
-with_word word.Cross r = with_operator operator.Cross r
-with_word word.Distinct r = with_distinct r
-
 -- a call with one text
 abbrev pub with_text : TextClause → List ℕ → ClauseTexts → ClauseTexts
 with_text text.AndTable table r = with_table table r
@@ -178,16 +176,43 @@ with_texts list.Fields fields r = with_fields fields r
 with_texts list.SetFields fields r = with_fields_set fields r
 with_texts list.Values values r = with_row values r
 
+-- a step tells the builder this, or is refused for want of memory and leaves it as it was
+abbrev pub Tells : Result (Unit {0}) SqlBuilderError → ClauseTexts → ClauseTexts → (ClauseTexts → ClauseTexts) → Type 0
+Tells (Ok done) old new told = new ≡ told old
+Tells (Err refusal) old new told = IsMemory refusal × (new ≡ old)
+
+-- there is a join that a constraint can join
+abbrev pub HasJoin : ClauseTexts → Type 0
+HasJoin r = some r.joins
+  where
+    some : List (List ℕ) → Type 0
+    some [] = ⊥
+    some (join ∷ joins) = Unit {0}
+
+-- how a constraint is refused: for want of memory, and only where there is a join
+abbrev pub RefusesConstraint : ClauseTexts → SqlBuilderError → Type 0
+RefusesConstraint r refusal = IsMemory refusal × HasJoin r
+
+-- how a call with one text is refused
+abbrev pub RefusesText : TextClause → ClauseTexts → SqlBuilderError → Type 0
+RefusesText text.On r refusal = RefusesConstraint r refusal
+RefusesText _ r refusal = IsMemory refusal
+
+-- how a call with two texts is refused
+abbrev pub RefusesPair : PairClause → ClauseTexts → SqlBuilderError → Type 0
+RefusesPair pair.OnEq r refusal = RefusesConstraint r refusal
+RefusesPair _ r refusal = IsMemory refusal
+
 -- what a call of a list of calls makes of them
 abbrev pub with_call : CallText → ClauseTexts → ClauseTexts
-with_call call.Natural r = with_word word.Natural r
-with_call call.Left r = with_word word.Left r
-with_call call.LeftOuter r = with_word word.LeftOuter r
-with_call call.Right r = with_word word.Right r
-with_call call.RightOuter r = with_word word.RightOuter r
-with_call call.Inner r = with_word word.Inner r
-with_call call.Cross r = with_word word.Cross r
-with_call call.Distinct r = with_word word.Distinct r
+with_call call.Natural r = with_natural r
+with_call call.Left r = with_operator operator.Left r
+with_call call.LeftOuter r = with_operator operator.LeftOuter r
+with_call call.Right r = with_operator operator.Right r
+with_call call.RightOuter r = with_operator operator.RightOuter r
+with_call call.Inner r = with_operator operator.Inner r
+with_call call.Cross r = with_operator operator.Cross r
+with_call call.Distinct r = with_distinct r
 with_call (call.AndTable table) r = with_text text.AndTable table r
 with_call (call.Join table) r = with_text text.Join table r
 with_call (call.On condition) r = with_text text.On condition r

@@ -1,6 +1,7 @@
 pub mod Answers
 pub mod Builder
 pub mod Calls
+pub mod Chaining
 pub mod Clauses
 pub mod Filters
 pub mod Layout

@@ -1,4 +1,11 @@
-//! The fixed choices among a builder's clauses.
+//! What a builder keeps of its clauses.
+ghost use Rattle.std.specs.Prelude.{◌≡◌, ◌++◌, map, string_bytes, OnOk, OnErr};
+ghost use Rattle.sql_parts.specs.Error.{FailsOnlyByMemory};
+ghost use Rattle.sql_builder.specs.Builder.{extend_last, join_text};
+ghost use Rattle.sql_builder.specs.Layout.{byte_atoms};
+ghost use Rattle.sql_builder.specs.Phrases.{constraint};
+
+use sql_parts::SqlBuilderError;
 
 /// The kind of a statement.
 #[derive(Clone, Copy)]
@@ -19,4 +26,45 @@ pub(crate) enum JoinOperator {
     RightOuter,
     Inner,
     Cross,
+}
+
+/// A join, with the constraints that it was told.
+#[derive(Drop)]
+pub(crate) struct Join {
+    pub(crate) natural: bool,
+    pub(crate) operator: Option<JoinOperator>,
+    pub(crate) table: String,
+    pub(crate) constraints: Vec<String>,
+}
+
+/// A query that UNION adds.
+#[derive(Drop)]
+pub(crate) struct Union {
+    pub(crate) all: bool,
+    pub(crate) query: String,
+}
+
+impl Join {
+    fn push(&mut self, condition: String) -> Result<(), SqlBuilderError>
+        ensures ok { OnOk result (join_text self.new
+            ≡ join_text self.old ++ constraint byte_atoms (string_bytes condition)) }
+        ensures err { OnErr result (join_text self.new ≡ join_text self.old) }
+        ensures memory { FailsOnlyByMemory result }
+    {
+        self.constraints.push(condition)?;
+        Ok(())
+    }
+}
+
+/// A constraint of the last join. Where there is none, nothing is done.
+pub(crate) fn constrain_last(joins: &mut [Join], condition: String) -> Result<(), SqlBuilderError>
+    ensures ok { OnOk result (map join_text joins.new
+        ≡ extend_last (constraint byte_atoms (string_bytes condition)) (map join_text joins.old)) }
+    ensures err { OnErr result (map join_text joins.new ≡ map join_text joins.old) }
+    ensures memory { FailsOnlyByMemory result }
+{
+    match joins.last_mut() {
+        Some(join) => join.push(condition),
+        None => Ok(()),
+    }
 }

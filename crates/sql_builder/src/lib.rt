@@ -1,6 +1,11 @@
 //! A builder of SQL statements, and lists of its calls as values.
 #![tactic(auto)]
 
+mod builder;
 pub mod calls;
 mod clauses;
+mod phrases;
 mod steps;
+mod texts;
+
+pub use builder::SqlBuilder;

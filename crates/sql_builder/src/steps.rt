@@ -1,17 +1,16 @@
-//! The calls that change a builder, named by what they are handed.
+//! The steps of the chain calls: one for each way to be handed texts, told by a constant which
+//! clause is meant.
+ghost use Rattle.std.specs.Prelude.{◌≡◌, [], ◌∷◌, map, codes, string_bytes, IfErr, OnOk, OnErr};
+ghost use Rattle.sql_parts.specs.Error.{FailsOnlyByMemory, IsMemory};
+ghost use Rattle.sql_builder.specs.Builder.{texts, with_comparison, with_condition, with_order, with_pair, with_returning, with_text, with_texts, RefusesPair, RefusesText, Tells};
+ghost use Rattle.sql_builder.specs.Chaining.{released_builder};
 
-/// A call without a text that takes no memory.
-#[derive(Clone, Copy)]
-pub(crate) enum WordClause {
-    Natural,
-    Left,
-    LeftOuter,
-    Right,
-    RightOuter,
-    Inner,
-    Cross,
-    Distinct,
-}
+use crate::builder::SqlBuilder;
+use crate::calls::{Family, Relation};
+use crate::clauses::{Join, Union, constrain_last};
+use crate::phrases::{comparison, count, count_as, equation, order, quoted_equation, row};
+use crate::texts::copies;
+use sql_parts::{SqlBuilderError, ToText};
 
 /// A call with one text.
 #[derive(Clone, Copy)]
@@ -50,4 +49,304 @@ pub(crate) enum ListClause {
     Fields,
     SetFields,
     Values,
+}
+
+// A builder that a step has changed. A call that lends the builder back is proved
+// to leave it alone where it is refused only if the loan comes in a struct.
+#[derive(Drop)]
+pub(crate) struct Held<'a>(&'a mut SqlBuilder);
+
+pub(crate) fn release(
+    held: Result<Held<'_>, SqlBuilderError>,
+) -> Result<&mut SqlBuilder, SqlBuilderError>
+    ensures { result ≡ released_builder held.entry }
+{
+    match held {
+        Ok(held) => {
+            let Held(builder) = held;
+            Ok(builder)
+        }
+        Err(error) => Err(error),
+    }
+}
+
+impl SqlBuilder {
+    ghost use Rattle.sql_builder.specs.Builder.{with_fields, with_fields_set, with_group_field, with_having, with_join, with_limit, with_offset, with_on, with_query, with_row, with_set, with_table, with_union};
+
+    fn push_table<S: ToText>(&mut self, table: S) -> Result<(), SqlBuilderError>
+        ensures { Tells result self.old self.new (with_table (S.text table)) }
+    {
+        let table = table.to_text(self.alloc)?;
+        self.further_tables.push(table)?;
+        Ok(())
+    }
+
+    fn push_join<S: ToText>(&mut self, table: S) -> Result<(), SqlBuilderError>
+        ensures { Tells result self.old self.new (with_join (S.text table)) }
+    {
+        let table = table.to_text(self.alloc)?;
+        self.joins.push(Join {
+            natural: self.natural,
+            operator: self.operator,
+            table,
+            constraints: Vec::new(self.alloc),
+        })?;
+        self.natural = false;
+        Ok(())
+    }
+
+    fn push_constraint(&mut self, constraint: String) -> Result<(), SqlBuilderError>
+        ensures { Tells result self.old self.new (with_on (string_bytes constraint)) }
+    {
+        constrain_last(&mut self.joins, constraint)
+    }
+
+    fn push_field(&mut self, field: String) -> Result<(), SqlBuilderError>
+        ensures { Tells result self.old self.new (with_fields (string_bytes field ∷ [])) }
+    {
+        self.fields.push(field)?;
+        Ok(())
+    }
+
+    fn set_only_field<S: ToText>(&mut self, field: S) -> Result<(), SqlBuilderError>
+        ensures { Tells result self.old self.new (with_fields_set (S.text field ∷ [])) }
+    {
+        let mut fields = Vec::new(self.alloc);
+        fields.push(field.to_text(self.alloc)?)?;
+        self.fields = fields;
+        Ok(())
+    }
+
+    fn push_set(&mut self, equation: String) -> Result<(), SqlBuilderError>
+        ensures { Tells result self.old self.new (with_set (string_bytes equation)) }
+    {
+        self.sets.push(equation)?;
+        Ok(())
+    }
+
+    fn put_query<S: ToText>(&mut self, query: S) -> Result<(), SqlBuilderError>
+        ensures { Tells result self.old self.new (with_query (S.text query)) }
+    {
+        self.query = Some(query.to_text(self.alloc)?);
+        self.rows = Vec::new(self.alloc);
+        Ok(())
+    }
+
+    fn put_returning<S: ToText>(&mut self, fields: S) -> Result<(), SqlBuilderError>
+        ensures { Tells result self.old self.new (with_returning (S.text fields)) }
+    {
+        self.returning = Some(fields.to_text(self.alloc)?);
+        Ok(())
+    }
+
+    fn push_group_field<S: ToText>(&mut self, field: S) -> Result<(), SqlBuilderError>
+        ensures { Tells result self.old self.new (with_group_field (S.text field)) }
+    {
+        self.group_fields.push(field.to_text(self.alloc)?)?;
+        Ok(())
+    }
+
+    fn put_having<S: ToText>(&mut self, condition: S) -> Result<(), SqlBuilderError>
+        ensures { Tells result self.old self.new (with_having (S.text condition)) }
+    {
+        self.having = Some(condition.to_text(self.alloc)?);
+        Ok(())
+    }
+
+    fn push_union<S: ToText>(&mut self, all: bool, query: S) -> Result<(), SqlBuilderError>
+        ensures { Tells result self.old self.new (with_union all (S.text query)) }
+    {
+        let query = query.to_text(self.alloc)?;
+        self.unions.push(Union { all, query })?;
+        Ok(())
+    }
+
+    fn push_order<S: ToText>(&mut self, descending: bool, field: S) -> Result<(), SqlBuilderError>
+        ensures { Tells result self.old self.new (with_order descending (S.text field)) }
+    {
+        self.order_fields
+            .push(order(self.alloc, descending, field)?)?;
+        Ok(())
+    }
+
+    fn put_limit<S: ToText>(&mut self, limit: S) -> Result<(), SqlBuilderError>
+        ensures { Tells result self.old self.new (with_limit (S.text limit)) }
+    {
+        self.limit = Some(limit.to_text(self.alloc)?);
+        Ok(())
+    }
+
+    fn put_offset<S: ToText>(&mut self, offset: S) -> Result<(), SqlBuilderError>
+        ensures { Tells result self.old self.new (with_offset (S.text offset)) }
+    {
+        self.offset = Some(offset.to_text(self.alloc)?);
+        Ok(())
+    }
+
+    fn push_condition(&mut self, family: Family, condition: String) -> Result<(), SqlBuilderError>
+        ensures { Tells result self.old self.new (with_condition family (string_bytes condition)) }
+    {
+        match family {
+            Family::And => self.groups.push(condition)?,
+        }
+        Ok(())
+    }
+}
+
+impl SqlBuilder {
+    fn push_text<S: ToText>(&mut self, clause: TextClause, text: S) -> Result<(), SqlBuilderError>
+        ensures ok { OnOk result (self.new ≡ with_text clause (S.text text) self.old) }
+        ensures err { OnErr result (self.new ≡ self.old) }
+        ensures memory { IfErr result (RefusesText clause self.old) }
+    {
+        let alloc = self.alloc;
+        match clause {
+            TextClause::AndTable => self.push_table(text),
+            TextClause::Join => self.push_join(text),
+            TextClause::On if self.joins.is_empty() => Ok(()),
+            TextClause::On => self.push_constraint(text.to_text(alloc)?),
+            TextClause::Field => self.push_field(text.to_text(alloc)?),
+            TextClause::SetField => self.set_only_field(text),
+            TextClause::Count => self.push_field(count(alloc, text)?),
+            TextClause::Select => self.put_query(text),
+            TextClause::Returning => self.put_returning(text),
+            TextClause::GroupBy => self.push_group_field(text),
+            TextClause::Having => self.put_having(text),
+            TextClause::Union => self.push_union(false, text),
+            TextClause::UnionAll => self.push_union(true, text),
+            TextClause::OrderAsc => self.push_order(false, text),
+            TextClause::OrderDesc => self.push_order(true, text),
+            TextClause::Limit => self.put_limit(text),
+            TextClause::Offset => self.put_offset(text),
+            TextClause::AndWhere => self.push_condition(Family::And, text.to_text(alloc)?),
+        }
+    }
+
+    fn push_pair<S: ToText, T: ToText>(
+        &mut self,
+        clause: PairClause,
+        first: S,
+        second: T,
+    ) -> Result<(), SqlBuilderError>
+        ensures ok { OnOk result (self.new ≡ with_pair clause (S.text first) (T.text second) self.old) }
+        ensures err { OnErr result (self.new ≡ self.old) }
+        ensures memory { IfErr result (RefusesPair clause self.old) }
+    {
+        let alloc = self.alloc;
+        match clause {
+            PairClause::OnEq if self.joins.is_empty() => Ok(()),
+            PairClause::OnEq => self.push_constraint(equation(alloc, first, second)?),
+            PairClause::CountAs => self.push_field(count_as(alloc, first, second)?),
+            PairClause::SetTo => self.push_set(equation(alloc, first, second)?),
+            PairClause::SetStr => self.push_set(quoted_equation(alloc, first, second)?),
+        }
+    }
+
+    fn push_texts<S: ToText>(
+        &mut self,
+        clause: ListClause,
+        items: &[S],
+    ) -> Result<(), SqlBuilderError>
+        ensures { Tells result self.old self.new (with_texts clause (map S.text items.now)) }
+    {
+        match clause {
+            ListClause::Fields => {
+                let mut fields = copies(self.alloc, items)?;
+                self.fields.append(&mut fields)?;
+            }
+            ListClause::SetFields => self.fields = copies(self.alloc, items)?,
+            ListClause::Values => {
+                self.rows.push(row(self.alloc, items)?)?;
+                self.query = None;
+            }
+        }
+        Ok(())
+    }
+}
+
+impl SqlBuilder {
+    ghost use Rattle.std.specs.Borrow.{sem};
+    ghost use Rattle.sql_builder.specs.Chaining.{IsUnchangedIfHeldErr, IsHeldChangedTo};
+
+    pub(crate) fn hold_text<S: ToText>(
+        &mut self,
+        clause: TextClause,
+        text: S,
+    ) -> Result<Held<'_>, SqlBuilderError>
+        ensures* refused { sem 𝓛 (IsUnchangedIfHeldErr self.entry result) }
+        ensures changed { IsHeldChangedTo self.entry (with_text clause (S.text text) self.old) result }
+        ensures memory { IfErr result (RefusesText clause self.old) }
+    {
+        self.push_text(clause, text)?;
+        Ok(Held(self))
+    }
+
+    pub(crate) fn hold_returning_id(&mut self) -> Result<Held<'_>, SqlBuilderError>
+        ensures* refused { sem 𝓛 (IsUnchangedIfHeldErr self.entry result) }
+        ensures changed { IsHeldChangedTo self.entry (with_returning (codes "id") self.old) result }
+        ensures memory { FailsOnlyByMemory result }
+    {
+        self.put_returning("id")?;
+        Ok(Held(self))
+    }
+
+    pub(crate) fn hold_pair<S: ToText, T: ToText>(
+        &mut self,
+        clause: PairClause,
+        first: S,
+        second: T,
+    ) -> Result<Held<'_>, SqlBuilderError>
+        ensures* refused { sem 𝓛 (IsUnchangedIfHeldErr self.entry result) }
+        ensures changed { IsHeldChangedTo self.entry
+            (with_pair clause (S.text first) (T.text second) self.old) result }
+        ensures memory { IfErr result (RefusesPair clause self.old) }
+    {
+        self.push_pair(clause, first, second)?;
+        Ok(Held(self))
+    }
+
+    pub(crate) fn hold_texts<S: ToText>(
+        &mut self,
+        clause: ListClause,
+        items: &[S],
+    ) -> Result<Held<'_>, SqlBuilderError>
+        ensures* refused { sem 𝓛 (IsUnchangedIfHeldErr self.entry result) }
+        ensures changed { IsHeldChangedTo self.entry
+            (with_texts clause (map S.text items.now) self.old) result }
+        ensures memory { FailsOnlyByMemory result }
+    {
+        self.push_texts(clause, items)?;
+        Ok(Held(self))
+    }
+
+    pub(crate) fn hold_order<S: ToText>(
+        &mut self,
+        field: S,
+        descending: bool,
+    ) -> Result<Held<'_>, SqlBuilderError>
+        ensures* refused { sem 𝓛 (IsUnchangedIfHeldErr self.entry result) }
+        ensures changed { IsHeldChangedTo self.entry
+            (with_order descending (S.text field) self.old) result }
+        ensures memory { FailsOnlyByMemory result }
+    {
+        self.push_order(descending, field)?;
+        Ok(Held(self))
+    }
+
+    pub(crate) fn hold_comparison<S: ToText, T: ToText>(
+        &mut self,
+        family: Family,
+        relation: Relation,
+        field: S,
+        value: T,
+    ) -> Result<Held<'_>, SqlBuilderError>
+        ensures* refused { sem 𝓛 (IsUnchangedIfHeldErr self.entry result) }
+        ensures changed { IsHeldChangedTo self.entry
+            (with_comparison family relation (S.text field) (T.text value) self.old) result }
+        ensures memory { FailsOnlyByMemory result }
+    {
+        let condition = comparison(self.alloc, relation, field, value)?;
+        self.push_condition(family, condition)?;
+        Ok(Held(self))
+    }
 }

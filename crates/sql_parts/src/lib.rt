@@ -9,7 +9,7 @@ pub mod text;
 
 pub use arg::{Literal, SqlArg};
 pub use error::SqlBuilderError;
-pub use quoting::{baquote, brquote, dquote, esc, quote};
+pub use quoting::{baquote, brquote, dquote, esc, push_esc, quote};
 pub use text::ToText;
 
 #[cfg(test)]

@@ -1,6 +1,6 @@
 //! What can be written as a text.
 
-ghost use Rattle.std.specs.Prelude.{◌≡◌, ℕ, List, string_bytes, IfOk};
+ghost use Rattle.std.specs.Prelude.{◌≡◌, ◌++◌, ℕ, List, string_bytes, IfOk, OnOk, OnErr};
 ghost use Rattle.std.specs.Char.{encode_utf8};
 ghost use Rattle.std.specs.Cow.{cow_str_bytes};
 ghost use Rattle.sql_parts.specs.Error.{FailsOnlyByMemory};
@@ -19,6 +19,18 @@ pub trait ToText: Drop {
     fn to_text(&self, alloc: Global) -> Result<String, SqlBuilderError>
         ensures text { IfOk result (λ s. string_bytes s ≡ text self.now) }
         ensures memory { FailsOnlyByMemory result };
+
+    /// Appends the text to another, which a refusal leaves as it was. It is refused only for want
+    /// of memory.
+    fn push_to(&self, alloc: Global, out: &mut String) -> Result<(), SqlBuilderError>
+        ensures text { OnOk result (string_bytes out.new ≡ string_bytes out.old ++ text self.now) }
+        ensures unchanged { OnErr result (string_bytes out.new ≡ string_bytes out.old) }
+        ensures memory { FailsOnlyByMemory result }
+    {
+        let text = self.to_text(alloc)?;
+        out.push_str(text.as_str())?;
+        Ok(())
+    }
 }
 
 impl ToText for &str {
@@ -26,6 +38,10 @@ impl ToText for &str {
 
     fn to_text(&self, alloc: Global) -> Result<String, SqlBuilderError> {
         Ok(String::from_str(alloc, self)?)
+    }
+
+    fn push_to(&self, _alloc: Global, out: &mut String) -> Result<(), SqlBuilderError> {
+        Ok(out.push_str(self)?)
     }
 }
 
@@ -35,6 +51,10 @@ impl ToText for String {
     fn to_text(&self, alloc: Global) -> Result<String, SqlBuilderError> {
         Ok(String::from_str(alloc, self.as_str())?)
     }
+
+    fn push_to(&self, _alloc: Global, out: &mut String) -> Result<(), SqlBuilderError> {
+        Ok(out.push_str(self.as_str())?)
+    }
 }
 
 impl ToText for CowStr<'_> {
@@ -42,6 +62,10 @@ impl ToText for CowStr<'_> {
 
     fn to_text(&self, alloc: Global) -> Result<String, SqlBuilderError> {
         Ok(String::from_str(alloc, self.as_str())?)
+    }
+
+    fn push_to(&self, _alloc: Global, out: &mut String) -> Result<(), SqlBuilderError> {
+        Ok(out.push_str(self.as_str())?)
     }
 }
 
@@ -191,5 +215,9 @@ impl<T: ToText> ToText for &T {
 
     fn to_text(&self, alloc: Global) -> Result<String, SqlBuilderError> {
         (**self).to_text(alloc)
+    }
+
+    fn push_to(&self, alloc: Global, out: &mut String) -> Result<(), SqlBuilderError> {
+        (**self).push_to(alloc, out)
     }
 }

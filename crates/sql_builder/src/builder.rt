@@ -1,0 +1,159 @@
+//! The builder: it is told clauses call by call, and prints a statement of them.
+ghost use Rattle.std.specs.Prelude.{◌≡◌, [], ◌∷◌, map, IfOk, OnOk, OnErr, true, false, codes, string_bytes};
+ghost use Rattle.sql_parts.specs.Error.{FailsOnlyByMemory};
+ghost use Rattle.sql_builder.specs.Builder.{started, texts};
+ghost use Rattle.sql_builder.specs.Calls.{SelectFrom, SelectValues, InsertInto, UpdateTable, DeleteFrom};
+ghost use Rattle.sql_builder.specs.Chaining.{released_builder};
+ghost use Rattle.sql_builder.specs.Clauses.{new_clauses};
+
+use crate::clauses::{Join, JoinOperator, Kind, Union};
+use crate::texts::copies;
+use sql_parts::{SqlBuilderError, ToText};
+use std::alloc::Global;
+use std::marker::Model;
+
+/// A builder of a statement. Contracts see it as its clauses, each text as its bytes.
+#[derive(Drop)]
+pub struct SqlBuilder {
+    pub(crate) alloc: Global,
+    pub(crate) kind: Kind,
+    pub(crate) table: String,
+    // The tables behind the first.
+    pub(crate) further_tables: Vec<String>,
+    pub(crate) joins: Vec<Join>,
+    // The operator of the joins to come.
+    pub(crate) operator: Option<JoinOperator>,
+    // Whether the next join is NATURAL.
+    pub(crate) natural: bool,
+    pub(crate) distinct: bool,
+    pub(crate) fields: Vec<String>,
+    pub(crate) sets: Vec<String>,
+    pub(crate) rows: Vec<String>,
+    pub(crate) query: Option<String>,
+    pub(crate) returning: Option<String>,
+    pub(crate) group_fields: Vec<String>,
+    pub(crate) having: Option<String>,
+    // The conditions that WHERE joins by AND, a text for each group.
+    pub(crate) groups: Vec<String>,
+    pub(crate) unions: Vec<Union>,
+    pub(crate) order_fields: Vec<String>,
+    pub(crate) limit: Option<String>,
+    pub(crate) offset: Option<String>,
+}
+
+impl Model for SqlBuilder {
+    ghost use Rattle.std.specs.Prelude.{List, ℕ, map, option_map};
+    ghost use Rattle.std.specs.String.{string_bytes};
+    ghost use Rattle.sql_builder.specs.Builder.{join_text, table_text, texts};
+    ghost use Rattle.sql_builder.specs.Clauses.{Clauses};
+
+    ghost Value = { Clauses (List ℕ) };
+
+    ghost view = { λ b. record {
+      kind = b.kind;
+      table = table_text b.table b.further_tables.items;
+      joins = map join_text b.joins.items;
+      operator = b.operator;
+      natural = b.natural;
+      distinct = b.distinct;
+      fields = texts b.fields.items;
+      sets = texts b.sets.items;
+      rows = texts b.rows.items;
+      query = option_map string_bytes b.query;
+      returning = option_map string_bytes b.returning;
+      group_fields = texts b.group_fields.items;
+      having = option_map string_bytes b.having;
+      groups = texts b.groups.items;
+      unions = map (λ union. (union.all, string_bytes union.query)) b.unions.items;
+      order_fields = texts b.order_fields.items;
+      limit = option_map string_bytes b.limit;
+      offset = option_map string_bytes b.offset;
+    } };
+}
+
+impl SqlBuilder {
+    fn new(alloc: Global, kind: Kind, table: String, fields: Vec<String>) -> SqlBuilder
+        ensures { result ≡ new_clauses kind (string_bytes table) (texts fields.items) }
+    {
+        SqlBuilder {
+            alloc,
+            kind,
+            table,
+            further_tables: Vec::new(alloc),
+            joins: Vec::new(alloc),
+            operator: None,
+            natural: false,
+            distinct: false,
+            fields,
+            sets: Vec::new(alloc),
+            rows: Vec::new(alloc),
+            query: None,
+            returning: None,
+            group_fields: Vec::new(alloc),
+            having: None,
+            groups: Vec::new(alloc),
+            unions: Vec::new(alloc),
+            order_fields: Vec::new(alloc),
+            limit: None,
+            offset: None,
+        }
+    }
+
+    fn with_table<S: ToText>(
+        alloc: Global,
+        kind: Kind,
+        table: S,
+    ) -> Result<SqlBuilder, SqlBuilderError>
+        ensures made { IfOk result (λ b. b ≡ new_clauses kind (S.text table) []) }
+        ensures memory { FailsOnlyByMemory result }
+    {
+        let table = table.to_text(alloc)?;
+        Ok(SqlBuilder::new(alloc, kind, table, Vec::new(alloc)))
+    }
+
+    /// A SELECT from this table, told nothing else. It is refused only for want of memory, as is
+    /// each call below that changes the builder.
+    pub fn select_from<S: ToText>(alloc: Global, table: S) -> Result<SqlBuilder, SqlBuilderError>
+        ensures made { IfOk result (λ b. b ≡ started (SelectFrom (S.text table))) }
+        ensures memory { FailsOnlyByMemory result }
+    {
+        SqlBuilder::with_table(alloc, Kind::SelectFrom, table)
+    }
+
+    /// A SELECT of these values, without a table.
+    pub fn select_values<S: ToText>(
+        alloc: Global,
+        values: &[S],
+    ) -> Result<SqlBuilder, SqlBuilderError>
+        ensures made { IfOk result (λ b. b ≡ started (SelectValues (map S.text values.now))) }
+        ensures memory { FailsOnlyByMemory result }
+    {
+        let values = copies(alloc, values)?;
+        let table = String::new(alloc);
+        Ok(SqlBuilder::new(alloc, Kind::SelectValues, table, values))
+    }
+
+    /// An INSERT into this table, told nothing else.
+    pub fn insert_into<S: ToText>(alloc: Global, table: S) -> Result<SqlBuilder, SqlBuilderError>
+        ensures made { IfOk result (λ b. b ≡ started (InsertInto (S.text table))) }
+        ensures memory { FailsOnlyByMemory result }
+    {
+        SqlBuilder::with_table(alloc, Kind::InsertInto, table)
+    }
+
+    /// An UPDATE of this table, told nothing else.
+    pub fn update_table<S: ToText>(alloc: Global, table: S) -> Result<SqlBuilder, SqlBuilderError>
+        ensures made { IfOk result (λ b. b ≡ started (UpdateTable (S.text table))) }
+        ensures memory { FailsOnlyByMemory result }
+    {
+        SqlBuilder::with_table(alloc, Kind::UpdateTable, table)
+    }
+
+    /// A DELETE from this table, told nothing else.
+    pub fn delete_from<S: ToText>(alloc: Global, table: S) -> Result<SqlBuilder, SqlBuilderError>
+        ensures made { IfOk result (λ b. b ≡ started (DeleteFrom (S.text table))) }
+        ensures memory { FailsOnlyByMemory result }
+    {
+        SqlBuilder::with_table(alloc, Kind::DeleteFrom, table)
+    }
+}

@@ -1,0 +1,147 @@
+//! The texts that calls make of what they are handed.
+ghost use Rattle.std.specs.Prelude.{◌≡◌, ◌++◌, IfOk, OnOk, codes, map, string_bytes, flat_map};
+ghost use Rattle.sql_parts.specs.Error.{FailsOnlyByMemory};
+ghost use Rattle.sql_builder.specs.Builder.{texts};
+ghost use Rattle.sql_builder.specs.Layout.{byte_atoms};
+ghost use Rattle.sql_builder.specs.Phrases.{comparison, count, count_as, equation, order, relation_text, row};
+ghost use Rattle.sql_builder.specs.Text.{quote, join_with};
+
+use crate::calls::Relation;
+use sql_parts::{SqlBuilderError, ToText, push_esc};
+use std::alloc::Global;
+
+impl Relation {
+    pub(crate) fn text(self) -> &'static str
+        ensures { result.now ≡ relation_text self }
+    {
+        match self {
+            Relation::Gt => " > ",
+        }
+    }
+}
+
+/// A field compared with a value.
+pub(crate) fn comparison<S: ToText, T: ToText>(
+    alloc: Global,
+    relation: Relation,
+    field: S,
+    value: T,
+) -> Result<String, SqlBuilderError>
+    ensures made { IfOk result (λ s. string_bytes s
+        ≡ comparison byte_atoms relation (S.text field) (T.text value)) }
+    ensures memory { FailsOnlyByMemory result }
+{
+    let mut text = field.to_text(alloc)?;
+    text.push_str(relation.text())?;
+    value.push_to(alloc, &mut text)?;
+    Ok(text)
+}
+
+/// `left = right`.
+pub(crate) fn equation<S: ToText, T: ToText>(
+    alloc: Global,
+    left: S,
+    right: T,
+) -> Result<String, SqlBuilderError>
+    ensures made { IfOk result (λ s. string_bytes s
+        ≡ equation byte_atoms (S.text left) (T.text right)) }
+    ensures memory { FailsOnlyByMemory result }
+{
+    let mut text = left.to_text(alloc)?;
+    text.push_str(" = ")?;
+    right.push_to(alloc, &mut text)?;
+    Ok(text)
+}
+
+/// `field = 'value'`, each single quote in the value doubled.
+pub(crate) fn quoted_equation<S: ToText, T: ToText>(
+    alloc: Global,
+    field: S,
+    value: T,
+) -> Result<String, SqlBuilderError>
+    ensures made { IfOk result (λ s. string_bytes s
+        ≡ equation byte_atoms (S.text field) (quote (T.text value))) }
+    ensures memory { FailsOnlyByMemory result }
+{
+    let mut text = field.to_text(alloc)?;
+    text.push_str(" = '")?;
+    push_esc(alloc, &mut text, value)?;
+    text.push_str("'")?;
+    Ok(text)
+}
+
+/// `COUNT(field)`.
+pub(crate) fn count<S: ToText>(alloc: Global, field: S) -> Result<String, SqlBuilderError>
+    ensures made { IfOk result (λ s. string_bytes s ≡ count byte_atoms (S.text field)) }
+    ensures memory { FailsOnlyByMemory result }
+{
+    let mut text = String::from_str(alloc, "COUNT(")?;
+    field.push_to(alloc, &mut text)?;
+    text.push_str(")")?;
+    Ok(text)
+}
+
+/// `COUNT(field) AS name`.
+pub(crate) fn count_as<S: ToText, T: ToText>(
+    alloc: Global,
+    field: S,
+    name: T,
+) -> Result<String, SqlBuilderError>
+    ensures made { IfOk result (λ s. string_bytes s
+        ≡ count_as byte_atoms (S.text field) (T.text name)) }
+    ensures memory { FailsOnlyByMemory result }
+{
+    let mut text = String::from_str(alloc, "COUNT(")?;
+    field.push_to(alloc, &mut text)?;
+    text.push_str(") AS ")?;
+    name.push_to(alloc, &mut text)?;
+    Ok(text)
+}
+
+/// The field, and ` DESC` where it is descending.
+pub(crate) fn order<S: ToText>(
+    alloc: Global,
+    descending: bool,
+    field: S,
+) -> Result<String, SqlBuilderError>
+    ensures made { IfOk result (λ s. string_bytes s
+        ≡ order byte_atoms descending (S.text field)) }
+    ensures memory { FailsOnlyByMemory result }
+{
+    let mut text = field.to_text(alloc)?;
+    if descending {
+        text.push_str(" DESC")?;
+    }
+    Ok(text)
+}
+
+// Each text, with `, ` in front of it.
+fn push_further<S: ToText>(
+    alloc: Global,
+    out: &mut String,
+    items: &[S],
+) -> Result<(), SqlBuilderError>
+    ensures pushed { OnOk result (string_bytes out.new
+        ≡ string_bytes out.old ++ flat_map (λ item. codes ", " ++ item) (map S.text items.now)) }
+    ensures memory { FailsOnlyByMemory result }
+{
+    for item in items {
+        out.push_str(", ")?;
+        item.push_to(alloc, out)?;
+    }
+    Ok(())
+}
+
+/// The values in brackets, with commas between them.
+pub(crate) fn row<S: ToText>(alloc: Global, values: &[S]) -> Result<String, SqlBuilderError>
+    ensures made { IfOk result (λ s. string_bytes s ≡ row byte_atoms (map S.text values.now)) }
+    ensures memory { FailsOnlyByMemory result }
+{
+    let mut text = String::from_str(alloc, "(")?;
+    if let [first, further @ ..] = values {
+        first.push_to(alloc, &mut text)?;
+        push_further(alloc, &mut text, further)?;
+    }
+    text.push_str(")")?;
+    Ok(text)
+}

@@ -1,0 +1,19 @@
+//! Copies of lists of texts.
+ghost use Rattle.std.specs.Prelude.{◌≡◌, map, IfOk};
+ghost use Rattle.sql_parts.specs.Error.{FailsOnlyByMemory};
+ghost use Rattle.sql_builder.specs.Builder.{texts};
+
+use sql_parts::{SqlBuilderError, ToText};
+use std::alloc::Global;
+
+/// Each text.
+pub(crate) fn copies<S: ToText>(alloc: Global, items: &[S]) -> Result<Vec<String>, SqlBuilderError>
+    ensures copied { IfOk result (λ copied. texts copied.items ≡ map S.text items.now) }
+    ensures memory { FailsOnlyByMemory result }
+{
+    let mut copied = Vec::with_capacity(alloc, items.len())?;
+    for item in items {
+        copied.push(item.to_text(alloc)?)?;
+    }
+    Ok(copied)
+}
