@@ -3,6 +3,7 @@
 
 mod builder;
 pub mod calls;
+mod chain;
 mod clauses;
 mod phrases;
 mod steps;

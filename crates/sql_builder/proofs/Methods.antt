@@ -1,0 +1,188 @@
+-- The chain calls of each step. A chain call's proof is one use of these.
+use Rattle.sql_builder.proofs.Walking.{[], ◌∷◌, a_type, dcons, dnil, bounded, inst_fn, Ura, Logic, RattleType, SProp}
+use Rattle.sql_builder.proofs.Loans.{Effect, Variant, boolean, constant, generic, slice}
+use Rattle.sql_builder.proofs.ChainCalls as calls
+use mir.Syntax.{Args, Callee, Dict, Fn}
+use contract.Lifetimes.{Lfts}
+use contract.Running.{Running}
+use prog.Model.{Model}
+use prog.Wired.{Wired}
+use denote.Param.Glue.{Met as Drops}
+use denote.Param.Laws.{Laws}
+use denote.RattleType.{Denots}
+use denote.Signature.{types_at}
+use Rattle.std.specs.Prelude.{codes, map}
+use Rattle.sql_parts.specs.Error.{IsMemory}
+use Rattle.sql_parts.specs.declared.text.ToText.{Ghosts}
+use Rattle.sql_parts.specs.contracts.text.ToText.TheBound.{Met}
+use Rattle.sql_builder.specs.Builder.{ClauseTexts, RefusesPair, RefusesText, with_comparison, with_order, with_pair, with_returning, with_text, with_texts}
+use Rattle.sql_builder.proofs.steps.release.Met.{met as release_met}
+use Rattle.sql_builder.proofs.steps.release.Symbol as release_code
+use Rattle.sql_builder.specs.contracts.steps.TextClause as text_clause
+use Rattle.sql_builder.proofs.steps.TextClause.TheLaws as text_clause_laws
+use Rattle.sql_builder.specs.contracts.steps.PairClause as pair_clause
+use Rattle.sql_builder.proofs.steps.PairClause.TheLaws as pair_clause_laws
+use Rattle.sql_builder.specs.contracts.steps.ListClause as list_clause
+use Rattle.sql_builder.proofs.steps.ListClause.TheLaws as list_clause_laws
+use Rattle.sql_builder.specs.contracts.calls.Family as family
+use Rattle.sql_builder.proofs.calls.Family.TheLaws as family_laws
+use Rattle.sql_builder.specs.contracts.calls.Relation as relation
+use Rattle.sql_builder.proofs.calls.Relation.TheLaws as relation_laws
+use Rattle.sql_builder.specs.contracts.builder.SqlBuilder.hold_text as text_step
+use Rattle.sql_builder.proofs.builder.SqlBuilder.hold_text.Met as text_met
+use Rattle.sql_builder.proofs.builder.SqlBuilder.hold_text.Symbol as text_code
+use Rattle.sql_builder.specs.contracts.builder.SqlBuilder.hold_returning_id as returning_id_step
+use Rattle.sql_builder.proofs.builder.SqlBuilder.hold_returning_id.Met as returning_id_met
+use Rattle.sql_builder.proofs.builder.SqlBuilder.hold_returning_id.Symbol as returning_id_code
+use Rattle.sql_builder.specs.contracts.builder.SqlBuilder.hold_pair as pair_step
+use Rattle.sql_builder.proofs.builder.SqlBuilder.hold_pair.Met as pair_met
+use Rattle.sql_builder.proofs.builder.SqlBuilder.hold_pair.Symbol as pair_code
+use Rattle.sql_builder.specs.contracts.builder.SqlBuilder.hold_texts as texts_step
+use Rattle.sql_builder.proofs.builder.SqlBuilder.hold_texts.Met as texts_met
+use Rattle.sql_builder.proofs.builder.SqlBuilder.hold_texts.Symbol as texts_code
+use Rattle.sql_builder.specs.contracts.builder.SqlBuilder.hold_order as order_step
+use Rattle.sql_builder.proofs.builder.SqlBuilder.hold_order.Met as order_met
+use Rattle.sql_builder.proofs.builder.SqlBuilder.hold_order.Symbol as order_code
+use Rattle.sql_builder.specs.contracts.builder.SqlBuilder.hold_comparison as comparison_step
+use Rattle.sql_builder.proofs.builder.SqlBuilder.hold_comparison.Met as comparison_met
+use Rattle.sql_builder.proofs.builder.SqlBuilder.hold_comparison.Symbol as comparison_code
+
+module _ {M : Type 1} (𝓤 : Ura M) (𝓛 : Logic 𝓤) (𝓜 : Model 𝓤 𝓛.H) (𝓡 : Running 𝓤 𝓛.H 𝓜) where
+  -- a call with one text, by its clause
+  module _ (X : Variant text_clause.the_type) (fn : Fn) (name : Args → Callee) (S : RattleType) (LS : Laws S)
+      (s : Ghosts S.Denot) (d : Dict) (d' : Dict)
+      (ms : Met 𝓛 𝓜 𝓡 𝓡.env S s d) (md : Drops 𝓛 𝓜 𝓡 𝓡.env S d') where
+    abbrev pub types-text : Args
+    types-text = bounded (a_type ∷ []) (S, tt) (dcons d (dcons d' dnil))
+
+    abbrev asked-text : (κs : Lfts 2) → Denots (types_at (text_step.signature S).params κs) → SProp 𝓤
+    asked-text κs a = (text_step.clauses S s d d' 𝓛 𝓜.mem 𝓡.returns κs a).requires tt
+
+    abbrev told-text : (κs : Lfts 2) → Denots (types_at (text_step.signature S).params κs) → Effect
+    told-text κs a = record { told = with_text a.1.0 (s.text a.1.1.0) a.0.now; refuses = RefusesText a.1.0 a.0.now }
+
+    pub by_text : calls.Code-text 𝓛 𝓜 𝓡 1 [] (constant 𝓛 text_clause.the_type text_clause_laws.the_plain X) (generic 𝓛 2 0 S LS)
+        asked-text told-text (inst_fn types-text fn) (text_code.name types-text) release_code.name (name types-text)
+        → calls.Coded-text 𝓛 𝓜 𝓡 1 [] (constant 𝓛 text_clause.the_type text_clause_laws.the_plain X) (generic 𝓛 2 0 S LS)
+        asked-text told-text (inst_fn types-text fn) (text_code.name types-text) release_code.name (name types-text)
+        → Wired 𝓡.env text_code.code → Wired 𝓡.env release_code.code
+        → calls.Method-text 𝓛 𝓜 𝓡 1 [] (constant 𝓛 text_clause.the_type text_clause_laws.the_plain X) (generic 𝓛 2 0 S LS)
+        asked-text told-text (inst_fn types-text fn) (text_code.name types-text) release_code.name (name types-text)
+    by_text code closed w w' = calls.by-text 𝓛 𝓜 𝓡 1 [] (constant 𝓛 text_clause.the_type text_clause_laws.the_plain X) (generic 𝓛 2 0 S LS)
+        asked-text told-text (inst_fn types-text fn) (text_code.name types-text) release_code.name (name types-text)
+        code closed (text_met.met 𝓤 𝓛 𝓜 𝓡 w S LS s d d' ms md) (release_met 𝓤 𝓛 𝓜 𝓡 w')
+
+  -- the call without a text
+  module _ (fn : Fn) (name : Callee) where
+    abbrev asked-returning_id : (κs : Lfts 1) → Denots (types_at returning_id_step.signature.params κs) → SProp 𝓤
+    asked-returning_id κs a = (returning_id_step.clauses 𝓛 𝓜.mem 𝓡.returns κs a).requires tt
+
+    abbrev told-returning_id : (κs : Lfts 1) → Denots (types_at returning_id_step.signature.params κs) → Effect
+    told-returning_id κs a = record { told = with_returning (codes "id") a.0.now; refuses = IsMemory }
+
+    pub by_returning_id : calls.Code-bare 𝓛 𝓜 𝓡 0 []
+        asked-returning_id told-returning_id fn returning_id_code.name release_code.name name
+        → calls.Coded-bare 𝓛 𝓜 𝓡 0 []
+        asked-returning_id told-returning_id fn returning_id_code.name release_code.name name
+        → Wired 𝓡.env returning_id_code.code → Wired 𝓡.env release_code.code
+        → calls.Method-bare 𝓛 𝓜 𝓡 0 []
+        asked-returning_id told-returning_id fn returning_id_code.name release_code.name name
+    by_returning_id code closed w w' = calls.by-bare 𝓛 𝓜 𝓡 0 []
+        asked-returning_id told-returning_id fn returning_id_code.name release_code.name name
+        code closed (returning_id_met.met 𝓤 𝓛 𝓜 𝓡 w) (release_met 𝓤 𝓛 𝓜 𝓡 w')
+
+  -- a call with two texts, by its clause
+  module _ (X : Variant pair_clause.the_type) (fn : Fn) (name : Args → Callee) (S T : RattleType) (LS : Laws S) (LT : Laws T)
+      (s : Ghosts S.Denot) (d : Dict) (t : Ghosts T.Denot) (e : Dict) (d' e' : Dict)
+      (ms : Met 𝓛 𝓜 𝓡 𝓡.env S s d) (mt : Met 𝓛 𝓜 𝓡 𝓡.env T t e) (md : Drops 𝓛 𝓜 𝓡 𝓡.env S d') (me : Drops 𝓛 𝓜 𝓡 𝓡.env T e') where
+    abbrev pub types-pair : Args
+    types-pair = bounded (a_type ∷ a_type ∷ []) (S, (T, tt)) (dcons d (dcons e (dcons d' (dcons e' dnil))))
+
+    abbrev asked-pair : (κs : Lfts 3) → Denots (types_at (pair_step.signature S T).params κs) → SProp 𝓤
+    asked-pair κs a = (pair_step.clauses S T s d t e d' e' 𝓛 𝓜.mem 𝓡.returns κs a).requires tt
+
+    abbrev told-pair : (κs : Lfts 3) → Denots (types_at (pair_step.signature S T).params κs) → Effect
+    told-pair κs a = record { told = with_pair a.1.0 (s.text a.1.1.0) (t.text a.1.1.1.0) a.0.now; refuses = RefusesPair a.1.0 a.0.now }
+
+    pub by_pair : calls.Code-pair 𝓛 𝓜 𝓡 2 [] (constant 𝓛 pair_clause.the_type pair_clause_laws.the_plain X) (generic 𝓛 3 0 S LS) (generic 𝓛 3 1 T LT)
+        asked-pair told-pair (inst_fn types-pair fn) (pair_code.name types-pair) release_code.name (name types-pair)
+        → calls.Coded-pair 𝓛 𝓜 𝓡 2 [] (constant 𝓛 pair_clause.the_type pair_clause_laws.the_plain X) (generic 𝓛 3 0 S LS) (generic 𝓛 3 1 T LT)
+        asked-pair told-pair (inst_fn types-pair fn) (pair_code.name types-pair) release_code.name (name types-pair)
+        → Wired 𝓡.env pair_code.code → Wired 𝓡.env release_code.code
+        → calls.Method-pair 𝓛 𝓜 𝓡 2 [] (constant 𝓛 pair_clause.the_type pair_clause_laws.the_plain X) (generic 𝓛 3 0 S LS) (generic 𝓛 3 1 T LT)
+        asked-pair told-pair (inst_fn types-pair fn) (pair_code.name types-pair) release_code.name (name types-pair)
+    by_pair code closed w w' = calls.by-pair 𝓛 𝓜 𝓡 2 [] (constant 𝓛 pair_clause.the_type pair_clause_laws.the_plain X) (generic 𝓛 3 0 S LS) (generic 𝓛 3 1 T LT)
+        asked-pair told-pair (inst_fn types-pair fn) (pair_code.name types-pair) release_code.name (name types-pair)
+        code closed (pair_met.met 𝓤 𝓛 𝓜 𝓡 w S T LS LT s d t e d' e' ms mt md me) (release_met 𝓤 𝓛 𝓜 𝓡 w')
+
+  -- a call with a list of texts, by its clause
+  module _ (X : Variant list_clause.the_type) (fn : Fn) (name : Args → Callee) (S : RattleType) (LS : Laws S)
+      (s : Ghosts S.Denot) (d : Dict) (d' : Dict)
+      (ms : Met 𝓛 𝓜 𝓡 𝓡.env S s d) (md : Drops 𝓛 𝓜 𝓡 𝓡.env S d') where
+    abbrev pub types-texts : Args
+    types-texts = bounded (a_type ∷ []) (S, tt) (dcons d (dcons d' dnil))
+
+    abbrev asked-texts : (κs : Lfts 3) → Denots (types_at (texts_step.signature S).params κs) → SProp 𝓤
+    asked-texts κs a = (texts_step.clauses S s d d' 𝓛 𝓜.mem 𝓡.returns κs a).requires tt
+
+    abbrev told-texts : (κs : Lfts 3) → Denots (types_at (texts_step.signature S).params κs) → Effect
+    told-texts κs a = record { told = with_texts a.1.0 (map s.text a.1.1.0.now) a.0.now; refuses = IsMemory }
+
+    pub by_texts : calls.Code-list 𝓛 𝓜 𝓡 2 ((texts_step.signature S).outlives) (constant 𝓛 list_clause.the_type list_clause_laws.the_plain X) (slice 𝓛 3 1 tt 0 S)
+        asked-texts told-texts (inst_fn types-texts fn) (texts_code.name types-texts) release_code.name (name types-texts)
+        → calls.Coded-list 𝓛 𝓜 𝓡 2 ((texts_step.signature S).outlives) (constant 𝓛 list_clause.the_type list_clause_laws.the_plain X) (slice 𝓛 3 1 tt 0 S)
+        asked-texts told-texts (inst_fn types-texts fn) (texts_code.name types-texts) release_code.name (name types-texts)
+        → Wired 𝓡.env texts_code.code → Wired 𝓡.env release_code.code
+        → calls.Method-list 𝓛 𝓜 𝓡 2 ((texts_step.signature S).outlives) (constant 𝓛 list_clause.the_type list_clause_laws.the_plain X) (slice 𝓛 3 1 tt 0 S)
+        asked-texts told-texts (inst_fn types-texts fn) (texts_code.name types-texts) release_code.name (name types-texts)
+    by_texts code closed w w' = calls.by-list 𝓛 𝓜 𝓡 2 ((texts_step.signature S).outlives) (constant 𝓛 list_clause.the_type list_clause_laws.the_plain X) (slice 𝓛 3 1 tt 0 S)
+        asked-texts told-texts (inst_fn types-texts fn) (texts_code.name types-texts) release_code.name (name types-texts)
+        code closed (texts_met.met 𝓤 𝓛 𝓜 𝓡 w S LS s d d' ms md) (release_met 𝓤 𝓛 𝓜 𝓡 w')
+
+  -- a call with a text and a truth value
+  module _ (fn : Fn) (name : Args → Callee) (S : RattleType) (LS : Laws S)
+      (s : Ghosts S.Denot) (d : Dict) (d' : Dict)
+      (ms : Met 𝓛 𝓜 𝓡 𝓡.env S s d) (md : Drops 𝓛 𝓜 𝓡 𝓡.env S d') where
+    abbrev pub types-order : Args
+    types-order = bounded (a_type ∷ []) (S, tt) (dcons d (dcons d' dnil))
+
+    abbrev asked-order : (κs : Lfts 2) → Denots (types_at (order_step.signature S).params κs) → SProp 𝓤
+    asked-order κs a = (order_step.clauses S s d d' 𝓛 𝓜.mem 𝓡.returns κs a).requires tt
+
+    abbrev told-order : (κs : Lfts 2) → Denots (types_at (order_step.signature S).params κs) → Effect
+    told-order κs a = record { told = with_order a.1.1.0 (s.text a.1.0) a.0.now; refuses = IsMemory }
+
+    pub by_order : calls.Code-flagged 𝓛 𝓜 𝓡 1 [] (generic 𝓛 2 0 S LS) (boolean 𝓛 2)
+        asked-order told-order (inst_fn types-order fn) (order_code.name types-order) release_code.name (name types-order)
+        → calls.Coded-flagged 𝓛 𝓜 𝓡 1 [] (generic 𝓛 2 0 S LS) (boolean 𝓛 2)
+        asked-order told-order (inst_fn types-order fn) (order_code.name types-order) release_code.name (name types-order)
+        → Wired 𝓡.env order_code.code → Wired 𝓡.env release_code.code
+        → calls.Method-flagged 𝓛 𝓜 𝓡 1 [] (generic 𝓛 2 0 S LS) (boolean 𝓛 2)
+        asked-order told-order (inst_fn types-order fn) (order_code.name types-order) release_code.name (name types-order)
+    by_order code closed w w' = calls.by-flagged 𝓛 𝓜 𝓡 1 [] (generic 𝓛 2 0 S LS) (boolean 𝓛 2)
+        asked-order told-order (inst_fn types-order fn) (order_code.name types-order) release_code.name (name types-order)
+        code closed (order_met.met 𝓤 𝓛 𝓜 𝓡 w S LS s d d' ms md) (release_met 𝓤 𝓛 𝓜 𝓡 w')
+
+  -- a call that compares two texts, by its family and its relation
+  module _ (X : Variant family.the_type) (Y : Variant relation.the_type) (fn : Fn) (name : Args → Callee) (S T : RattleType) (LS : Laws S) (LT : Laws T)
+      (s : Ghosts S.Denot) (d : Dict) (t : Ghosts T.Denot) (e : Dict) (d' e' : Dict)
+      (ms : Met 𝓛 𝓜 𝓡 𝓡.env S s d) (mt : Met 𝓛 𝓜 𝓡 𝓡.env T t e) (md : Drops 𝓛 𝓜 𝓡 𝓡.env S d') (me : Drops 𝓛 𝓜 𝓡 𝓡.env T e') where
+    abbrev pub types-comparison : Args
+    types-comparison = bounded (a_type ∷ a_type ∷ []) (S, (T, tt)) (dcons d (dcons e (dcons d' (dcons e' dnil))))
+
+    abbrev asked-comparison : (κs : Lfts 3) → Denots (types_at (comparison_step.signature S T).params κs) → SProp 𝓤
+    asked-comparison κs a = (comparison_step.clauses S T s d t e d' e' 𝓛 𝓜.mem 𝓡.returns κs a).requires tt
+
+    abbrev told-comparison : (κs : Lfts 3) → Denots (types_at (comparison_step.signature S T).params κs) → Effect
+    told-comparison κs a = record { told = with_comparison a.1.0 a.1.1.0 (s.text a.1.1.1.0) (t.text a.1.1.1.1.0) a.0.now; refuses = IsMemory }
+
+    pub by_comparison : calls.Code-comparison 𝓛 𝓜 𝓡 2 [] (constant 𝓛 family.the_type family_laws.the_plain X) (constant 𝓛 relation.the_type relation_laws.the_plain Y) (generic 𝓛 3 0 S LS) (generic 𝓛 3 1 T LT)
+        asked-comparison told-comparison (inst_fn types-comparison fn) (comparison_code.name types-comparison) release_code.name (name types-comparison)
+        → calls.Coded-comparison 𝓛 𝓜 𝓡 2 [] (constant 𝓛 family.the_type family_laws.the_plain X) (constant 𝓛 relation.the_type relation_laws.the_plain Y) (generic 𝓛 3 0 S LS) (generic 𝓛 3 1 T LT)
+        asked-comparison told-comparison (inst_fn types-comparison fn) (comparison_code.name types-comparison) release_code.name (name types-comparison)
+        → Wired 𝓡.env comparison_code.code → Wired 𝓡.env release_code.code
+        → calls.Method-comparison 𝓛 𝓜 𝓡 2 [] (constant 𝓛 family.the_type family_laws.the_plain X) (constant 𝓛 relation.the_type relation_laws.the_plain Y) (generic 𝓛 3 0 S LS) (generic 𝓛 3 1 T LT)
+        asked-comparison told-comparison (inst_fn types-comparison fn) (comparison_code.name types-comparison) release_code.name (name types-comparison)
+    by_comparison code closed w w' = calls.by-comparison 𝓛 𝓜 𝓡 2 [] (constant 𝓛 family.the_type family_laws.the_plain X) (constant 𝓛 relation.the_type relation_laws.the_plain Y) (generic 𝓛 3 0 S LS) (generic 𝓛 3 1 T LT)
+        asked-comparison told-comparison (inst_fn types-comparison fn) (comparison_code.name types-comparison) release_code.name (name types-comparison)
+        code closed (comparison_met.met 𝓤 𝓛 𝓜 𝓡 w S T LS LT s d t e d' e' ms mt md me) (release_met 𝓤 𝓛 𝓜 𝓡 w')

@@ -1,0 +1,307 @@
+//! The calls that tell a builder a clause. Each gives the builder back, so that calls form a chain.
+ghost use Rattle.std.specs.Prelude.{[], ◌∷◌, codes, false, map, true, IfErr};
+ghost use Rattle.sql_parts.specs.Error.{FailsOnlyByMemory};
+ghost use Rattle.sql_parts.specs.Quoting.{quoted};
+ghost use Rattle.sql_builder.specs.Layout.{byte_atoms};
+ghost use Rattle.sql_builder.specs.Phrases.{count, count_as, equation};
+
+use crate::builder::SqlBuilder;
+use crate::calls::{Family, Relation};
+use crate::steps::{ListClause, PairClause, TextClause, release};
+use sql_parts::{SqlBuilderError, ToText};
+
+impl SqlBuilder {
+    ghost use Rattle.std.specs.Borrow.{sem};
+    ghost use Rattle.sql_builder.specs.Builder.{RefusesConstraint, with_comparison, with_condition, with_fields, with_fields_set, with_group_field, with_having, with_join, with_limit, with_offset, with_on, with_order, with_query, with_returning, with_row, with_set, with_table, with_union};
+    ghost use Rattle.sql_builder.specs.Chaining.{IsUnchangedIfErr, IsChangedTo};
+    ghost use Rattle.sql_builder.specs.declared.calls.Family.TheVariants.{And};
+    ghost use Rattle.sql_builder.specs.declared.calls.Relation.TheVariants.{Gt};
+
+    /// Adds a table: appends `, ` and the table to the table text, also to an empty one.
+    pub fn and_table<S: ToText>(&mut self, table: S) -> Result<&mut Self, SqlBuilderError>
+        ensures* refused { sem 𝓛 (IsUnchangedIfErr self.entry result) }
+        ensures changed { IsChangedTo self.entry (with_table (S.text table) self.old) result }
+        ensures memory { FailsOnlyByMemory result }
+    {
+        release(self.hold_text(TextClause::AndTable, table))
+    }
+
+    /// Adds a join with this table, NATURAL where `natural` waits for it, with the operator in force.
+    pub fn join<S: ToText>(&mut self, table: S) -> Result<&mut Self, SqlBuilderError>
+        ensures* refused { sem 𝓛 (IsUnchangedIfErr self.entry result) }
+        ensures changed { IsChangedTo self.entry (with_join (S.text table) self.old) result }
+        ensures memory { FailsOnlyByMemory result }
+    {
+        release(self.hold_text(TextClause::Join, table))
+    }
+
+    /// Adds a constraint to the last join. Without a join it does nothing, and takes no memory.
+    pub fn on<S: ToText>(&mut self, constraint: S) -> Result<&mut Self, SqlBuilderError>
+        ensures* refused { sem 𝓛 (IsUnchangedIfErr self.entry result) }
+        ensures changed { IsChangedTo self.entry (with_on (S.text constraint) self.old) result }
+        ensures memory { IfErr result (RefusesConstraint self.old) }
+    {
+        release(self.hold_text(TextClause::On, constraint))
+    }
+
+    /// Adds the constraint `left = right` to the last join. Without a join it does nothing, and takes
+    /// no memory.
+    pub fn on_eq<S: ToText, T: ToText>(
+        &mut self,
+        left: S,
+        right: T,
+    ) -> Result<&mut Self, SqlBuilderError>
+        ensures* refused { sem 𝓛 (IsUnchangedIfErr self.entry result) }
+        ensures changed { IsChangedTo self.entry
+            (with_on (equation byte_atoms (S.text left) (T.text right)) self.old) result }
+        ensures memory { IfErr result (RefusesConstraint self.old) }
+    {
+        release(self.hold_pair(PairClause::OnEq, left, right))
+    }
+
+    /// Appends fields.
+    pub fn fields<S: ToText>(&mut self, fields: &[S]) -> Result<&mut Self, SqlBuilderError>
+        ensures* refused { sem 𝓛 (IsUnchangedIfErr self.entry result) }
+        ensures changed { IsChangedTo self.entry
+            (with_fields (map S.text fields.now) self.old) result }
+        ensures memory { FailsOnlyByMemory result }
+    {
+        release(self.hold_texts(ListClause::Fields, fields))
+    }
+
+    /// Puts these fields in the place of all others.
+    pub fn set_fields<S: ToText>(&mut self, fields: &[S]) -> Result<&mut Self, SqlBuilderError>
+        ensures* refused { sem 𝓛 (IsUnchangedIfErr self.entry result) }
+        ensures changed { IsChangedTo self.entry
+            (with_fields_set (map S.text fields.now) self.old) result }
+        ensures memory { FailsOnlyByMemory result }
+    {
+        release(self.hold_texts(ListClause::SetFields, fields))
+    }
+
+    /// Appends a field.
+    pub fn field<S: ToText>(&mut self, field: S) -> Result<&mut Self, SqlBuilderError>
+        ensures* refused { sem 𝓛 (IsUnchangedIfErr self.entry result) }
+        ensures changed { IsChangedTo self.entry
+            (with_fields (S.text field ∷ []) self.old) result }
+        ensures memory { FailsOnlyByMemory result }
+    {
+        release(self.hold_text(TextClause::Field, field))
+    }
+
+    /// Puts this field in the place of all others.
+    pub fn set_field<S: ToText>(&mut self, field: S) -> Result<&mut Self, SqlBuilderError>
+        ensures* refused { sem 𝓛 (IsUnchangedIfErr self.entry result) }
+        ensures changed { IsChangedTo self.entry
+            (with_fields_set (S.text field ∷ []) self.old) result }
+        ensures memory { FailsOnlyByMemory result }
+    {
+        release(self.hold_text(TextClause::SetField, field))
+    }
+
+    /// Appends the field `COUNT(field)`.
+    pub fn count<S: ToText>(&mut self, field: S) -> Result<&mut Self, SqlBuilderError>
+        ensures* refused { sem 𝓛 (IsUnchangedIfErr self.entry result) }
+        ensures changed { IsChangedTo self.entry
+            (with_fields (count byte_atoms (S.text field) ∷ []) self.old) result }
+        ensures memory { FailsOnlyByMemory result }
+    {
+        release(self.hold_text(TextClause::Count, field))
+    }
+
+    /// Appends the field `COUNT(field) AS name`.
+    pub fn count_as<S: ToText, T: ToText>(
+        &mut self,
+        field: S,
+        name: T,
+    ) -> Result<&mut Self, SqlBuilderError>
+        ensures* refused { sem 𝓛 (IsUnchangedIfErr self.entry result) }
+        ensures changed { IsChangedTo self.entry
+            (with_fields (count_as byte_atoms (S.text field) (T.text name) ∷ []) self.old) result }
+        ensures memory { FailsOnlyByMemory result }
+    {
+        release(self.hold_pair(PairClause::CountAs, field, name))
+    }
+
+    /// Adds `field = value` to what UPDATE sets.
+    pub fn set<S: ToText, T: ToText>(
+        &mut self,
+        field: S,
+        value: T,
+    ) -> Result<&mut Self, SqlBuilderError>
+        ensures* refused { sem 𝓛 (IsUnchangedIfErr self.entry result) }
+        ensures changed { IsChangedTo self.entry
+            (with_set (equation byte_atoms (S.text field) (T.text value)) self.old) result }
+        ensures memory { FailsOnlyByMemory result }
+    {
+        release(self.hold_pair(PairClause::SetTo, field, value))
+    }
+
+    /// Adds `field = 'value'` to what UPDATE sets, the value between single quotes as `quote` writes it.
+    pub fn set_str<S: ToText, T: ToText>(
+        &mut self,
+        field: S,
+        value: T,
+    ) -> Result<&mut Self, SqlBuilderError>
+        ensures* refused { sem 𝓛 (IsUnchangedIfErr self.entry result) }
+        ensures changed { IsChangedTo self.entry
+            (with_set (equation byte_atoms (S.text field) (quoted (T.text value))) self.old) result }
+        ensures memory { FailsOnlyByMemory result }
+    {
+        release(self.hold_pair(PairClause::SetStr, field, value))
+    }
+
+    /// Adds a row to an INSERT, the values in brackets, and drops its query.
+    pub fn values<S: ToText>(&mut self, values: &[S]) -> Result<&mut Self, SqlBuilderError>
+        ensures* refused { sem 𝓛 (IsUnchangedIfErr self.entry result) }
+        ensures changed { IsChangedTo self.entry
+            (with_row (map S.text values.now) self.old) result }
+        ensures memory { FailsOnlyByMemory result }
+    {
+        release(self.hold_texts(ListClause::Values, values))
+    }
+
+    /// Gives an INSERT this query, and drops all rows.
+    pub fn select<S: ToText>(&mut self, query: S) -> Result<&mut Self, SqlBuilderError>
+        ensures* refused { sem 𝓛 (IsUnchangedIfErr self.entry result) }
+        ensures changed { IsChangedTo self.entry (with_query (S.text query) self.old) result }
+        ensures memory { FailsOnlyByMemory result }
+    {
+        release(self.hold_text(TextClause::Select, query))
+    }
+
+    /// What RETURNING returns; the last call counts.
+    pub fn returning<S: ToText>(&mut self, fields: S) -> Result<&mut Self, SqlBuilderError>
+        ensures* refused { sem 𝓛 (IsUnchangedIfErr self.entry result) }
+        ensures changed { IsChangedTo self.entry
+            (with_returning (S.text fields) self.old) result }
+        ensures memory { FailsOnlyByMemory result }
+    {
+        release(self.hold_text(TextClause::Returning, fields))
+    }
+
+    /// RETURNING id; the last call counts.
+    pub fn returning_id(&mut self) -> Result<&mut Self, SqlBuilderError>
+        ensures* refused { sem 𝓛 (IsUnchangedIfErr self.entry result) }
+        ensures changed { IsChangedTo self.entry (with_returning (codes "id") self.old) result }
+        ensures memory { FailsOnlyByMemory result }
+    {
+        release(self.hold_returning_id())
+    }
+
+    /// Appends a field to GROUP BY.
+    pub fn group_by<S: ToText>(&mut self, field: S) -> Result<&mut Self, SqlBuilderError>
+        ensures* refused { sem 𝓛 (IsUnchangedIfErr self.entry result) }
+        ensures changed { IsChangedTo self.entry
+            (with_group_field (S.text field) self.old) result }
+        ensures memory { FailsOnlyByMemory result }
+    {
+        release(self.hold_text(TextClause::GroupBy, field))
+    }
+
+    /// The condition of HAVING; the last call counts.
+    pub fn having<S: ToText>(&mut self, condition: S) -> Result<&mut Self, SqlBuilderError>
+        ensures* refused { sem 𝓛 (IsUnchangedIfErr self.entry result) }
+        ensures changed { IsChangedTo self.entry
+            (with_having (S.text condition) self.old) result }
+        ensures memory { FailsOnlyByMemory result }
+    {
+        release(self.hold_text(TextClause::Having, condition))
+    }
+
+    /// Appends UNION and the query.
+    pub fn union<S: ToText>(&mut self, query: S) -> Result<&mut Self, SqlBuilderError>
+        ensures* refused { sem 𝓛 (IsUnchangedIfErr self.entry result) }
+        ensures changed { IsChangedTo self.entry
+            (with_union false (S.text query) self.old) result }
+        ensures memory { FailsOnlyByMemory result }
+    {
+        release(self.hold_text(TextClause::Union, query))
+    }
+
+    /// Appends UNION ALL and the query.
+    pub fn union_all<S: ToText>(&mut self, query: S) -> Result<&mut Self, SqlBuilderError>
+        ensures* refused { sem 𝓛 (IsUnchangedIfErr self.entry result) }
+        ensures changed { IsChangedTo self.entry
+            (with_union true (S.text query) self.old) result }
+        ensures memory { FailsOnlyByMemory result }
+    {
+        release(self.hold_text(TextClause::UnionAll, query))
+    }
+
+    /// Appends a field to ORDER BY, with DESC where it is descending.
+    pub fn order_by<S: ToText>(
+        &mut self,
+        field: S,
+        descending: bool,
+    ) -> Result<&mut Self, SqlBuilderError>
+        ensures* refused { sem 𝓛 (IsUnchangedIfErr self.entry result) }
+        ensures changed { IsChangedTo self.entry
+            (with_order descending (S.text field) self.old) result }
+        ensures memory { FailsOnlyByMemory result }
+    {
+        release(self.hold_order(field, descending))
+    }
+
+    /// Appends a field to ORDER BY.
+    pub fn order_asc<S: ToText>(&mut self, field: S) -> Result<&mut Self, SqlBuilderError>
+        ensures* refused { sem 𝓛 (IsUnchangedIfErr self.entry result) }
+        ensures changed { IsChangedTo self.entry
+            (with_order false (S.text field) self.old) result }
+        ensures memory { FailsOnlyByMemory result }
+    {
+        release(self.hold_text(TextClause::OrderAsc, field))
+    }
+
+    /// Appends a field with DESC to ORDER BY.
+    pub fn order_desc<S: ToText>(&mut self, field: S) -> Result<&mut Self, SqlBuilderError>
+        ensures* refused { sem 𝓛 (IsUnchangedIfErr self.entry result) }
+        ensures changed { IsChangedTo self.entry
+            (with_order true (S.text field) self.old) result }
+        ensures memory { FailsOnlyByMemory result }
+    {
+        release(self.hold_text(TextClause::OrderDesc, field))
+    }
+
+    /// The text of LIMIT; the last call counts.
+    pub fn limit<S: ToText>(&mut self, limit: S) -> Result<&mut Self, SqlBuilderError>
+        ensures* refused { sem 𝓛 (IsUnchangedIfErr self.entry result) }
+        ensures changed { IsChangedTo self.entry (with_limit (S.text limit) self.old) result }
+        ensures memory { FailsOnlyByMemory result }
+    {
+        release(self.hold_text(TextClause::Limit, limit))
+    }
+
+    /// The text of OFFSET; the last call counts.
+    pub fn offset<S: ToText>(&mut self, offset: S) -> Result<&mut Self, SqlBuilderError>
+        ensures* refused { sem 𝓛 (IsUnchangedIfErr self.entry result) }
+        ensures changed { IsChangedTo self.entry (with_offset (S.text offset) self.old) result }
+        ensures memory { FailsOnlyByMemory result }
+    {
+        release(self.hold_text(TextClause::Offset, offset))
+    }
+
+    /// Adds a condition, in a group of its own.
+    pub fn and_where<S: ToText>(&mut self, condition: S) -> Result<&mut Self, SqlBuilderError>
+        ensures* refused { sem 𝓛 (IsUnchangedIfErr self.entry result) }
+        ensures changed { IsChangedTo self.entry
+            (with_condition And (S.text condition) self.old) result }
+        ensures memory { FailsOnlyByMemory result }
+    {
+        release(self.hold_text(TextClause::AndWhere, condition))
+    }
+
+    /// Adds the condition `field > value`, in a group of its own.
+    pub fn and_where_gt<S: ToText, T: ToText>(
+        &mut self,
+        field: S,
+        value: T,
+    ) -> Result<&mut Self, SqlBuilderError>
+        ensures* refused { sem 𝓛 (IsUnchangedIfErr self.entry result) }
+        ensures changed { IsChangedTo self.entry
+            (with_comparison And Gt (S.text field) (T.text value) self.old) result }
+        ensures memory { FailsOnlyByMemory result }
+    {
+        release(self.hold_comparison(Family::And, Relation::Gt, field, value))
+    }
+}
