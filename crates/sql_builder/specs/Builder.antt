@@ -14,6 +14,7 @@ use Rattle.sql_builder.specs.declared.calls.Relation.{Relation}
 use Rattle.sql_builder.specs.declared.clauses.Join.{Join}
 use Rattle.sql_builder.specs.declared.clauses.JoinOperator.{JoinOperator}
 use Rattle.sql_builder.specs.declared.clauses.JoinOperator.TheVariants as operator
+use Rattle.sql_builder.specs.declared.clauses.Union.{Union}
 use Rattle.sql_builder.specs.declared.steps.ListClause.{ListClause}
 use Rattle.sql_builder.specs.declared.steps.ListClause.TheVariants as list
 use Rattle.sql_builder.specs.declared.steps.PairClause.{PairClause}
@@ -32,6 +33,10 @@ texts strings = map (λ s. string_bytes s) strings
 -- a join's text, with its constraints behind it
 abbrev pub join_text : Join → List ℕ
 join_text j = join byte_atoms j.natural j.operator (string_bytes j.table) ++ flat_map (constraint byte_atoms) (texts j.constraints.items)
+
+-- a query that UNION adds, and whether it is of all rows
+abbrev pub union_text : Union → Bool × List ℕ
+union_text union = (union.all, string_bytes union.query)
 
 -- the table text, with the further tables behind it
 abbrev pub table_text : {Z : Type 0} → String Z → List (String Z) → List ℕ

@@ -6,8 +6,8 @@ ghost use Rattle.sql_builder.specs.Calls.{SelectFrom, SelectValues, InsertInto, 
 ghost use Rattle.sql_builder.specs.Chaining.{released_builder};
 ghost use Rattle.sql_builder.specs.Clauses.{new_clauses};
 
-use crate::clauses::{Join, JoinOperator, Kind, Union};
-use crate::texts::copies;
+use crate::clauses::{Join, JoinOperator, Kind, Union, copy_joins, copy_unions};
+use crate::texts::{copies, copy};
 use sql_parts::{SqlBuilderError, ToText};
 use std::alloc::Global;
 use std::marker::Model;
@@ -44,7 +44,7 @@ pub struct SqlBuilder {
 impl Model for SqlBuilder {
     ghost use Rattle.std.specs.Prelude.{List, ℕ, map, option_map};
     ghost use Rattle.std.specs.String.{string_bytes};
-    ghost use Rattle.sql_builder.specs.Builder.{join_text, table_text, texts};
+    ghost use Rattle.sql_builder.specs.Builder.{join_text, table_text, texts, union_text};
     ghost use Rattle.sql_builder.specs.Clauses.{Clauses};
 
     ghost Value = { Clauses (List ℕ) };
@@ -64,7 +64,7 @@ impl Model for SqlBuilder {
       group_fields = texts b.group_fields.items;
       having = option_map string_bytes b.having;
       groups = texts b.groups.items;
-      unions = map (λ union. (union.all, string_bytes union.query)) b.unions.items;
+      unions = map union_text b.unions.items;
       order_fields = texts b.order_fields.items;
       limit = option_map string_bytes b.limit;
       offset = option_map string_bytes b.offset;
@@ -155,5 +155,35 @@ impl SqlBuilder {
         ensures memory { FailsOnlyByMemory result }
     {
         SqlBuilder::with_table(alloc, Kind::DeleteFrom, table)
+    }
+
+    /// An equal builder. It is refused only for want of memory.
+    pub fn clone(&self) -> Result<SqlBuilder, SqlBuilderError>
+        ensures equal { IfOk result (λ b. b ≡ self.now) }
+        ensures memory { FailsOnlyByMemory result }
+    {
+        let alloc = self.alloc;
+        Ok(SqlBuilder {
+            alloc,
+            kind: self.kind,
+            table: self.table.to_text(alloc)?,
+            further_tables: copies(alloc, &self.further_tables)?,
+            joins: copy_joins(alloc, &self.joins)?,
+            operator: self.operator,
+            natural: self.natural,
+            distinct: self.distinct,
+            fields: copies(alloc, &self.fields)?,
+            sets: copies(alloc, &self.sets)?,
+            rows: copies(alloc, &self.rows)?,
+            query: copy(alloc, &self.query)?,
+            returning: copy(alloc, &self.returning)?,
+            group_fields: copies(alloc, &self.group_fields)?,
+            having: copy(alloc, &self.having)?,
+            groups: copies(alloc, &self.groups)?,
+            unions: copy_unions(alloc, &self.unions)?,
+            order_fields: copies(alloc, &self.order_fields)?,
+            limit: copy(alloc, &self.limit)?,
+            offset: copy(alloc, &self.offset)?,
+        })
     }
 }

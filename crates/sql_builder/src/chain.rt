@@ -1,5 +1,5 @@
 //! The calls that tell a builder a clause. Each gives the builder back, so that calls form a chain.
-ghost use Rattle.std.specs.Prelude.{[], ◌∷◌, codes, false, map, true, IfErr};
+ghost use Rattle.std.specs.Prelude.{◌≡◌, [], ◌∷◌, codes, false, map, true, IfErr};
 ghost use Rattle.sql_parts.specs.Error.{FailsOnlyByMemory};
 ghost use Rattle.sql_parts.specs.Quoting.{quoted};
 ghost use Rattle.sql_builder.specs.Layout.{byte_atoms};
@@ -7,6 +7,7 @@ ghost use Rattle.sql_builder.specs.Phrases.{count, count_as, equation};
 
 use crate::builder::SqlBuilder;
 use crate::calls::{Family, Relation};
+use crate::clauses::JoinOperator;
 use crate::steps::{ListClause, PairClause, TextClause, release};
 use sql_parts::{SqlBuilderError, ToText};
 
@@ -303,5 +304,82 @@ impl SqlBuilder {
         ensures memory { FailsOnlyByMemory result }
     {
         release(self.hold_comparison(Family::And, Relation::Gt, field, value))
+    }
+}
+
+impl SqlBuilder {
+    ghost use Rattle.sql_builder.specs.Builder.{with_distinct, with_natural, with_operator};
+    ghost use Rattle.sql_builder.specs.declared.clauses.JoinOperator.TheVariants.{Left, LeftOuter, Right, RightOuter, Inner, Cross};
+
+    /// The next join is NATURAL. It takes no memory, and gives the builder back.
+    pub fn natural(&mut self) -> &mut Self
+        ensures same { result.ghost_name ≡ self.entry.ghost_name }
+        ensures changed { result.now ≡ with_natural self.old }
+    {
+        self.natural = true;
+        self
+    }
+
+    /// The joins to come are LEFT joins. It takes no memory, and gives the builder back.
+    pub fn left(&mut self) -> &mut Self
+        ensures same { result.ghost_name ≡ self.entry.ghost_name }
+        ensures changed { result.now ≡ with_operator Left self.old }
+    {
+        self.operator = Some(JoinOperator::Left);
+        self
+    }
+
+    /// The joins to come are LEFT OUTER joins. It takes no memory, and gives the builder back.
+    pub fn left_outer(&mut self) -> &mut Self
+        ensures same { result.ghost_name ≡ self.entry.ghost_name }
+        ensures changed { result.now ≡ with_operator LeftOuter self.old }
+    {
+        self.operator = Some(JoinOperator::LeftOuter);
+        self
+    }
+
+    /// The joins to come are RIGHT joins. It takes no memory, and gives the builder back.
+    pub fn right(&mut self) -> &mut Self
+        ensures same { result.ghost_name ≡ self.entry.ghost_name }
+        ensures changed { result.now ≡ with_operator Right self.old }
+    {
+        self.operator = Some(JoinOperator::Right);
+        self
+    }
+
+    /// The joins to come are RIGHT OUTER joins. It takes no memory, and gives the builder back.
+    pub fn right_outer(&mut self) -> &mut Self
+        ensures same { result.ghost_name ≡ self.entry.ghost_name }
+        ensures changed { result.now ≡ with_operator RightOuter self.old }
+    {
+        self.operator = Some(JoinOperator::RightOuter);
+        self
+    }
+
+    /// The joins to come are INNER joins. It takes no memory, and gives the builder back.
+    pub fn inner(&mut self) -> &mut Self
+        ensures same { result.ghost_name ≡ self.entry.ghost_name }
+        ensures changed { result.now ≡ with_operator Inner self.old }
+    {
+        self.operator = Some(JoinOperator::Inner);
+        self
+    }
+
+    /// The joins to come are CROSS joins. It takes no memory, and gives the builder back.
+    pub fn cross(&mut self) -> &mut Self
+        ensures same { result.ghost_name ≡ self.entry.ghost_name }
+        ensures changed { result.now ≡ with_operator Cross self.old }
+    {
+        self.operator = Some(JoinOperator::Cross);
+        self
+    }
+
+    /// Selects equal rows once. It takes no memory, and gives the builder back.
+    pub fn distinct(&mut self) -> &mut Self
+        ensures same { result.ghost_name ≡ self.entry.ghost_name }
+        ensures changed { result.now ≡ with_distinct self.old }
+    {
+        self.distinct = true;
+        self
     }
 }

@@ -1,11 +1,13 @@
 //! What a builder keeps of its clauses.
-ghost use Rattle.std.specs.Prelude.{◌≡◌, ◌++◌, map, string_bytes, OnOk, OnErr};
+ghost use Rattle.std.specs.Prelude.{◌≡◌, ◌++◌, map, string_bytes, IfOk, OnOk, OnErr};
 ghost use Rattle.sql_parts.specs.Error.{FailsOnlyByMemory};
-ghost use Rattle.sql_builder.specs.Builder.{extend_last, join_text};
+ghost use Rattle.sql_builder.specs.Builder.{extend_last, join_text, union_text};
 ghost use Rattle.sql_builder.specs.Layout.{byte_atoms};
 ghost use Rattle.sql_builder.specs.Phrases.{constraint};
 
-use sql_parts::SqlBuilderError;
+use crate::texts::copies;
+use sql_parts::{SqlBuilderError, ToText};
+use std::alloc::Global;
 
 /// The kind of a statement.
 #[derive(Clone, Copy)]
@@ -67,4 +69,44 @@ pub(crate) fn constrain_last(joins: &mut [Join], condition: String) -> Result<()
         Some(join) => join.push(condition),
         None => Ok(()),
     }
+}
+
+impl Join {
+    fn copy(&self, alloc: Global) -> Result<Join, SqlBuilderError>
+        ensures copied { IfOk result (λ copied. join_text copied ≡ join_text self.now) }
+        ensures memory { FailsOnlyByMemory result }
+    {
+        Ok(Join {
+            natural: self.natural,
+            operator: self.operator,
+            table: self.table.to_text(alloc)?,
+            constraints: copies(alloc, &self.constraints)?,
+        })
+    }
+}
+
+pub(crate) fn copy_joins(alloc: Global, joins: &[Join]) -> Result<Vec<Join>, SqlBuilderError>
+    ensures copied { IfOk result (λ copied. map join_text copied.items ≡ map join_text joins.now) }
+    ensures memory { FailsOnlyByMemory result }
+{
+    let mut copied = Vec::with_capacity(alloc, joins.len())?;
+    for join in joins {
+        copied.push(join.copy(alloc)?)?;
+    }
+    Ok(copied)
+}
+
+pub(crate) fn copy_unions(alloc: Global, unions: &[Union]) -> Result<Vec<Union>, SqlBuilderError>
+    ensures copied { IfOk result (λ copied. map union_text copied.items ≡ map union_text unions.now) }
+    ensures memory { FailsOnlyByMemory result }
+{
+    let mut copied = Vec::with_capacity(alloc, unions.len())?;
+    for union in unions {
+        let query = union.query.to_text(alloc)?;
+        copied.push(Union {
+            all: union.all,
+            query,
+        })?;
+    }
+    Ok(copied)
 }

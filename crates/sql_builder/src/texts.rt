@@ -1,5 +1,5 @@
 //! Copies of lists of texts.
-ghost use Rattle.std.specs.Prelude.{◌≡◌, map, IfOk};
+ghost use Rattle.std.specs.Prelude.{◌≡◌, map, option_map, string_bytes, IfOk};
 ghost use Rattle.sql_parts.specs.Error.{FailsOnlyByMemory};
 ghost use Rattle.sql_builder.specs.Builder.{texts};
 
@@ -16,4 +16,15 @@ pub(crate) fn copies<S: ToText>(alloc: Global, items: &[S]) -> Result<Vec<String
         copied.push(item.to_text(alloc)?)?;
     }
     Ok(copied)
+}
+
+/// The text, if there is one.
+pub(crate) fn copy(alloc: Global, text: &Option<String>) -> Result<Option<String>, SqlBuilderError>
+    ensures copied { IfOk result (λ copied. option_map string_bytes copied ≡ option_map string_bytes text.now) }
+    ensures memory { FailsOnlyByMemory result }
+{
+    match text {
+        Some(text) => Ok(Some(text.to_text(alloc)?)),
+        None => Ok(None),
+    }
 }
