@@ -1,5 +1,5 @@
 -- One more call, and the joins of a list of calls.
-use Rattle.std.proofs.Common.{◌≡◌, ℕ, List, [], ◌∷◌, ◌++◌, Option, Bool, true, false, if◌then◌else◌, flat_map, refl, ap, sym, ◌∙◌, append_assoc}
+use Rattle.std.proofs.Common.{◌≡◌, ℕ, List, [], ◌∷◌, ◌++◌, Option, Bool, false, if◌then◌else◌, flat_map, refl, ap, sym, ◌∙◌, append_assoc}
 use Rattle.std.proofs.lemmas.List.{append-nil}
 use Rattle.sql_builder.specs.Builder.{extend_last}
 use Rattle.sql_builder.specs.Calls.{CallText, Join, On, OnEq, constraint_in, is_join, join_in, joins_of, natural_of, operator_of}

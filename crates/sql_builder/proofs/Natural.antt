@@ -1,10 +1,12 @@
 -- The layout in one kind of atom becomes the layout in another by a map that keeps `++` and the product's words.
-use Rattle.std.proofs.Common.{◌≡◌, ℕ, List, [], ◌∷◌, ◌++◌, Option, None, Some, Bool, true, false, map, codes, flat_map, refl, ap, ◌∙◌}
+use Rattle.std.proofs.Common.{◌≡◌, ℕ, List, [], ◌∷◌, ◌++◌, Option, None, Some, Bool, map, codes, flat_map, refl, ap, ◌∙◌}
 use Rattle.std.proofs.lemmas.List.{map-append}
 use Rattle.std.specs.Prelude.{option_map}
+use Rattle.sql_builder.specs.Calls.{FinishText, Sql, Query, QueryValues, Subquery, SubqueryAs}
 use Rattle.sql_builder.specs.Clauses.{Clauses, map_clauses}
-use Rattle.sql_builder.specs.Layout.{concat_sections, delete_sections, fields_or_star, group_by_sections, insert_sections, insert_target, list_sections, optional_section, order_by_sections, query, query_sections, query_values, range_sections, returning_sections, Section, section, sql, statement_sections, subquery, subquery_as, table_and_joins, union_sections, update_sections, values_sections, where_sections}
+use Rattle.sql_builder.specs.Layout.{concat_sections, fields_or_star, group_by_sections, insert_sections, insert_target, list_sections, optional_section, order_by_sections, query, query_sections, query_values, Section, section, sql, statement_sections, subquery, subquery_as, table_and_joins, union_sections, values_sections, where_sections}
 use Rattle.sql_builder.specs.Phrases.{comma_list, in_brackets, row}
+use Rattle.sql_builder.specs.Statement.{layout_at}
 use Rattle.sql_builder.specs.Text.{join_with}
 use Rattle.sql_builder.specs.declared.clauses.Kind.{Kind}
 use Rattle.sql_builder.specs.declared.clauses.Kind.TheVariants.{SelectFrom, SelectValues, InsertInto, UpdateTable, DeleteFrom}
@@ -90,21 +92,30 @@ module _ {A B : Type 0} (word : List ℕ → List A) (word' : List ℕ → List 
   sections_in_form UpdateTable r = simp (map-append, joined_in_form, where_in_form, optional_in_form)
   sections_in_form DeleteFrom r = simp where_in_form
 
-  pub layout_of_sql : (r : Clauses (List A)) → f (sql word r) ≡ sql word' (map_clauses f r)
+  layout_of_sql : (r : Clauses (List A)) → f (sql word r) ≡ sql word' (map_clauses f r)
   layout_of_sql r = app (concat_sections word (statement_sections word r.kind r)) (word (codes ";")) ∙ simp (words, concat_in_form, sections_in_form)
 
-  pub layout_of_query : (r : Clauses (List A)) → f (query word r) ≡ query word' (map_clauses f r)
+  layout_of_query : (r : Clauses (List A)) → f (query word r) ≡ query word' (map_clauses f r)
   layout_of_query r = concat_in_form (query_sections word r) ∙ ap (concat_sections word') (query_in_form r)
 
-  pub layout_of_query_values : (r : Clauses (List A)) → f (query_values word r) ≡ query_values word' (map_clauses f r)
+  layout_of_query_values : (r : Clauses (List A)) → f (query_values word r) ≡ query_values word' (map_clauses f r)
   layout_of_query_values r = concat_in_form (values_sections word r) ∙ ap (concat_sections word') (sections_in_form SelectValues r)
 
-  pub layout_of_subquery : (r : Clauses (List A)) → f (subquery word r) ≡ subquery word' (map_clauses f r)
+  layout_of_subquery : (r : Clauses (List A)) → f (subquery word r) ≡ subquery word' (map_clauses f r)
   layout_of_subquery r = brackets_in_form (query word r) ∙ ap (in_brackets word') (layout_of_query r)
 
   named_in_form : (x name : List A) → f (word (codes "(") ++ (x ++ (word (codes ") AS ") ++ name))) ≡ word' (codes "(") ++ (f x ++ (word' (codes ") AS ") ++ f name))
   named_in_form x name = simp (app, words)
 
-  pub layout_of_subquery_as : (name : List A) (r : Clauses (List A)) → f (subquery_as word name r) ≡ subquery_as word' (f name) (map_clauses f r)
+  layout_of_subquery_as : (name : List A) (r : Clauses (List A)) → f (subquery_as word name r) ≡ subquery_as word' (f name) (map_clauses f r)
   layout_of_subquery_as name r =
       named_in_form (query word r) name ∙ ap (λ (q : List B). word' (codes "(") ++ (q ++ (word' (codes ") AS ") ++ f name))) (layout_of_query r)
+
+  pub layout_in_form : (raw : List ℕ → List A) (raw' : List ℕ → List B) → ((t : List ℕ) → f (raw t) ≡ raw' t) → (finish : FinishText) (r : Clauses (List A))
+      → f (layout_at word raw finish r) ≡ layout_at word' raw' finish (map_clauses f r)
+  layout_in_form raw raw' raws Sql r = layout_of_sql r
+  layout_in_form raw raw' raws Query r = layout_of_query r
+  layout_in_form raw raw' raws QueryValues r = layout_of_query_values r
+  layout_in_form raw raw' raws Subquery r = layout_of_subquery r
+  layout_in_form raw raw' raws (SubqueryAs name) r =
+      layout_of_subquery_as (raw name) r ∙ ap (λ (n : List B). subquery_as word' n (map_clauses f r)) (raws name)

@@ -1,5 +1,5 @@
 -- What a call makes of a builder's clauses, each text as its bytes.
-use Rattle.std.specs.Prelude.{◌≡◌, ℕ, List, [], ◌∷◌, ◌++◌, Option, None, Some, Bool, true, false, codes, map, String, string_bytes, Result, OnOk}
+use Rattle.std.specs.Prelude.{◌≡◌, ℕ, List, [], ◌∷◌, ◌++◌, None, Some, Bool, true, false, codes, map, String, string_bytes, Result, OnOk}
 use Rattle.sql_builder.specs.Calls as call
 use Rattle.sql_builder.specs.Calls.{CallText, ConditionText, kind_of, StartText}
 use Rattle.sql_builder.specs.Clauses.{Clauses, new_clauses}
