@@ -77,7 +77,7 @@ groups-snoc calls c = rw (filter_map-append condition_in calls (c ∷ [])) (by (
 -- the clauses
 
 -- the clauses after one more call, of those before it
-abbrev clauses_after : CallText → Clauses Pieces → Clauses Pieces
+abbrev pub clauses_after : CallText → Clauses Pieces → Clauses Pieces
 clauses_after c r = record {
   kind = r.kind;
   table = add r.table (table_in c);
@@ -104,7 +104,7 @@ table-snoc start calls c =
     rw (flat-snoc table_in calls c, add_is (flat_map table_in calls) (table_in c), add_is (table_of start calls) (table_in c))
     (sym (append_assoc (start_table start) (flat_map table_in calls) (table_in c)))
 
-one_more_clauses : (start : StartText) (calls : List CallText) (c : CallText) → clauses start (calls ++ c ∷ []) ≡ clauses_after c (clauses start calls)
+pub one_more_clauses : (start : StartText) (calls : List CallText) (c : CallText) → clauses start (calls ++ c ∷ []) ≡ clauses_after c (clauses start calls)
 one_more_clauses start calls c =
     rw (
       table-snoc start calls c,

@@ -3,6 +3,7 @@ pub mod Builder
 pub mod Calls
 pub mod Clauses
 pub mod Filters
+pub mod Laws
 pub mod Layout
 pub mod Phrases
 pub mod Statement
