@@ -1,5 +1,5 @@
 -- Calls that come to the same, whatever is called after them.
-use Rattle.std.proofs.Common.{◌≡◌, ℕ, List, [], ◌∷◌, ◌++◌, Option, None, true, map, refl, ap, sym, ◌∙◌, append_assoc}
+use Rattle.std.proofs.Common.{◌≡◌, List, [], ◌∷◌, ◌++◌, Option, None, true, map, refl, ap, sym, ◌∙◌, append_assoc}
 use Rattle.std.proofs.lemmas.List.{map-append, append-nil}
 use Rattle.std.specs.Prelude.{is_some}
 use Rattle.sql_builder.specs.Calls.{StartText, CallText, Fields, Having, Limit, Offset, Returning, ReturningId, clauses, having_in, limit_in, offset_in, returning_in}

@@ -3,4 +3,5 @@
 
 pub mod calls;
 mod clauses;
+pub mod laws;
 mod steps;
