@@ -18,8 +18,8 @@ module _ (start : StartText) (apart : Clauses Pieces → Clauses Pieces)
   more_calls xs ys h (c ∷ more) =
       rw (sym (append_assoc xs (c ∷ []) more), sym (append_assoc ys (c ∷ []) more))
       (more_calls (xs ++ c ∷ []) (ys ++ c ∷ [])
-        (ap apart (one_more_clauses start xs c) ∙ alike c (clauses start xs) ∙ ap (λ (r : Clauses Pieces). apart (clauses_after c r)) h
-        ∙ sym (alike c (clauses start ys)) ∙ sym (ap apart (one_more_clauses start ys c)))
+      (ap apart (one_more_clauses start xs c) ∙ alike c (clauses start xs) ∙ ap (λ (r : Clauses Pieces). apart (clauses_after c r)) h
+      ∙ sym (alike c (clauses start ys)) ∙ sym (ap apart (one_more_clauses start ys c)))
       more)
 
 same_clauses : (start : StartText) (xs ys : List CallText) → clauses start xs ≡ clauses start ys → (more : List CallText) → clauses start (xs ++ more) ≡ clauses start (ys ++ more)

@@ -178,4 +178,3 @@ set_quoted = refl
 last_limit : statement (SelectFrom (codes "t")) (Limit (codes "1") ∷ Limit (codes "2") ∷ []) Sql
     ≡ Ok (codes "SELECT * FROM t LIMIT 2;")
 last_limit = refl
-
