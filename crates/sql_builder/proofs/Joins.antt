@@ -14,9 +14,11 @@ joins before calls = in_place join_in before calls
 
 -- a join ends the constraints of the one before it
 
-until-join : (table : List ℕ) (calls : List CallText) → until is_join (calls ++ Join table ∷ []) ≡ until is_join calls
+until-join : (table : List ℕ) (calls : List CallText)
+    → until is_join (calls ++ Join table ∷ []) ≡ until is_join calls
 until-join table [] = refl
-until-join table (c ∷ calls) = ap (λ (rest : List CallText). if is_join c then [] else c ∷ rest) (until-join table calls)
+until-join table (c ∷ calls) =
+    ap (λ (rest : List CallText). if is_join c then [] else c ∷ rest) (until-join table calls)
 
 same_join : (table : List ℕ) (before : List CallText) (c : CallText) (calls : List CallText)
     → join_in before c (calls ++ Join table ∷ []) ≡ join_in before c calls
@@ -26,7 +28,8 @@ same_join table before (Join t) calls =
 same_join table before _ calls = refl
 
 one_more_join : (table : List ℕ) (before calls : List CallText)
-    → joins before (calls ++ Join table ∷ []) ≡ joins before calls ++ join_in (before ++ calls) (Join table) []
+    → joins before (calls ++ Join table ∷ [])
+    ≡ joins before calls ++ join_in (before ++ calls) (Join table) []
 one_more_join table before [] = rw (append-nil before) refl
 one_more_join table before (c ∷ calls) =
     rw (same_join table before c calls, one_more_join table (before ++ c ∷ []) calls, append_assoc before (c ∷ []) calls)
@@ -34,14 +37,17 @@ one_more_join table before (c ∷ calls) =
 
 -- a call that is no join goes on with the last join
 
-no_join : (before : List CallText) (c : CallText) (after : List CallText) → is_join c ≡ false → join_in before c after ≡ []
+no_join : (before : List CallText) (c : CallText) (after : List CallText) → is_join c ≡ false
+    → join_in before c after ≡ []
 no_join before (Join table) after h = cc
 no_join before _ after h = refl
 
-regrouped : (part k rest rest' t : Pieces) (js js' : List Pieces) → ((part ++ k) ++ rest) ∷ js ≡ extend_last t (((part ++ k) ++ rest') ∷ js')
+regrouped : (part k rest rest' t : Pieces) (js js' : List Pieces)
+    → ((part ++ k) ++ rest) ∷ js ≡ extend_last t (((part ++ k) ++ rest') ∷ js')
     → (part ++ (k ++ rest)) ∷ js ≡ extend_last t ((part ++ (k ++ rest')) ∷ js')
 regrouped part k rest rest' t js js' h =
-    ap (λ (p : Pieces). p ∷ js) (sym (append_assoc part k rest)) ∙ h ∙ ap (λ (p : Pieces). extend_last t (p ∷ js')) (append_assoc part k rest')
+    ap (λ (p : Pieces). p ∷ js) (sym (append_assoc part k rest)) ∙ h
+    ∙ ap (λ (p : Pieces). extend_last t (p ∷ js')) (append_assoc part k rest')
 
 abbrev constraints : List CallText → Pieces
 constraints calls = flat_map constraint_in (until is_join calls)
@@ -82,7 +88,8 @@ joins_after (On condition) natural operator ts = extend_last (constraint_in (On 
 joins_after (OnEq left right) natural operator ts = extend_last (constraint_in (OnEq left right)) ts
 joins_after _ natural operator ts = ts
 
-pub joins-snoc : (calls : List CallText) (c : CallText) → joins_of (calls ++ c ∷ []) ≡ joins_after c (natural_of calls) (operator_of calls) (joins_of calls)
+pub joins-snoc : (calls : List CallText) (c : CallText)
+    → joins_of (calls ++ c ∷ []) ≡ joins_after c (natural_of calls) (operator_of calls) (joins_of calls)
 joins-snoc calls (Join table) = one_more_join table [] calls
 joins-snoc calls (On condition) = longer_join (On condition) refl [] calls
 joins-snoc calls (OnEq left right) = longer_join (OnEq left right) refl [] calls

@@ -41,18 +41,23 @@ condition_printed : (c : ConditionText) → pieces_text (condition_pieces c) ≡
 condition_printed (call.Raw condition) = append-nil condition
 condition_printed (call.Compare relation field value) = simp append-nil
 
-row_printed : (values : List (List ℕ)) → pieces_text (row fixed_piece (map raw_piece values)) ≡ row byte_atoms values
+row_printed : (values : List (List ℕ))
+    → pieces_text (row fixed_piece (map raw_piece values)) ≡ row byte_atoms values
 row_printed values =
     row_in_form fixed_piece byte_atoms pieces_text refl pieces_text-append pieces_text-fixed_piece (map raw_piece values)
     ∙ ap (row byte_atoms) (texts_of_raw values)
 
-added_texts : (ts : List Pieces) (more : List (List ℕ)) → map pieces_text (add ts (map raw_piece more)) ≡ map pieces_text ts ++ more
-added_texts ts more = rw (add_is ts (map raw_piece more), map-append pieces_text ts (map raw_piece more), texts_of_raw more) refl
+added_texts : (ts : List Pieces) (more : List (List ℕ))
+    → map pieces_text (add ts (map raw_piece more)) ≡ map pieces_text ts ++ more
+added_texts ts more =
+    rw (add_is ts (map raw_piece more), map-append pieces_text ts (map raw_piece more), texts_of_raw more) refl
 
-extended_texts : (t : Pieces) (ts : List Pieces) → map pieces_text (extend_last t ts) ≡ extend_last (pieces_text t) (map pieces_text ts)
+extended_texts : (t : Pieces) (ts : List Pieces)
+    → map pieces_text (extend_last t ts) ≡ extend_last (pieces_text t) (map pieces_text ts)
 extended_texts t [] = refl
 extended_texts t (x ∷ []) = ap (λ (y : List ℕ). y ∷ []) (pieces_text-append x t)
-extended_texts t (x ∷ y ∷ ts) = ap (λ (rest : List (List ℕ)). pieces_text x ∷ rest) (extended_texts t (y ∷ ts))
+extended_texts t (x ∷ y ∷ ts) =
+    ap (λ (rest : List (List ℕ)). pieces_text x ∷ rest) (extended_texts t (y ∷ ts))
 
 -- groups
 
@@ -60,19 +65,27 @@ abbrev with_condition_in : Option (Family × ConditionText) → List Pieces → 
 with_condition_in None groups = groups
 with_condition_in (Some (And, condition)) groups = groups ++ condition_pieces condition ∷ []
 
-groups-snoc : (calls : List CallText) (c : CallText) → groups_of (calls ++ c ∷ []) ≡ with_condition_in (condition_in c) (groups_of calls)
+groups-snoc : (calls : List CallText) (c : CallText)
+    → groups_of (calls ++ c ∷ []) ≡ with_condition_in (condition_in c) (groups_of calls)
 groups-snoc calls c = rw (filter_map-append condition_in calls (c ∷ [])) (by (condition_in c))
   where
     alone : (k : Family × ConditionText) → group_pieces (k, []) ≡ condition_pieces k.1
     alone k = append-nil (condition_pieces k.1)
 
-    put_last : (k : ConditionText) (gs : List (Group (Family × ConditionText))) → map group_pieces (put_in (opens_group (And, k)) (And, k) gs) ≡ map group_pieces gs ++ condition_pieces k ∷ []
+    put_last : (k : ConditionText) (gs : List (Group (Family × ConditionText)))
+        → map group_pieces (put_in (opens_group (And, k)) (And, k) gs)
+        ≡ map group_pieces gs ++ condition_pieces k ∷ []
     put_last k [] = ap (λ (t : Pieces). t ∷ []) (alone (And, k))
-    put_last k (g ∷ gs) = map-append group_pieces (g ∷ gs) (((And, k), []) ∷ []) ∙ ap (λ (t : Pieces). map group_pieces (g ∷ gs) ++ t ∷ []) (alone (And, k))
+    put_last k (g ∷ gs) =
+        map-append group_pieces (g ∷ gs) (((And, k), []) ∷ [])
+        ∙ ap (λ (t : Pieces). map group_pieces (g ∷ gs) ++ t ∷ []) (alone (And, k))
 
-    by : (o : Option (Family × ConditionText)) → map group_pieces (cut opens_group (filter_map condition_in calls ++ cons_option o [])) ≡ with_condition_in o (groups_of calls)
+    by : (o : Option (Family × ConditionText))
+        → map group_pieces (cut opens_group (filter_map condition_in calls ++ cons_option o []))
+        ≡ with_condition_in o (groups_of calls)
     by None = rw (append-nil (filter_map condition_in calls)) refl
-    by (Some (And, k)) = rw (cut-snoc opens_group (filter_map condition_in calls) (And, k)) (put_last k (cut opens_group (filter_map condition_in calls)))
+    by (Some (And, k)) =
+        rw (cut-snoc opens_group (filter_map condition_in calls) (And, k)) (put_last k (cut opens_group (filter_map condition_in calls)))
 
 -- the clauses
 
@@ -99,12 +112,14 @@ clauses_after c r = record {
   offset = option_or (offset_in c) r.offset;
 }
 
-table-snoc : (start : StartText) (calls : List CallText) (c : CallText) → table_of start (calls ++ c ∷ []) ≡ add (table_of start calls) (table_in c)
+table-snoc : (start : StartText) (calls : List CallText) (c : CallText)
+    → table_of start (calls ++ c ∷ []) ≡ add (table_of start calls) (table_in c)
 table-snoc start calls c =
     rw (flat-snoc table_in calls c, add_is (flat_map table_in calls) (table_in c), add_is (table_of start calls) (table_in c))
     (sym (append_assoc (start_table start) (flat_map table_in calls) (table_in c)))
 
-pub one_more_clauses : (start : StartText) (calls : List CallText) (c : CallText) → clauses start (calls ++ c ∷ []) ≡ clauses_after c (clauses start calls)
+pub one_more_clauses : (start : StartText) (calls : List CallText) (c : CallText)
+    → clauses start (calls ++ c ∷ []) ≡ clauses_after c (clauses start calls)
 one_more_clauses start calls c =
     rw (
       table-snoc start calls c,
@@ -126,7 +141,8 @@ one_more_clauses start calls c =
       last-snoc offset_in calls c,
     ) refl
 
-clauses_printed : (c : CallText) (r : Clauses Pieces) → map_clauses pieces_text (clauses_after c r) ≡ with_call c (map_clauses pieces_text r)
+clauses_printed : (c : CallText) (r : Clauses Pieces)
+    → map_clauses pieces_text (clauses_after c r) ≡ with_call c (map_clauses pieces_text r)
 clauses_printed call.Natural r = refl
 clauses_printed call.Left r = refl
 clauses_printed call.LeftOuter r = refl
@@ -139,7 +155,8 @@ clauses_printed (call.AndTable table) r = simp (pieces_text-append, append-nil)
 clauses_printed (call.Join table) r = simp (map-append, append-nil)
 clauses_printed (call.On condition) r = simp (extended_texts, append-nil)
 clauses_printed (call.OnEq left right) r = simp (extended_texts, append-nil)
-clauses_printed (call.Fields fields) r = ap (λ (fs : List (List ℕ)). record (map_clauses pieces_text r) { fields = fs }) (added_texts r.fields fields)
+clauses_printed (call.Fields fields) r =
+    ap (λ (fs : List (List ℕ)). record (map_clauses pieces_text r) { fields = fs }) (added_texts r.fields fields)
 clauses_printed (call.SetFields fields) r = simp texts_of_raw
 clauses_printed (call.Field field) r = simp (map-append, append-nil)
 clauses_printed (call.SetField field) r = simp append-nil
@@ -175,38 +192,49 @@ clauses-start (call.InsertInto table) = simp append-nil
 clauses-start (call.UpdateTable table) = simp append-nil
 clauses-start (call.DeleteFrom table) = simp append-nil
 
-pub clauses-snoc : (start : StartText) (calls : List CallText) (c : CallText) → told_by start (calls ++ c ∷ []) ≡ with_call c (told_by start calls)
-clauses-snoc start calls c = ap (map_clauses pieces_text) (one_more_clauses start calls c) ∙ clauses_printed c (clauses start calls)
+pub clauses-snoc : (start : StartText) (calls : List CallText) (c : CallText)
+    → told_by start (calls ++ c ∷ []) ≡ with_call c (told_by start calls)
+clauses-snoc start calls c =
+    ap (map_clauses pieces_text) (one_more_clauses start calls c) ∙ clauses_printed c (clauses start calls)
 
-pub one_more_call : (start : StartText) (calls : List Call) (i : ℕ) (c : Call) → i < length calls → c ≡ get_or calls i c
-    → told_by start (map call_text (take (i + 1) calls)) ≡ with_call (call_text c) (told_by start (map call_text (take i calls)))
+pub one_more_call : (start : StartText) (calls : List Call) (i : ℕ) (c : Call) → i < length calls
+    → c ≡ get_or calls i c
+    → told_by start (map call_text (take (i + 1) calls))
+    ≡ with_call (call_text c) (told_by start (map call_text (take i calls)))
 one_more_call start calls i c l e =
     rw (take_more calls i c l) (rw (sym e) (rw (map-append call_text (take i calls) (c ∷ [])) (clauses-snoc start (map call_text (take i calls)) (call_text c))))
 
 -- the statement
 
-text_of_layout : (f : FinishText) (r : Clauses Pieces) → pieces_text (layout_at fixed_piece raw_piece f r) ≡ text_at f (map_clauses pieces_text r)
-text_of_layout f r = layout_in_form fixed_piece byte_atoms pieces_text refl pieces_text-append append-nil raw_piece byte_atoms append-nil f r
+text_of_layout : (f : FinishText) (r : Clauses Pieces)
+    → pieces_text (layout_at fixed_piece raw_piece f r) ≡ text_at f (map_clauses pieces_text r)
+text_of_layout f r =
+    layout_in_form fixed_piece byte_atoms pieces_text refl pieces_text-append append-nil raw_piece byte_atoms append-nil f r
 
 -- what the builder prints is the statement of the pieces
 pub statement_printed : {Z : Type 0} (f : FinishText) (r : Clauses Pieces) (result : Result (String Z) SqlBuilderError)
-    → IfOk result (λ s. string_bytes s ≡ text_at f (map_clauses pieces_text r)) → IfSome (refusal_at f (map_clauses pieces_text r)) (λ e. result ≡ Err e)
+    → IfOk result (λ s. string_bytes s ≡ text_at f (map_clauses pieces_text r))
+    → IfSome (refusal_at f (map_clauses pieces_text r)) (λ e. result ≡ Err e)
     → IfOk result (λ s. text_unless_refused (pieces_at f r) ≡ Ok (string_bytes s))
 statement_printed {Z = Z} f r result = by result (refusal_at f (map_clauses pieces_text r))
   where
-    by : (result : Result (String Z) SqlBuilderError) (o : Option SqlBuilderError) → IfOk result (λ s. string_bytes s ≡ text_at f (map_clauses pieces_text r))
-        → IfSome o (λ e. result ≡ Err e) → IfOk result (λ s. text_unless_refused (unless_refused o (layout_at fixed_piece raw_piece f r)) ≡ Ok (string_bytes s))
+    by : (result : Result (String Z) SqlBuilderError) (o : Option SqlBuilderError)
+        → IfOk result (λ s. string_bytes s ≡ text_at f (map_clauses pieces_text r))
+        → IfSome o (λ e. result ≡ Err e)
+        → IfOk result (λ s. text_unless_refused (unless_refused o (layout_at fixed_piece raw_piece f r)) ≡ Ok (string_bytes s))
     by (Err e) o text refused = tt
     by (Ok s) None text refused = ap Ok (text_of_layout f r ∙ sym text)
     by (Ok s) (Some e) text refused = cc
 
 -- what the builder refuses is the refusal of the statement, or want of memory
 pub statement_refused : {T : Type 0} (f : FinishText) (r : Clauses Pieces) (result : Result T SqlBuilderError)
-    → IfSome (refusal_at f (map_clauses pieces_text r)) (λ e. result ≡ Err e) → (IsNone (refusal_at f (map_clauses pieces_text r)) → FailsOnlyByMemory result)
+    → IfSome (refusal_at f (map_clauses pieces_text r)) (λ e. result ≡ Err e)
+    → (IsNone (refusal_at f (map_clauses pieces_text r)) → FailsOnlyByMemory result)
     → IfErr result (λ e. IsMemory e ⊎ (text_unless_refused (pieces_at f r) ≡ Err e))
 statement_refused {T = T} f r result = by result (refusal_at f (map_clauses pieces_text r))
   where
-    by : (result : Result T SqlBuilderError) (o : Option SqlBuilderError) → IfSome o (λ e. result ≡ Err e) → (IsNone o → FailsOnlyByMemory result)
+    by : (result : Result T SqlBuilderError) (o : Option SqlBuilderError) → IfSome o (λ e. result ≡ Err e)
+        → (IsNone o → FailsOnlyByMemory result)
         → IfErr result (λ e. IsMemory e ⊎ (text_unless_refused (unless_refused o (layout_at fixed_piece raw_piece f r)) ≡ Err e))
     by (Ok s) o refused memory = tt
     by (Err e) None refused memory = inl (memory refl)

@@ -63,7 +63,8 @@ with_table table r = record r { table = r.table ++ further_table byte_atoms tabl
 
 -- a join as was chosen; it ends a waiting NATURAL
 abbrev pub with_join : List ℕ → ClauseTexts → ClauseTexts
-with_join table r = record r { joins = r.joins ++ join byte_atoms r.natural r.operator table ∷ []; natural = false }
+with_join table r =
+    record r { joins = r.joins ++ join byte_atoms r.natural r.operator table ∷ []; natural = false }
 
 -- a constraint of the last join; where there is none, nothing changes
 abbrev pub with_on : List ℕ → ClauseTexts → ClauseTexts
@@ -107,7 +108,8 @@ with_union all query r = record r { unions = r.unions ++ (all, query) ∷ [] }
 
 -- one more field to order by, which may be descending
 abbrev pub with_order : Bool → List ℕ → ClauseTexts → ClauseTexts
-with_order descending field r = record r { order_fields = r.order_fields ++ order byte_atoms descending field ∷ [] }
+with_order descending field r =
+    record r { order_fields = r.order_fields ++ order byte_atoms descending field ∷ [] }
 
 -- the limit
 abbrev pub with_limit : List ℕ → ClauseTexts → ClauseTexts
@@ -127,7 +129,8 @@ with_condition And condition r = with_group condition r
 
 -- a field compared with a value
 abbrev pub with_comparison : Family → Relation → List ℕ → List ℕ → ClauseTexts → ClauseTexts
-with_comparison family relation field value r = with_condition family (comparison byte_atoms relation field value) r
+with_comparison family relation field value r =
+    with_condition family (comparison byte_atoms relation field value) r
 
 -- a condition's text
 abbrev pub condition_bytes : ConditionText → List ℕ

@@ -17,7 +17,8 @@ refusal_at Sql r = refusal r
 refusal_at _ r = None
 
 -- what a finish lays out, where `word` gives the atoms of a text of the product's own, and `raw` those of a text that was handed in
-abbrev pub layout_at : {A : Type 0} → (List ℕ → List A) → (List ℕ → List A) → FinishText → Clauses (List A) → List A
+abbrev pub layout_at : {A : Type 0} → (List ℕ → List A) → (List ℕ → List A) → FinishText → Clauses (List A)
+    → List A
 layout_at word raw Sql r = sql word r
 layout_at word raw Query r = query word r
 layout_at word raw QueryValues r = query_values word r
@@ -26,7 +27,8 @@ layout_at word raw (SubqueryAs name) r = subquery_as word (raw name) r
 
 -- the pieces that a finish prints of the clauses, or its refusal
 abbrev pub pieces_at : FinishText → Clauses Pieces → Result Pieces SqlBuilderError
-pieces_at finish r = unless_refused (refusal_at finish (map_clauses pieces_text r)) (layout_at fixed_piece raw_piece finish r)
+pieces_at finish r =
+    unless_refused (refusal_at finish (map_clauses pieces_text r)) (layout_at fixed_piece raw_piece finish r)
 
 -- the text that a finish prints of the clauses' texts
 abbrev pub text_at : FinishText → Clauses (List ℕ) → List ℕ
