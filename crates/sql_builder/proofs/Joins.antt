@@ -2,7 +2,7 @@
 use Rattle.std.proofs.Common.{◌≡◌, ℕ, List, [], ◌∷◌, ◌++◌, Option, Bool, false, if◌then◌else◌, flat_map, refl, ap, sym, ◌∙◌, append_assoc}
 use Rattle.std.proofs.lemmas.List.{append-nil}
 use Rattle.sql_builder.specs.Builder.{extend_last}
-use Rattle.sql_builder.specs.Calls.{CallText, Join, On, OnEq, constraint_in, is_join, join_in, joins_of, natural_of, operator_of}
+use Rattle.sql_builder.specs.Calls.{CallText, Join, On, OnEq, constraint_in, is_join, join_after, join_in, joins_of, natural_of, operator_of}
 use Rattle.sql_builder.specs.Filters.{in_place, until}
 use Rattle.sql_builder.specs.Phrases.{join}
 use Rattle.sql_builder.specs.Text.{Pieces, fixed_piece, raw_piece}
@@ -23,8 +23,7 @@ until-join table (c ∷ calls) =
 same_join : (table : List ℕ) (before : List CallText) (c : CallText) (calls : List CallText)
     → join_in before c (calls ++ Join table ∷ []) ≡ join_in before c calls
 same_join table before (Join t) calls =
-    ap (λ (rest : List CallText). (join fixed_piece (natural_of before) (operator_of before) (raw_piece t) ++ flat_map constraint_in rest) ∷ [])
-    (until-join table calls)
+    ap (λ (rest : List CallText). (join_after before t ++ flat_map constraint_in rest) ∷ []) (until-join table calls)
 same_join table before _ calls = refl
 
 one_more_join : (table : List ℕ) (before calls : List CallText)
@@ -32,8 +31,9 @@ one_more_join : (table : List ℕ) (before calls : List CallText)
     ≡ joins before calls ++ join_in (before ++ calls) (Join table) []
 one_more_join table before [] = rw (append-nil before) refl
 one_more_join table before (c ∷ calls) =
-    rw (same_join table before c calls, one_more_join table (before ++ c ∷ []) calls, append_assoc before (c ∷ []) calls)
-    (sym (append_assoc (join_in before c calls) (joins (before ++ c ∷ []) calls) (join_in (before ++ c ∷ calls) (Join table) [])))
+    rw (same_join table before c calls, one_more_join table (before ++ c ∷ []) calls)
+    (rw (append_assoc before (c ∷ []) calls)
+    (sym (append_assoc (join_in before c calls) (joins (before ++ c ∷ []) calls) (join_in (before ++ c ∷ calls) (Join table) []))))
 
 -- a call that is no join goes on with the last join
 
@@ -73,7 +73,7 @@ longer_join : (c : CallText) → is_join c ≡ false → (before calls : List Ca
 longer_join c h before [] = rw (no_join before c [] h) refl
 longer_join c h before (Join table ∷ calls) =
     rw (longer_join c h (before ++ Join table ∷ []) calls)
-    (last_join c h (join fixed_piece (natural_of before) (operator_of before) (raw_piece table)) (before ++ Join table ∷ []) calls)
+    (last_join c h (join_after before table) (before ++ Join table ∷ []) calls)
 longer_join c h before (d ∷ calls) = longer_join c h (before ++ d ∷ []) calls
 
 extend_last-nil : (ts : List Pieces) → extend_last [] ts ≡ ts

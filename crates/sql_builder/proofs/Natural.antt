@@ -1,4 +1,4 @@
--- The layout in one kind of atom becomes the layout in another by a map that keeps `++` and the product's words.
+-- The layout in one kind of atom becomes that in another by a map that keeps `++` and the product's words.
 use Rattle.std.proofs.Common.{◌≡◌, ℕ, List, [], ◌∷◌, ◌++◌, Option, None, Some, Bool, map, codes, flat_map, refl, ap, ◌∙◌}
 use Rattle.std.proofs.lemmas.List.{map-append}
 use Rattle.std.specs.Prelude.{option_map}
@@ -12,7 +12,8 @@ use Rattle.sql_builder.specs.declared.clauses.Kind.{Kind}
 use Rattle.sql_builder.specs.declared.clauses.Kind.TheVariants.{SelectFrom, SelectValues, InsertInto, UpdateTable, DeleteFrom}
 
 module _ {A B : Type 0} (word : List ℕ → List A) (word' : List ℕ → List B) (f : List A → List B)
-    (nil : f [] ≡ []) (app : (x y : List A) → f (x ++ y) ≡ f x ++ f y) (words : (w : List ℕ) → f (word w) ≡ word' w) where
+    (nil : f [] ≡ []) (app : (x y : List A) → f (x ++ y) ≡ f x ++ f y)
+    (words : (w : List ℕ) → f (word w) ≡ word' w) where
   abbrev in_form : Section A → Section B
   in_form s = section s.opening (f s.body)
 

@@ -1,37 +1,29 @@
 -- A list of calls with one more, and the statement of the calls that were made.
-use Rattle.std.proofs.Common.{◌≡◌, ℕ, ◌+◌, ◌<◌, List, [], ◌∷◌, ◌++◌, Option, None, Some, true, false, ◌||◌, ◌&&◌, not, if◌then◌else◌, map, take, get_or, length, filter_map, flat_map, String, string_bytes, Result, Ok, Err, IfOk, IfErr, refl, ap, sym, ◌∙◌, append_assoc, inl, inr}
+use Rattle.std.proofs.Common.{◌≡◌, ℕ, ◌+◌, ◌<◌, List, [], ◌∷◌, ◌++◌, Option, None, Some, true, false, map, take, get_or, length, String, string_bytes, Result, Ok, Err, IfOk, IfErr, refl, ap, sym, ◌∙◌, inl, inr}
 use Rattle.std.proofs.lemmas.List.{take_more, map-append, append-nil}
-use Rattle.std.proofs.lemmas.List.Elements.{filter_map-append}
 use Rattle.std.proofs.lemmas.Grind.{flat_map-append}
-use Rattle.std.specs.List.{cons_option}
-use Rattle.std.specs.Option.{option_or}
 use Rattle.std.specs.Prelude.{IfSome, IsNone, ◌⊎◌}
 use Rattle.sql_builder.specs.Answers.{call_text}
 use Rattle.sql_builder.specs.Builder.{ClauseTexts, condition_bytes, extend_last, started, with_call}
 use Rattle.sql_builder.specs.Calls as call
-use Rattle.sql_builder.specs.Calls.{StartText, ConditionText, CallText, FinishText, clauses, condition_in, condition_pieces, constraint_in, fields_in, fields_of, group_fields_in, group_pieces, groups_of, having_in, is_distinct, is_join, is_natural, is_select, is_values, joins_of, limit_in, natural_of, offset_in, opens_group, operator_in, operator_of, order_fields_in, query_in, query_of, returning_in, rows_in, rows_of, sets_fields, sets_in, start_fields, table_in, table_of, start_table, unions_in}
+use Rattle.sql_builder.specs.Calls.{StartText, ConditionText, CallText, FinishText, clauses, condition_pieces}
 use Rattle.sql_builder.specs.Clauses.{Clauses, map_clauses}
-use Rattle.sql_builder.specs.Filters.{Group, cut}
 use Rattle.sql_builder.specs.Layout.{byte_atoms}
 use Rattle.sql_builder.specs.Phrases.{row}
 use Rattle.sql_builder.specs.Statement.{layout_at, pieces_at, refusal_at, text_at, text_unless_refused, unless_refused}
 use Rattle.sql_builder.specs.Text.{Pieces, fixed_piece, piece_text, pieces_text, raw_piece}
 use Rattle.sql_builder.specs.declared.calls.Call.{Call}
-use Rattle.sql_builder.specs.declared.calls.Family.{Family}
 use Rattle.sql_builder.specs.declared.calls.Family.TheVariants.{And}
 use Rattle.sql_parts.specs.Error.{FailsOnlyByMemory, IsMemory}
 use Rattle.sql_parts.specs.declared.error.SqlBuilderError.{SqlBuilderError}
-use Rattle.sql_builder.proofs.Joins.{joins-snoc, joins_after}
+use Rattle.sql_builder.proofs.MoreCalls.{clauses_after, one_more_clauses}
 use Rattle.sql_builder.proofs.Natural.{layout_in_form, row_in_form}
-use Rattle.sql_builder.proofs.Snoc.{add, add_is, any-snoc, any_unfollowed-snoc, cut-snoc, flat-snoc, flat_since-snoc, last-snoc, last_since-snoc, put_in}
+use Rattle.sql_builder.proofs.Snoc.{add, add_is}
 
 -- the texts of pieces
 
-pub pieces_text-append : (x y : Pieces) → pieces_text (x ++ y) ≡ pieces_text x ++ pieces_text y
+pieces_text-append : (x y : Pieces) → pieces_text (x ++ y) ≡ pieces_text x ++ pieces_text y
 pieces_text-append x y = flat_map-append piece_text x y
-
-pub pieces_text-fixed_piece : (w : List ℕ) → pieces_text (fixed_piece w) ≡ byte_atoms w
-pieces_text-fixed_piece w = append-nil w
 
 texts_of_raw : (ts : List (List ℕ)) → map pieces_text (map raw_piece ts) ≡ ts
 texts_of_raw [] = refl
@@ -44,13 +36,14 @@ condition_printed (call.Compare relation field value) = simp append-nil
 row_printed : (values : List (List ℕ))
     → pieces_text (row fixed_piece (map raw_piece values)) ≡ row byte_atoms values
 row_printed values =
-    row_in_form fixed_piece byte_atoms pieces_text refl pieces_text-append pieces_text-fixed_piece (map raw_piece values)
+    row_in_form fixed_piece byte_atoms pieces_text refl pieces_text-append append-nil (map raw_piece values)
     ∙ ap (row byte_atoms) (texts_of_raw values)
 
 added_texts : (ts : List Pieces) (more : List (List ℕ))
     → map pieces_text (add ts (map raw_piece more)) ≡ map pieces_text ts ++ more
 added_texts ts more =
-    rw (add_is ts (map raw_piece more), map-append pieces_text ts (map raw_piece more), texts_of_raw more) refl
+    let raw = map raw_piece more in
+    rw (add_is ts raw, map-append pieces_text ts raw, texts_of_raw more) refl
 
 extended_texts : (t : Pieces) (ts : List Pieces)
     → map pieces_text (extend_last t ts) ≡ extend_last (pieces_text t) (map pieces_text ts)
@@ -59,88 +52,9 @@ extended_texts t (x ∷ []) = ap (λ (y : List ℕ). y ∷ []) (pieces_text-appe
 extended_texts t (x ∷ y ∷ ts) =
     ap (λ (rest : List (List ℕ)). pieces_text x ∷ rest) (extended_texts t (y ∷ ts))
 
--- groups
-
-abbrev with_condition_in : Option (Family × ConditionText) → List Pieces → List Pieces
-with_condition_in None groups = groups
-with_condition_in (Some (And, condition)) groups = groups ++ condition_pieces condition ∷ []
-
-groups-snoc : (calls : List CallText) (c : CallText)
-    → groups_of (calls ++ c ∷ []) ≡ with_condition_in (condition_in c) (groups_of calls)
-groups-snoc calls c = rw (filter_map-append condition_in calls (c ∷ [])) (by (condition_in c))
-  where
-    alone : (k : Family × ConditionText) → group_pieces (k, []) ≡ condition_pieces k.1
-    alone k = append-nil (condition_pieces k.1)
-
-    put_last : (k : ConditionText) (gs : List (Group (Family × ConditionText)))
-        → map group_pieces (put_in (opens_group (And, k)) (And, k) gs)
-        ≡ map group_pieces gs ++ condition_pieces k ∷ []
-    put_last k [] = ap (λ (t : Pieces). t ∷ []) (alone (And, k))
-    put_last k (g ∷ gs) =
-        map-append group_pieces (g ∷ gs) (((And, k), []) ∷ [])
-        ∙ ap (λ (t : Pieces). map group_pieces (g ∷ gs) ++ t ∷ []) (alone (And, k))
-
-    by : (o : Option (Family × ConditionText))
-        → map group_pieces (cut opens_group (filter_map condition_in calls ++ cons_option o []))
-        ≡ with_condition_in o (groups_of calls)
-    by None = rw (append-nil (filter_map condition_in calls)) refl
-    by (Some (And, k)) =
-        rw (cut-snoc opens_group (filter_map condition_in calls) (And, k)) (put_last k (cut opens_group (filter_map condition_in calls)))
-
 -- the clauses
 
--- the clauses after one more call, of those before it
-abbrev pub clauses_after : CallText → Clauses Pieces → Clauses Pieces
-clauses_after c r = record {
-  kind = r.kind;
-  table = add r.table (table_in c);
-  joins = joins_after c r.natural r.operator r.joins;
-  operator = option_or (operator_in c) r.operator;
-  natural = is_natural c || (not (is_join c) && r.natural);
-  distinct = is_distinct c || r.distinct;
-  fields = if sets_fields c then fields_in c else add r.fields (fields_in c);
-  sets = add r.sets (sets_in c);
-  rows = if is_select c then rows_in c else add r.rows (rows_in c);
-  query = if is_values c then query_in c else option_or (query_in c) r.query;
-  returning = option_or (returning_in c) r.returning;
-  group_fields = add r.group_fields (group_fields_in c);
-  having = option_or (having_in c) r.having;
-  groups = with_condition_in (condition_in c) r.groups;
-  unions = add r.unions (unions_in c);
-  order_fields = add r.order_fields (order_fields_in c);
-  limit = option_or (limit_in c) r.limit;
-  offset = option_or (offset_in c) r.offset;
-}
-
-table-snoc : (start : StartText) (calls : List CallText) (c : CallText)
-    → table_of start (calls ++ c ∷ []) ≡ add (table_of start calls) (table_in c)
-table-snoc start calls c =
-    rw (flat-snoc table_in calls c, add_is (flat_map table_in calls) (table_in c), add_is (table_of start calls) (table_in c))
-    (sym (append_assoc (start_table start) (flat_map table_in calls) (table_in c)))
-
-pub one_more_clauses : (start : StartText) (calls : List CallText) (c : CallText)
-    → clauses start (calls ++ c ∷ []) ≡ clauses_after c (clauses start calls)
-one_more_clauses start calls c =
-    rw (
-      table-snoc start calls c,
-      joins-snoc calls c,
-      last-snoc operator_in calls c,
-      any_unfollowed-snoc is_natural is_join calls c,
-      any-snoc is_distinct calls c,
-      flat_since-snoc sets_fields fields_in (call.SetFields (start_fields start) ∷ calls) c,
-      flat-snoc sets_in calls c,
-      flat_since-snoc is_select rows_in calls c,
-      last_since-snoc is_values query_in calls c,
-      last-snoc returning_in calls c,
-      flat-snoc group_fields_in calls c,
-      last-snoc having_in calls c,
-      groups-snoc calls c,
-      flat-snoc unions_in calls c,
-      flat-snoc order_fields_in calls c,
-      last-snoc limit_in calls c,
-      last-snoc offset_in calls c,
-    ) refl
-
+-- the texts of the clauses after one more call
 clauses_printed : (c : CallText) (r : Clauses Pieces)
     → map_clauses pieces_text (clauses_after c r) ≡ with_call c (map_clauses pieces_text r)
 clauses_printed call.Natural r = refl
@@ -180,8 +94,7 @@ clauses_printed (call.Limit limit) r = simp append-nil
 clauses_printed (call.Offset offset) r = simp append-nil
 clauses_printed (call.Cond And condition) r = simp (map-append, condition_printed)
 
--- the clauses' texts
-
+-- the texts of the clauses that a start and calls make
 abbrev told_by : StartText → List CallText → ClauseTexts
 told_by start calls = map_clauses pieces_text (clauses start calls)
 
@@ -202,14 +115,16 @@ pub one_more_call : (start : StartText) (calls : List Call) (i : ℕ) (c : Call)
     → told_by start (map call_text (take (i + 1) calls))
     ≡ with_call (call_text c) (told_by start (map call_text (take i calls)))
 one_more_call start calls i c l e =
-    rw (take_more calls i c l) (rw (sym e) (rw (map-append call_text (take i calls) (c ∷ [])) (clauses-snoc start (map call_text (take i calls)) (call_text c))))
+    rw (take_more calls i c l) (rw (sym e) (rw (map-append call_text (take i calls) (c ∷ []))
+    (clauses-snoc start (map call_text (take i calls)) (call_text c))))
 
 -- the statement
 
 text_of_layout : (f : FinishText) (r : Clauses Pieces)
     → pieces_text (layout_at fixed_piece raw_piece f r) ≡ text_at f (map_clauses pieces_text r)
 text_of_layout f r =
-    layout_in_form fixed_piece byte_atoms pieces_text refl pieces_text-append append-nil raw_piece byte_atoms append-nil f r
+    layout_in_form fixed_piece byte_atoms pieces_text refl pieces_text-append append-nil
+    raw_piece byte_atoms append-nil f r
 
 -- what the builder prints is the statement of the pieces
 pub statement_printed : {Z : Type 0} (f : FinishText) (r : Clauses Pieces) (result : Result (String Z) SqlBuilderError)

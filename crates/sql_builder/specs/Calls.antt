@@ -1,4 +1,4 @@
--- What a start, a list of calls and a finish say, each text as its bytes: each clause is a filter over the whole list.
+-- What a start, a list of calls and a finish say, each text as its bytes: each clause filters the whole list.
 use Rattle.std.specs.Prelude.{ℕ, List, [], ◌∷◌, ◌++◌, Option, None, Some, Bool, true, false, map, codes, flat_map, filter_map}
 use Rattle.std.specs.List.{list_any}
 use Rattle.sql_builder.specs.Clauses.{Clauses}
@@ -131,10 +131,13 @@ constraint_in (OnEq left right) =
     constraint fixed_piece (equation fixed_piece (raw_piece left) (raw_piece right))
 constraint_in _ = []
 
--- a join, as the calls before it chose, with the constraints before the next join
+-- a join as the calls before it chose, without its constraints
+abbrev pub join_after : List CallText → List ℕ → Pieces
+join_after before table = join fixed_piece (natural_of before) (operator_of before) (raw_piece table)
+
+-- a join with the constraints before the next one
 abbrev pub join_in : List CallText → CallText → List CallText → List Pieces
-join_in before (Join table) after =
-    (join fixed_piece (natural_of before) (operator_of before) (raw_piece table) ++ flat_map constraint_in (until is_join after)) ∷ []
+join_in before (Join table) after = (join_after before table ++ flat_map constraint_in (until is_join after)) ∷ []
 join_in before _ after = []
 
 -- the joins in their order

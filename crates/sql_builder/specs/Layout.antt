@@ -103,7 +103,8 @@ module _ {A : Type 0} (word : List ℕ → List A) where
   -- INSERT of rows, or of a query
   abbrev pub insert_sections : Option (List A) → Clauses (List A) → List (Section A)
   insert_sections None r =
-      section (codes "INSERT INTO ") (insert_target r) ∷ section (codes " VALUES ") (comma_list word r.rows) ∷ returning_sections r
+      section (codes "INSERT INTO ") (insert_target r) ∷ section (codes " VALUES ") (comma_list word r.rows)
+      ∷ returning_sections r
   insert_sections (Some query) r =
       section (codes "INSERT INTO ") (insert_target r ++ (word (codes " ") ++ query)) ∷ []
 

@@ -16,7 +16,7 @@ abbrev pub refusal_at : FinishText → Clauses (List ℕ) → Option SqlBuilderE
 refusal_at Sql r = refusal r
 refusal_at _ r = None
 
--- what a finish lays out, where `word` gives the atoms of a text of the product's own, and `raw` those of a text that was handed in
+-- what a finish lays out: `word` gives the atoms of the product's own texts, `raw` of those handed in
 abbrev pub layout_at : {A : Type 0} → (List ℕ → List A) → (List ℕ → List A) → FinishText → Clauses (List A)
     → List A
 layout_at word raw Sql r = sql word r
