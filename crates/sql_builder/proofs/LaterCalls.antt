@@ -11,7 +11,8 @@ use Rattle.sql_builder.proofs.Snoc.{add, add_is}
 
 -- `apart` forgets some clauses, and what a call makes of the others doesn't rest on these
 abbrev Apart : (Clauses Pieces → Clauses Pieces) → Type 0
-Apart apart = (c : CallText) (r : Clauses Pieces) → apart (clauses_after c r) ≡ apart (clauses_after c (apart r))
+Apart apart =
+    (c : CallText) (r : Clauses Pieces) → apart (clauses_after c r) ≡ apart (clauses_after c (apart r))
 
 -- a call that gives something changes nothing but what `apart` forgets, and gives that anew
 abbrev Renews : (CallText → Option Pieces) → (Clauses Pieces → Clauses Pieces) → Type 0

@@ -1,5 +1,5 @@
 -- What a call makes of a builder's clauses, each text as its bytes.
-use Rattle.std.specs.Prelude.{◌≡◌, ℕ, List, [], ◌∷◌, ◌++◌, None, Some, Bool, true, false, codes, map, String, string_bytes, Result, OnOk}
+use Rattle.std.specs.Prelude.{◌≡◌, ℕ, List, [], ◌∷◌, ◌++◌, Option, None, Some, Bool, true, false, codes, map, option_map, String, string_bytes, Result, OnOk}
 use Rattle.sql_builder.specs.Calls as call
 use Rattle.sql_builder.specs.Calls.{CallText, ConditionText, kind_of, StartText}
 use Rattle.sql_builder.specs.Clauses.{Clauses, new_clauses}
@@ -27,6 +27,10 @@ ClauseTexts = Clauses (List ℕ)
 -- the bytes of each text
 abbrev pub texts : {Z : Type 0} → List (String Z) → List (List ℕ)
 texts strings = map (λ s. string_bytes s) strings
+
+-- the bytes of a text, where there is one
+abbrev pub optional_text : {Z : Type 0} → Option (String Z) → Option (List ℕ)
+optional_text string = option_map (λ s. string_bytes s) string
 
 -- the last list goes on with t, where there is a list
 abbrev pub extend_last : {A : Type 0} → List A → List (List A) → List (List A)

@@ -137,7 +137,8 @@ join_after before table = join fixed_piece (natural_of before) (operator_of befo
 
 -- a join with the constraints before the next one
 abbrev pub join_in : List CallText → CallText → List CallText → List Pieces
-join_in before (Join table) after = (join_after before table ++ flat_map constraint_in (until is_join after)) ∷ []
+join_in before (Join table) after =
+    (join_after before table ++ flat_map constraint_in (until is_join after)) ∷ []
 join_in before _ after = []
 
 -- the joins in their order

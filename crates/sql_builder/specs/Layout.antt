@@ -40,6 +40,10 @@ returning_sections r = optional_section (codes " RETURNING ") r.returning
 abbrev pub union_sections : {A : Type 0} → List (Bool × List A) → List (Section A)
 union_sections unions = map (λ union. section (union_opening union.0) union.1) unions
 
+-- LIMIT and OFFSET, each where there is one
+abbrev pub range_sections : {A : Type 0} → Clauses (List A) → List (Section A)
+range_sections r = optional_section (codes " LIMIT ") r.limit ++ optional_section (codes " OFFSET ") r.offset
+
 -- `word` gives the atoms of a text of the product's own
 module _ {A : Type 0} (word : List ℕ → List A) where
   -- the sections one after another
@@ -77,11 +81,6 @@ module _ {A : Type 0} (word : List ℕ → List A) where
   abbrev pub order_by_sections : List (Bool × List A) → List (List A) → List (Section A)
   order_by_sections [] fields = list_sections (codes " ORDER BY ") fields
   order_by_sections (u ∷ us) fields = []
-
-  -- LIMIT and OFFSET
-  abbrev pub range_sections : Clauses (List A) → List (Section A)
-  range_sections r =
-      optional_section (codes " LIMIT ") r.limit ++ optional_section (codes " OFFSET ") r.offset
 
   -- a query of the table
   abbrev pub query_sections : Clauses (List A) → List (Section A)
