@@ -23,7 +23,8 @@ until-join table (c ∷ calls) =
 same_join : (table : List ℕ) (before : List CallText) (c : CallText) (calls : List CallText)
     → join_in before c (calls ++ Join table ∷ []) ≡ join_in before c calls
 same_join table before (Join t) calls =
-    ap (λ (rest : List CallText). (join_after before t ++ flat_map constraint_in rest) ∷ []) (until-join table calls)
+    ap (λ (rest : List CallText). (join_after before t ++ flat_map constraint_in rest) ∷ [])
+    (until-join table calls)
 same_join table before _ calls = refl
 
 one_more_join : (table : List ℕ) (before calls : List CallText)
@@ -33,7 +34,8 @@ one_more_join table before [] = rw (append-nil before) refl
 one_more_join table before (c ∷ calls) =
     rw (same_join table before c calls, one_more_join table (before ++ c ∷ []) calls)
     (rw (append_assoc before (c ∷ []) calls)
-    (sym (append_assoc (join_in before c calls) (joins (before ++ c ∷ []) calls) (join_in (before ++ c ∷ calls) (Join table) []))))
+    (sym (append_assoc (join_in before c calls) (joins (before ++ c ∷ []) calls)
+    (join_in (before ++ c ∷ calls) (Join table) []))))
 
 -- a call that is no join goes on with the last join
 

@@ -26,7 +26,8 @@ module _ (start : StartText) (apart : Clauses Pieces → Clauses Pieces) (alike 
   more_calls xs ys h [] = rw (append-nil xs, append-nil ys) h
   more_calls xs ys h (c ∷ more) =
       rw (sym (append_assoc xs (c ∷ []) more), sym (append_assoc ys (c ∷ []) more))
-      (more_calls (xs ++ c ∷ []) (ys ++ c ∷ []) (known xs ∙ ap (λ r. apart (clauses_after c r)) h ∙ sym (known ys)) more)
+      (more_calls (xs ++ c ∷ []) (ys ++ c ∷ [])
+      (known xs ∙ ap (λ r. apart (clauses_after c r)) h ∙ sym (known ys)) more)
     where
       known : (calls : List CallText)
           → apart (clauses start (calls ++ c ∷ [])) ≡ apart (clauses_after c (apart (clauses start calls)))
@@ -121,7 +122,8 @@ fields_join start before after a b =
         let first = map raw_piece a in
         let second = map raw_piece b in
         rw (add_is fields first, add_is (fields ++ first) second)
-        (rw (add_is fields (map raw_piece (a ++ b)), map-append raw_piece a b) (append_assoc fields first second))
+        (rw (add_is fields (map raw_piece (a ++ b)), map-append raw_piece a b)
+        (append_assoc fields first second))
 
     both : clauses start (before ++ Fields a ∷ [] ++ Fields b ∷ [])
         ≡ clauses start (before ++ Fields (a ++ b) ∷ [])

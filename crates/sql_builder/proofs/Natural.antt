@@ -51,7 +51,8 @@ module _ {A B : Type 0} (word : List ℕ → List A) (word' : List ℕ → List 
   where_in_form (g ∷ []) = refl
   where_in_form (g ∷ h ∷ gs) =
       ap (λ (b : List B). section (codes " WHERE ") b ∷ [])
-      (joined_in_form (codes " AND ") (map (in_brackets word) (g ∷ h ∷ gs)) ∙ ap (join_with (word' (codes " AND "))) (groups_in_form (g ∷ h ∷ gs)))
+      (joined_in_form (codes " AND ") (map (in_brackets word) (g ∷ h ∷ gs))
+      ∙ ap (join_with (word' (codes " AND "))) (groups_in_form (g ∷ h ∷ gs)))
 
   optional_in_form : (w : List ℕ) (o : Option (List A))
       → map in_form (optional_section w o) ≡ optional_section w (option_map f o)
@@ -94,7 +95,16 @@ module _ {A B : Type 0} (word : List ℕ → List A) (word' : List ℕ → List 
   query_in_form : (r : Clauses (List A))
       → map in_form (query_sections word r) ≡ query_sections word' (map_clauses f r)
   query_in_form r =
-      simp (map-append, where_in_form, group_by_in_form, union_in_form, order_by_in_form, optional_in_form, fields_in_form, table_in_form)
+      simp (
+        map-append,
+        where_in_form,
+        group_by_in_form,
+        union_in_form,
+        order_by_in_form,
+        optional_in_form,
+        fields_in_form,
+        table_in_form,
+      )
 
   target_in_form : (r : Clauses (List A)) → f (insert_target word r) ≡ insert_target word' (map_clauses f r)
   target_in_form r = simp (app, words, joined_in_form)

@@ -13,7 +13,8 @@ pub one_more : {X Y A : Type 0} (h : Y → List A) (v : X → Y) (xs : List X) (
     → flat_map h (map v (take (i + 1) xs)) ≡ flat_map h (map v (take i xs)) ++ h (v x)
 one_more h v xs i x l e =
     rw (take_more xs i x l) (rw (sym e)
-    (rw (map-append v (take i xs) (x ∷ []), flat_map-append h (map v (take i xs)) (v x ∷ []), append-nil (h (v x))) refl))
+    (rw (map-append v (take i xs) (x ∷ []), flat_map-append h (map v (take i xs)) (v x ∷ []))
+    (rw (append-nil (h (v x))) refl)))
 
 -- the brackets of two neighbours in one text
 bracketed : (gs : List (List ℕ))
@@ -29,7 +30,8 @@ several : (gs : List (List ℕ)) → 2 ≤ length gs
 several [] h = absurd (omega arith)
 several (g ∷ []) h = absurd (omega arith)
 several (g ∷ k ∷ gs) h =
-    ap (◌++◌ (codes " WHERE (")) (append-nil _ ∙ append_assoc g _ _ ∙ ap (◌++◌ g) (sym (bracketed (k ∷ gs))) ∙ sym (append_assoc g _ _))
+    ap (◌++◌ (codes " WHERE ("))
+    (append-nil _ ∙ append_assoc g _ _ ∙ ap (◌++◌ g) (sym (bracketed (k ∷ gs))) ∙ sym (append_assoc g _ _))
 
 last_set : {Z : Type 0} (x : String Z) (xs : List (String Z)) (s d : String Z) (t : List ℕ)
     → string_bytes s ≡ string_bytes (get_or (x ∷ xs) (length xs) d) ++ t
@@ -47,7 +49,8 @@ module _ {Z : Type 0} where
   -- GROUP BY of some fields
   pub some_group_fields : (ts : List (String Z)) (having : Option (List ℕ)) → length ts ≢ 0
       → concat_sections byte_atoms (group_by_sections byte_atoms (texts ts) having)
-      ≡ codes " GROUP BY " ++ (comma_list byte_atoms (texts ts) ++ concat_sections byte_atoms (optional_section (codes " HAVING ") having))
+      ≡ codes " GROUP BY " ++ (comma_list byte_atoms (texts ts)
+      ++ concat_sections byte_atoms (optional_section (codes " HAVING ") having))
   some_group_fields [] having h = absurd (h refl)
   some_group_fields (t ∷ ts) having h = refl
 
@@ -76,16 +79,19 @@ module _ (r : ClauseTexts) where
 
   pub update_is : concat_sections byte_atoms (update_sections byte_atoms r)
       ≡ codes "UPDATE " ++ (r.table ++ (codes " SET " ++ (comma_list byte_atoms r.sets
-      ++ (concat_sections byte_atoms (where_sections byte_atoms r.groups) ++ concat_sections byte_atoms (returning_sections r)))))
+      ++ (concat_sections byte_atoms (where_sections byte_atoms r.groups)
+      ++ concat_sections byte_atoms (returning_sections r)))))
   update_is = simp (flat_map-append, append_assoc)
 
   pub insert_rows_is : concat_sections byte_atoms (insert_sections byte_atoms None r)
       ≡ codes "INSERT INTO " ++ (r.table ++ (codes " (" ++ (comma_list byte_atoms r.fields ++ (codes ")"
-      ++ (codes " VALUES " ++ (comma_list byte_atoms r.rows ++ concat_sections byte_atoms (returning_sections r)))))))
+      ++ (codes " VALUES " ++ (comma_list byte_atoms r.rows
+      ++ concat_sections byte_atoms (returning_sections r)))))))
   insert_rows_is = simp append_assoc
 
   pub insert_query_is : (q : List ℕ) → concat_sections byte_atoms (insert_sections byte_atoms (Some q) r)
-      ≡ codes "INSERT INTO " ++ (r.table ++ (codes " (" ++ (comma_list byte_atoms r.fields ++ (codes ")" ++ (codes " " ++ q)))))
+      ≡ codes "INSERT INTO " ++ (r.table ++ (codes " (" ++ (comma_list byte_atoms r.fields
+      ++ (codes ")" ++ (codes " " ++ q)))))
   insert_query_is q = simp (append_assoc, append-nil)
 
   pub delete_is : concat_sections byte_atoms (delete_sections byte_atoms r)

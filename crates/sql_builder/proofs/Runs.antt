@@ -70,7 +70,8 @@ clauses_printed (call.Join table) r = simp (map-append, append-nil)
 clauses_printed (call.On condition) r = simp (extended_texts, append-nil)
 clauses_printed (call.OnEq left right) r = simp (extended_texts, append-nil)
 clauses_printed (call.Fields fields) r =
-    ap (λ (fs : List (List ℕ)). record (map_clauses pieces_text r) { fields = fs }) (added_texts r.fields fields)
+    ap (λ (fs : List (List ℕ)). record (map_clauses pieces_text r) { fields = fs })
+    (added_texts r.fields fields)
 clauses_printed (call.SetFields fields) r = simp texts_of_raw
 clauses_printed (call.Field field) r = simp (map-append, append-nil)
 clauses_printed (call.SetField field) r = simp append-nil
@@ -127,7 +128,8 @@ text_of_layout f r =
     raw_piece byte_atoms append-nil f r
 
 -- what the builder prints is the statement of the pieces
-pub statement_printed : {Z : Type 0} (f : FinishText) (r : Clauses Pieces) (result : Result (String Z) SqlBuilderError)
+pub statement_printed : {Z : Type 0} (f : FinishText) (r : Clauses Pieces)
+    (result : Result (String Z) SqlBuilderError)
     → IfOk result (λ s. string_bytes s ≡ text_at f (map_clauses pieces_text r))
     → IfSome (refusal_at f (map_clauses pieces_text r)) (λ e. result ≡ Err e)
     → IfOk result (λ s. text_unless_refused (pieces_at f r) ≡ Ok (string_bytes s))
@@ -136,7 +138,8 @@ statement_printed {Z = Z} f r result = by result (refusal_at f (map_clauses piec
     by : (result : Result (String Z) SqlBuilderError) (o : Option SqlBuilderError)
         → IfOk result (λ s. string_bytes s ≡ text_at f (map_clauses pieces_text r))
         → IfSome o (λ e. result ≡ Err e)
-        → IfOk result (λ s. text_unless_refused (unless_refused o (layout_at fixed_piece raw_piece f r)) ≡ Ok (string_bytes s))
+        → IfOk result
+        (λ s. text_unless_refused (unless_refused o (layout_at fixed_piece raw_piece f r)) ≡ Ok (string_bytes s))
     by (Err e) o text refused = tt
     by (Ok s) None text refused = ap Ok (text_of_layout f r ∙ sym text)
     by (Ok s) (Some e) text refused = cc
@@ -150,7 +153,8 @@ statement_refused {T = T} f r result = by result (refusal_at f (map_clauses piec
   where
     by : (result : Result T SqlBuilderError) (o : Option SqlBuilderError) → IfSome o (λ e. result ≡ Err e)
         → (IsNone o → FailsOnlyByMemory result)
-        → IfErr result (λ e. IsMemory e ⊎ (text_unless_refused (unless_refused o (layout_at fixed_piece raw_piece f r)) ≡ Err e))
+        → IfErr result
+        (λ e. IsMemory e ⊎ (text_unless_refused (unless_refused o (layout_at fixed_piece raw_piece f r)) ≡ Err e))
     by (Ok s) o refused memory = tt
     by (Err e) None refused memory = inl (memory refl)
     by (Err e) (Some g) refused memory = inr cc

@@ -30,7 +30,8 @@ last_or-append o (x ∷ xs) ys = last_or-append (Some x) xs ys
 pub last-snoc : {X Y : Type 0} (f : X → Option Y) (xs : List X) (y : X)
     → last_said f (xs ++ y ∷ []) ≡ option_or (f y) (last_said f xs)
 last-snoc f xs y =
-    rw (filter_map-append f xs (y ∷ []), last_or-append None (filter_map f xs) (filter_map f (y ∷ []))) (ends (f y) (last_said f xs))
+    rw (filter_map-append f xs (y ∷ []), last_or-append None (filter_map f xs) (filter_map f (y ∷ [])))
+    (ends (f y) (last_said f xs))
   where
     ends : {Y : Type 0} (new old : Option Y) → last_or old (cons_option new []) ≡ option_or new old
     ends None old = refl
@@ -95,7 +96,8 @@ any_unfollowed-snoc p q [] y = alone (p y) (q y)
     alone false true = refl
     alone false false = refl
 any_unfollowed-snoc p q (x ∷ xs) y =
-    rw (any-snoc q xs y, any_unfollowed-snoc p q xs y) (cases (p x) (p y) (q y) (list_any q xs) (any_unfollowed p q xs))
+    rw (any-snoc q xs y, any_unfollowed-snoc p q xs y)
+    (cases (p x) (p y) (q y) (list_any q xs) (any_unfollowed p q xs))
   where
     cases : (a b c d e : Bool)
         → ((a && not (c || d)) || (b || (not c && e))) ≡ (b || (not c && ((a && not d) || e)))
