@@ -5,6 +5,7 @@ use Rattle.sql_builder.specs.Builder.{extend_last}
 use Rattle.sql_builder.specs.Calls.{CallText, Join, On, OnEq, constraint_in, is_join, join_after, join_in, joins_of, natural_of, operator_of}
 use Rattle.sql_builder.specs.Filters.{in_place, until}
 use Rattle.sql_builder.specs.Phrases.{join}
+use Rattle.sql_builder.proofs.Snoc.{extend_last-nil}
 use Rattle.sql_builder.specs.Text.{Pieces, fixed_piece, raw_piece}
 use Rattle.sql_builder.specs.declared.clauses.JoinOperator.{JoinOperator}
 
@@ -77,11 +78,6 @@ longer_join c h before (Join table ∷ calls) =
     rw (longer_join c h (before ++ Join table ∷ []) calls)
     (last_join c h (join_after before table) (before ++ Join table ∷ []) calls)
 longer_join c h before (d ∷ calls) = longer_join c h (before ++ d ∷ []) calls
-
-extend_last-nil : (ts : List Pieces) → extend_last [] ts ≡ ts
-extend_last-nil [] = refl
-extend_last-nil (t ∷ []) = simp append-nil
-extend_last-nil (t ∷ u ∷ ts) = ap (λ (rest : List Pieces). t ∷ rest) (extend_last-nil (u ∷ ts))
 
 -- the joins after one more call, of those before it, the operator in force and whether NATURAL waits
 abbrev pub joins_after : CallText → Bool → Option JoinOperator → List Pieces → List Pieces

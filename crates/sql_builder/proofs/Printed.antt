@@ -3,9 +3,10 @@ use Rattle.std.proofs.Common.{◌≡◌, ◌≢◌, ℕ, ◌+◌, ◌-◌, ◌<�
 use Rattle.std.proofs.lemmas.List.{take_more, map-append, append-nil, length-map}
 use Rattle.std.proofs.lemmas.Grind.{flat_map-append}
 use Rattle.sql_builder.specs.Builder.{ClauseTexts, extend_last, texts}
-use Rattle.sql_builder.specs.Layout.{byte_atoms, concat_sections, delete_sections, fields_or_star, group_by_sections, insert_sections, optional_section, order_by_sections, query, range_sections, returning_sections, select_opening, table_and_joins, union_sections, update_sections, where_sections}
+use Rattle.sql_builder.specs.Layout.{byte_atoms, concat_sections, delete_sections, fields_or_star, group_by_sections, insert_sections, optional_section, order_by_sections, query, returning_sections, select_opening, table_and_joins, union_sections, update_sections, where_sections}
 use Rattle.sql_builder.specs.Phrases.{comma_list, in_brackets}
 use Rattle.sql_builder.specs.Text.{join_with}
+use Rattle.sql_builder.proofs.Snoc.{extend_last-nil}
 
 -- one more element of a loop over xs, of which each adds h of its value
 pub one_more : {X Y A : Type 0} (h : Y → List A) (v : X → Y) (xs : List X) (i : ℕ) (x : X) → i < length xs
@@ -65,6 +66,12 @@ module _ {Z : Type 0} where
       less : length (x ∷ xs) - 1 ≡ length xs
       less = omega arith
 
+  -- the last text of a list, set to one of the same bytes
+  pub last_kept : (xs : List (String Z)) (s d : String Z) → 0 < length xs
+      → string_bytes s ≡ string_bytes (get_or xs (length xs - 1) d)
+      → texts (set xs (length xs - 1) s) ≡ texts xs
+  last_kept xs s d h e = last_goes_on xs s d [] h (e ∙ sym (append-nil _)) ∙ extend_last-nil (texts xs)
+
 module _ (r : ClauseTexts) where
   -- the sections of each statement one after another
   pub query_is : query byte_atoms r
@@ -74,7 +81,8 @@ module _ (r : ClauseTexts) where
       ++ (concat_sections byte_atoms (group_by_sections byte_atoms r.group_fields r.having)
       ++ (concat_sections byte_atoms (union_sections r.unions)
       ++ (concat_sections byte_atoms (order_by_sections byte_atoms r.unions r.order_fields)
-      ++ concat_sections byte_atoms (range_sections r))))))))
+      ++ (concat_sections byte_atoms (optional_section (codes " LIMIT ") r.limit)
+      ++ concat_sections byte_atoms (optional_section (codes " OFFSET ") r.offset)))))))))
   query_is = simp (flat_map-append, append_assoc)
 
   pub update_is : concat_sections byte_atoms (update_sections byte_atoms r)

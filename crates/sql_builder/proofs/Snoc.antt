@@ -5,6 +5,7 @@ use Rattle.std.proofs.lemmas.Grind.{flat_map-append}
 use Rattle.std.proofs.lemmas.List.Elements.{filter_map-append}
 use Rattle.std.specs.List.{list_any, last_or, cons_option}
 use Rattle.std.specs.Option.{option_or}
+use Rattle.sql_builder.specs.Builder.{extend_last}
 use Rattle.sql_builder.specs.Filters.{any_unfollowed, begins, cut, Group, last_said, lead_and_groups, since}
 
 -- ys behind xs, so that it is xs itself where there are none
@@ -21,6 +22,11 @@ pub flat-snoc : {X Y : Type 0} (f : X → List Y) (xs : List X) (y : X)
 flat-snoc f xs y =
     flat_map-append f xs (y ∷ []) ∙ ap (◌++◌ (flat_map f xs)) (append-nil (f y))
     ∙ sym (add_is (flat_map f xs) (f y))
+
+pub extend_last-nil : {A : Type 0} (xs : List (List A)) → extend_last [] xs ≡ xs
+extend_last-nil [] = refl
+extend_last-nil (x ∷ []) = simp append-nil
+extend_last-nil (x ∷ y ∷ xs) = ap (◌∷◌ x) (extend_last-nil (y ∷ xs))
 
 last_or-append : {A : Type 0} (o : Option A) (xs ys : List A)
     → last_or o (xs ++ ys) ≡ last_or (last_or o xs) ys
