@@ -23,7 +23,8 @@ start_text (start.DeleteFrom table) = text.DeleteFrom (string_bytes table)
 -- a condition, its texts as bytes
 abbrev pub condition_text : Condition → ConditionText
 condition_text (condition.Raw t) = text.Raw (string_bytes t)
-condition_text (condition.Compare relation field value) = text.Compare relation (string_bytes field) (string_bytes value)
+condition_text (condition.Compare relation field value) =
+    text.Compare relation (string_bytes field) (string_bytes value)
 
 -- a call, its texts as bytes
 abbrev pub call_text : Call → CallText

@@ -1,5 +1,5 @@
 -- What a call makes of a builder's clauses, each text as its bytes.
-use Rattle.std.specs.Prelude.{◌≡◌, ℕ, List, [], ◌∷◌, ◌++◌, Option, None, Some, Bool, true, false, codes, flat_map, map, String, string_bytes, Result, Ok, Err, OnOk}
+use Rattle.std.specs.Prelude.{◌≡◌, ℕ, List, [], ◌∷◌, ◌++◌, Option, None, Some, Bool, true, false, codes, flat_map, map, option_map, String, string_bytes, Result, Ok, Err, OnOk}
 use Rattle.sql_parts.specs.Error.{IsMemory}
 use Rattle.sql_parts.specs.declared.error.SqlBuilderError.{SqlBuilderError}
 use Rattle.sql_builder.specs.Calls as call
@@ -42,6 +42,10 @@ union_text union = (union.all, string_bytes union.query)
 abbrev pub table_text : {Z : Type 0} → String Z → List (String Z) → List ℕ
 table_text table further = string_bytes table ++ flat_map (further_table byte_atoms) (texts further)
 
+-- the bytes of a text, where there is one
+abbrev pub optional_text : {Z : Type 0} → Option (String Z) → Option (List ℕ)
+optional_text string = option_map (λ s. string_bytes s) string
+
 -- the last list goes on with t, where there is a list
 abbrev pub extend_last : {A : Type 0} → List A → List (List A) → List (List A)
 extend_last t [] = []
@@ -77,7 +81,8 @@ with_table table r = record r { table = r.table ++ further_table byte_atoms tabl
 
 -- a join as was chosen; it ends a waiting NATURAL
 abbrev pub with_join : List ℕ → ClauseTexts → ClauseTexts
-with_join table r = record r { joins = r.joins ++ join byte_atoms r.natural r.operator table ∷ []; natural = false }
+with_join table r =
+    record r { joins = r.joins ++ join byte_atoms r.natural r.operator table ∷ []; natural = false }
 
 -- a constraint of the last join; where there is none, nothing changes
 abbrev pub with_on : List ℕ → ClauseTexts → ClauseTexts
@@ -121,7 +126,8 @@ with_union all query r = record r { unions = r.unions ++ (all, query) ∷ [] }
 
 -- one more field to order by, which may be descending
 abbrev pub with_order : Bool → List ℕ → ClauseTexts → ClauseTexts
-with_order descending field r = record r { order_fields = r.order_fields ++ order byte_atoms descending field ∷ [] }
+with_order descending field r =
+    record r { order_fields = r.order_fields ++ order byte_atoms descending field ∷ [] }
 
 -- the limit
 abbrev pub with_limit : List ℕ → ClauseTexts → ClauseTexts
@@ -141,7 +147,8 @@ with_condition And condition r = with_group condition r
 
 -- a field compared with a value
 abbrev pub with_comparison : Family → Relation → List ℕ → List ℕ → ClauseTexts → ClauseTexts
-with_comparison family relation field value r = with_condition family (comparison byte_atoms relation field value) r
+with_comparison family relation field value r =
+    with_condition family (comparison byte_atoms relation field value) r
 
 -- a condition's text
 abbrev pub condition_bytes : ConditionText → List ℕ

@@ -1,4 +1,4 @@
--- What a start, a list of calls and a finish say, each text as its bytes: each clause is a filter over the whole list.
+-- What a start, a list of calls and a finish say, each text as its bytes: each clause filters the whole list.
 use Rattle.std.specs.Prelude.{ℕ, List, [], ◌∷◌, ◌++◌, Option, None, Some, Bool, true, false, map, codes, flat_map, filter_map}
 use Rattle.std.specs.List.{list_any}
 use Rattle.sql_builder.specs.Clauses.{Clauses}
@@ -127,13 +127,18 @@ natural_of calls = any_unfollowed is_natural is_join calls
 -- the constraint that a call adds to the join before it
 abbrev pub constraint_in : CallText → Pieces
 constraint_in (On condition) = constraint fixed_piece (raw_piece condition)
-constraint_in (OnEq left right) = constraint fixed_piece (equation fixed_piece (raw_piece left) (raw_piece right))
+constraint_in (OnEq left right) =
+    constraint fixed_piece (equation fixed_piece (raw_piece left) (raw_piece right))
 constraint_in _ = []
 
--- a join, as the calls before it chose, with the constraints before the next join
+-- a join as the calls before it chose, without its constraints
+abbrev pub join_after : List CallText → List ℕ → Pieces
+join_after before table = join fixed_piece (natural_of before) (operator_of before) (raw_piece table)
+
+-- a join with the constraints before the next one
 abbrev pub join_in : List CallText → CallText → List CallText → List Pieces
 join_in before (Join table) after =
-    (join fixed_piece (natural_of before) (operator_of before) (raw_piece table) ++ flat_map constraint_in (until is_join after)) ∷ []
+    (join_after before table ++ flat_map constraint_in (until is_join after)) ∷ []
 join_in before _ after = []
 
 -- the joins in their order
@@ -223,7 +228,8 @@ having_in _ = None
 -- a condition's pieces: a bare one as it stands, or a field compared with a value
 abbrev pub condition_pieces : ConditionText → Pieces
 condition_pieces (Raw condition) = raw_piece condition
-condition_pieces (Compare relation field value) = comparison fixed_piece relation (raw_piece field) (raw_piece value)
+condition_pieces (Compare relation field value) =
+    comparison fixed_piece relation (raw_piece field) (raw_piece value)
 
 -- the condition that a call adds, and its family
 abbrev pub condition_in : CallText → Option (Family × ConditionText)
@@ -236,7 +242,8 @@ opens_group (And, condition) = true
 
 -- the conditions of a group joined by OR
 abbrev pub group_pieces : Group (Family × ConditionText) → Pieces
-group_pieces group = join_with (fixed_piece (codes " OR ")) (map (λ c. condition_pieces c.1) (group.0 ∷ group.1))
+group_pieces group =
+    join_with (fixed_piece (codes " OR ")) (map (λ c. condition_pieces c.1) (group.0 ∷ group.1))
 
 -- the conditions of all calls in order, cut before each that opens a group
 abbrev pub groups_of : List CallText → List Pieces

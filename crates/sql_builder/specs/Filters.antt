@@ -21,7 +21,7 @@ abbrev pub any_unfollowed : {X : Type 0} → (X → Bool) → (X → Bool) → L
 any_unfollowed p q [] = false
 any_unfollowed p q (x ∷ xs) = (p x && not (list_any q xs)) || any_unfollowed p q xs
 
--- what f makes of the elements before an element, of that element, and of those after it, for each element of xs in turn
+-- what f makes of each element in its place: of those before it, of itself, and of those after it
 abbrev pub in_place : {X Y : Type 0} → (List X → X → List X → List Y) → List X → List X → List Y
 in_place f before [] = []
 in_place f before (x ∷ xs) = f before x xs ++ in_place f (before ++ x ∷ []) xs

@@ -40,6 +40,10 @@ returning_sections r = optional_section (codes " RETURNING ") r.returning
 abbrev pub union_sections : {A : Type 0} → List (Bool × List A) → List (Section A)
 union_sections unions = map (λ union. section (union_opening union.0) union.1) unions
 
+-- LIMIT and OFFSET, each where there is one
+abbrev pub range_sections : {A : Type 0} → Clauses (List A) → List (Section A)
+range_sections r = optional_section (codes " LIMIT ") r.limit ++ optional_section (codes " OFFSET ") r.offset
+
 -- `word` gives the atoms of a text of the product's own
 module _ {A : Type 0} (word : List ℕ → List A) where
   -- the sections one after another
@@ -64,21 +68,19 @@ module _ {A : Type 0} (word : List ℕ → List A) where
   abbrev pub where_sections : List (List A) → List (Section A)
   where_sections [] = []
   where_sections (g ∷ []) = section (codes " WHERE ") g ∷ []
-  where_sections (g ∷ h ∷ gs) = section (codes " WHERE ") (join_with (word (codes " AND ")) (map (in_brackets word) (g ∷ h ∷ gs))) ∷ []
+  where_sections (g ∷ h ∷ gs) =
+      section (codes " WHERE ") (join_with (word (codes " AND ")) (map (in_brackets word) (g ∷ h ∷ gs))) ∷ []
 
   -- HAVING stands only behind GROUP BY
   abbrev pub group_by_sections : List (List A) → Option (List A) → List (Section A)
   group_by_sections [] having = []
-  group_by_sections (t ∷ ts) having = section (codes " GROUP BY ") (comma_list word (t ∷ ts)) ∷ optional_section (codes " HAVING ") having
+  group_by_sections (t ∷ ts) having =
+      section (codes " GROUP BY ") (comma_list word (t ∷ ts)) ∷ optional_section (codes " HAVING ") having
 
   -- ORDER BY stands only where there is no union
   abbrev pub order_by_sections : List (Bool × List A) → List (List A) → List (Section A)
   order_by_sections [] fields = list_sections (codes " ORDER BY ") fields
   order_by_sections (u ∷ us) fields = []
-
-  -- LIMIT and OFFSET
-  abbrev pub range_sections : Clauses (List A) → List (Section A)
-  range_sections r = optional_section (codes " LIMIT ") r.limit ++ optional_section (codes " OFFSET ") r.offset
 
   -- a query of the table
   abbrev pub query_sections : Clauses (List A) → List (Section A)
@@ -99,13 +101,17 @@ module _ {A : Type 0} (word : List ℕ → List A) where
 
   -- INSERT of rows, or of a query
   abbrev pub insert_sections : Option (List A) → Clauses (List A) → List (Section A)
-  insert_sections None r = section (codes "INSERT INTO ") (insert_target r) ∷ section (codes " VALUES ") (comma_list word r.rows) ∷ returning_sections r
-  insert_sections (Some query) r = section (codes "INSERT INTO ") (insert_target r ++ (word (codes " ") ++ query)) ∷ []
+  insert_sections None r =
+      section (codes "INSERT INTO ") (insert_target r) ∷ section (codes " VALUES ") (comma_list word r.rows)
+      ∷ returning_sections r
+  insert_sections (Some query) r =
+      section (codes "INSERT INTO ") (insert_target r ++ (word (codes " ") ++ query)) ∷ []
 
   -- UPDATE
   abbrev pub update_sections : Clauses (List A) → List (Section A)
   update_sections r =
-      section (codes "UPDATE ") r.table ∷ section (codes " SET ") (comma_list word r.sets) ∷ (where_sections r.groups ++ returning_sections r)
+      section (codes "UPDATE ") r.table ∷ section (codes " SET ") (comma_list word r.sets)
+      ∷ (where_sections r.groups ++ returning_sections r)
 
   -- DELETE
   abbrev pub delete_sections : Clauses (List A) → List (Section A)

@@ -4,6 +4,7 @@ pub mod Calls
 pub mod Chaining
 pub mod Clauses
 pub mod Filters
+pub mod Laws
 pub mod Layout
 pub mod Phrases
 pub mod Statement

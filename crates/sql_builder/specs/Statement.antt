@@ -11,13 +11,28 @@ abbrev pub unless_refused : {X : Type 0} → Option SqlBuilderError → X → Re
 unless_refused None x = Ok x
 unless_refused (Some refusal) x = Err refusal
 
--- what a finish prints of the clauses, or refuses
+-- what a finish refuses: `sql` alone refuses anything
+abbrev pub refusal_at : FinishText → Clauses (List ℕ) → Option SqlBuilderError
+refusal_at Sql r = refusal r
+refusal_at _ r = None
+
+-- what a finish lays out: `word` gives the atoms of the product's own texts, `raw` of those handed in
+abbrev pub layout_at : {A : Type 0} → (List ℕ → List A) → (List ℕ → List A) → FinishText → Clauses (List A)
+    → List A
+layout_at word raw Sql r = sql word r
+layout_at word raw Query r = query word r
+layout_at word raw QueryValues r = query_values word r
+layout_at word raw Subquery r = subquery word r
+layout_at word raw (SubqueryAs name) r = subquery_as word (raw name) r
+
+-- the pieces that a finish prints of the clauses, or its refusal
 abbrev pub pieces_at : FinishText → Clauses Pieces → Result Pieces SqlBuilderError
-pieces_at Sql r = unless_refused (refusal (map_clauses pieces_text r)) (sql fixed_piece r)
-pieces_at Query r = Ok (query fixed_piece r)
-pieces_at QueryValues r = Ok (query_values fixed_piece r)
-pieces_at Subquery r = Ok (subquery fixed_piece r)
-pieces_at (SubqueryAs name) r = Ok (subquery_as fixed_piece (raw_piece name) r)
+pieces_at finish r =
+    unless_refused (refusal_at finish (map_clauses pieces_text r)) (layout_at fixed_piece raw_piece finish r)
+
+-- the text that a finish prints of the clauses' texts
+abbrev pub text_at : FinishText → Clauses (List ℕ) → List ℕ
+text_at finish r = layout_at byte_atoms byte_atoms finish r
 
 -- the pieces that are printed, or the refusal
 abbrev pub pieces : StartText → List CallText → FinishText → Result Pieces SqlBuilderError
@@ -31,11 +46,3 @@ text_unless_refused (Err refusal) = Err refusal
 -- the text that the whole list makes, or its refusal
 abbrev pub statement : StartText → List CallText → FinishText → Result (List ℕ) SqlBuilderError
 statement start calls finish = text_unless_refused (pieces start calls finish)
-
--- what a builder prints of its clauses' texts, or refuses
-abbrev pub text_at : FinishText → Clauses (List ℕ) → Result (List ℕ) SqlBuilderError
-text_at Sql r = unless_refused (refusal r) (sql byte_atoms r)
-text_at Query r = Ok (query byte_atoms r)
-text_at QueryValues r = Ok (query_values byte_atoms r)
-text_at Subquery r = Ok (subquery byte_atoms r)
-text_at (SubqueryAs name) r = Ok (subquery_as byte_atoms name r)

@@ -14,7 +14,7 @@ doubled_quotes text = flat_map (λ byte. if byte == 39 then 39 ∷ 39 ∷ [] els
 abbrev pub quote : List ℕ → List ℕ
 quote text = 39 ∷ doubled_quotes text ++ 39 ∷ []
 
--- A piece of a statement: words and signs of the product, a text between single quotes, or a text as it was handed in.
+-- A piece of a statement: a text of the product's own, a text between single quotes, or a text as handed in.
 pub data Piece : Type 0 where
   Fixed : List ℕ → Piece
   Quoted : List ℕ → Piece

@@ -6,6 +6,7 @@ pub mod calls;
 mod chain;
 mod clauses;
 mod phrases;
+pub mod laws;
 mod steps;
 mod texts;
 

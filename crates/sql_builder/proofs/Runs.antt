@@ -1,0 +1,160 @@
+-- A list of calls with one more, and the statement of the calls that were made.
+use Rattle.std.proofs.Common.{◌≡◌, ℕ, ◌+◌, ◌<◌, List, [], ◌∷◌, ◌++◌, Option, None, Some, true, false, map, take, get_or, length, String, string_bytes, Result, Ok, Err, IfOk, IfErr, refl, ap, sym, ◌∙◌, inl, inr}
+use Rattle.std.proofs.lemmas.List.{take_more, map-append, append-nil}
+use Rattle.std.proofs.lemmas.Grind.{flat_map-append}
+use Rattle.std.specs.Prelude.{IfSome, IsNone, ◌⊎◌}
+use Rattle.sql_builder.specs.Answers.{call_text}
+use Rattle.sql_builder.specs.Builder.{ClauseTexts, condition_bytes, extend_last, started, with_call}
+use Rattle.sql_builder.specs.Calls as call
+use Rattle.sql_builder.specs.Calls.{StartText, ConditionText, CallText, FinishText, clauses, condition_pieces}
+use Rattle.sql_builder.specs.Clauses.{Clauses, map_clauses}
+use Rattle.sql_builder.specs.Layout.{byte_atoms}
+use Rattle.sql_builder.specs.Phrases.{row}
+use Rattle.sql_builder.specs.Statement.{layout_at, pieces_at, refusal_at, text_at, text_unless_refused, unless_refused}
+use Rattle.sql_builder.specs.Text.{Pieces, fixed_piece, piece_text, pieces_text, raw_piece}
+use Rattle.sql_builder.specs.declared.calls.Call.{Call}
+use Rattle.sql_builder.specs.declared.calls.Family.TheVariants.{And}
+use Rattle.sql_parts.specs.Error.{FailsOnlyByMemory, IsMemory}
+use Rattle.sql_parts.specs.declared.error.SqlBuilderError.{SqlBuilderError}
+use Rattle.sql_builder.proofs.MoreCalls.{clauses_after, one_more_clauses}
+use Rattle.sql_builder.proofs.Natural.{layout_in_form, row_in_form}
+use Rattle.sql_builder.proofs.Snoc.{add, add_is}
+
+-- the texts of pieces
+
+pieces_text-append : (x y : Pieces) → pieces_text (x ++ y) ≡ pieces_text x ++ pieces_text y
+pieces_text-append x y = flat_map-append piece_text x y
+
+texts_of_raw : (ts : List (List ℕ)) → map pieces_text (map raw_piece ts) ≡ ts
+texts_of_raw [] = refl
+texts_of_raw (t ∷ ts) = simp (append-nil, texts_of_raw ts)
+
+condition_printed : (c : ConditionText) → pieces_text (condition_pieces c) ≡ condition_bytes c
+condition_printed (call.Raw condition) = append-nil condition
+condition_printed (call.Compare relation field value) = simp append-nil
+
+row_printed : (values : List (List ℕ))
+    → pieces_text (row fixed_piece (map raw_piece values)) ≡ row byte_atoms values
+row_printed values =
+    row_in_form fixed_piece byte_atoms pieces_text refl pieces_text-append append-nil (map raw_piece values)
+    ∙ ap (row byte_atoms) (texts_of_raw values)
+
+added_texts : (ts : List Pieces) (more : List (List ℕ))
+    → map pieces_text (add ts (map raw_piece more)) ≡ map pieces_text ts ++ more
+added_texts ts more =
+    let raw = map raw_piece more in
+    rw (add_is ts raw, map-append pieces_text ts raw, texts_of_raw more) refl
+
+extended_texts : (t : Pieces) (ts : List Pieces)
+    → map pieces_text (extend_last t ts) ≡ extend_last (pieces_text t) (map pieces_text ts)
+extended_texts t [] = refl
+extended_texts t (x ∷ []) = ap (λ (y : List ℕ). y ∷ []) (pieces_text-append x t)
+extended_texts t (x ∷ y ∷ ts) =
+    ap (λ (rest : List (List ℕ)). pieces_text x ∷ rest) (extended_texts t (y ∷ ts))
+
+-- the clauses
+
+-- the texts of the clauses after one more call
+clauses_printed : (c : CallText) (r : Clauses Pieces)
+    → map_clauses pieces_text (clauses_after c r) ≡ with_call c (map_clauses pieces_text r)
+clauses_printed call.Natural r = refl
+clauses_printed call.Left r = refl
+clauses_printed call.LeftOuter r = refl
+clauses_printed call.Right r = refl
+clauses_printed call.RightOuter r = refl
+clauses_printed call.Inner r = refl
+clauses_printed call.Cross r = refl
+clauses_printed call.Distinct r = refl
+clauses_printed (call.AndTable table) r = simp (pieces_text-append, append-nil)
+clauses_printed (call.Join table) r = simp (map-append, append-nil)
+clauses_printed (call.On condition) r = simp (extended_texts, append-nil)
+clauses_printed (call.OnEq left right) r = simp (extended_texts, append-nil)
+clauses_printed (call.Fields fields) r =
+    ap (λ (fs : List (List ℕ)). record (map_clauses pieces_text r) { fields = fs })
+    (added_texts r.fields fields)
+clauses_printed (call.SetFields fields) r = simp texts_of_raw
+clauses_printed (call.Field field) r = simp (map-append, append-nil)
+clauses_printed (call.SetField field) r = simp append-nil
+clauses_printed (call.Count field) r = simp map-append
+clauses_printed (call.CountAs field name) r = simp (map-append, append-nil)
+clauses_printed (call.SetTo field value) r = simp (map-append, append-nil)
+clauses_printed (call.SetStr field value) r = simp (map-append, append-nil)
+clauses_printed (call.Values values) r = simp (map-append, row_printed)
+clauses_printed (call.Select query) r = simp append-nil
+clauses_printed (call.Returning fields) r = simp append-nil
+clauses_printed call.ReturningId r = refl
+clauses_printed (call.GroupBy field) r = simp (map-append, append-nil)
+clauses_printed (call.Having condition) r = simp append-nil
+clauses_printed (call.Union query) r = simp (map-append, append-nil)
+clauses_printed (call.UnionAll query) r = simp (map-append, append-nil)
+clauses_printed (call.OrderBy field true) r = simp map-append
+clauses_printed (call.OrderBy field false) r = simp (map-append, append-nil)
+clauses_printed (call.OrderAsc field) r = simp (map-append, append-nil)
+clauses_printed (call.OrderDesc field) r = simp map-append
+clauses_printed (call.Limit limit) r = simp append-nil
+clauses_printed (call.Offset offset) r = simp append-nil
+clauses_printed (call.Cond And condition) r = simp (map-append, condition_printed)
+
+-- the texts of the clauses that a start and calls make
+abbrev told_by : StartText → List CallText → ClauseTexts
+told_by start calls = map_clauses pieces_text (clauses start calls)
+
+pub clauses-start : (start : StartText) → told_by start [] ≡ started start
+clauses-start (call.SelectFrom table) = simp append-nil
+clauses-start (call.SelectValues values) = simp (append-nil, texts_of_raw)
+clauses-start (call.InsertInto table) = simp append-nil
+clauses-start (call.UpdateTable table) = simp append-nil
+clauses-start (call.DeleteFrom table) = simp append-nil
+
+pub clauses-snoc : (start : StartText) (calls : List CallText) (c : CallText)
+    → told_by start (calls ++ c ∷ []) ≡ with_call c (told_by start calls)
+clauses-snoc start calls c =
+    ap (map_clauses pieces_text) (one_more_clauses start calls c) ∙ clauses_printed c (clauses start calls)
+
+pub one_more_call : (start : StartText) (calls : List Call) (i : ℕ) (c : Call) → i < length calls
+    → c ≡ get_or calls i c
+    → told_by start (map call_text (take (i + 1) calls))
+    ≡ with_call (call_text c) (told_by start (map call_text (take i calls)))
+one_more_call start calls i c l e =
+    rw (take_more calls i c l) (rw (sym e) (rw (map-append call_text (take i calls) (c ∷ []))
+    (clauses-snoc start (map call_text (take i calls)) (call_text c))))
+
+-- the statement
+
+text_of_layout : (f : FinishText) (r : Clauses Pieces)
+    → pieces_text (layout_at fixed_piece raw_piece f r) ≡ text_at f (map_clauses pieces_text r)
+text_of_layout f r =
+    layout_in_form fixed_piece byte_atoms pieces_text refl pieces_text-append append-nil
+    raw_piece byte_atoms append-nil f r
+
+-- what the builder prints is the statement of the pieces
+pub statement_printed : {Z : Type 0} (f : FinishText) (r : Clauses Pieces)
+    (result : Result (String Z) SqlBuilderError)
+    → IfOk result (λ s. string_bytes s ≡ text_at f (map_clauses pieces_text r))
+    → IfSome (refusal_at f (map_clauses pieces_text r)) (λ e. result ≡ Err e)
+    → IfOk result (λ s. text_unless_refused (pieces_at f r) ≡ Ok (string_bytes s))
+statement_printed {Z = Z} f r result = by result (refusal_at f (map_clauses pieces_text r))
+  where
+    by : (result : Result (String Z) SqlBuilderError) (o : Option SqlBuilderError)
+        → IfOk result (λ s. string_bytes s ≡ text_at f (map_clauses pieces_text r))
+        → IfSome o (λ e. result ≡ Err e)
+        → IfOk result
+        (λ s. text_unless_refused (unless_refused o (layout_at fixed_piece raw_piece f r)) ≡ Ok (string_bytes s))
+    by (Err e) o text refused = tt
+    by (Ok s) None text refused = ap Ok (text_of_layout f r ∙ sym text)
+    by (Ok s) (Some e) text refused = cc
+
+-- what the builder refuses is the refusal of the statement, or want of memory
+pub statement_refused : {T : Type 0} (f : FinishText) (r : Clauses Pieces) (result : Result T SqlBuilderError)
+    → IfSome (refusal_at f (map_clauses pieces_text r)) (λ e. result ≡ Err e)
+    → (IsNone (refusal_at f (map_clauses pieces_text r)) → FailsOnlyByMemory result)
+    → IfErr result (λ e. IsMemory e ⊎ (text_unless_refused (pieces_at f r) ≡ Err e))
+statement_refused {T = T} f r result = by result (refusal_at f (map_clauses pieces_text r))
+  where
+    by : (result : Result T SqlBuilderError) (o : Option SqlBuilderError) → IfSome o (λ e. result ≡ Err e)
+        → (IsNone o → FailsOnlyByMemory result)
+        → IfErr result
+        (λ e. IsMemory e ⊎ (text_unless_refused (unless_refused o (layout_at fixed_piece raw_piece f r)) ≡ Err e))
+    by (Ok s) o refused memory = tt
+    by (Err e) None refused memory = inl (memory refl)
+    by (Err e) (Some g) refused memory = inr cc
