@@ -1,5 +1,5 @@
 -- What doubling makes of a text that is cut at its first mark, and that doubled texts are told apart.
-use Rattle.std.proofs.Common.{◌≡◌, ◌≢◌, ℕ, suc, ◌<◌, List, [], ◌∷◌, ◌++◌, length, get_or, refl, arith, append_assoc}
+use Rattle.std.proofs.Common.{◌≡◌, ◌≢◌, ℕ, suc, ◌<◌, List, [], ◌∷◌, ◌++◌, length, get_or, refl, arith}
 use Rattle.std.specs.Prelude.{if◌then◌else◌, ◌==◌}
 use Rattle.std.proofs.lemmas.Grind.{flat_map-append}
 use Rattle.std.proofs.lemmas.Bool.Decides.{nat_tests}
@@ -14,6 +14,7 @@ doubled-unmarked mark (byte ∷ text) unmarked =
     let later : doubled mark text ≡ text = doubled-unmarked mark text (λ i h. unmarked (suc i) (omega arith)) in
     grind (arith, nat_tests, here, later)
 
+-- two texts in a row are doubled one after the other
 pub doubled-append : (mark : ℕ) (front back : List ℕ) → doubled mark (front ++ back) ≡ doubled mark front ++ doubled mark back
 doubled-append mark front back = flat_map-append (λ byte. if byte == mark then mark ∷ mark ∷ [] else byte ∷ []) front back
 
@@ -33,6 +34,7 @@ doubled-injective mark (x ∷ one) (y ∷ other) same =
     let rest = doubled-injective mark one other in
     grind (arith, nat_tests, same, rest)
 
+-- texts that are enclosed alike are the same text
 pub enclosed-injective : (opening closing : ℕ) (one other : List ℕ) → enclosed opening closing one ≡ enclosed opening closing other → one ≡ other
 enclosed-injective opening closing one other same =
     let inner : doubled closing one ++ closing ∷ [] ≡ doubled closing other ++ closing ∷ [] = cc in

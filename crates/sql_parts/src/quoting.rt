@@ -1,7 +1,8 @@
 //! Texts between quotes.
 ghost use Rattle.std.specs.Prelude.{◌≡◌, ◌<◌, ◌++◌, string_bytes, IfOk, OnOk};
 ghost use Rattle.sql_parts.specs.Error.{FailsOnlyByMemory};
-ghost use Rattle.sql_parts.specs.Quoting.{baquoted, brquoted, doubled, dquoted, enclosed, escaped, quoted};
+ghost use Rattle.sql_parts.specs.Quoting.{baquoted, brquoted, dquoted, escaped, quoted};
+ghost use Rattle.sql_parts.specs.Quoting.{doubled, enclosed};
 
 use crate::error::SqlBuilderError;
 use crate::text::ToText;

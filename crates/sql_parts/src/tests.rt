@@ -123,15 +123,14 @@ fn quotes_a_long_text(rt: HostRuntime) -> Result<(), Fail> {
 fn gives_the_text_of_a_value(rt: HostRuntime) -> Result<(), Fail> {
     let heap = rt.alloc();
     let foo = String::from_str(heap, "foo")?;
+    let borrowed = CowStr::<Global>::Borrowed("foo");
+    let owned = CowStr::Owned(String::from_str(heap, "foo")?);
     let rows = [
         ("&str", text_of(heap, "foo")?, "foo"),
         ("&String", text_of(heap, &foo)?, "foo"),
         ("String", text_of(heap, foo)?, "foo"),
-        (
-            "CowStr",
-            text_of(heap, CowStr::<Global>::Borrowed("foo"))?,
-            "foo",
-        ),
+        ("borrowed CowStr", text_of(heap, borrowed)?, "foo"),
+        ("owned CowStr", text_of(heap, owned)?, "foo"),
         ("true", text_of(heap, true)?, "true"),
         ("false", text_of(heap, false)?, "false"),
         ("char", text_of(heap, '\'')?, "'"),

@@ -85,7 +85,7 @@ impl ToText for char {
     }
 }
 
-// The decimal text of a number. Each of these takes its number by value, so that its range is known.
+// Decimal texts of numbers. Each takes its number by value, so that its range is known.
 #[tactic(auto, using(crate::proofs::Decimal::unsigned_text))]
 fn u64_text(alloc: Global, number: u64) -> Result<String, AllocError>
     ensures { IfOk result (λ s. string_bytes s ≡ decimal_text number) }

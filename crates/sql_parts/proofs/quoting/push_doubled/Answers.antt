@@ -1,4 +1,4 @@
-use Rattle.std.proofs.Common.{arith, rules, Some, None, sym, ◌∙◌, ap}
+use Rattle.std.proofs.Common.{arith, rules, Some, None}
 use Rattle.std.proofs.lemmas.Grind.{common_steps}
 use Rattle.std.proofs.lemmas.Str.Pattern.{split_parts}
 use Rattle.sql_parts.proofs.Doubled.{doubled-cut, doubled-unmarked}
