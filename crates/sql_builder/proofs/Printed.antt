@@ -1,10 +1,12 @@
 -- What the helpers that print need: one more element of a loop, and a layout's sections one after another.
-use Rattle.std.proofs.Common.{◌≡◌, ◌≢◌, ℕ, ◌+◌, ◌-◌, ◌<◌, ◌≤◌, List, [], ◌∷◌, ◌++◌, Option, None, Some, length, get_or, set, take, map, flat_map, codes, String, string_bytes, refl, ap, sym, ◌∙◌, append_assoc, arith}
+use Rattle.std.proofs.Common.{◌≡◌, ◌≢◌, ℕ, ◌+◌, ◌-◌, ◌<◌, ◌≤◌, Bool, List, [], ◌∷◌, ◌++◌, Option, None, Some, length, get_or, set, take, map, flat_map, codes, String, string_bytes, refl, ap, sym, ◌∙◌, append_assoc, arith}
+use Rattle.std.specs.Prelude.{nat_eq, ◌&&◌}
+use Rattle.std.proofs.lemmas.Bool.Decides.{nat_tests}
 use Rattle.std.proofs.lemmas.List.{take_more, map-append, append-nil, length-map}
 use Rattle.std.proofs.lemmas.Grind.{flat_map-append}
 use Rattle.sql_builder.specs.Builder.{ClauseTexts, extend_last, texts}
-use Rattle.sql_builder.specs.Layout.{byte_atoms, concat_sections, delete_sections, fields_or_star, group_by_sections, insert_sections, optional_section, order_by_sections, query, returning_sections, select_opening, table_and_joins, union_sections, update_sections, where_sections}
-use Rattle.sql_builder.specs.Phrases.{comma_list, in_brackets}
+use Rattle.sql_builder.specs.Layout.{byte_atoms, concat_sections, delete_sections, fields_or_star, group_by_sections, insert_sections, optional_section, order_by_sections, query, returning_sections, select_opening, table_and_joins, union_opening, union_sections, update_sections, where_sections}
+use Rattle.sql_builder.specs.Phrases.{comma_list, further_table, in_brackets}
 use Rattle.sql_builder.specs.Text.{join_with}
 use Rattle.sql_builder.proofs.Snoc.{extend_last-nil}
 
@@ -34,12 +36,6 @@ several (g ∷ k ∷ gs) h =
     ap (◌++◌ (codes " WHERE ("))
     (append-nil _ ∙ append_assoc g _ _ ∙ ap (◌++◌ g) (sym (bracketed (k ∷ gs))) ∙ sym (append_assoc g _ _))
 
-last_set : {Z : Type 0} (x : String Z) (xs : List (String Z)) (s d : String Z) (t : List ℕ)
-    → string_bytes s ≡ string_bytes (get_or (x ∷ xs) (length xs) d) ++ t
-    → texts (set (x ∷ xs) (length xs) s) ≡ extend_last t (texts (x ∷ xs))
-last_set x [] s d t e = ap (λ (b : List ℕ). b ∷ []) e
-last_set x (y ∷ xs) s d t e = ap (λ (bs : List (List ℕ)). string_bytes x ∷ bs) (last_set y xs s d t e)
-
 module _ {Z : Type 0} where
   -- several groups, with the brackets of two neighbours written at once
   pub several_groups : (gs : List (String Z)) → 2 ≤ length gs
@@ -55,53 +51,59 @@ module _ {Z : Type 0} where
   some_group_fields [] having h = absurd (h refl)
   some_group_fields (t ∷ ts) having h = refl
 
-  -- the last text of a list, set to one that goes on
-  pub last_goes_on : (xs : List (String Z)) (s d : String Z) (t : List ℕ) → 0 < length xs
-      → string_bytes s ≡ string_bytes (get_or xs (length xs - 1) d) ++ t
-      → texts (set xs (length xs - 1) s) ≡ extend_last t (texts xs)
-  last_goes_on [] s d t h e = absurd (omega arith)
-  last_goes_on (x ∷ xs) s d t h e =
-      rw less (last_set x xs s d t (e ∙ ap (λ (n : ℕ). string_bytes (get_or (x ∷ xs) n d) ++ t) less))
-    where
-      less : length (x ∷ xs) - 1 ≡ length xs
-      less = omega arith
+unions_are : (unions : List (Bool × List ℕ))
+    → concat_sections byte_atoms (union_sections unions) ≡ flat_map (λ union. union_opening union.0 ++ union.1) unions
+unions_are [] = refl
+unions_are (union ∷ unions) = ap (◌++◌ (union_opening union.0 ++ union.1)) (unions_are unions)
 
-  -- the last text of a list, set to one of the same bytes
-  pub last_kept : (xs : List (String Z)) (s d : String Z) → 0 < length xs
-      → string_bytes s ≡ string_bytes (get_or xs (length xs - 1) d)
-      → texts (set xs (length xs - 1) s) ≡ texts xs
-  last_kept xs s d h e = last_goes_on xs s d [] h (e ∙ sym (append-nil _)) ∙ extend_last-nil (texts xs)
+-- a table text is empty if its first table is and there is no other
+pub no_table : {Z : Type 0} (table : List ℕ) (further : List (String Z))
+    → nat_eq (length (table ++ flat_map (further_table byte_atoms) (texts further))) 0
+    ≡ (nat_eq (length table) 0 && nat_eq (length further) 0)
+no_table [] [] = refl
+no_table [] (name ∷ names) = grind (arith, nat_tests)
+no_table (byte ∷ bytes) further = grind (arith, nat_tests)
 
-module _ (r : ClauseTexts) where
-  -- the sections of each statement one after another
-  pub query_is : query byte_atoms r
-      ≡ select_opening r.distinct ++ (fields_or_star byte_atoms r.fields
-      ++ (codes " FROM " ++ (table_and_joins byte_atoms r.table r.joins
-      ++ (concat_sections byte_atoms (where_sections byte_atoms r.groups)
-      ++ (concat_sections byte_atoms (group_by_sections byte_atoms r.group_fields r.having)
-      ++ (concat_sections byte_atoms (union_sections r.unions)
-      ++ (concat_sections byte_atoms (order_by_sections byte_atoms r.unions r.order_fields)
-      ++ (concat_sections byte_atoms (optional_section (codes " LIMIT ") r.limit)
-      ++ concat_sections byte_atoms (optional_section (codes " OFFSET ") r.offset)))))))))
-  query_is = simp (flat_map-append, append_assoc)
+-- what is printed of a statement is added to what stands before it
+module _ (r : ClauseTexts) (start : List ℕ) where
+  pub query_added : {a b c d e f g h i : List ℕ}
+      → a ≡ start ++ (select_opening r.distinct ++ fields_or_star byte_atoms r.fields)
+      → b ≡ a ++ (codes " FROM " ++ r.table)
+      → c ≡ b ++ flat_map (λ join. codes " " ++ join) r.joins
+      → d ≡ c ++ concat_sections byte_atoms (where_sections byte_atoms r.groups)
+      → e ≡ d ++ concat_sections byte_atoms (group_by_sections byte_atoms r.group_fields r.having)
+      → f ≡ e ++ flat_map (λ union. union_opening union.0 ++ union.1) r.unions
+      → g ≡ f ++ concat_sections byte_atoms (order_by_sections byte_atoms r.unions r.order_fields)
+      → h ≡ g ++ concat_sections byte_atoms (optional_section (codes " LIMIT ") r.limit)
+      → i ≡ h ++ concat_sections byte_atoms (optional_section (codes " OFFSET ") r.offset)
+      → i ≡ start ++ query byte_atoms r
+  query_added p q s t u v w x y = simp (y, x, w, v, u, t, s, q, p, flat_map-append, append_assoc, unions_are)
 
-  pub update_is : concat_sections byte_atoms (update_sections byte_atoms r)
-      ≡ codes "UPDATE " ++ (r.table ++ (codes " SET " ++ (comma_list byte_atoms r.sets
-      ++ (concat_sections byte_atoms (where_sections byte_atoms r.groups)
-      ++ concat_sections byte_atoms (returning_sections r)))))
-  update_is = simp (flat_map-append, append_assoc)
+  pub update_added : {a b c d : List ℕ}
+      → a ≡ start ++ (codes "UPDATE " ++ r.table)
+      → b ≡ a ++ (codes " SET " ++ comma_list byte_atoms r.sets)
+      → c ≡ b ++ concat_sections byte_atoms (where_sections byte_atoms r.groups)
+      → d ≡ c ++ concat_sections byte_atoms (optional_section (codes " RETURNING ") r.returning)
+      → d ≡ start ++ concat_sections byte_atoms (update_sections byte_atoms r)
+  update_added p q s t = simp (t, s, q, p, flat_map-append, append_assoc)
 
-  pub insert_rows_is : concat_sections byte_atoms (insert_sections byte_atoms None r)
-      ≡ codes "INSERT INTO " ++ (r.table ++ (codes " (" ++ (comma_list byte_atoms r.fields ++ (codes ")"
-      ++ (codes " VALUES " ++ (comma_list byte_atoms r.rows
-      ++ concat_sections byte_atoms (returning_sections r)))))))
-  insert_rows_is = simp append_assoc
+  pub insert_rows_added : {a b c d : List ℕ}
+      → a ≡ start ++ (codes "INSERT INTO " ++ r.table)
+      → b ≡ a ++ (codes " (" ++ (comma_list byte_atoms r.fields ++ codes ")"))
+      → c ≡ b ++ (codes " VALUES " ++ comma_list byte_atoms r.rows)
+      → d ≡ c ++ concat_sections byte_atoms (optional_section (codes " RETURNING ") r.returning)
+      → d ≡ start ++ concat_sections byte_atoms (insert_sections byte_atoms None r)
+  insert_rows_added p q s t = simp (t, s, q, p, append_assoc)
 
-  pub insert_query_is : (q : List ℕ) → concat_sections byte_atoms (insert_sections byte_atoms (Some q) r)
-      ≡ codes "INSERT INTO " ++ (r.table ++ (codes " (" ++ (comma_list byte_atoms r.fields
-      ++ (codes ")" ++ (codes " " ++ q)))))
-  insert_query_is q = simp (append_assoc, append-nil)
+  pub insert_query_added : (query : List ℕ) {a b c : List ℕ}
+      → a ≡ start ++ (codes "INSERT INTO " ++ r.table)
+      → b ≡ a ++ (codes " (" ++ (comma_list byte_atoms r.fields ++ codes ")"))
+      → c ≡ b ++ (codes " " ++ query)
+      → c ≡ start ++ concat_sections byte_atoms (insert_sections byte_atoms (Some query) r)
+  insert_query_added query p q s = simp (s, q, p, append_assoc, append-nil)
 
-  pub delete_is : concat_sections byte_atoms (delete_sections byte_atoms r)
-      ≡ codes "DELETE FROM " ++ (r.table ++ concat_sections byte_atoms (where_sections byte_atoms r.groups))
-  delete_is = simp append_assoc
+  pub delete_added : {a b : List ℕ}
+      → a ≡ start ++ (codes "DELETE FROM " ++ r.table)
+      → b ≡ a ++ concat_sections byte_atoms (where_sections byte_atoms r.groups)
+      → b ≡ start ++ concat_sections byte_atoms (delete_sections byte_atoms r)
+  delete_added p q = simp (q, p, append_assoc)

@@ -5,8 +5,9 @@ mod builder;
 pub mod calls;
 mod chain;
 mod clauses;
-mod phrases;
 pub mod laws;
+mod phrases;
+mod printing;
 mod steps;
 mod texts;
 

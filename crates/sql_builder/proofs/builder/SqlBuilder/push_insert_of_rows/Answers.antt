@@ -1,0 +1,12 @@
+use Rattle.std.specs.Prelude.{string_bytes}
+use Rattle.sql_builder.specs.contracts.builder.SqlBuilder.{the_view}
+use Rattle.sql_builder.proofs.Printed.{insert_rows_added}
+use Rattle.sql_builder.proofs.builder.SqlBuilder.push_insert_of_rows.Goals as goal
+
+pub returns : goal.returns
+returns c =
+    rw (← c.self.view_is) (insert_rows_added (the_view c.self.inside) (string_bytes c.args.out.now)
+    (rw (c.as_str.ensures.value, c.deref.ensures.value) at c.in_ok-push_tables.ensures)
+    (rw (c.deref-2.ensures.value) at c.in_ok-push_fields_of_insert.ensures)
+    (rw (c.deref-3.ensures.value) at c.in_ok-push_list.ensures)
+    c.in_ok-push_optional.ensures)

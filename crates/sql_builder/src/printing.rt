@@ -1,0 +1,408 @@
+//! Prints a builder's clauses as a statement or a query.
+ghost use Rattle.std.specs.Prelude.{◌≡◌, ◌++◌, IsNone, IfOk, IfSome, None, Some, codes, flat_map, length, map, nat_eq, string_bytes};
+ghost use Rattle.sql_parts.specs.Error.{FailsOnlyByMemory};
+ghost use Rattle.sql_builder.specs.Builder.{join_text, optional_text, texts, union_text, Adds};
+ghost use Rattle.sql_builder.specs.Layout.{byte_atoms, concat_sections, delete_sections, fields_or_star, group_by_sections, insert_sections, optional_section, order_by_sections, query, query_values, refusal, select_opening, sql, statement_sections, subquery, subquery_as, table_and_joins, union_opening, update_sections, values_sections, where_sections};
+ghost use Rattle.sql_builder.specs.Phrases.{comma_list, further_table, operator_text};
+ghost use Rattle.sql_builder.specs.Statement.{unless_refused};
+ghost use Rattle.sql_builder.specs.Text.{join_with};
+
+use crate::builder::SqlBuilder;
+use crate::clauses::{Join, JoinOperator, Kind, Union};
+use sql_parts::{SqlBuilderError, ToText};
+use std::alloc::AllocError;
+
+// Each text, with `before` in front of it.
+#[tactic(auto, using(crate::proofs::Printed::one_more, std::proofs::lemmas::List::append_assoc))]
+fn push_each(out: &mut String, before: &str, parts: &[String]) -> Result<(), AllocError>
+    ensures { Adds result out.old out.new (flat_map (λ part. before.now ++ part) (texts parts.now)) }
+{
+    for part in parts {
+        out.push_str(before)?;
+        out.push_str(part.as_str())?;
+    }
+    Ok(())
+}
+
+// The texts, with `between` between each and the next.
+fn push_joined(out: &mut String, between: &str, parts: &[String]) -> Result<(), AllocError>
+    ensures { Adds result out.old out.new (join_with between.now (texts parts.now)) }
+{
+    if let [first, rest @ ..] = parts {
+        out.push_str(first.as_str())?;
+        push_each(out, between, rest)?;
+    }
+    Ok(())
+}
+
+// The words, and the text behind them, if there is one.
+fn push_optional(out: &mut String, words: &str, text: &Option<String>) -> Result<(), AllocError>
+    ensures { Adds result out.old out.new
+        (concat_sections byte_atoms (optional_section words.now (optional_text text.now))) }
+{
+    if let Some(text) = text {
+        out.push_str(words)?;
+        out.push_str(text.as_str())?;
+    }
+    Ok(())
+}
+
+fn push_fields(out: &mut String, fields: &[String]) -> Result<(), AllocError>
+    ensures { Adds result out.old out.new (fields_or_star byte_atoms (texts fields.now)) }
+{
+    if fields.is_empty() {
+        out.push_str("*")?;
+    } else {
+        push_joined(out, ", ", fields)?;
+    }
+    Ok(())
+}
+
+// The brackets of two neighbours are written at once.
+#[tactic(auto, using(crate::proofs::Printed::several_groups, std::proofs::lemmas::List::append_assoc))]
+fn push_where(out: &mut String, groups: &[String]) -> Result<(), AllocError>
+    ensures { Adds result out.old out.new
+        (concat_sections byte_atoms (where_sections byte_atoms (texts groups.now))) }
+{
+    match groups {
+        [] => {}
+        [group] => {
+            out.push_str(" WHERE ")?;
+            out.push_str(group.as_str())?;
+        }
+        _ => {
+            out.push_str(" WHERE (")?;
+            push_joined(out, ") AND (", groups)?;
+            out.push_str(")")?;
+        }
+    }
+    Ok(())
+}
+
+#[tactic(auto, using(crate::proofs::Printed::some_group_fields, std::proofs::lemmas::List::append_assoc))]
+fn push_group_by(
+    out: &mut String,
+    fields: &[String],
+    having: &Option<String>,
+) -> Result<(), AllocError>
+    ensures { Adds result out.old out.new (concat_sections byte_atoms
+        (group_by_sections byte_atoms (texts fields.now) (optional_text having.now))) }
+{
+    if !fields.is_empty() {
+        out.push_str(" GROUP BY ")?;
+        push_joined(out, ", ", fields)?;
+        push_optional(out, " HAVING ", having)?;
+    }
+    Ok(())
+}
+
+impl JoinOperator {
+    fn words(operator: Option<JoinOperator>) -> &'static str
+        ensures { result.now ≡ operator_text operator }
+    {
+        match operator {
+            None => "JOIN ",
+            Some(JoinOperator::Left) => "LEFT JOIN ",
+            Some(JoinOperator::LeftOuter) => "LEFT OUTER JOIN ",
+            Some(JoinOperator::Right) => "RIGHT JOIN ",
+            Some(JoinOperator::RightOuter) => "RIGHT OUTER JOIN ",
+            Some(JoinOperator::Inner) => "INNER JOIN ",
+            Some(JoinOperator::Cross) => "CROSS JOIN ",
+        }
+    }
+}
+
+fn push_join(out: &mut String, join: &Join) -> Result<(), AllocError>
+    ensures { Adds result out.old out.new (codes " " ++ join_text join.now) }
+{
+    out.push_str(" ")?;
+    if join.natural {
+        out.push_str("NATURAL ")?;
+    }
+    out.push_str(JoinOperator::words(join.operator))?;
+    out.push_str(join.table.as_str())?;
+    push_each(out, " ON ", &join.constraints)?;
+    Ok(())
+}
+
+#[tactic(auto, using(crate::proofs::Printed::one_more, std::proofs::lemmas::List::append_assoc))]
+fn push_joins(out: &mut String, joins: &[Join]) -> Result<(), AllocError>
+    ensures { Adds result out.old out.new
+        (flat_map (λ join. codes " " ++ join) (map join_text joins.now)) }
+{
+    for join in joins {
+        push_join(out, join)?;
+    }
+    Ok(())
+}
+
+fn push_union(out: &mut String, union: &Union) -> Result<(), AllocError>
+    ensures { Adds result out.old out.new (union_opening union.now.all ++ string_bytes union.now.query) }
+{
+    out.push_str(if union.all { " UNION ALL " } else { " UNION " })?;
+    out.push_str(union.query.as_str())?;
+    Ok(())
+}
+
+#[tactic(auto, using(crate::proofs::Printed::one_more, std::proofs::lemmas::List::append_assoc))]
+fn push_unions(out: &mut String, unions: &[Union]) -> Result<(), AllocError>
+    ensures { Adds result out.old out.new
+        (flat_map (λ union. union_opening union.0 ++ union.1) (map union_text unions.now)) }
+{
+    for union in unions {
+        push_union(out, union)?;
+    }
+    Ok(())
+}
+
+fn push_select(out: &mut String, distinct: bool, fields: &[String]) -> Result<(), AllocError>
+    ensures { Adds result out.old out.new
+        (select_opening distinct ++ fields_or_star byte_atoms (texts fields.now)) }
+{
+    out.push_str("SELECT ")?;
+    if distinct {
+        out.push_str("DISTINCT ")?;
+    }
+    push_fields(out, fields)
+}
+
+// Words, and the tables behind them.
+fn push_tables(
+    out: &mut String,
+    words: &str,
+    table: &str,
+    further: &[String],
+) -> Result<(), AllocError>
+    ensures { Adds result out.old out.new (words.now
+        ++ (table.now ++ flat_map (further_table byte_atoms) (texts further.now))) }
+{
+    out.push_str(words)?;
+    out.push_str(table)?;
+    push_each(out, ", ", further)
+}
+
+// Words, and a list of texts with commas between them.
+fn push_list(out: &mut String, words: &str, items: &[String]) -> Result<(), AllocError>
+    ensures { Adds result out.old out.new (words.now ++ comma_list byte_atoms (texts items.now)) }
+{
+    out.push_str(words)?;
+    push_joined(out, ", ", items)
+}
+
+// ORDER BY stands only where there is no union.
+fn push_order_by(out: &mut String, unions: &[Union], fields: &[String]) -> Result<(), AllocError>
+    ensures { Adds result out.old out.new (concat_sections byte_atoms
+        (order_by_sections byte_atoms (map union_text unions.now) (texts fields.now))) }
+{
+    if unions.is_empty() && !fields.is_empty() {
+        push_list(out, " ORDER BY ", fields)?;
+    }
+    Ok(())
+}
+
+fn push_fields_of_insert(out: &mut String, fields: &[String]) -> Result<(), AllocError>
+    ensures { Adds result out.old out.new
+        (codes " (" ++ (comma_list byte_atoms (texts fields.now) ++ codes ")")) }
+{
+    push_list(out, " (", fields)?;
+    out.push_str(")")?;
+    Ok(())
+}
+
+fn push_query_of_insert(out: &mut String, query: &str) -> Result<(), AllocError>
+    ensures { Adds result out.old out.new (codes " " ++ query.now) }
+{
+    out.push_str(" ")?;
+    out.push_str(query)?;
+    Ok(())
+}
+
+impl SqlBuilder {
+    fn push_query(&self, out: &mut String) -> Result<(), AllocError>
+        ensures { Adds result out.old out.new (query byte_atoms self.now) }
+    {
+        push_select(out, self.distinct, &self.fields)?;
+        push_tables(out, " FROM ", self.table.as_str(), &self.further_tables)?;
+        push_joins(out, &self.joins)?;
+        push_where(out, &self.groups)?;
+        push_group_by(out, &self.group_fields, &self.having)?;
+        push_unions(out, &self.unions)?;
+        push_order_by(out, &self.unions, &self.order_fields)?;
+        push_optional(out, " LIMIT ", &self.limit)?;
+        push_optional(out, " OFFSET ", &self.offset)?;
+        Ok(())
+    }
+
+    fn push_values(&self, out: &mut String) -> Result<(), AllocError>
+        ensures { Adds result out.old out.new (query_values byte_atoms self.now) }
+    {
+        push_list(out, "SELECT ", &self.fields)?;
+        Ok(())
+    }
+
+    fn push_insert_of_rows(&self, out: &mut String) -> Result<(), AllocError>
+        ensures { Adds result out.old out.new
+            (concat_sections byte_atoms (insert_sections byte_atoms None self.now)) }
+    {
+        push_tables(
+            out,
+            "INSERT INTO ",
+            self.table.as_str(),
+            &self.further_tables,
+        )?;
+        push_fields_of_insert(out, &self.fields)?;
+        push_list(out, " VALUES ", &self.rows)?;
+        push_optional(out, " RETURNING ", &self.returning)?;
+        Ok(())
+    }
+
+    fn push_insert_of_query(&self, out: &mut String, query: &str) -> Result<(), AllocError>
+        ensures { Adds result out.old out.new
+            (concat_sections byte_atoms (insert_sections byte_atoms (Some query.now) self.now)) }
+    {
+        push_tables(
+            out,
+            "INSERT INTO ",
+            self.table.as_str(),
+            &self.further_tables,
+        )?;
+        push_fields_of_insert(out, &self.fields)?;
+        push_query_of_insert(out, query)?;
+        Ok(())
+    }
+
+    fn push_insert(&self, out: &mut String) -> Result<(), AllocError>
+        ensures { Adds result out.old out.new
+            (concat_sections byte_atoms (insert_sections byte_atoms self.now.query self.now)) }
+    {
+        match &self.query {
+            Some(query) => self.push_insert_of_query(out, query.as_str()),
+            None => self.push_insert_of_rows(out),
+        }
+    }
+
+    fn push_update(&self, out: &mut String) -> Result<(), AllocError>
+        ensures { Adds result out.old out.new
+            (concat_sections byte_atoms (update_sections byte_atoms self.now)) }
+    {
+        push_tables(out, "UPDATE ", self.table.as_str(), &self.further_tables)?;
+        push_list(out, " SET ", &self.sets)?;
+        push_where(out, &self.groups)?;
+        push_optional(out, " RETURNING ", &self.returning)?;
+        Ok(())
+    }
+
+    fn push_delete(&self, out: &mut String) -> Result<(), AllocError>
+        ensures { Adds result out.old out.new
+            (concat_sections byte_atoms (delete_sections byte_atoms self.now)) }
+    {
+        push_tables(
+            out,
+            "DELETE FROM ",
+            self.table.as_str(),
+            &self.further_tables,
+        )?;
+        push_where(out, &self.groups)?;
+        Ok(())
+    }
+
+    fn push_statement(&self, out: &mut String) -> Result<(), AllocError>
+        ensures { Adds result out.old out.new
+            (concat_sections byte_atoms (statement_sections byte_atoms self.now.kind self.now)) }
+    {
+        match self.kind {
+            Kind::SelectFrom => self.push_query(out),
+            Kind::SelectValues => self.push_values(out),
+            Kind::InsertInto => self.push_insert(out),
+            Kind::UpdateTable => self.push_update(out),
+            Kind::DeleteFrom => self.push_delete(out),
+        }
+    }
+}
+
+#[tactic(auto, using(crate::proofs::Printed::no_table))]
+fn has_no_table(table: &str, further: &[String]) -> bool
+    ensures { result ≡ nat_eq (length (table.now ++ flat_map (further_table byte_atoms) (texts further.now))) 0 }
+{
+    table.is_empty() && further.is_empty()
+}
+
+impl SqlBuilder {
+    fn check(&self) -> Result<(), SqlBuilderError>
+        ensures { result ≡ unless_refused (refusal self.now) tt }
+    {
+        let values = matches!(self.kind, Kind::SelectValues);
+        if !values && has_no_table(self.table.as_str(), &self.further_tables) {
+            return Err(SqlBuilderError::NoTableName);
+        }
+        match self.kind {
+            Kind::SelectValues if self.fields.is_empty() => Err(SqlBuilderError::NoValues),
+            Kind::InsertInto if self.query.is_none() && self.rows.is_empty() => {
+                Err(SqlBuilderError::NoValues)
+            }
+            Kind::UpdateTable if self.sets.is_empty() => Err(SqlBuilderError::NoSetFields),
+            _ => Ok(()),
+        }
+    }
+
+    /// The statement, ended by `;`. It is refused with `NoTableName` where the table text is empty
+    /// and the statement is no SELECT of values; then with `NoValues` where an INSERT has neither
+    /// rows nor a query, or a SELECT of values no value, and with `NoSetFields` where an UPDATE
+    /// sets nothing; each before it asks for memory, and else only for want of memory.
+    pub fn sql(&self) -> Result<String, SqlBuilderError>
+        ensures text { IfOk result (λ s. string_bytes s ≡ sql byte_atoms self.now) }
+        ensures refused { IfSome (refusal self.now) (λ refusal. result ≡ Err refusal) }
+        ensures memory { IsNone (refusal self.now) → FailsOnlyByMemory result }
+    {
+        self.check()?;
+        let mut out = String::new(self.alloc);
+        self.push_statement(&mut out)?;
+        out.push_str(";")?;
+        Ok(out)
+    }
+
+    /// The query, on a builder of any kind. It is refused only for want of memory, as is each call
+    /// below.
+    pub fn query(&self) -> Result<String, SqlBuilderError>
+        ensures text { IfOk result (λ s. string_bytes s ≡ query byte_atoms self.now) }
+        ensures memory { FailsOnlyByMemory result }
+    {
+        let mut out = String::new(self.alloc);
+        self.push_query(&mut out)?;
+        Ok(out)
+    }
+
+    /// `SELECT` and the fields, nothing else, on a builder of any kind.
+    pub fn query_values(&self) -> Result<String, SqlBuilderError>
+        ensures text { IfOk result (λ s. string_bytes s ≡ query_values byte_atoms self.now) }
+        ensures memory { FailsOnlyByMemory result }
+    {
+        let mut out = String::new(self.alloc);
+        self.push_values(&mut out)?;
+        Ok(out)
+    }
+
+    /// The query in brackets.
+    pub fn subquery(&self) -> Result<String, SqlBuilderError>
+        ensures text { IfOk result (λ s. string_bytes s ≡ subquery byte_atoms self.now) }
+        ensures memory { FailsOnlyByMemory result }
+    {
+        let mut out = String::from_str(self.alloc, "(")?;
+        self.push_query(&mut out)?;
+        out.push_str(")")?;
+        Ok(out)
+    }
+
+    /// The query in brackets, `AS` and the name.
+    pub fn subquery_as<S: ToText>(&self, name: S) -> Result<String, SqlBuilderError>
+        ensures text { IfOk result (λ s. string_bytes s
+            ≡ subquery_as byte_atoms (S.text name) self.now) }
+        ensures memory { FailsOnlyByMemory result }
+    {
+        let mut out = String::from_str(self.alloc, "(")?;
+        self.push_query(&mut out)?;
+        out.push_str(") AS ")?;
+        name.push_to(self.alloc, &mut out)?;
+        Ok(out)
+    }
+}
