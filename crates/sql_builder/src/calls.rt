@@ -1,4 +1,19 @@
-//! Lists of calls, as values.
+//! Lists of calls, as values, and the statement that a list makes.
+ghost use Rattle.std.specs.Prelude.{◌≡◌, ◌⊎◌, [], map, IfErr, IfOk, IfSome, IsNone, OnOk, string_bytes};
+ghost use Rattle.sql_parts.specs.Error.{FailsOnlyByMemory, IsMemory};
+ghost use Rattle.sql_builder.specs.Answers.{call_text, condition_text, finish_text, start_text};
+ghost use Rattle.sql_builder.specs.Builder.{with_call, with_condition, condition_bytes};
+ghost use Rattle.sql_builder.specs.Calls.{clauses};
+ghost use Rattle.sql_builder.specs.Clauses.{map_clauses};
+ghost use Rattle.sql_builder.specs.Statement.{refusal_at, statement, text_at};
+ghost use Rattle.sql_builder.specs.Text.{pieces_text};
+
+use crate::builder::SqlBuilder;
+use crate::clauses::JoinOperator;
+use crate::phrases::comparison;
+use crate::steps::{ListClause, PairClause, TextClause};
+use sql_parts::{SqlBuilderError, ToText};
+use std::alloc::Global;
 
 /// How a list of calls begins.
 #[derive(Drop)]
@@ -124,4 +139,124 @@ pub enum Finish {
     Subquery,
     /// `subquery_as` of this name.
     SubqueryAs(String),
+}
+
+fn begin(alloc: Global, start: &Start) -> Result<SqlBuilder, SqlBuilderError>
+    ensures made { IfOk result (λ b. b ≡ map_clauses pieces_text (clauses (start_text start.now) [])) }
+    ensures memory { FailsOnlyByMemory result }
+{
+    match start {
+        Start::SelectFrom(table) => SqlBuilder::select_from(alloc, table),
+        Start::SelectValues(values) => SqlBuilder::select_values(alloc, values.as_slice()),
+        Start::InsertInto(table) => SqlBuilder::insert_into(alloc, table),
+        Start::UpdateTable(table) => SqlBuilder::update_table(alloc, table),
+        Start::DeleteFrom(table) => SqlBuilder::delete_from(alloc, table),
+    }
+}
+
+fn make(builder: &mut SqlBuilder, call: &Call) -> Result<(), SqlBuilderError>
+    ensures made { OnOk result (builder.new ≡ with_call (call_text call.now) builder.old) }
+    ensures memory { FailsOnlyByMemory result }
+{
+    match call {
+        Call::Natural => builder.natural = true,
+        Call::Left => builder.operator = Some(JoinOperator::Left),
+        Call::LeftOuter => builder.operator = Some(JoinOperator::LeftOuter),
+        Call::Right => builder.operator = Some(JoinOperator::Right),
+        Call::RightOuter => builder.operator = Some(JoinOperator::RightOuter),
+        Call::Inner => builder.operator = Some(JoinOperator::Inner),
+        Call::Cross => builder.operator = Some(JoinOperator::Cross),
+        Call::Distinct => builder.distinct = true,
+        Call::AndTable(table) => builder.push_text(TextClause::AndTable, table)?,
+        Call::Join(table) => builder.push_text(TextClause::Join, table)?,
+        Call::On(constraint) => builder.push_text(TextClause::On, constraint)?,
+        Call::Field(field) => builder.push_text(TextClause::Field, field)?,
+        Call::SetField(field) => builder.push_text(TextClause::SetField, field)?,
+        Call::Count(field) => builder.push_text(TextClause::Count, field)?,
+        Call::Select(query) => builder.push_text(TextClause::Select, query)?,
+        Call::Returning(fields) => builder.push_text(TextClause::Returning, fields)?,
+        Call::GroupBy(field) => builder.push_text(TextClause::GroupBy, field)?,
+        Call::Having(condition) => builder.push_text(TextClause::Having, condition)?,
+        Call::Union(query) => builder.push_text(TextClause::Union, query)?,
+        Call::UnionAll(query) => builder.push_text(TextClause::UnionAll, query)?,
+        Call::OrderAsc(field) => builder.push_text(TextClause::OrderAsc, field)?,
+        Call::OrderDesc(field) => builder.push_text(TextClause::OrderDesc, field)?,
+        Call::Limit(limit) => builder.push_text(TextClause::Limit, limit)?,
+        Call::Offset(offset) => builder.push_text(TextClause::Offset, offset)?,
+        Call::OnEq(left, right) => builder.push_pair(PairClause::OnEq, left, right)?,
+        Call::CountAs(field, name) => builder.push_pair(PairClause::CountAs, field, name)?,
+        Call::SetTo(field, value) => builder.push_pair(PairClause::SetTo, field, value)?,
+        Call::SetStr(field, value) => builder.push_pair(PairClause::SetStr, field, value)?,
+        Call::Fields(fields) => builder.push_texts(ListClause::Fields, fields.as_slice())?,
+        Call::SetFields(fields) => builder.push_texts(ListClause::SetFields, fields.as_slice())?,
+        Call::Values(values) => builder.push_texts(ListClause::Values, values.as_slice())?,
+        Call::ReturningId => builder.put_returning("id")?,
+        Call::OrderBy(field, descending) => builder.push_order(*descending, field)?,
+        Call::Cond(family, condition) => make_condition(builder, *family, condition)?,
+    }
+    Ok(())
+}
+
+fn make_condition(
+    builder: &mut SqlBuilder,
+    family: Family,
+    condition: &Condition,
+) -> Result<(), SqlBuilderError>
+    ensures made { OnOk result (builder.new
+        ≡ with_condition family (condition_bytes (condition_text condition.now)) builder.old) }
+    ensures memory { FailsOnlyByMemory result }
+{
+    let text = match condition {
+        Condition::Raw(condition) => condition.to_text(builder.alloc)?,
+        Condition::Compare(relation, field, value) => {
+            comparison(builder.alloc, *relation, field, value)?
+        }
+    };
+    builder.push_condition(family, text)
+}
+
+#[tactic(auto, using(crate::proofs::Runs::one_more_call))]
+fn build(alloc: Global, start: &Start, calls: &[Call]) -> Result<SqlBuilder, SqlBuilderError>
+    ensures made { IfOk result (λ b. b ≡ map_clauses pieces_text
+        (clauses (start_text start.now) (map call_text calls.now))) }
+    ensures memory { FailsOnlyByMemory result }
+{
+    let mut builder = begin(alloc, start)?;
+    for call in calls {
+        make(&mut builder, call)?;
+    }
+    Ok(builder)
+}
+
+fn print(builder: &SqlBuilder, finish: &Finish) -> Result<String, SqlBuilderError>
+    ensures text { IfOk result (λ s. string_bytes s ≡ text_at (finish_text finish.now) builder.now) }
+    ensures refused { IfSome (refusal_at (finish_text finish.now) builder.now)
+        (λ refusal. result ≡ Err refusal) }
+    ensures memory { IsNone (refusal_at (finish_text finish.now) builder.now)
+        → FailsOnlyByMemory result }
+{
+    match finish {
+        Finish::Sql => builder.sql(),
+        Finish::Query => builder.query(),
+        Finish::QueryValues => builder.query_values(),
+        Finish::Subquery => builder.subquery(),
+        Finish::SubqueryAs(name) => builder.subquery_as(name),
+    }
+}
+
+/// Makes the builder, makes the calls in order, and prints: the statement that the whole list
+/// means, or its refusal. Want of memory may come in place of either.
+pub fn run(
+    alloc: Global,
+    start: &Start,
+    calls: &[Call],
+    finish: &Finish,
+) -> Result<String, SqlBuilderError>
+    ensures text { IfOk result (λ s. statement (start_text start.now) (map call_text calls.now)
+        (finish_text finish.now) ≡ Ok (string_bytes s)) }
+    ensures refused { IfErr result (λ e. IsMemory e ⊎ (statement (start_text start.now)
+        (map call_text calls.now) (finish_text finish.now) ≡ Err e)) }
+{
+    let builder = build(alloc, start, calls)?;
+    print(&builder, finish)
 }

@@ -132,7 +132,7 @@ impl SqlBuilder {
         Ok(())
     }
 
-    fn put_returning<S: ToText>(&mut self, fields: S) -> Result<(), SqlBuilderError>
+    pub(crate) fn put_returning<S: ToText>(&mut self, fields: S) -> Result<(), SqlBuilderError>
         ensures { Tells result self.old self.new (with_returning (S.text fields)) }
     {
         self.returning = Some(fields.to_text(self.alloc)?);
@@ -161,7 +161,11 @@ impl SqlBuilder {
         Ok(())
     }
 
-    fn push_order<S: ToText>(&mut self, descending: bool, field: S) -> Result<(), SqlBuilderError>
+    pub(crate) fn push_order<S: ToText>(
+        &mut self,
+        descending: bool,
+        field: S,
+    ) -> Result<(), SqlBuilderError>
         ensures { Tells result self.old self.new (with_order descending (S.text field)) }
     {
         self.order_fields
@@ -183,7 +187,11 @@ impl SqlBuilder {
         Ok(())
     }
 
-    fn push_condition(&mut self, family: Family, condition: String) -> Result<(), SqlBuilderError>
+    pub(crate) fn push_condition(
+        &mut self,
+        family: Family,
+        condition: String,
+    ) -> Result<(), SqlBuilderError>
         ensures { Tells result self.old self.new (with_condition family (string_bytes condition)) }
     {
         match family {
@@ -194,7 +202,11 @@ impl SqlBuilder {
 }
 
 impl SqlBuilder {
-    fn push_text<S: ToText>(&mut self, clause: TextClause, text: S) -> Result<(), SqlBuilderError>
+    pub(crate) fn push_text<S: ToText>(
+        &mut self,
+        clause: TextClause,
+        text: S,
+    ) -> Result<(), SqlBuilderError>
         ensures ok { OnOk result (self.new ≡ with_text clause (S.text text) self.old) }
         ensures err { OnErr result (self.new ≡ self.old) }
         ensures memory { IfErr result (RefusesText clause self.old) }
@@ -222,7 +234,7 @@ impl SqlBuilder {
         }
     }
 
-    fn push_pair<S: ToText, T: ToText>(
+    pub(crate) fn push_pair<S: ToText, T: ToText>(
         &mut self,
         clause: PairClause,
         first: S,
@@ -242,7 +254,7 @@ impl SqlBuilder {
         }
     }
 
-    fn push_texts<S: ToText>(
+    pub(crate) fn push_texts<S: ToText>(
         &mut self,
         clause: ListClause,
         items: &[S],

@@ -1,0 +1,17 @@
+use Rattle.std.proofs.Common.{map}
+use Rattle.sql_builder.specs.Answers.{call_text, finish_text, start_text}
+use Rattle.sql_builder.specs.Calls.{clauses}
+use Rattle.sql_builder.proofs.Runs.{statement_printed, statement_refused}
+use Rattle.sql_builder.proofs.calls.run.Goals as goal
+
+pub returns-clause-text : goal.returns-clause-text
+returns-clause-text c =
+    let made = c.in_ok-builder.ensures.made in
+    statement_printed (finish_text c.args.finish.now) (clauses (start_text c.args.start.now) (map call_text c.args.calls.now)) c.print.result
+    (rw made at c.print.ensures.text) (rw made at c.print.ensures.refused)
+
+pub returns-clause-refused : goal.returns-clause-refused
+returns-clause-refused c =
+    let made = c.in_ok-builder.ensures.made in
+    statement_refused (finish_text c.args.finish.now) (clauses (start_text c.args.start.now) (map call_text c.args.calls.now)) c.print.result
+    (rw made at c.print.ensures.refused) (rw made at c.print.ensures.memory)
