@@ -100,7 +100,7 @@ module _ (r : ClauseTexts) where
   pub insert_query_is : (q : List ℕ) → concat_sections byte_atoms (insert_sections byte_atoms (Some q) r)
       ≡ codes "INSERT INTO " ++ (r.table ++ (codes " (" ++ (comma_list byte_atoms r.fields
       ++ (codes ")" ++ (codes " " ++ q)))))
-  insert_query_is q = simp (append_assoc, append-nil)
+  insert_query_is q = append-nil _ ∙ ap (◌++◌ (codes "INSERT INTO ")) (simp append_assoc)
 
   pub delete_is : concat_sections byte_atoms (delete_sections byte_atoms r)
       ≡ codes "DELETE FROM " ++ (r.table ++ concat_sections byte_atoms (where_sections byte_atoms r.groups))
