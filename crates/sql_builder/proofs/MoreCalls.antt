@@ -5,7 +5,7 @@ use Rattle.std.proofs.lemmas.List.Elements.{filter_map-append}
 use Rattle.std.specs.List.{cons_option}
 use Rattle.std.specs.Option.{option_or}
 use Rattle.sql_builder.specs.Calls as call
-use Rattle.sql_builder.specs.Calls.{StartText, ConditionText, CallText, clauses, condition_in, condition_pieces, fields_in, group_fields_in, group_pieces, groups_of, having_in, is_distinct, is_join, is_natural, is_select, is_values, limit_in, offset_in, opens_group, operator_in, order_fields_in, query_in, returning_in, rows_in, sets_fields, sets_in, start_fields, table_in, table_of, start_table, unions_in}
+use Rattle.sql_builder.specs.Calls.{StartText, ConditionText, CallText, clauses, condition_in, condition_pieces, fields_in, group_fields_in, group_pieces, groups_of, having_in, is_distinct, is_join, is_natural, is_select, is_values, limit_in, offset_in, opens_group, operator_in, order_fields_in, query_in, returning_in, rows_in, drops_fields, sets_in, start_fields, table_in, table_of, start_table, unions_in}
 use Rattle.sql_builder.specs.Clauses.{Clauses}
 use Rattle.sql_builder.specs.Filters.{Group, cut}
 use Rattle.sql_builder.specs.Text.{Pieces}
@@ -50,7 +50,7 @@ clauses_after c r = record {
   operator = option_or (operator_in c) r.operator;
   natural = is_natural c || (not (is_join c) && r.natural);
   distinct = is_distinct c || r.distinct;
-  fields = if sets_fields c then fields_in c else add r.fields (fields_in c);
+  fields = if drops_fields c then fields_in c else add r.fields (fields_in c);
   sets = add r.sets (sets_in c);
   rows = if is_select c then rows_in c else add r.rows (rows_in c);
   query = if is_values c then query_in c else option_or (query_in c) r.query;
@@ -80,7 +80,7 @@ one_more_clauses start calls c =
       last-snoc operator_in calls c,
       any_unfollowed-snoc is_natural is_join calls c,
       any-snoc is_distinct calls c,
-      flat_since-snoc sets_fields fields_in (call.SetFields (start_fields start) ∷ calls) c,
+      flat_since-snoc drops_fields fields_in (call.SetFields (start_fields start) ∷ calls) c,
       flat-snoc sets_in calls c,
       flat_since-snoc is_select rows_in calls c,
       last_since-snoc is_values query_in calls c,

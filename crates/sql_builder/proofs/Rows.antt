@@ -1,7 +1,7 @@
 -- Worked rows: what the definitions give, by computing.
-use Rattle.std.specs.Prelude.{◌≡◌, [], ◌∷◌, Ok, Err, codes, refl, true, false}
+use Rattle.std.specs.Prelude.{◌≡◌, [], ◌∷◌, ◌++◌, Ok, Err, codes, refl, true, false}
 use Rattle.sql_parts.specs.declared.error.SqlBuilderError.TheVariants.{NoTableName, NoValues, NoSetFields}
-use Rattle.sql_builder.specs.Calls.{SelectFrom, SelectValues, InsertInto, UpdateTable, DeleteFrom, Natural, Left, LeftOuter, Cross, Distinct, AndTable, Join, On, OnEq, SetFields, Field, SetField, Count, CountAs, SetTo, SetStr, Values, Select, Returning, ReturningId, GroupBy, Having, Union, UnionAll, OrderBy, OrderAsc, OrderDesc, Limit, Offset, Cond, Raw, Compare, Sql, Query, QueryValues, Subquery, SubqueryAs}
+use Rattle.sql_builder.specs.Calls.{SelectFrom, SelectValues, InsertInto, UpdateTable, DeleteFrom, Natural, Left, LeftOuter, Right, RightOuter, Inner, Cross, Distinct, AndTable, Join, On, OnEq, Fields, SetFields, Field, SetField, Count, CountAs, SetTo, SetStr, Values, Select, Returning, ReturningId, GroupBy, Having, Union, UnionAll, OrderBy, OrderAsc, OrderDesc, Limit, Offset, Cond, Raw, Compare, Sql, Query, QueryValues, Subquery, SubqueryAs}
 use Rattle.sql_builder.specs.Statement.{statement}
 use Rattle.sql_builder.specs.Text.{quote}
 use Rattle.sql_builder.specs.declared.calls.Family.TheVariants.{And}
@@ -178,3 +178,15 @@ set_quoted = refl
 last_limit : statement (SelectFrom (codes "t")) (Limit (codes "1") ∷ Limit (codes "2") ∷ []) Sql
     ≡ Ok (codes "SELECT * FROM t LIMIT 2;")
 last_limit = refl
+
+every_operator : statement (SelectFrom (codes "t"))
+    (Left ∷ Join (codes "a") ∷ LeftOuter ∷ Join (codes "b") ∷ Right ∷ Join (codes "c") ∷ RightOuter
+    ∷ Join (codes "d") ∷ Inner ∷ Join (codes "e") ∷ Cross ∷ Join (codes "f") ∷ []) Sql
+    ≡ Ok (codes "SELECT * FROM t LEFT JOIN a LEFT OUTER JOIN b RIGHT JOIN c RIGHT OUTER JOIN d"
+    ++ codes " INNER JOIN e CROSS JOIN f;")
+every_operator = refl
+
+added_fields : statement (SelectFrom (codes "t"))
+    (AndTable (codes "u") ∷ Fields (codes "a" ∷ codes "b" ∷ []) ∷ Field (codes "c") ∷ []) Query
+    ≡ Ok (codes "SELECT a, b, c FROM t, u")
+added_fields = refl

@@ -161,19 +161,19 @@ fields_in (CountAs field name) = count_as fixed_piece (raw_piece field) (raw_pie
 fields_in _ = []
 
 -- whether a call drops the fields before it
-abbrev pub sets_fields : CallText → Bool
-sets_fields (SetFields fields) = true
-sets_fields (SetField field) = true
-sets_fields _ = false
+abbrev pub drops_fields : CallText → Bool
+drops_fields (SetFields fields) = true
+drops_fields (SetField field) = true
+drops_fields _ = false
 
 -- the fields that a start begins with
 abbrev pub start_fields : StartText → List (List ℕ)
 start_fields (SelectValues values) = values
 start_fields _ = []
 
--- the fields since the last call that sets them, the start's the first
+-- the fields since the last call that drops those before it; the start's come first
 abbrev pub fields_of : StartText → List CallText → List Pieces
-fields_of start calls = flat_map fields_in (since sets_fields (SetFields (start_fields start) ∷ calls))
+fields_of start calls = flat_map fields_in (since drops_fields (SetFields (start_fields start) ∷ calls))
 
 -- what a call sets
 abbrev pub sets_in : CallText → List Pieces
