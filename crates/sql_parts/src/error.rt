@@ -42,6 +42,8 @@ impl fmt::Display for SqlBuilderError {
 
     ghost output = { λ e. Some (message_text e) };
 
+    ghost styled_output = { λ e _. Some (message_text e) };
+
     fn fmt<W: fmt::Write>(&self, f: &mut fmt::Formatter<W>) -> fmt::Result {
         f.write_str(self.message())
     }

@@ -1,12 +1,16 @@
 //! What can be written as a text.
+
 ghost use Rattle.std.specs.Prelude.{◌≡◌, ℕ, List, string_bytes, IfOk};
-ghost use Rattle.std.specs.Fmt.{decimal, signed_decimal};
+ghost use Rattle.std.specs.Char.{encode_utf8};
+ghost use Rattle.std.specs.Cow.{cow_str_bytes};
 ghost use Rattle.sql_parts.specs.Error.{FailsOnlyByMemory};
+ghost use Rattle.sql_parts.specs.Text.{bool_text, decimal_text, number_text};
 
 use crate::error::SqlBuilderError;
-use std::alloc::Global;
+use std::alloc::{AllocError, Global};
+use std::borrow::CowStr;
 
-/// What has a text.
+/// What has a text: a user's own type has one by an implementation.
 pub trait ToText: Drop {
     /// The text, as its bytes.
     ghost text: { Self → List ℕ };
@@ -33,18 +37,159 @@ impl ToText for String {
     }
 }
 
+impl ToText for CowStr<'_> {
+    ghost text = { λ s. cow_str_bytes s };
+
+    fn to_text(&self, alloc: Global) -> Result<String, SqlBuilderError> {
+        Ok(String::from_str(alloc, self.as_str())?)
+    }
+}
+
+impl ToText for bool {
+    ghost text = { bool_text };
+
+    fn to_text(&self, alloc: Global) -> Result<String, SqlBuilderError> {
+        Ok(self.to_string(alloc)?)
+    }
+}
+
+impl ToText for char {
+    ghost text = { encode_utf8 };
+
+    fn to_text(&self, alloc: Global) -> Result<String, SqlBuilderError> {
+        Ok(self.to_string(alloc)?)
+    }
+}
+
+// Decimal texts of numbers. Each takes its number by value, so that its range is known.
+#[tactic(auto, using(crate::proofs::Decimal::unsigned_text))]
+fn u64_text(alloc: Global, number: u64) -> Result<String, AllocError>
+    ensures { IfOk result (λ s. string_bytes s ≡ decimal_text number) }
+{
+    number.to_string(alloc)
+}
+
+#[tactic(auto, using(crate::proofs::Decimal::signed_text))]
+fn i64_text(alloc: Global, number: i64) -> Result<String, AllocError>
+    ensures { IfOk result (λ s. string_bytes s ≡ number_text number) }
+{
+    number.to_string(alloc)
+}
+
+#[tactic(auto, using(crate::proofs::Decimal::unsigned_text))]
+fn u128_text(alloc: Global, number: u128) -> Result<String, AllocError>
+    ensures { IfOk result (λ s. string_bytes s ≡ decimal_text number) }
+{
+    number.to_string(alloc)
+}
+
+#[tactic(auto, using(crate::proofs::Decimal::signed_text))]
+fn i128_text(alloc: Global, number: i128) -> Result<String, AllocError>
+    ensures { IfOk result (λ s. string_bytes s ≡ number_text number) }
+{
+    number.to_string(alloc)
+}
+
+impl ToText for u8 {
+    ghost text = { decimal_text };
+
+    fn to_text(&self, alloc: Global) -> Result<String, SqlBuilderError> {
+        Ok(u64_text(alloc, u64::from(*self))?)
+    }
+}
+
+impl ToText for u16 {
+    ghost text = { decimal_text };
+
+    fn to_text(&self, alloc: Global) -> Result<String, SqlBuilderError> {
+        Ok(u64_text(alloc, u64::from(*self))?)
+    }
+}
+
+impl ToText for u32 {
+    ghost text = { decimal_text };
+
+    fn to_text(&self, alloc: Global) -> Result<String, SqlBuilderError> {
+        Ok(u64_text(alloc, u64::from(*self))?)
+    }
+}
+
+impl ToText for u64 {
+    ghost text = { decimal_text };
+
+    fn to_text(&self, alloc: Global) -> Result<String, SqlBuilderError> {
+        Ok(u64_text(alloc, *self)?)
+    }
+}
+
+impl ToText for u128 {
+    ghost text = { decimal_text };
+
+    fn to_text(&self, alloc: Global) -> Result<String, SqlBuilderError> {
+        Ok(u128_text(alloc, *self)?)
+    }
+}
+
+impl ToText for usize {
+    ghost text = { decimal_text };
+
+    fn to_text(&self, alloc: Global) -> Result<String, SqlBuilderError> {
+        Ok(u64_text(alloc, *self as u64)?)
+    }
+}
+
+impl ToText for i8 {
+    ghost text = { number_text };
+
+    fn to_text(&self, alloc: Global) -> Result<String, SqlBuilderError> {
+        Ok(i64_text(alloc, i64::from(*self))?)
+    }
+}
+
+impl ToText for i16 {
+    ghost text = { number_text };
+
+    fn to_text(&self, alloc: Global) -> Result<String, SqlBuilderError> {
+        Ok(i64_text(alloc, i64::from(*self))?)
+    }
+}
+
+impl ToText for i32 {
+    ghost text = { number_text };
+
+    fn to_text(&self, alloc: Global) -> Result<String, SqlBuilderError> {
+        Ok(i64_text(alloc, i64::from(*self))?)
+    }
+}
+
+impl ToText for i64 {
+    ghost text = { number_text };
+
+    fn to_text(&self, alloc: Global) -> Result<String, SqlBuilderError> {
+        Ok(i64_text(alloc, *self)?)
+    }
+}
+
+impl ToText for i128 {
+    ghost text = { number_text };
+
+    fn to_text(&self, alloc: Global) -> Result<String, SqlBuilderError> {
+        Ok(i128_text(alloc, *self)?)
+    }
+}
+
+impl ToText for isize {
+    ghost text = { number_text };
+
+    fn to_text(&self, alloc: Global) -> Result<String, SqlBuilderError> {
+        Ok(i64_text(alloc, *self as i64)?)
+    }
+}
+
 impl<T: ToText> ToText for &T {
     ghost text = { λ x. T.text x.now };
 
     fn to_text(&self, alloc: Global) -> Result<String, SqlBuilderError> {
         (**self).to_text(alloc)
-    }
-}
-
-impl ToText for i32 {
-    ghost text = { signed_decimal };
-
-    fn to_text(&self, alloc: Global) -> Result<String, SqlBuilderError> {
-        Ok(self.to_string(alloc)?)
     }
 }

@@ -1,0 +1,41 @@
+-- What doubling makes of a text that is cut at its first mark, and that doubled texts are told apart.
+use Rattle.std.proofs.Common.{◌≡◌, ◌≢◌, ℕ, suc, ◌<◌, List, [], ◌∷◌, ◌++◌, length, get_or, refl, arith}
+use Rattle.std.specs.Prelude.{if◌then◌else◌, ◌==◌}
+use Rattle.std.proofs.lemmas.Grind.{flat_map-append}
+use Rattle.std.proofs.lemmas.Bool.Decides.{nat_tests}
+use Rattle.std.proofs.lemmas.List.{append_cancel_right}
+use Rattle.sql_parts.specs.Quoting.{doubled, enclosed}
+
+-- a text without the mark stays as it is
+pub doubled-unmarked : (mark : ℕ) (text : List ℕ) → ((i : ℕ) → i < length text → get_or text i 0 ≢ mark) → doubled mark text ≡ text
+doubled-unmarked mark [] unmarked = refl
+doubled-unmarked mark (byte ∷ text) unmarked =
+    let here : byte ≢ mark = unmarked 0 (omega arith) in
+    let later : doubled mark text ≡ text = doubled-unmarked mark text (λ i h. unmarked (suc i) (omega arith)) in
+    grind (arith, nat_tests, here, later)
+
+-- two texts in a row are doubled one after the other
+pub doubled-append : (mark : ℕ) (front back : List ℕ) → doubled mark (front ++ back) ≡ doubled mark front ++ doubled mark back
+doubled-append mark front back = flat_map-append (λ byte. if byte == mark then mark ∷ mark ∷ [] else byte ∷ []) front back
+
+-- a text that is cut around its first mark
+pub doubled-cut : (mark : ℕ) (text before after : List ℕ) → text ≡ before ++ (mark ∷ after)
+    → ((i : ℕ) → i < length before → get_or before i 0 ≢ mark) → doubled mark text ≡ before ++ (mark ∷ mark ∷ doubled mark after)
+doubled-cut mark text before after cut unmarked =
+    let here : doubled mark (mark ∷ after) ≡ mark ∷ mark ∷ doubled mark after = grind (arith, nat_tests) in
+    rw (cut, doubled-append mark before (mark ∷ after), doubled-unmarked mark before unmarked, here) refl
+
+-- texts that are doubled alike are the same text
+pub doubled-injective : (mark : ℕ) (one other : List ℕ) → doubled mark one ≡ doubled mark other → one ≡ other
+doubled-injective mark [] [] same = refl
+doubled-injective mark [] (y ∷ other) same = grind (arith, nat_tests, same)
+doubled-injective mark (x ∷ one) [] same = grind (arith, nat_tests, same)
+doubled-injective mark (x ∷ one) (y ∷ other) same =
+    let rest = doubled-injective mark one other in
+    grind (arith, nat_tests, same, rest)
+
+-- texts that are enclosed alike are the same text
+pub enclosed-injective : (opening closing : ℕ) (one other : List ℕ) → enclosed opening closing one ≡ enclosed opening closing other → one ≡ other
+enclosed-injective opening closing one other same =
+    let inner : doubled closing one ++ closing ∷ [] ≡ doubled closing other ++ closing ∷ [] = cc in
+    doubled-injective closing one other (append_cancel_right (doubled closing one) (doubled closing other) (closing ∷ []) inner)

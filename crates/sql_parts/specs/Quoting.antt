@@ -1,0 +1,30 @@
+-- Texts between quotes.
+use Rattle.std.specs.Prelude.{ℕ, List, [], ◌∷◌, ◌++◌, ◌==◌, flat_map, if◌then◌else◌}
+
+-- the text with each byte `mark` in it written twice
+abbrev pub doubled : ℕ → List ℕ → List ℕ
+doubled mark text = flat_map (λ byte. if byte == mark then mark ∷ mark ∷ [] else byte ∷ []) text
+
+-- the text between two marks, with each closing mark in it written twice
+abbrev pub enclosed : ℕ → ℕ → List ℕ → List ℕ
+enclosed opening closing text = opening ∷ doubled closing text ++ closing ∷ []
+
+-- the text with each single quote in it written twice
+abbrev pub escaped : List ℕ → List ℕ
+escaped text = doubled 39 text
+
+-- the text between single quotes
+abbrev pub quoted : List ℕ → List ℕ
+quoted text = enclosed 39 39 text
+
+-- the text between backquotes
+abbrev pub baquoted : List ℕ → List ℕ
+baquoted text = enclosed 96 96 text
+
+-- the text between square brackets
+abbrev pub brquoted : List ℕ → List ℕ
+brquoted text = enclosed 91 93 text
+
+-- the text between double quotes
+abbrev pub dquoted : List ℕ → List ℕ
+dquoted text = enclosed 34 34 text

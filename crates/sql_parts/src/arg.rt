@@ -1,0 +1,204 @@
+//! What can stand as a value in an SQL text.
+ghost use Rattle.std.specs.Prelude.{◌≡◌, pos, string_bytes, IfOk};
+ghost use Rattle.std.specs.Cow.{cow_str_bytes};
+ghost use Rattle.sql_parts.specs.Error.{FailsOnlyByMemory};
+ghost use Rattle.sql_parts.specs.Literal.{LiteralValue, literal_or_null, literal_text, literal_value};
+ghost use Rattle.sql_parts.specs.Literal.{null, truth, whole, words};
+
+use crate::error::SqlBuilderError;
+use crate::quoting::quote;
+use crate::text::ToText;
+use std::alloc::Global;
+use std::borrow::CowStr;
+
+/// A literal of SQL as a value.
+#[derive(Drop)]
+pub enum Literal {
+    /// NULL.
+    Null,
+    /// TRUE or FALSE.
+    Truth(bool),
+    /// A whole number.
+    Whole(i128),
+    /// A text.
+    Text(String),
+}
+
+/// What stands for a literal: a user's own type does by an implementation.
+pub trait SqlArg: Drop {
+    /// The literal.
+    ghost literal: { Self → LiteralValue };
+
+    /// The literal as SQL writes it. It is refused only for want of memory.
+    fn sql_arg(&self, alloc: Global) -> Result<String, SqlBuilderError>
+        ensures literal { IfOk result (λ s. string_bytes s ≡ literal_text (literal self.now)) }
+        ensures memory { FailsOnlyByMemory result };
+}
+
+impl SqlArg for &str {
+    ghost literal = { λ s. words s.now };
+
+    fn sql_arg(&self, alloc: Global) -> Result<String, SqlBuilderError> {
+        quote(alloc, *self)
+    }
+}
+
+impl SqlArg for String {
+    ghost literal = { λ s. words (string_bytes s) };
+
+    fn sql_arg(&self, alloc: Global) -> Result<String, SqlBuilderError> {
+        quote(alloc, self.as_str())
+    }
+}
+
+impl SqlArg for CowStr<'_> {
+    ghost literal = { λ s. words (cow_str_bytes s) };
+
+    fn sql_arg(&self, alloc: Global) -> Result<String, SqlBuilderError> {
+        quote(alloc, self.as_str())
+    }
+}
+
+impl SqlArg for bool {
+    ghost literal = { truth };
+
+    fn sql_arg(&self, alloc: Global) -> Result<String, SqlBuilderError> {
+        Ok(String::from_str(alloc, if *self { "TRUE" } else { "FALSE" })?)
+    }
+}
+
+impl SqlArg for u8 {
+    ghost literal = { λ n. whole (pos n) };
+
+    fn sql_arg(&self, alloc: Global) -> Result<String, SqlBuilderError> {
+        self.to_text(alloc)
+    }
+}
+
+impl SqlArg for u16 {
+    ghost literal = { λ n. whole (pos n) };
+
+    fn sql_arg(&self, alloc: Global) -> Result<String, SqlBuilderError> {
+        self.to_text(alloc)
+    }
+}
+
+impl SqlArg for u32 {
+    ghost literal = { λ n. whole (pos n) };
+
+    fn sql_arg(&self, alloc: Global) -> Result<String, SqlBuilderError> {
+        self.to_text(alloc)
+    }
+}
+
+impl SqlArg for u64 {
+    ghost literal = { λ n. whole (pos n) };
+
+    fn sql_arg(&self, alloc: Global) -> Result<String, SqlBuilderError> {
+        self.to_text(alloc)
+    }
+}
+
+impl SqlArg for u128 {
+    ghost literal = { λ n. whole (pos n) };
+
+    fn sql_arg(&self, alloc: Global) -> Result<String, SqlBuilderError> {
+        self.to_text(alloc)
+    }
+}
+
+impl SqlArg for usize {
+    ghost literal = { λ n. whole (pos n) };
+
+    fn sql_arg(&self, alloc: Global) -> Result<String, SqlBuilderError> {
+        self.to_text(alloc)
+    }
+}
+
+impl SqlArg for i8 {
+    ghost literal = { whole };
+
+    fn sql_arg(&self, alloc: Global) -> Result<String, SqlBuilderError> {
+        self.to_text(alloc)
+    }
+}
+
+impl SqlArg for i16 {
+    ghost literal = { whole };
+
+    fn sql_arg(&self, alloc: Global) -> Result<String, SqlBuilderError> {
+        self.to_text(alloc)
+    }
+}
+
+impl SqlArg for i32 {
+    ghost literal = { whole };
+
+    fn sql_arg(&self, alloc: Global) -> Result<String, SqlBuilderError> {
+        self.to_text(alloc)
+    }
+}
+
+impl SqlArg for i64 {
+    ghost literal = { whole };
+
+    fn sql_arg(&self, alloc: Global) -> Result<String, SqlBuilderError> {
+        self.to_text(alloc)
+    }
+}
+
+impl SqlArg for i128 {
+    ghost literal = { whole };
+
+    fn sql_arg(&self, alloc: Global) -> Result<String, SqlBuilderError> {
+        self.to_text(alloc)
+    }
+}
+
+impl SqlArg for isize {
+    ghost literal = { whole };
+
+    fn sql_arg(&self, alloc: Global) -> Result<String, SqlBuilderError> {
+        self.to_text(alloc)
+    }
+}
+
+impl SqlArg for Literal {
+    ghost literal = { literal_value };
+
+    fn sql_arg(&self, alloc: Global) -> Result<String, SqlBuilderError> {
+        match self {
+            Literal::Null => Ok(String::from_str(alloc, "NULL")?),
+            Literal::Truth(value) => value.sql_arg(alloc),
+            Literal::Whole(number) => number.sql_arg(alloc),
+            Literal::Text(text) => text.sql_arg(alloc),
+        }
+    }
+}
+
+impl<T: SqlArg> SqlArg for &T {
+    ghost literal = { λ x. T.literal x.now };
+
+    fn sql_arg(&self, alloc: Global) -> Result<String, SqlBuilderError> {
+        (**self).sql_arg(alloc)
+    }
+}
+
+impl<T: SqlArg> SqlArg for Option<T> {
+    ghost literal = { literal_or_null T.literal };
+
+    fn sql_arg(&self, alloc: Global) -> Result<String, SqlBuilderError> {
+        match self {
+            None => Ok(String::from_str(alloc, "NULL")?),
+            Some(value) => value.sql_arg(alloc),
+        }
+    }
+}
+
+impl SqlArg for Box<dyn SqlArg> {
+    ghost literal = { λ b. (SqlArg-box b).literal b.value };
+
+    fn sql_arg(&self, alloc: Global) -> Result<String, SqlBuilderError> {
+        (**self).sql_arg(alloc)
+    }
+}
