@@ -1,5 +1,5 @@
 -- A list whose last element goes on.
-use Rattle.std.proofs.Common.{◌≡◌, ℕ, suc, ◌-◌, ◌<◌, List, [], ◌∷◌, ◌++◌, length, set, get_or, map, refl, ap, ◌∙◌, arith}
+use Rattle.std.proofs.Common.{◌≡◌, ℕ, ◌-◌, ◌<◌, List, [], ◌∷◌, ◌++◌, length, set, get_or, map, ap, ◌∙◌, arith}
 use Rattle.sql_builder.specs.Builder.{extend_last}
 
 -- the last of x ∷ xs, seen by v, goes on with t

@@ -1,14 +1,13 @@
 -- What the helpers that print need: one more element of a loop, and a layout's sections one after another.
-use Rattle.std.proofs.Common.{◌≡◌, ◌≢◌, ℕ, ◌+◌, ◌-◌, ◌<◌, ◌≤◌, Bool, List, [], ◌∷◌, ◌++◌, Option, None, Some, length, get_or, set, take, map, flat_map, codes, String, string_bytes, refl, ap, sym, ◌∙◌, append_assoc, arith}
+use Rattle.std.proofs.Common.{◌≡◌, ◌≢◌, ℕ, ◌+◌, ◌<◌, ◌≤◌, Bool, List, [], ◌∷◌, ◌++◌, Option, None, Some, length, get_or, take, map, flat_map, codes, String, refl, ap, sym, ◌∙◌, append_assoc, arith}
 use Rattle.std.specs.Prelude.{nat_eq, ◌&&◌}
 use Rattle.std.proofs.lemmas.Bool.Decides.{nat_tests}
 use Rattle.std.proofs.lemmas.List.{take_more, map-append, append-nil, length-map}
 use Rattle.std.proofs.lemmas.Grind.{flat_map-append}
-use Rattle.sql_builder.specs.Builder.{ClauseTexts, extend_last, texts}
-use Rattle.sql_builder.specs.Layout.{byte_atoms, concat_sections, delete_sections, fields_or_star, group_by_sections, insert_sections, optional_section, order_by_sections, query, returning_sections, select_opening, table_and_joins, union_opening, union_sections, update_sections, where_sections}
+use Rattle.sql_builder.specs.Builder.{ClauseTexts, texts}
+use Rattle.sql_builder.specs.Layout.{byte_atoms, concat_sections, delete_sections, fields_or_star, group_by_sections, insert_sections, optional_section, order_by_sections, query, select_opening, union_opening, union_sections, update_sections, where_sections}
 use Rattle.sql_builder.specs.Phrases.{comma_list, further_table, in_brackets}
 use Rattle.sql_builder.specs.Text.{join_with}
-use Rattle.sql_builder.proofs.Snoc.{extend_last-nil}
 
 -- one more element of a loop over xs, of which each adds h of its value
 pub one_more : {X Y A : Type 0} (h : Y → List A) (v : X → Y) (xs : List X) (i : ℕ) (x : X) → i < length xs

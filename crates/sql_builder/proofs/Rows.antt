@@ -3,7 +3,7 @@ use Rattle.std.specs.Prelude.{◌≡◌, [], ◌∷◌, ◌++◌, Ok, Err, codes
 use Rattle.sql_parts.specs.declared.error.SqlBuilderError.TheVariants.{NoTableName, NoValues, NoSetFields}
 use Rattle.sql_builder.specs.Calls.{SelectFrom, SelectValues, InsertInto, UpdateTable, DeleteFrom, Natural, Left, LeftOuter, Right, RightOuter, Inner, Cross, Distinct, AndTable, Join, On, OnEq, Fields, SetFields, Field, SetField, Count, CountAs, SetTo, SetStr, Values, Select, Returning, ReturningId, GroupBy, Having, Union, UnionAll, OrderBy, OrderAsc, OrderDesc, Limit, Offset, Cond, Raw, Compare, Sql, Query, QueryValues, Subquery, SubqueryAs}
 use Rattle.sql_builder.specs.Statement.{statement}
-use Rattle.sql_builder.specs.Text.{quote}
+use Rattle.sql_parts.specs.Quoting.{quoted}
 use Rattle.sql_builder.specs.declared.calls.Family.TheVariants.{And}
 use Rattle.sql_builder.specs.declared.calls.Relation.TheVariants.{Gt}
 
@@ -75,7 +75,7 @@ set_truth : statement (UpdateTable (codes "t")) (SetTo (codes "a") (codes "true"
     ≡ Ok (codes "UPDATE t SET a = true;")
 set_truth = refl
 
-values_quoted : statement (SelectValues (codes "10" ∷ quote (codes "100") ∷ [])) [] Sql
+values_quoted : statement (SelectValues (codes "10" ∷ quoted (codes "100") ∷ [])) [] Sql
     ≡ Ok (codes "SELECT 10, '100';")
 values_quoted = refl
 
@@ -148,7 +148,7 @@ books_and_values : statement (SelectFrom (codes "books"))
 books_and_values = refl
 
 insert_books : statement (InsertInto (codes "books")) (Field (codes "title") ∷ Field (codes "price") ∷
-    Values (quote (codes "Lost Time") ∷ codes "150" ∷ []) ∷
+    Values (quoted (codes "Lost Time") ∷ codes "150" ∷ []) ∷
     Values (codes "'Don Quixote', 200" ∷ []) ∷ ReturningId ∷ []) Sql
     ≡ Ok (codes "INSERT INTO books (title, price) VALUES ('Lost Time', 150), ('Don Quixote', 200) RETURNING id;")
 insert_books = refl

@@ -7,7 +7,7 @@ use Rattle.sql_builder.specs.Calls.{CallText, ConditionText, kind_of, StartText}
 use Rattle.sql_builder.specs.Clauses.{Clauses, new_clauses}
 use Rattle.sql_builder.specs.Layout.{byte_atoms}
 use Rattle.sql_builder.specs.Phrases.{comparison, constraint, count, count_as, equation, further_table, join, order, row}
-use Rattle.sql_builder.specs.Text.{quote}
+use Rattle.sql_parts.specs.Quoting.{quoted}
 use Rattle.sql_builder.specs.declared.calls.Family.{Family}
 use Rattle.sql_builder.specs.declared.calls.Family.TheVariants.{And}
 use Rattle.sql_builder.specs.declared.calls.Relation.{Relation}
@@ -180,7 +180,7 @@ abbrev pub with_pair : PairClause → List ℕ → List ℕ → ClauseTexts → 
 with_pair pair.OnEq left right r = with_on (equation byte_atoms left right) r
 with_pair pair.CountAs field name r = with_fields (count_as byte_atoms field name ∷ []) r
 with_pair pair.SetTo field value r = with_set (equation byte_atoms field value) r
-with_pair pair.SetStr field value r = with_set (equation byte_atoms field (quote value)) r
+with_pair pair.SetStr field value r = with_set (equation byte_atoms field (quoted value)) r
 
 -- a call with a list of texts
 abbrev pub with_texts : ListClause → List (List ℕ) → ClauseTexts → ClauseTexts

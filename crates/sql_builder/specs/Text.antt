@@ -1,18 +1,11 @@
 -- Texts, and the pieces that a statement is made of.
-use Rattle.std.specs.Prelude.{ℕ, List, [], ◌∷◌, ◌++◌, ◌==◌, flat_map, if◌then◌else◌}
+use Rattle.std.specs.Prelude.{ℕ, List, [], ◌∷◌, ◌++◌, flat_map}
+use Rattle.sql_parts.specs.Quoting.{quoted}
 
 -- the lists one after another, with `between` between each and the next
 abbrev pub join_with : {A : Type 0} → List A → List (List A) → List A
 join_with between [] = []
 join_with between (x ∷ xs) = x ++ flat_map (λ y. between ++ y) xs
-
--- the text with each single quote twice
-abbrev pub doubled_quotes : List ℕ → List ℕ
-doubled_quotes text = flat_map (λ byte. if byte == 39 then 39 ∷ 39 ∷ [] else byte ∷ []) text
-
--- the text as an SQL string: between single quotes, each single quote in it twice
-abbrev pub quote : List ℕ → List ℕ
-quote text = 39 ∷ doubled_quotes text ++ 39 ∷ []
 
 -- A piece of a statement: a text of the product's own, a text between single quotes, or a text as handed in.
 pub data Piece : Type 0 where
@@ -27,7 +20,7 @@ Pieces = List Piece
 -- the bytes that a piece prints
 abbrev pub piece_text : Piece → List ℕ
 piece_text (Fixed text) = text
-piece_text (Quoted text) = quote text
+piece_text (Quoted text) = quoted text
 piece_text (Raw text) = text
 
 -- the bytes that pieces print, one after another

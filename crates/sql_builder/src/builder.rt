@@ -42,9 +42,8 @@ pub struct SqlBuilder {
 }
 
 impl Model for SqlBuilder {
-    ghost use Rattle.std.specs.Prelude.{List, ℕ, map, option_map};
-    ghost use Rattle.std.specs.String.{string_bytes};
-    ghost use Rattle.sql_builder.specs.Builder.{join_text, table_text, texts, union_text};
+    ghost use Rattle.std.specs.Prelude.{List, ℕ, map};
+    ghost use Rattle.sql_builder.specs.Builder.{join_text, optional_text, table_text, texts, union_text};
     ghost use Rattle.sql_builder.specs.Clauses.{Clauses};
 
     ghost Value = { Clauses (List ℕ) };
@@ -59,15 +58,15 @@ impl Model for SqlBuilder {
       fields = texts b.fields.items;
       sets = texts b.sets.items;
       rows = texts b.rows.items;
-      query = option_map string_bytes b.query;
-      returning = option_map string_bytes b.returning;
+      query = optional_text b.query;
+      returning = optional_text b.returning;
       group_fields = texts b.group_fields.items;
-      having = option_map string_bytes b.having;
+      having = optional_text b.having;
       groups = texts b.groups.items;
       unions = map union_text b.unions.items;
       order_fields = texts b.order_fields.items;
-      limit = option_map string_bytes b.limit;
-      offset = option_map string_bytes b.offset;
+      limit = optional_text b.limit;
+      offset = optional_text b.offset;
     } };
 }
 

@@ -2,6 +2,8 @@
 ghost use Rattle.sql_builder.specs.Calls.{having_in, limit_in, offset_in, returning_in};
 ghost use Rattle.sql_builder.specs.Laws.{FieldsJoin, OnlyLastCounts};
 
+pub use sql_parts::laws::quoting_is_injective;
+
 /// `fields` of a list and then of another is `fields` of the two joined.
 #[tactic(auto, using(crate::proofs::LaterCalls::fields_join))]
 pub fn fields_join()

@@ -7,8 +7,12 @@ mod chain;
 mod clauses;
 pub mod laws;
 mod phrases;
+pub mod prelude;
 mod printing;
 mod steps;
+#[cfg(test)]
+mod tests;
 mod texts;
 
 pub use builder::SqlBuilder;
+pub use sql_parts::{SqlBuilderError, arg, baquote, brquote, dquote, error, esc, quote, text};

@@ -4,7 +4,7 @@ ghost use Rattle.sql_parts.specs.Error.{FailsOnlyByMemory};
 ghost use Rattle.sql_builder.specs.Builder.{texts};
 ghost use Rattle.sql_builder.specs.Layout.{byte_atoms};
 ghost use Rattle.sql_builder.specs.Phrases.{comparison, count, count_as, equation, order, relation_text, row};
-ghost use Rattle.sql_builder.specs.Text.{quote, join_with};
+ghost use Rattle.sql_parts.specs.Quoting.{quoted};
 
 use crate::calls::Relation;
 use sql_parts::{SqlBuilderError, ToText, push_esc};
@@ -60,7 +60,7 @@ pub(crate) fn quoted_equation<S: ToText, T: ToText>(
     value: T,
 ) -> Result<String, SqlBuilderError>
     ensures made { IfOk result (λ s. string_bytes s
-        ≡ equation byte_atoms (S.text field) (quote (T.text value))) }
+        ≡ equation byte_atoms (S.text field) (quoted (T.text value))) }
     ensures memory { FailsOnlyByMemory result }
 {
     let mut text = field.to_text(alloc)?;

@@ -1,7 +1,7 @@
 //! Copies of lists of texts.
-ghost use Rattle.std.specs.Prelude.{◌≡◌, map, option_map, string_bytes, IfOk};
+ghost use Rattle.std.specs.Prelude.{◌≡◌, map, IfOk};
 ghost use Rattle.sql_parts.specs.Error.{FailsOnlyByMemory};
-ghost use Rattle.sql_builder.specs.Builder.{texts};
+ghost use Rattle.sql_builder.specs.Builder.{optional_text, texts};
 
 use sql_parts::{SqlBuilderError, ToText};
 use std::alloc::Global;
@@ -20,7 +20,7 @@ pub(crate) fn copies<S: ToText>(alloc: Global, items: &[S]) -> Result<Vec<String
 
 /// The text, if there is one.
 pub(crate) fn copy(alloc: Global, text: &Option<String>) -> Result<Option<String>, SqlBuilderError>
-    ensures copied { IfOk result (λ copied. option_map string_bytes copied ≡ option_map string_bytes text.now) }
+    ensures copied { IfOk result (λ copied. optional_text copied ≡ optional_text text.now) }
     ensures memory { FailsOnlyByMemory result }
 {
     match text {

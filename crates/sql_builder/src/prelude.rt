@@ -1,0 +1,6 @@
+//! What a builder of statements mostly needs.
+
+pub use crate::builder::SqlBuilder;
+pub use sql_parts::arg::{Literal, SqlArg};
+pub use sql_parts::quote;
+pub use sql_parts::text::ToText;
