@@ -47,8 +47,8 @@ pub fn esc<S: ToText>(alloc: Global, text: S) -> Result<String, SqlBuilderError>
     Ok(out)
 }
 
-/// Appends the text with each `'` in it doubled. It is refused only for want of memory, and then
-/// the text that was there stands, perhaps with a beginning of the other behind it.
+/// Appends the text with each `'` in it doubled. It is refused only for want of memory; a part of
+/// it may have been appended by then.
 pub fn push_esc<S: ToText>(alloc: Global, out: &mut String, text: S) -> Result<(), SqlBuilderError>
     ensures text { OnOk result
         (string_bytes out.new ≡ string_bytes out.old ++ escaped (S.text text)) }

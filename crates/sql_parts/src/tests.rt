@@ -4,7 +4,9 @@ ghost use Rattle.sql_parts.specs.Literal.{whole};
 ghost use Rattle.sql_parts.specs.Text.{decimal_text};
 
 use crate::laws::quoting_is_injective;
-use crate::{Literal, SqlArg, SqlBuilderError, ToText, baquote, brquote, dquote, esc, quote};
+use crate::{
+    Literal, SqlArg, SqlBuilderError, ToText, baquote, brquote, dquote, esc, push_esc, quote,
+};
 use std::alloc::{AllocError, AllocFailed, Global};
 use std::borrow::CowStr;
 use std::error::Error;
@@ -116,6 +118,37 @@ fn quotes_a_long_text(rt: HostRuntime) -> Result<(), Fail> {
     assert_eq!(rt; text.len(), 5000);
     assert_eq!(rt; quote(heap, &text)?.as_str(), wanted.as_str());
     assert_eq!(rt; quote(heap, text)?.as_str(), wanted.as_str());
+    Ok(())
+}
+
+fn pushed<T: ToText>(alloc: Global, value: T) -> Result<String, SqlBuilderError> {
+    let mut text = String::from_str(alloc, "a ")?;
+    value.push_to(alloc, &mut text)?;
+    Ok(text)
+}
+
+#[test]
+fn appends_the_text_of_a_value(rt: HostRuntime) -> Result<(), Fail> {
+    let heap = rt.alloc();
+    let foo = String::from_str(heap, "foo")?;
+    let rows = [
+        ("&str", pushed(heap, "foo")?, "a foo"),
+        ("&String", pushed(heap, &foo)?, "a foo"),
+        ("String", pushed(heap, foo)?, "a foo"),
+        (
+            "CowStr",
+            pushed(heap, CowStr::<Global>::Borrowed("foo"))?,
+            "a foo",
+        ),
+        ("number", pushed(heap, -5)?, "a -5"),
+        ("own type", pushed(heap, Id(7))?, "a it's 7"),
+    ];
+    for (name, text, wanted) in rows.iter() {
+        assert_eq!(rt; text.as_str(), *wanted, "push_to of {name}");
+    }
+    let mut text = String::from_str(heap, "a ")?;
+    push_esc(heap, &mut text, Id(7))?;
+    assert_eq!(rt; text.as_str(), "a it''s 7");
     Ok(())
 }
 
