@@ -416,6 +416,52 @@ module _ {M : Type 1} {𝓤 : Ura M} (𝓛 : Logic 𝓤) (𝓜 : Model 𝓤 𝓛
           returns ! (look_at ! 0 refl) $ free_all ! refl $ leaves_step Cs-flagged Q-flagged K-flagged asked told y u t ws)))) in
           ((x.0 ∷ [], (x'.0 ∷ [], tt)), ((λ i. (x.1.0 i, (x'.1.0 i, tt))), walk x.0 x'.0 x.1.1 x'.1.1)))
 
+  -- two constants and one argument that is moved
+  module _ (X Y : Constant 𝓛) (A : Argument 𝓛 (suc n)) where
+    abbrev Cs-condition : List (Constant 𝓛)
+    Cs-condition = X ∷ Y ∷ []
+
+    abbrev Q-condition : List (Slot (suc n))
+    Q-condition = plain A.row ∷ []
+
+    abbrev K-condition : Kepts Q-condition
+    K-condition = (A.kept, tt)
+
+    module _ (asked : (κs : Lfts (suc n)) → MutBor ClauseTexts × Denots (types_at (also 𝓛 Cs-condition Q-condition) κs) → SProp 𝓤)
+        (told : (κs : Lfts (suc n)) → MutBor ClauseTexts × Denots (types_at (also 𝓛 Cs-condition Q-condition) κs) → Effect) (fn : Fn) (kg ko name : Callee) where
+      abbrev pub Code-condition : Type 0
+      Code-condition = (fn.locals ≡ l0 ∷ l1 ∷ local A.ty value_local ∷ kept ∷ lent ∷ local (layout X.row) value_local ∷ local (layout Y.row) value_local ∷ local A.ty value_local ∷ [])
+          × (fn.body ≡ seq (assign (place 4 []) (addr_of (place 1 (deref δ ∷ [])))) (seq (assign (place 5 []) (aggregate (int w8 X.tag ∷ []))) (seq (assign (place 6 []) (aggregate (int w8 Y.tag ∷ []))) (
+          seq (assign (place 7 []) (rv_opd (copy (place 2 [])))) (seq (call kg (copy (place 4 []) ∷ copy (place 5 []) ∷ copy (place 6 []) ∷ copy (place 7 []) ∷ []) (place 3 [])) (seq (call ko (copy (place 3 []) ∷ []) (place 0 [])) (return)))))))
+
+      abbrev pub Coded-condition : Type 2
+      Coded-condition = Coded Cs-condition Q-condition K-condition asked told fn name
+
+      abbrev pub Method-condition : Type 1
+      Method-condition = Method Cs-condition Q-condition K-condition asked told name
+
+      pub by-condition : Code-condition → Coded-condition → StepMeets Cs-condition Q-condition K-condition asked told kg → Releases Cs-condition Q-condition K-condition asked told ko → Method-condition
+      by-condition code closed met release_met =
+          let fm = framed 𝓤 𝓛.H 𝓜 (tables 𝓤 𝓛.H 𝓜 𝓡 𝓡.env) in
+          chains Q-condition K-condition (asks' Cs-condition Q-condition asked) (told' Cs-condition Q-condition told) fn name closed (A.goes, tt) (λ y₀ are.
+          let a = y₀.0.3 in let p = vptr a.0.ref_ptr.0 a.0.ref_ptr.1 in
+          let x = A.one y₀.0.0 a.1.0 y₀.0.4.1.0 are.0 in
+          let walk : (w : Val) → Good A.ty w → Walks Cs-condition Q-condition K-condition asked told ((y₀.0.0, y₀.0.1, y₀.0.2, a, (p ∷ [], (w ∷ [], tt))), tt) fn = λ w good.
+          let y : At_entry Cs-condition Q-condition K-condition asked told = ((y₀.0.0, y₀.0.1, y₀.0.2, a, (p ∷ [], (w ∷ [], tt))), tt) in
+          let z = more Cs-condition Q-condition K-condition asked told y in
+          qed 𝓛 (raw (at_entry Cs-condition Q-condition K-condition asked told y) ∷ []) ∵ coded Q-condition K-condition (asks' Cs-condition Q-condition asked) (told' Cs-condition Q-condition told) fn _ _ code.0 code.1 _ _ $
+          alloc_all ! (λ l. pass_all ! refl ((tt, tt), (good, tt)) $
+          sets ! (addr ! (through ! refl (stop !))) refl (tt, tt) $ sets ! (agg ! (and_then ! (lit ! X.is_byte) (no_more !))) refl X.good $ sets ! (agg ! (and_then ! (lit ! Y.is_byte) (no_more !))) refl Y.good $
+          sets ! (of_opd ! (get ! refl)) refl good $
+          use1 𝓛 (raw (at_step Cs-condition Q-condition K-condition asked told y)) (widened Cs-condition Q-condition K-condition asked told y) $
+          calls_at ! fm _ met z (and_then ! (get ! refl) (and_then ! (get ! refl) (and_then ! (get ! refl) (and_then ! (get ! refl) (no_more !))))) (λ v.
+          returned ! tt (StepEnded Cs-condition Q-condition K-condition asked told) (step_clauses Cs-condition Q-condition K-condition asked told) z v (λ r ws is.
+          lands_as ! refl refl ((kept_lawful 𝓛 y.0.0.0).typed r (v ∷ []) is).0 $
+          releases ! fm 𝓜.mem 𝓡.returns release_met n y.0.0 y.0.1 a.0 (told z.0.0 z.0.3) r v (and_then ! (get ! refl) (no_more !)) (λ u t is'.
+          lands_as ! refl refl ((bare_lawful 𝓛 y.0.0.0).typed t (u ∷ []) is').0 $
+          returns ! (look_at ! 0 refl) $ free_all ! refl $ leaves_step Cs-condition Q-condition K-condition asked told y u t ws)))) in
+          ((x.0 ∷ [], tt), ((λ i. (x.1.0 i, tt)), walk x.0 x.1.1)))
+
   -- two constants and two arguments that are moved
   module _ (X Y : Constant 𝓛) (A B : Argument 𝓛 (suc n)) where
     abbrev Cs-comparison : List (Constant 𝓛)
@@ -463,3 +509,99 @@ module _ {M : Type 1} {𝓤 : Ura M} (𝓛 : Logic 𝓤) (𝓜 : Model 𝓤 𝓛
           lands_as ! refl refl ((bare_lawful 𝓛 y.0.0.0).typed t (u ∷ []) is').0 $
           returns ! (look_at ! 0 refl) $ free_all ! refl $ leaves_step Cs-comparison Q-comparison K-comparison asked told y u t ws)))) in
           ((x.0 ∷ [], (x'.0 ∷ [], tt)), ((λ i. (x.1.0 i, (x'.1.0 i, tt))), walk x.0 x'.0 x.1.1 x'.1.1)))
+
+  -- two constants, one argument that is moved and one that is copied
+  module _ (X Y : Constant 𝓛) (A B : Argument 𝓛 (suc n)) where
+    abbrev Cs-membership : List (Constant 𝓛)
+    Cs-membership = X ∷ Y ∷ []
+
+    abbrev Q-membership : List (Slot (suc n))
+    Q-membership = plain A.row ∷ plain B.row ∷ []
+
+    abbrev K-membership : Kepts Q-membership
+    K-membership = (A.kept, (B.kept, tt))
+
+    module _ (asked : (κs : Lfts (suc n)) → MutBor ClauseTexts × Denots (types_at (also 𝓛 Cs-membership Q-membership) κs) → SProp 𝓤)
+        (told : (κs : Lfts (suc n)) → MutBor ClauseTexts × Denots (types_at (also 𝓛 Cs-membership Q-membership) κs) → Effect) (fn : Fn) (kg ko name : Callee) where
+      abbrev pub Code-membership : Type 0
+      Code-membership = (fn.locals ≡ l0 ∷ l1 ∷ local A.ty value_local ∷ local B.ty value_local ∷ kept ∷ lent ∷ local (layout X.row) value_local ∷ local (layout Y.row) value_local ∷ local A.ty value_local ∷ [])
+          × (fn.body ≡ seq (assign (place 5 []) (addr_of (place 1 (deref δ ∷ [])))) (seq (assign (place 6 []) (aggregate (int w8 X.tag ∷ []))) (seq (assign (place 7 []) (aggregate (int w8 Y.tag ∷ []))) (
+          seq (assign (place 8 []) (rv_opd (copy (place 2 [])))) (seq (call kg (copy (place 5 []) ∷ copy (place 6 []) ∷ copy (place 7 []) ∷ copy (place 8 []) ∷ copy (place 3 []) ∷ []) (place 4 [])) (seq (call ko (copy (place 4 []) ∷ []) (place 0 [])) (return)))))))
+
+      abbrev pub Coded-membership : Type 2
+      Coded-membership = Coded Cs-membership Q-membership K-membership asked told fn name
+
+      abbrev pub Method-membership : Type 1
+      Method-membership = Method Cs-membership Q-membership K-membership asked told name
+
+      pub by-membership : Code-membership → Coded-membership → StepMeets Cs-membership Q-membership K-membership asked told kg → Releases Cs-membership Q-membership K-membership asked told ko → Method-membership
+      by-membership code closed met release_met =
+          let fm = framed 𝓤 𝓛.H 𝓜 (tables 𝓤 𝓛.H 𝓜 𝓡 𝓡.env) in
+          chains Q-membership K-membership (asks' Cs-membership Q-membership asked) (told' Cs-membership Q-membership told) fn name closed (A.goes, (B.goes, tt)) (λ y₀ are.
+          let a = y₀.0.3 in let p = vptr a.0.ref_ptr.0 a.0.ref_ptr.1 in
+          let x = A.one y₀.0.0 a.1.0 y₀.0.4.1.0 are.0 in
+          let x' = B.one y₀.0.0 a.1.1.0 y₀.0.4.1.1.0 are.1.0 in
+          let walk : (w w' : Val) → Good A.ty w → Good B.ty w' → Walks Cs-membership Q-membership K-membership asked told ((y₀.0.0, y₀.0.1, y₀.0.2, a, (p ∷ [], (w ∷ [], (w' ∷ [], tt)))), tt) fn = λ w w' good good'.
+          let y : At_entry Cs-membership Q-membership K-membership asked told = ((y₀.0.0, y₀.0.1, y₀.0.2, a, (p ∷ [], (w ∷ [], (w' ∷ [], tt)))), tt) in
+          let z = more Cs-membership Q-membership K-membership asked told y in
+          qed 𝓛 (raw (at_entry Cs-membership Q-membership K-membership asked told y) ∷ []) ∵ coded Q-membership K-membership (asks' Cs-membership Q-membership asked) (told' Cs-membership Q-membership told) fn _ _ code.0 code.1 _ _ $
+          alloc_all ! (λ l. pass_all ! refl ((tt, tt), (good, (good', tt))) $
+          sets ! (addr ! (through ! refl (stop !))) refl (tt, tt) $ sets ! (agg ! (and_then ! (lit ! X.is_byte) (no_more !))) refl X.good $ sets ! (agg ! (and_then ! (lit ! Y.is_byte) (no_more !))) refl Y.good $
+          sets ! (of_opd ! (get ! refl)) refl good $
+          use1 𝓛 (raw (at_step Cs-membership Q-membership K-membership asked told y)) (widened Cs-membership Q-membership K-membership asked told y) $
+          calls_at ! fm _ met z (and_then ! (get ! refl) (and_then ! (get ! refl) (and_then ! (get ! refl) (and_then ! (get ! refl) (and_then ! (get ! refl) (no_more !)))))) (λ v.
+          returned ! tt (StepEnded Cs-membership Q-membership K-membership asked told) (step_clauses Cs-membership Q-membership K-membership asked told) z v (λ r ws is.
+          lands_as ! refl refl ((kept_lawful 𝓛 y.0.0.0).typed r (v ∷ []) is).0 $
+          releases ! fm 𝓜.mem 𝓡.returns release_met n y.0.0 y.0.1 a.0 (told z.0.0 z.0.3) r v (and_then ! (get ! refl) (no_more !)) (λ u t is'.
+          lands_as ! refl refl ((bare_lawful 𝓛 y.0.0.0).typed t (u ∷ []) is').0 $
+          returns ! (look_at ! 0 refl) $ free_all ! refl $ leaves_step Cs-membership Q-membership K-membership asked told y u t ws)))) in
+          ((x.0 ∷ [], (x'.0 ∷ [], tt)), ((λ i. (x.1.0 i, (x'.1.0 i, tt))), walk x.0 x'.0 x.1.1 x'.1.1)))
+
+  -- two constants and three arguments that are moved
+  module _ (X Y : Constant 𝓛) (A B C : Argument 𝓛 (suc n)) where
+    abbrev Cs-between : List (Constant 𝓛)
+    Cs-between = X ∷ Y ∷ []
+
+    abbrev Q-between : List (Slot (suc n))
+    Q-between = plain A.row ∷ plain B.row ∷ plain C.row ∷ []
+
+    abbrev K-between : Kepts Q-between
+    K-between = (A.kept, (B.kept, (C.kept, tt)))
+
+    module _ (asked : (κs : Lfts (suc n)) → MutBor ClauseTexts × Denots (types_at (also 𝓛 Cs-between Q-between) κs) → SProp 𝓤)
+        (told : (κs : Lfts (suc n)) → MutBor ClauseTexts × Denots (types_at (also 𝓛 Cs-between Q-between) κs) → Effect) (fn : Fn) (kg ko name : Callee) where
+      abbrev pub Code-between : Type 0
+      Code-between = (fn.locals ≡ l0 ∷ l1 ∷ local A.ty value_local ∷ local B.ty value_local ∷ local C.ty value_local ∷ kept ∷ lent ∷ local (layout X.row) value_local ∷ local (layout Y.row) value_local ∷ local A.ty value_local ∷ local B.ty value_local ∷ local C.ty value_local ∷ [])
+          × (fn.body ≡ seq (assign (place 6 []) (addr_of (place 1 (deref δ ∷ [])))) (seq (assign (place 7 []) (aggregate (int w8 X.tag ∷ []))) (seq (assign (place 8 []) (aggregate (int w8 Y.tag ∷ []))) (
+          seq (assign (place 9 []) (rv_opd (copy (place 2 [])))) (seq (assign (place 10 []) (rv_opd (copy (place 3 [])))) (seq (assign (place 11 []) (rv_opd (copy (place 4 [])))) (
+          seq (call kg (copy (place 6 []) ∷ copy (place 7 []) ∷ copy (place 8 []) ∷ copy (place 9 []) ∷ copy (place 10 []) ∷ copy (place 11 []) ∷ []) (place 5 [])) (seq (call ko (copy (place 5 []) ∷ []) (place 0 [])) (return)))))))))
+
+      abbrev pub Coded-between : Type 2
+      Coded-between = Coded Cs-between Q-between K-between asked told fn name
+
+      abbrev pub Method-between : Type 1
+      Method-between = Method Cs-between Q-between K-between asked told name
+
+      pub by-between : Code-between → Coded-between → StepMeets Cs-between Q-between K-between asked told kg → Releases Cs-between Q-between K-between asked told ko → Method-between
+      by-between code closed met release_met =
+          let fm = framed 𝓤 𝓛.H 𝓜 (tables 𝓤 𝓛.H 𝓜 𝓡 𝓡.env) in
+          chains Q-between K-between (asks' Cs-between Q-between asked) (told' Cs-between Q-between told) fn name closed (A.goes, (B.goes, (C.goes, tt))) (λ y₀ are.
+          let a = y₀.0.3 in let p = vptr a.0.ref_ptr.0 a.0.ref_ptr.1 in
+          let x = A.one y₀.0.0 a.1.0 y₀.0.4.1.0 are.0 in
+          let x' = B.one y₀.0.0 a.1.1.0 y₀.0.4.1.1.0 are.1.0 in
+          let x'' = C.one y₀.0.0 a.1.1.1.0 y₀.0.4.1.1.1.0 are.1.1.0 in
+          let walk : (w w' w'' : Val) → Good A.ty w → Good B.ty w' → Good C.ty w'' → Walks Cs-between Q-between K-between asked told ((y₀.0.0, y₀.0.1, y₀.0.2, a, (p ∷ [], (w ∷ [], (w' ∷ [], (w'' ∷ [], tt))))), tt) fn = λ w w' w'' good good' good''.
+          let y : At_entry Cs-between Q-between K-between asked told = ((y₀.0.0, y₀.0.1, y₀.0.2, a, (p ∷ [], (w ∷ [], (w' ∷ [], (w'' ∷ [], tt))))), tt) in
+          let z = more Cs-between Q-between K-between asked told y in
+          qed 𝓛 (raw (at_entry Cs-between Q-between K-between asked told y) ∷ []) ∵ coded Q-between K-between (asks' Cs-between Q-between asked) (told' Cs-between Q-between told) fn _ _ code.0 code.1 _ _ $
+          alloc_all ! (λ l. pass_all ! refl ((tt, tt), (good, (good', (good'', tt)))) $
+          sets ! (addr ! (through ! refl (stop !))) refl (tt, tt) $ sets ! (agg ! (and_then ! (lit ! X.is_byte) (no_more !))) refl X.good $ sets ! (agg ! (and_then ! (lit ! Y.is_byte) (no_more !))) refl Y.good $
+          sets ! (of_opd ! (get ! refl)) refl good $ sets ! (of_opd ! (get ! refl)) refl good' $ sets ! (of_opd ! (get ! refl)) refl good'' $
+          use1 𝓛 (raw (at_step Cs-between Q-between K-between asked told y)) (widened Cs-between Q-between K-between asked told y) $
+          calls_at ! fm _ met z (and_then ! (get ! refl) (and_then ! (get ! refl) (and_then ! (get ! refl) (and_then ! (get ! refl) (and_then ! (get ! refl) (and_then ! (get ! refl) (no_more !))))))) (λ v.
+          returned ! tt (StepEnded Cs-between Q-between K-between asked told) (step_clauses Cs-between Q-between K-between asked told) z v (λ r ws is.
+          lands_as ! refl refl ((kept_lawful 𝓛 y.0.0.0).typed r (v ∷ []) is).0 $
+          releases ! fm 𝓜.mem 𝓡.returns release_met n y.0.0 y.0.1 a.0 (told z.0.0 z.0.3) r v (and_then ! (get ! refl) (no_more !)) (λ u t is'.
+          lands_as ! refl refl ((bare_lawful 𝓛 y.0.0.0).typed t (u ∷ []) is').0 $
+          returns ! (look_at ! 0 refl) $ free_all ! refl $ leaves_step Cs-between Q-between K-between asked told y u t ws)))) in
+          ((x.0 ∷ [], (x'.0 ∷ [], (x''.0 ∷ [], tt))), ((λ i. (x.1.0 i, (x'.1.0 i, (x''.1.0 i, tt)))), walk x.0 x'.0 x''.0 x.1.1 x'.1.1 x''.1.1)))

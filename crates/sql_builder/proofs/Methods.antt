@@ -15,7 +15,7 @@ use Rattle.std.specs.Prelude.{codes, map}
 use Rattle.sql_parts.specs.Error.{IsMemory}
 use Rattle.sql_parts.specs.declared.text.ToText.{Ghosts}
 use Rattle.sql_parts.specs.contracts.text.ToText.TheBound.{Met}
-use Rattle.sql_builder.specs.Builder.{RefusesPair, RefusesText, with_comparison, with_order, with_pair, with_returning, with_text, with_texts}
+use Rattle.sql_builder.specs.Builder.{ClauseTexts, RefusesPair, RefusesText, binary_condition, list_condition, range_condition, unary_condition, with_condition, with_order, with_pair, with_returning, with_text, with_texts}
 use Rattle.sql_builder.proofs.steps.release.Met.{met as release_met}
 use Rattle.sql_builder.proofs.steps.release.Symbol as release_code
 use Rattle.sql_builder.specs.contracts.steps.TextClause as text_clause
@@ -26,8 +26,14 @@ use Rattle.sql_builder.specs.contracts.steps.ListClause as list_clause
 use Rattle.sql_builder.proofs.steps.ListClause.TheLaws as list_clause_laws
 use Rattle.sql_builder.specs.contracts.calls.Family as family
 use Rattle.sql_builder.proofs.calls.Family.TheLaws as family_laws
-use Rattle.sql_builder.specs.contracts.calls.Relation as relation
-use Rattle.sql_builder.proofs.calls.Relation.TheLaws as relation_laws
+use Rattle.sql_builder.specs.contracts.steps.UnaryCondition as unary
+use Rattle.sql_builder.proofs.steps.UnaryCondition.TheLaws as unary_laws
+use Rattle.sql_builder.specs.contracts.steps.BinaryCondition as binary
+use Rattle.sql_builder.proofs.steps.BinaryCondition.TheLaws as binary_laws
+use Rattle.sql_builder.specs.contracts.steps.ListCondition as list
+use Rattle.sql_builder.proofs.steps.ListCondition.TheLaws as list_laws
+use Rattle.sql_builder.specs.contracts.steps.RangeCondition as range
+use Rattle.sql_builder.proofs.steps.RangeCondition.TheLaws as range_laws
 use Rattle.sql_builder.specs.contracts.builder.SqlBuilder.hold_text as text_step
 use Rattle.sql_builder.proofs.builder.SqlBuilder.hold_text.Met as text_met
 use Rattle.sql_builder.proofs.builder.SqlBuilder.hold_text.Symbol as text_code
@@ -43,9 +49,18 @@ use Rattle.sql_builder.proofs.builder.SqlBuilder.hold_texts.Symbol as texts_code
 use Rattle.sql_builder.specs.contracts.builder.SqlBuilder.hold_order as order_step
 use Rattle.sql_builder.proofs.builder.SqlBuilder.hold_order.Met as order_met
 use Rattle.sql_builder.proofs.builder.SqlBuilder.hold_order.Symbol as order_code
-use Rattle.sql_builder.specs.contracts.builder.SqlBuilder.hold_comparison as comparison_step
-use Rattle.sql_builder.proofs.builder.SqlBuilder.hold_comparison.Met as comparison_met
-use Rattle.sql_builder.proofs.builder.SqlBuilder.hold_comparison.Symbol as comparison_code
+use Rattle.sql_builder.specs.contracts.builder.SqlBuilder.hold_unary as unary_step
+use Rattle.sql_builder.proofs.builder.SqlBuilder.hold_unary.Met as unary_met
+use Rattle.sql_builder.proofs.builder.SqlBuilder.hold_unary.Symbol as unary_code
+use Rattle.sql_builder.specs.contracts.builder.SqlBuilder.hold_binary as binary_step
+use Rattle.sql_builder.proofs.builder.SqlBuilder.hold_binary.Met as binary_met
+use Rattle.sql_builder.proofs.builder.SqlBuilder.hold_binary.Symbol as binary_code
+use Rattle.sql_builder.specs.contracts.builder.SqlBuilder.hold_among as among_step
+use Rattle.sql_builder.proofs.builder.SqlBuilder.hold_among.Met as among_met
+use Rattle.sql_builder.proofs.builder.SqlBuilder.hold_among.Symbol as among_code
+use Rattle.sql_builder.specs.contracts.builder.SqlBuilder.hold_range as range_step
+use Rattle.sql_builder.proofs.builder.SqlBuilder.hold_range.Met as range_met
+use Rattle.sql_builder.proofs.builder.SqlBuilder.hold_range.Symbol as range_code
 
 module _ {M : Type 1} (𝓤 : Ura M) (𝓛 : Logic 𝓤) (𝓜 : Model 𝓤 𝓛.H) (𝓡 : Running 𝓤 𝓛.H 𝓜) where
   -- a call with one text, by its clause
@@ -163,26 +178,98 @@ module _ {M : Type 1} (𝓤 : Ura M) (𝓛 : Logic 𝓤) (𝓜 : Model 𝓤 𝓛
         asked-order told-order (inst_fn types-order fn) (order_code.name types-order) release_code.name (name types-order)
         code closed (order_met.met 𝓤 𝓛 𝓜 𝓡 w S LS s d d' ms md) (release_met 𝓤 𝓛 𝓜 𝓡 w')
 
-  -- a call that compares two texts, by its family and its relation
-  module _ (X : Variant family.the_type) (Y : Variant relation.the_type) (fn : Fn) (name : Args → Callee) (S T : RattleType) (LS : Laws S) (LT : Laws T)
+  -- a condition with one text, by its family
+  module _ (X : Variant family.the_type) (Y : Variant unary.the_type) (fn : Fn) (name : Args → Callee) (S : RattleType) (LS : Laws S)
+      (s : Ghosts S.Denot) (d : Dict) (d' : Dict)
+      (ms : Met 𝓛 𝓜 𝓡 𝓡.env S s d) (md : Drops 𝓛 𝓜 𝓡 𝓡.env S d') where
+    abbrev pub types-unary : Args
+    types-unary = bounded (a_type ∷ []) (S, tt) (dcons d (dcons d' dnil))
+
+    abbrev asked-unary : (κs : Lfts 2) → Denots (types_at (unary_step.signature S).params κs) → SProp 𝓤
+    asked-unary κs a = (unary_step.clauses S s d d' 𝓛 𝓜.mem 𝓡.returns κs a).requires tt
+
+    abbrev told-unary : (κs : Lfts 2) → Denots (types_at (unary_step.signature S).params κs) → Effect
+    told-unary κs a = record { told = with_condition a.1.0 (unary_condition a.1.1.0 (s.text a.1.1.1.0)) a.0.now; refuses = IsMemory }
+
+    pub by_unary : calls.Code-condition 𝓛 𝓜 𝓡 1 [] (constant 𝓛 family.the_type family_laws.the_plain X) (constant 𝓛 unary.the_type unary_laws.the_plain Y) (generic 𝓛 2 0 S LS)
+        asked-unary told-unary (inst_fn types-unary fn) (unary_code.name types-unary) release_code.name (name types-unary)
+        → calls.Coded-condition 𝓛 𝓜 𝓡 1 [] (constant 𝓛 family.the_type family_laws.the_plain X) (constant 𝓛 unary.the_type unary_laws.the_plain Y) (generic 𝓛 2 0 S LS)
+        asked-unary told-unary (inst_fn types-unary fn) (unary_code.name types-unary) release_code.name (name types-unary)
+        → Wired 𝓡.env unary_code.code → Wired 𝓡.env release_code.code
+        → calls.Method-condition 𝓛 𝓜 𝓡 1 [] (constant 𝓛 family.the_type family_laws.the_plain X) (constant 𝓛 unary.the_type unary_laws.the_plain Y) (generic 𝓛 2 0 S LS)
+        asked-unary told-unary (inst_fn types-unary fn) (unary_code.name types-unary) release_code.name (name types-unary)
+    by_unary code closed w w' = calls.by-condition 𝓛 𝓜 𝓡 1 [] (constant 𝓛 family.the_type family_laws.the_plain X) (constant 𝓛 unary.the_type unary_laws.the_plain Y) (generic 𝓛 2 0 S LS)
+        asked-unary told-unary (inst_fn types-unary fn) (unary_code.name types-unary) release_code.name (name types-unary)
+        code closed (unary_met.met 𝓤 𝓛 𝓜 𝓡 w S LS s d d' ms md) (release_met 𝓤 𝓛 𝓜 𝓡 w')
+
+  -- a condition with two texts, by its family
+  module _ (X : Variant family.the_type) (Y : Variant binary.the_type) (fn : Fn) (name : Args → Callee) (S T : RattleType) (LS : Laws S) (LT : Laws T)
       (s : Ghosts S.Denot) (d : Dict) (t : Ghosts T.Denot) (e : Dict) (d' e' : Dict)
       (ms : Met 𝓛 𝓜 𝓡 𝓡.env S s d) (mt : Met 𝓛 𝓜 𝓡 𝓡.env T t e) (md : Drops 𝓛 𝓜 𝓡 𝓡.env S d') (me : Drops 𝓛 𝓜 𝓡 𝓡.env T e') where
-    abbrev pub types-comparison : Args
-    types-comparison = bounded (a_type ∷ a_type ∷ []) (S, (T, tt)) (dcons d (dcons e (dcons d' (dcons e' dnil))))
+    abbrev pub types-binary : Args
+    types-binary = bounded (a_type ∷ a_type ∷ []) (S, (T, tt)) (dcons d (dcons e (dcons d' (dcons e' dnil))))
 
-    abbrev asked-comparison : (κs : Lfts 3) → Denots (types_at (comparison_step.signature S T).params κs) → SProp 𝓤
-    asked-comparison κs a = (comparison_step.clauses S T s d t e d' e' 𝓛 𝓜.mem 𝓡.returns κs a).requires tt
+    abbrev asked-binary : (κs : Lfts 3) → Denots (types_at (binary_step.signature S T).params κs) → SProp 𝓤
+    asked-binary κs a = (binary_step.clauses S T s d t e d' e' 𝓛 𝓜.mem 𝓡.returns κs a).requires tt
 
-    abbrev told-comparison : (κs : Lfts 3) → Denots (types_at (comparison_step.signature S T).params κs) → Effect
-    told-comparison κs a = record { told = with_comparison a.1.0 a.1.1.0 (s.text a.1.1.1.0) (t.text a.1.1.1.1.0) a.0.now; refuses = IsMemory }
+    abbrev told-binary : (κs : Lfts 3) → Denots (types_at (binary_step.signature S T).params κs) → Effect
+    told-binary κs a = record { told = with_condition a.1.0 (binary_condition a.1.1.0 (s.text a.1.1.1.0) (t.text a.1.1.1.1.0)) a.0.now; refuses = IsMemory }
 
-    pub by_comparison : calls.Code-comparison 𝓛 𝓜 𝓡 2 [] (constant 𝓛 family.the_type family_laws.the_plain X) (constant 𝓛 relation.the_type relation_laws.the_plain Y) (generic 𝓛 3 0 S LS) (generic 𝓛 3 1 T LT)
-        asked-comparison told-comparison (inst_fn types-comparison fn) (comparison_code.name types-comparison) release_code.name (name types-comparison)
-        → calls.Coded-comparison 𝓛 𝓜 𝓡 2 [] (constant 𝓛 family.the_type family_laws.the_plain X) (constant 𝓛 relation.the_type relation_laws.the_plain Y) (generic 𝓛 3 0 S LS) (generic 𝓛 3 1 T LT)
-        asked-comparison told-comparison (inst_fn types-comparison fn) (comparison_code.name types-comparison) release_code.name (name types-comparison)
-        → Wired 𝓡.env comparison_code.code → Wired 𝓡.env release_code.code
-        → calls.Method-comparison 𝓛 𝓜 𝓡 2 [] (constant 𝓛 family.the_type family_laws.the_plain X) (constant 𝓛 relation.the_type relation_laws.the_plain Y) (generic 𝓛 3 0 S LS) (generic 𝓛 3 1 T LT)
-        asked-comparison told-comparison (inst_fn types-comparison fn) (comparison_code.name types-comparison) release_code.name (name types-comparison)
-    by_comparison code closed w w' = calls.by-comparison 𝓛 𝓜 𝓡 2 [] (constant 𝓛 family.the_type family_laws.the_plain X) (constant 𝓛 relation.the_type relation_laws.the_plain Y) (generic 𝓛 3 0 S LS) (generic 𝓛 3 1 T LT)
-        asked-comparison told-comparison (inst_fn types-comparison fn) (comparison_code.name types-comparison) release_code.name (name types-comparison)
-        code closed (comparison_met.met 𝓤 𝓛 𝓜 𝓡 w S T LS LT s d t e d' e' ms mt md me) (release_met 𝓤 𝓛 𝓜 𝓡 w')
+    pub by_binary : calls.Code-comparison 𝓛 𝓜 𝓡 2 [] (constant 𝓛 family.the_type family_laws.the_plain X) (constant 𝓛 binary.the_type binary_laws.the_plain Y) (generic 𝓛 3 0 S LS) (generic 𝓛 3 1 T LT)
+        asked-binary told-binary (inst_fn types-binary fn) (binary_code.name types-binary) release_code.name (name types-binary)
+        → calls.Coded-comparison 𝓛 𝓜 𝓡 2 [] (constant 𝓛 family.the_type family_laws.the_plain X) (constant 𝓛 binary.the_type binary_laws.the_plain Y) (generic 𝓛 3 0 S LS) (generic 𝓛 3 1 T LT)
+        asked-binary told-binary (inst_fn types-binary fn) (binary_code.name types-binary) release_code.name (name types-binary)
+        → Wired 𝓡.env binary_code.code → Wired 𝓡.env release_code.code
+        → calls.Method-comparison 𝓛 𝓜 𝓡 2 [] (constant 𝓛 family.the_type family_laws.the_plain X) (constant 𝓛 binary.the_type binary_laws.the_plain Y) (generic 𝓛 3 0 S LS) (generic 𝓛 3 1 T LT)
+        asked-binary told-binary (inst_fn types-binary fn) (binary_code.name types-binary) release_code.name (name types-binary)
+    by_binary code closed w w' = calls.by-comparison 𝓛 𝓜 𝓡 2 [] (constant 𝓛 family.the_type family_laws.the_plain X) (constant 𝓛 binary.the_type binary_laws.the_plain Y) (generic 𝓛 3 0 S LS) (generic 𝓛 3 1 T LT)
+        asked-binary told-binary (inst_fn types-binary fn) (binary_code.name types-binary) release_code.name (name types-binary)
+        code closed (binary_met.met 𝓤 𝓛 𝓜 𝓡 w S T LS LT s d t e d' e' ms mt md me) (release_met 𝓤 𝓛 𝓜 𝓡 w')
+
+  -- a condition with a text and a list of texts, by its family
+  module _ (X : Variant family.the_type) (Y : Variant list.the_type) (fn : Fn) (name : Args → Callee) (S T : RattleType) (LS : Laws S) (LT : Laws T)
+      (s : Ghosts S.Denot) (d : Dict) (t : Ghosts T.Denot) (e : Dict) (d' e' : Dict)
+      (ms : Met 𝓛 𝓜 𝓡 𝓡.env S s d) (mt : Met 𝓛 𝓜 𝓡 𝓡.env T t e) (md : Drops 𝓛 𝓜 𝓡 𝓡.env S d') (me : Drops 𝓛 𝓜 𝓡 𝓡.env T e') where
+    abbrev pub types-among : Args
+    types-among = bounded (a_type ∷ a_type ∷ []) (S, (T, tt)) (dcons d (dcons e (dcons d' (dcons e' dnil))))
+
+    abbrev asked-among : (κs : Lfts 4) → Denots (types_at (among_step.signature S T).params κs) → SProp 𝓤
+    asked-among κs a = (among_step.clauses S T s d t e d' e' 𝓛 𝓜.mem 𝓡.returns κs a).requires tt
+
+    abbrev told-among : (κs : Lfts 4) → Denots (types_at (among_step.signature S T).params κs) → Effect
+    told-among κs a = record { told = with_condition a.1.0 (list_condition a.1.1.0 (s.text a.1.1.1.0) (map t.text a.1.1.1.1.0.now)) a.0.now; refuses = IsMemory }
+
+    pub by_among : calls.Code-membership 𝓛 𝓜 𝓡 3 ((among_step.signature S T).outlives) (constant 𝓛 family.the_type family_laws.the_plain X) (constant 𝓛 list.the_type list_laws.the_plain Y) (generic 𝓛 4 0 S LS) (slice 𝓛 4 1 tt 1 T)
+        asked-among told-among (inst_fn types-among fn) (among_code.name types-among) release_code.name (name types-among)
+        → calls.Coded-membership 𝓛 𝓜 𝓡 3 ((among_step.signature S T).outlives) (constant 𝓛 family.the_type family_laws.the_plain X) (constant 𝓛 list.the_type list_laws.the_plain Y) (generic 𝓛 4 0 S LS) (slice 𝓛 4 1 tt 1 T)
+        asked-among told-among (inst_fn types-among fn) (among_code.name types-among) release_code.name (name types-among)
+        → Wired 𝓡.env among_code.code → Wired 𝓡.env release_code.code
+        → calls.Method-membership 𝓛 𝓜 𝓡 3 ((among_step.signature S T).outlives) (constant 𝓛 family.the_type family_laws.the_plain X) (constant 𝓛 list.the_type list_laws.the_plain Y) (generic 𝓛 4 0 S LS) (slice 𝓛 4 1 tt 1 T)
+        asked-among told-among (inst_fn types-among fn) (among_code.name types-among) release_code.name (name types-among)
+    by_among code closed w w' = calls.by-membership 𝓛 𝓜 𝓡 3 ((among_step.signature S T).outlives) (constant 𝓛 family.the_type family_laws.the_plain X) (constant 𝓛 list.the_type list_laws.the_plain Y) (generic 𝓛 4 0 S LS) (slice 𝓛 4 1 tt 1 T)
+        asked-among told-among (inst_fn types-among fn) (among_code.name types-among) release_code.name (name types-among)
+        code closed (among_met.met 𝓤 𝓛 𝓜 𝓡 w S T LS LT s d t e d' e' ms mt md me) (release_met 𝓤 𝓛 𝓜 𝓡 w')
+
+  -- a condition with three texts, by its family
+  module _ (X : Variant family.the_type) (Y : Variant range.the_type) (fn : Fn) (name : Args → Callee) (S T U : RattleType) (LS : Laws S) (LT : Laws T) (LU : Laws U)
+      (s : Ghosts S.Denot) (d : Dict) (t : Ghosts T.Denot) (e : Dict) (u : Ghosts U.Denot) (f : Dict) (d' e' f' : Dict)
+      (ms : Met 𝓛 𝓜 𝓡 𝓡.env S s d) (mt : Met 𝓛 𝓜 𝓡 𝓡.env T t e) (mu : Met 𝓛 𝓜 𝓡 𝓡.env U u f) (md : Drops 𝓛 𝓜 𝓡 𝓡.env S d') (me : Drops 𝓛 𝓜 𝓡 𝓡.env T e') (mf : Drops 𝓛 𝓜 𝓡 𝓡.env U f') where
+    abbrev pub types-range : Args
+    types-range = bounded (a_type ∷ a_type ∷ a_type ∷ []) (S, (T, (U, tt))) (dcons d (dcons e (dcons f (dcons d' (dcons e' (dcons f' dnil))))))
+
+    abbrev asked-range : (κs : Lfts 4) → Denots (types_at (range_step.signature S T U).params κs) → SProp 𝓤
+    asked-range κs a = (range_step.clauses S T U s d t e u f d' e' f' 𝓛 𝓜.mem 𝓡.returns κs a).requires tt
+
+    abbrev told-range : (κs : Lfts 4) → Denots (types_at (range_step.signature S T U).params κs) → Effect
+    told-range κs a = record { told = with_condition a.1.0 (range_condition a.1.1.0 (s.text a.1.1.1.0) (t.text a.1.1.1.1.0) (u.text a.1.1.1.1.1.0)) a.0.now; refuses = IsMemory }
+
+    pub by_range : calls.Code-between 𝓛 𝓜 𝓡 3 [] (constant 𝓛 family.the_type family_laws.the_plain X) (constant 𝓛 range.the_type range_laws.the_plain Y) (generic 𝓛 4 0 S LS) (generic 𝓛 4 1 T LT) (generic 𝓛 4 2 U LU)
+        asked-range told-range (inst_fn types-range fn) (range_code.name types-range) release_code.name (name types-range)
+        → calls.Coded-between 𝓛 𝓜 𝓡 3 [] (constant 𝓛 family.the_type family_laws.the_plain X) (constant 𝓛 range.the_type range_laws.the_plain Y) (generic 𝓛 4 0 S LS) (generic 𝓛 4 1 T LT) (generic 𝓛 4 2 U LU)
+        asked-range told-range (inst_fn types-range fn) (range_code.name types-range) release_code.name (name types-range)
+        → Wired 𝓡.env range_code.code → Wired 𝓡.env release_code.code
+        → calls.Method-between 𝓛 𝓜 𝓡 3 [] (constant 𝓛 family.the_type family_laws.the_plain X) (constant 𝓛 range.the_type range_laws.the_plain Y) (generic 𝓛 4 0 S LS) (generic 𝓛 4 1 T LT) (generic 𝓛 4 2 U LU)
+        asked-range told-range (inst_fn types-range fn) (range_code.name types-range) release_code.name (name types-range)
+    by_range code closed w w' = calls.by-between 𝓛 𝓜 𝓡 3 [] (constant 𝓛 family.the_type family_laws.the_plain X) (constant 𝓛 range.the_type range_laws.the_plain Y) (generic 𝓛 4 0 S LS) (generic 𝓛 4 1 T LT) (generic 𝓛 4 2 U LU)
+        asked-range told-range (inst_fn types-range fn) (range_code.name types-range) release_code.name (name types-range)
+        code closed (range_met.met 𝓤 𝓛 𝓜 𝓡 w S T U LS LT LU s d t e u f d' e' f' ms mt mu md me mf) (release_met 𝓤 𝓛 𝓜 𝓡 w')

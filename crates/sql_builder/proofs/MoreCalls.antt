@@ -1,23 +1,41 @@
 -- One more call, and the clauses of a list of calls.
-use Rattle.std.proofs.Common.{◌≡◌, List, [], ◌∷◌, ◌++◌, Option, None, Some, ◌||◌, ◌&&◌, not, if◌then◌else◌, map, filter_map, flat_map, refl, ap, sym, ◌∙◌, append_assoc}
+use Rattle.std.proofs.Common.{◌≡◌, List, [], ◌∷◌, ◌++◌, Option, None, Some, ◌||◌, ◌&&◌, not, if◌then◌else◌, codes, map, filter_map, flat_map, refl, ap, sym, ◌∙◌, append_assoc}
 use Rattle.std.proofs.lemmas.List.{map-append, append-nil}
+use Rattle.std.proofs.lemmas.Grind.{flat_map-append}
 use Rattle.std.proofs.lemmas.List.Elements.{filter_map-append}
 use Rattle.std.specs.List.{cons_option}
 use Rattle.std.specs.Option.{option_or}
+use Rattle.sql_builder.specs.Builder.{extend_last, join_last}
 use Rattle.sql_builder.specs.Calls as call
-use Rattle.sql_builder.specs.Calls.{StartText, ConditionText, CallText, clauses, condition_in, condition_pieces, fields_in, group_fields_in, group_pieces, groups_of, having_in, is_distinct, is_join, is_natural, is_select, is_values, limit_in, offset_in, opens_group, operator_in, order_fields_in, query_in, returning_in, rows_in, drops_fields, sets_in, start_fields, table_in, table_of, start_table, unions_in}
+use Rattle.sql_builder.specs.Calls.{StartText, CallText, clauses, condition_in, condition_pieces, fields_in, group_fields_in, group_pieces, groups_of, having_in, is_distinct, is_join, is_natural, is_select, is_values, limit_in, offset_in, opens_group, operator_in, order_fields_in, query_in, returning_in, rows_in, drops_fields, sets_in, start_fields, table_in, table_of, start_table, unions_in}
 use Rattle.sql_builder.specs.Clauses.{Clauses}
+use Rattle.sql_builder.specs.Conditions.{ConditionText}
 use Rattle.sql_builder.specs.Filters.{Group, cut}
-use Rattle.sql_builder.specs.Text.{Pieces}
+use Rattle.sql_builder.specs.Text.{Pieces, fixed_piece}
 use Rattle.sql_builder.specs.declared.calls.Family.{Family}
-use Rattle.sql_builder.specs.declared.calls.Family.TheVariants.{And}
+use Rattle.sql_builder.specs.declared.calls.Family.TheVariants.{And, Or}
 use Rattle.sql_builder.proofs.Joins.{joins-snoc, joins_after}
-use Rattle.sql_builder.proofs.Snoc.{add, add_is, any-snoc, any_unfollowed-snoc, cut-snoc, flat-snoc, flat_since-snoc, last-snoc, last_since-snoc, put_in}
+use Rattle.sql_builder.proofs.Snoc.{add, add_is, any-snoc, any_unfollowed-snoc, cut-snoc, flat-snoc, flat_since-snoc, last-snoc, last_since-snoc, into_last, put_in}
+
+-- what stands between two conditions of a group
+abbrev pub or_pieces : Pieces
+or_pieces = fixed_piece (codes " OR ")
 
 -- the groups after one more call
 abbrev with_condition_in : Option (Family × ConditionText) → List Pieces → List Pieces
 with_condition_in None groups = groups
 with_condition_in (Some (And, condition)) groups = groups ++ condition_pieces condition ∷ []
+with_condition_in (Some (Or, condition)) groups = join_last or_pieces (condition_pieces condition) groups
+
+-- a condition that joins the last of some groups
+alternative : (k : ConditionText) (g : Group (Family × ConditionText)) (gs : List (Group (Family × ConditionText)))
+    → map group_pieces (into_last (Or, k) g gs)
+    ≡ extend_last (or_pieces ++ condition_pieces k) (map group_pieces (g ∷ gs))
+alternative k g [] =
+    ap (λ (t : Pieces). t ∷ [])
+    (rw (map-append (λ c. condition_pieces c.1) g.1 ((Or, k) ∷ []))
+    (simp (flat_map-append, append-nil, append_assoc)))
+alternative k g (h ∷ gs) = ap (λ (ts : List Pieces). group_pieces g ∷ ts) (alternative k h gs)
 
 groups-snoc : (calls : List CallText) (c : CallText)
     → groups_of (calls ++ c ∷ []) ≡ with_condition_in (condition_in c) (groups_of calls)
@@ -32,6 +50,8 @@ groups-snoc calls c = rw (filter_map-append condition_in calls (c ∷ [])) (by (
     put (And, k) (g ∷ gs) =
         map-append group_pieces (g ∷ gs) (((And, k), []) ∷ [])
         ∙ ap (λ (t : Pieces). map group_pieces (g ∷ gs) ++ t ∷ []) (alone (And, k))
+    put (Or, k) [] = ap (λ (t : Pieces). t ∷ []) (alone (Or, k))
+    put (Or, k) (g ∷ gs) = alternative k g gs
 
     by : (o : Option (Family × ConditionText))
         → map group_pieces (cut opens_group (filter_map condition_in calls ++ cons_option o []))

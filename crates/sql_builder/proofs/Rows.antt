@@ -1,7 +1,8 @@
 -- Worked rows: what the definitions give, by computing.
 use Rattle.std.specs.Prelude.{◌≡◌, [], ◌∷◌, ◌++◌, Ok, Err, codes, refl, true, false}
 use Rattle.sql_parts.specs.declared.error.SqlBuilderError.TheVariants.{NoTableName, NoValues, NoSetFields}
-use Rattle.sql_builder.specs.Calls.{SelectFrom, SelectValues, InsertInto, UpdateTable, DeleteFrom, Natural, Left, LeftOuter, Right, RightOuter, Inner, Cross, Distinct, AndTable, Join, On, OnEq, Fields, SetFields, Field, SetField, Count, CountAs, SetTo, SetStr, Values, Select, Returning, ReturningId, GroupBy, Having, Union, UnionAll, OrderBy, OrderAsc, OrderDesc, Limit, Offset, Cond, Raw, Compare, Sql, Query, QueryValues, Subquery, SubqueryAs}
+use Rattle.sql_builder.specs.Calls.{SelectFrom, SelectValues, InsertInto, UpdateTable, DeleteFrom, Natural, Left, LeftOuter, Right, RightOuter, Inner, Cross, Distinct, AndTable, Join, On, OnEq, Fields, SetFields, Field, SetField, Count, CountAs, SetTo, SetStr, Values, Select, Returning, ReturningId, GroupBy, Having, Union, UnionAll, OrderBy, OrderAsc, OrderDesc, Limit, Offset, Cond, Sql, Query, QueryValues, Subquery, SubqueryAs}
+use Rattle.sql_builder.specs.Conditions.{Raw, Compare}
 use Rattle.sql_builder.specs.Statement.{statement}
 use Rattle.sql_parts.specs.Quoting.{quoted}
 use Rattle.sql_builder.specs.declared.calls.Family.TheVariants.{And}

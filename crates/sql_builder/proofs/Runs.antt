@@ -1,23 +1,25 @@
 -- A list of calls with one more, and the statement of the calls that were made.
-use Rattle.std.proofs.Common.{◌≡◌, ℕ, ◌+◌, ◌<◌, List, [], ◌∷◌, ◌++◌, Option, None, Some, true, false, map, take, get_or, length, String, string_bytes, Result, Ok, Err, IfOk, IfErr, refl, ap, sym, ◌∙◌, inl, inr}
+use Rattle.std.proofs.Common.{◌≡◌, ℕ, ◌+◌, ◌<◌, List, [], ◌∷◌, ◌++◌, Option, None, Some, true, false, codes, map, take, get_or, length, String, string_bytes, Result, Ok, Err, IfOk, IfErr, refl, ap, sym, ◌∙◌, inl, inr}
 use Rattle.std.proofs.lemmas.List.{take_more, map-append, append-nil}
 use Rattle.std.proofs.lemmas.Grind.{flat_map-append}
 use Rattle.std.specs.Prelude.{IfSome, IsNone, ◌⊎◌}
 use Rattle.sql_builder.specs.Answers.{call_text}
-use Rattle.sql_builder.specs.Builder.{ClauseTexts, condition_bytes, extend_last, started, with_call}
+use Rattle.sql_builder.specs.Builder.{ClauseTexts, condition_bytes, extend_last, join_last, started, with_call}
 use Rattle.sql_builder.specs.Calls as call
-use Rattle.sql_builder.specs.Calls.{StartText, ConditionText, CallText, FinishText, clauses, condition_pieces}
+use Rattle.sql_builder.specs.Calls.{StartText, CallText, FinishText, clauses, condition_pieces}
 use Rattle.sql_builder.specs.Clauses.{Clauses, map_clauses}
+use Rattle.sql_builder.specs.Conditions.{ConditionText, Raw, Compare, Like, IsNull, IsNotNull, InList, InQuoted, InQuery, Between, not_text}
 use Rattle.sql_builder.specs.Layout.{byte_atoms}
-use Rattle.sql_builder.specs.Phrases.{row}
+use Rattle.sql_builder.specs.Phrases.{comma_list, row}
 use Rattle.sql_builder.specs.Statement.{layout_at, pieces_at, refusal_at, text_at, text_unless_refused, unless_refused}
-use Rattle.sql_builder.specs.Text.{Pieces, fixed_piece, piece_text, pieces_text, raw_piece}
+use Rattle.sql_builder.specs.Text.{Pieces, fixed_piece, piece_text, pieces_text, quoted_piece, raw_piece}
 use Rattle.sql_builder.specs.declared.calls.Call.{Call}
-use Rattle.sql_builder.specs.declared.calls.Family.TheVariants.{And}
+use Rattle.sql_builder.specs.declared.calls.Family.TheVariants.{And, Or}
 use Rattle.sql_parts.specs.Error.{FailsOnlyByMemory, IsMemory}
+use Rattle.sql_parts.specs.Quoting.{quoted}
 use Rattle.sql_parts.specs.declared.error.SqlBuilderError.{SqlBuilderError}
-use Rattle.sql_builder.proofs.MoreCalls.{clauses_after, one_more_clauses}
-use Rattle.sql_builder.proofs.Natural.{layout_in_form, row_in_form}
+use Rattle.sql_builder.proofs.MoreCalls.{clauses_after, one_more_clauses, or_pieces}
+use Rattle.sql_builder.proofs.Natural.{joined_in_form, layout_in_form, row_in_form}
 use Rattle.sql_builder.proofs.Snoc.{add, add_is}
 
 -- the texts of pieces
@@ -29,9 +31,41 @@ texts_of_raw : (ts : List (List ℕ)) → map pieces_text (map raw_piece ts) ≡
 texts_of_raw [] = refl
 texts_of_raw (t ∷ ts) = simp (append-nil, texts_of_raw ts)
 
+map_bytes : (values : List (List ℕ)) → map byte_atoms values ≡ values
+map_bytes [] = refl
+map_bytes (value ∷ values) = ap (λ (vs : List (List ℕ)). value ∷ vs) (map_bytes values)
+
+conditions_printed : (values : List (List ℕ))
+    → map pieces_text (map quoted_piece values) ≡ map quoted values
+conditions_printed [] = refl
+conditions_printed (value ∷ values) = simp (append-nil, conditions_printed values)
+
+-- a list of values behind a field and words, printed
+listed : (field words : List ℕ) (printed : List Pieces)
+    → pieces_text (raw_piece field ++ (fixed_piece words ++ (comma_list fixed_piece printed ++ fixed_piece (codes ")"))))
+    ≡ field ++ (words ++ (comma_list byte_atoms (map pieces_text printed) ++ codes ")"))
+listed field words printed =
+    ap (λ (rest : List ℕ). field ++ (words ++ rest))
+    (pieces_text-append (comma_list fixed_piece printed) (fixed_piece (codes ")"))
+    ∙ ap (λ (list : List ℕ). list ++ codes ")")
+    (joined_in_form fixed_piece byte_atoms pieces_text refl pieces_text-append append-nil (codes ", ") printed))
+
 condition_printed : (c : ConditionText) → pieces_text (condition_pieces c) ≡ condition_bytes c
-condition_printed (call.Raw condition) = append-nil condition
-condition_printed (call.Compare relation field value) = simp append-nil
+condition_printed (Raw condition) = append-nil condition
+condition_printed (Compare relation field value) = simp append-nil
+condition_printed (Like negated percent field mask) = simp append-nil
+condition_printed (IsNull field) = simp append-nil
+condition_printed (IsNotNull field) = simp append-nil
+condition_printed (InList negated field values) =
+    let words = not_text negated ++ codes " IN (" in
+    listed field words (map raw_piece values)
+    ∙ ap (λ (vs : List (List ℕ)). field ++ (words ++ (comma_list byte_atoms vs ++ codes ")"))) (texts_of_raw values ∙ sym (map_bytes values))
+condition_printed (InQuoted negated field values) =
+    let words = not_text negated ++ codes " IN (" in
+    listed field words (map quoted_piece values)
+    ∙ ap (λ (vs : List (List ℕ)). field ++ (words ++ (comma_list byte_atoms vs ++ codes ")"))) (conditions_printed values)
+condition_printed (InQuery negated field query) = simp append-nil
+condition_printed (Between negated field least greatest) = simp append-nil
 
 row_printed : (values : List (List ℕ))
     → pieces_text (row fixed_piece (map raw_piece values)) ≡ row byte_atoms values
@@ -51,6 +85,14 @@ extended_texts t [] = refl
 extended_texts t (x ∷ []) = ap (λ (y : List ℕ). y ∷ []) (pieces_text-append x t)
 extended_texts t (x ∷ y ∷ ts) =
     ap (λ (rest : List (List ℕ)). pieces_text x ∷ rest) (extended_texts t (y ∷ ts))
+
+alternative_texts : (c : ConditionText) (groups : List Pieces)
+    → map pieces_text (join_last or_pieces (condition_pieces c) groups)
+    ≡ join_last (codes " OR ") (condition_bytes c) (map pieces_text groups)
+alternative_texts c [] = ap (λ (t : List ℕ). t ∷ []) (condition_printed c)
+alternative_texts c (group ∷ groups) =
+    extended_texts (or_pieces ++ condition_pieces c) (group ∷ groups)
+    ∙ ap (λ (t : List ℕ). extend_last (codes " OR " ++ t) (map pieces_text (group ∷ groups))) (condition_printed c)
 
 -- the clauses
 
@@ -94,6 +136,9 @@ clauses_printed (call.OrderDesc field) r = simp map-append
 clauses_printed (call.Limit limit) r = simp append-nil
 clauses_printed (call.Offset offset) r = simp append-nil
 clauses_printed (call.Cond And condition) r = simp (map-append, condition_printed)
+clauses_printed (call.Cond Or condition) r =
+    ap (λ (groups : List (List ℕ)). record (map_clauses pieces_text r) { groups = groups })
+    (alternative_texts condition r.groups)
 
 -- the texts of the clauses that a start and calls make
 abbrev told_by : StartText → List CallText → ClauseTexts

@@ -2,7 +2,9 @@
 use Rattle.std.specs.Prelude.{string_bytes}
 use Rattle.sql_builder.specs.Builder.{texts}
 use Rattle.sql_builder.specs.Calls as text
-use Rattle.sql_builder.specs.Calls.{StartText, ConditionText, CallText, FinishText}
+use Rattle.sql_builder.specs.Calls.{StartText, CallText, FinishText}
+use Rattle.sql_builder.specs.Conditions as said
+use Rattle.sql_builder.specs.Conditions.{ConditionText}
 use Rattle.sql_builder.specs.declared.calls.Call.{Call}
 use Rattle.sql_builder.specs.declared.calls.Call.TheVariants as call
 use Rattle.sql_builder.specs.declared.calls.Condition.{Condition}
@@ -22,9 +24,16 @@ start_text (start.DeleteFrom table) = text.DeleteFrom (string_bytes table)
 
 -- a condition, its texts as bytes
 abbrev pub condition_text : Condition → ConditionText
-condition_text (condition.Raw t) = text.Raw (string_bytes t)
-condition_text (condition.Compare relation field value) =
-    text.Compare relation (string_bytes field) (string_bytes value)
+condition_text (condition.Raw t) = said.Raw (string_bytes t)
+condition_text (condition.Compare relation field value) = said.Compare relation (string_bytes field) (string_bytes value)
+condition_text (condition.Like negated percent field mask) = said.Like negated percent (string_bytes field) (string_bytes mask)
+condition_text (condition.IsNull field) = said.IsNull (string_bytes field)
+condition_text (condition.IsNotNull field) = said.IsNotNull (string_bytes field)
+condition_text (condition.InList negated field values) = said.InList negated (string_bytes field) (texts values.items)
+condition_text (condition.InQuoted negated field values) = said.InQuoted negated (string_bytes field) (texts values.items)
+condition_text (condition.InQuery negated field query) = said.InQuery negated (string_bytes field) (string_bytes query)
+condition_text (condition.Between negated field least greatest) =
+    said.Between negated (string_bytes field) (string_bytes least) (string_bytes greatest)
 
 -- a call, its texts as bytes
 abbrev pub call_text : Call → CallText

@@ -3,14 +3,25 @@ use Rattle.std.specs.Prelude.{◌≡◌, ℕ, List, [], ◌∷◌, ◌++◌, Opt
 use Rattle.sql_parts.specs.Error.{IsMemory}
 use Rattle.sql_parts.specs.declared.error.SqlBuilderError.{SqlBuilderError}
 use Rattle.sql_builder.specs.Calls as call
-use Rattle.sql_builder.specs.Calls.{CallText, ConditionText, kind_of, StartText}
+use Rattle.sql_builder.specs.Calls.{CallText, kind_of, StartText}
 use Rattle.sql_builder.specs.Clauses.{Clauses, new_clauses}
 use Rattle.sql_builder.specs.Layout.{byte_atoms}
-use Rattle.sql_builder.specs.Phrases.{comparison, constraint, count, count_as, equation, further_table, join, order, row}
+use Rattle.sql_builder.specs.Phrases.{constraint, count, count_as, equation, further_table, join, order, row}
 use Rattle.sql_parts.specs.Quoting.{quoted}
 use Rattle.sql_builder.specs.declared.calls.Family.{Family}
-use Rattle.sql_builder.specs.declared.calls.Family.TheVariants.{And}
-use Rattle.sql_builder.specs.declared.calls.Relation.{Relation}
+use Rattle.sql_builder.specs.declared.calls.Family.TheVariants.{And, Or}
+use Rattle.sql_builder.specs.declared.steps.UnaryCondition.{UnaryCondition}
+use Rattle.sql_builder.specs.declared.steps.UnaryCondition.TheVariants as unary
+use Rattle.sql_builder.specs.declared.steps.BinaryCondition.{BinaryCondition}
+use Rattle.sql_builder.specs.declared.steps.BinaryCondition.TheVariants as binary
+use Rattle.sql_builder.specs.declared.steps.ListCondition.{ListCondition}
+use Rattle.sql_builder.specs.declared.steps.ListCondition.TheVariants as among
+use Rattle.sql_builder.specs.declared.steps.RangeCondition.{RangeCondition}
+use Rattle.sql_builder.specs.declared.steps.RangeCondition.TheVariants as range
+use Rattle.sql_builder.specs.declared.calls.Percent.TheVariants as percent
+use Rattle.sql_builder.specs.declared.calls.Relation.TheVariants as relation
+use Rattle.sql_builder.specs.Conditions as said
+use Rattle.sql_builder.specs.Conditions.{ConditionText, condition_atoms}
 use Rattle.sql_builder.specs.declared.clauses.Join.{Join}
 use Rattle.sql_builder.specs.declared.clauses.JoinOperator.{JoinOperator}
 use Rattle.sql_builder.specs.declared.clauses.JoinOperator.TheVariants as operator
@@ -141,19 +152,64 @@ with_offset offset r = record r { offset = Some offset }
 abbrev pub with_group : List ℕ → ClauseTexts → ClauseTexts
 with_group condition r = record r { groups = r.groups ++ condition ∷ [] }
 
--- a condition of this family
-abbrev pub with_condition : Family → List ℕ → ClauseTexts → ClauseTexts
-with_condition And condition r = with_group condition r
+-- a condition that joins the last group by OR, and opens one where there is none
+abbrev pub join_last : {A : Type 0} → List A → List A → List (List A) → List (List A)
+join_last or condition [] = condition ∷ []
+join_last or condition (group ∷ groups) = extend_last (or ++ condition) (group ∷ groups)
 
--- a field compared with a value
-abbrev pub with_comparison : Family → Relation → List ℕ → List ℕ → ClauseTexts → ClauseTexts
-with_comparison family relation field value r =
-    with_condition family (comparison byte_atoms relation field value) r
+-- the same of the groups of a builder
+abbrev pub with_alternative : List ℕ → ClauseTexts → ClauseTexts
+with_alternative condition r = record r { groups = join_last (codes " OR ") condition r.groups }
 
 -- a condition's text
 abbrev pub condition_bytes : ConditionText → List ℕ
-condition_bytes (call.Raw condition) = condition
-condition_bytes (call.Compare relation field value) = comparison byte_atoms relation field value
+condition_bytes condition = condition_atoms byte_atoms byte_atoms quoted condition
+
+-- a condition's text, of a call of this family
+abbrev pub with_condition_text : Family → List ℕ → ClauseTexts → ClauseTexts
+with_condition_text And condition r = with_group condition r
+with_condition_text Or condition r = with_alternative condition r
+
+-- a condition, of a call of this family
+abbrev pub with_condition : Family → ConditionText → ClauseTexts → ClauseTexts
+with_condition family condition r = with_condition_text family (condition_bytes condition) r
+
+-- a condition with one text
+abbrev pub unary_condition : UnaryCondition → List ℕ → ConditionText
+unary_condition unary.Bare condition = said.Raw condition
+unary_condition unary.IsNull field = said.IsNull field
+unary_condition unary.IsNotNull field = said.IsNotNull field
+
+-- a condition with two texts
+abbrev pub binary_condition : BinaryCondition → List ℕ → List ℕ → ConditionText
+binary_condition binary.Eq field value = said.Compare relation.Eq field value
+binary_condition binary.Ne field value = said.Compare relation.Ne field value
+binary_condition binary.Gt field value = said.Compare relation.Gt field value
+binary_condition binary.Ge field value = said.Compare relation.Ge field value
+binary_condition binary.Lt field value = said.Compare relation.Lt field value
+binary_condition binary.Le field value = said.Compare relation.Le field value
+binary_condition binary.Like field mask = said.Like false percent.Plain field mask
+binary_condition binary.LikeRight field mask = said.Like false percent.Right field mask
+binary_condition binary.LikeLeft field mask = said.Like false percent.Left field mask
+binary_condition binary.LikeAny field mask = said.Like false percent.Any field mask
+binary_condition binary.NotLike field mask = said.Like true percent.Plain field mask
+binary_condition binary.NotLikeRight field mask = said.Like true percent.Right field mask
+binary_condition binary.NotLikeLeft field mask = said.Like true percent.Left field mask
+binary_condition binary.NotLikeAny field mask = said.Like true percent.Any field mask
+binary_condition binary.InQuery field query = said.InQuery false field query
+binary_condition binary.NotInQuery field query = said.InQuery true field query
+
+-- a condition with a text and a list of texts
+abbrev pub list_condition : ListCondition → List ℕ → List (List ℕ) → ConditionText
+list_condition among.In field values = said.InList false field values
+list_condition among.InQuoted field values = said.InQuoted false field values
+list_condition among.NotIn field values = said.InList true field values
+list_condition among.NotInQuoted field values = said.InQuoted true field values
+
+-- a condition with three texts
+abbrev pub range_condition : RangeCondition → List ℕ → List ℕ → List ℕ → ConditionText
+range_condition range.Between field least greatest = said.Between false field least greatest
+range_condition range.NotBetween field least greatest = said.Between true field least greatest
 
 -- a call with one text
 abbrev pub with_text : TextClause → List ℕ → ClauseTexts → ClauseTexts
@@ -173,7 +229,6 @@ with_text text.OrderAsc field r = with_order false field r
 with_text text.OrderDesc field r = with_order true field r
 with_text text.Limit limit r = with_limit limit r
 with_text text.Offset offset r = with_offset offset r
-with_text text.AndWhere condition r = with_condition And condition r
 
 -- a call with two texts
 abbrev pub with_pair : PairClause → List ℕ → List ℕ → ClauseTexts → ClauseTexts
@@ -250,7 +305,7 @@ with_call (call.OrderAsc field) r = with_text text.OrderAsc field r
 with_call (call.OrderDesc field) r = with_text text.OrderDesc field r
 with_call (call.Limit limit) r = with_text text.Limit limit r
 with_call (call.Offset offset) r = with_text text.Offset offset r
-with_call (call.Cond family condition) r = with_condition family (condition_bytes condition) r
+with_call (call.Cond family condition) r = with_condition family condition r
 
 -- where a call that prints is not refused, it adds this text to what it prints to
 abbrev pub Adds : {E Z : Type 0} → Result (Unit {0}) E → String Z → String Z → List ℕ → Type 0

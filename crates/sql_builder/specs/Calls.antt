@@ -2,12 +2,12 @@
 use Rattle.std.specs.Prelude.{ℕ, List, [], ◌∷◌, ◌++◌, Option, None, Some, Bool, true, false, map, codes, flat_map, filter_map}
 use Rattle.std.specs.List.{list_any}
 use Rattle.sql_builder.specs.Clauses.{Clauses}
+use Rattle.sql_builder.specs.Conditions.{ConditionText, condition_atoms}
 use Rattle.sql_builder.specs.Filters.{any_unfollowed, cut, Group, in_place, last_said, since, until}
-use Rattle.sql_builder.specs.Phrases.{comparison, constraint, count, count_as, equation, further_table, join, order, row}
+use Rattle.sql_builder.specs.Phrases.{constraint, count, count_as, equation, further_table, join, order, row}
 use Rattle.sql_builder.specs.Text.{Pieces, fixed_piece, quoted_piece, raw_piece, join_with}
 use Rattle.sql_builder.specs.declared.calls.Family.{Family}
-use Rattle.sql_builder.specs.declared.calls.Family.TheVariants.{And}
-use Rattle.sql_builder.specs.declared.calls.Relation.{Relation}
+use Rattle.sql_builder.specs.declared.calls.Family.TheVariants.{And, Or}
 use Rattle.sql_builder.specs.declared.clauses.JoinOperator.{JoinOperator}
 use Rattle.sql_builder.specs.declared.clauses.JoinOperator.TheVariants as operator
 use Rattle.sql_builder.specs.declared.clauses.Kind.{Kind}
@@ -20,11 +20,6 @@ pub data StartText : Type 0 where
   InsertInto : List ℕ → StartText
   UpdateTable : List ℕ → StartText
   DeleteFrom : List ℕ → StartText
-
--- A condition of WHERE.
-pub data ConditionText : Type 0 where
-  Raw : List ℕ → ConditionText
-  Compare : Relation → List ℕ → List ℕ → ConditionText
 
 -- A call that changes a builder.
 pub data CallText : Type 0 where
@@ -225,11 +220,9 @@ abbrev pub having_in : CallText → Option Pieces
 having_in (Having condition) = Some (raw_piece condition)
 having_in _ = None
 
--- a condition's pieces: a bare one as it stands, or a field compared with a value
+-- a condition's pieces
 abbrev pub condition_pieces : ConditionText → Pieces
-condition_pieces (Raw condition) = raw_piece condition
-condition_pieces (Compare relation field value) =
-    comparison fixed_piece relation (raw_piece field) (raw_piece value)
+condition_pieces condition = condition_atoms fixed_piece raw_piece quoted_piece condition
 
 -- the condition that a call adds, and its family
 abbrev pub condition_in : CallText → Option (Family × ConditionText)
@@ -239,6 +232,7 @@ condition_in _ = None
 -- whether a condition opens a group
 abbrev pub opens_group : Family × ConditionText → Bool
 opens_group (And, condition) = true
+opens_group (Or, condition) = false
 
 -- the conditions of a group joined by OR
 abbrev pub group_pieces : Group (Family × ConditionText) → Pieces

@@ -3,6 +3,7 @@ pub mod Builder
 pub mod Calls
 pub mod Chaining
 pub mod Clauses
+pub mod Conditions
 pub mod Filters
 pub mod Laws
 pub mod Layout

@@ -1,14 +1,8 @@
 -- What calls make of the texts that they are handed, over any kind of atom A: bytes, or pieces.
 use Rattle.std.specs.Prelude.{ℕ, List, ◌++◌, Option, None, Some, Bool, true, false, codes}
 use Rattle.sql_builder.specs.Text.{join_with}
-use Rattle.sql_builder.specs.declared.calls.Relation.{Relation}
-use Rattle.sql_builder.specs.declared.calls.Relation.TheVariants.{Gt}
 use Rattle.sql_builder.specs.declared.clauses.JoinOperator.{JoinOperator}
 use Rattle.sql_builder.specs.declared.clauses.JoinOperator.TheVariants.{Left, LeftOuter, Right, RightOuter, Inner, Cross}
-
--- the sign of a comparison, with its blanks
-abbrev pub relation_text : Relation → List ℕ
-relation_text Gt = codes " > "
 
 -- the words of a join operator
 abbrev pub operator_text : Option JoinOperator → List ℕ
@@ -50,10 +44,6 @@ module _ {A : Type 0} (word : List ℕ → List A) where
   -- left = right
   abbrev pub equation : List A → List A → List A
   equation left right = left ++ (word (codes " = ") ++ right)
-
-  -- a field compared with a value
-  abbrev pub comparison : Relation → List A → List A → List A
-  comparison relation field value = field ++ (word (relation_text relation) ++ value)
 
   -- the number of a field's values
   abbrev pub count : List A → List A

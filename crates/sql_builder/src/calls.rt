@@ -2,7 +2,7 @@
 ghost use Rattle.std.specs.Prelude.{◌≡◌, ◌⊎◌, [], map, IfErr, IfOk, IfSome, IsNone, OnOk, string_bytes};
 ghost use Rattle.sql_parts.specs.Error.{FailsOnlyByMemory, IsMemory};
 ghost use Rattle.sql_builder.specs.Answers.{call_text, condition_text, finish_text, start_text};
-ghost use Rattle.sql_builder.specs.Builder.{with_call, with_condition, condition_bytes};
+ghost use Rattle.sql_builder.specs.Builder.{condition_bytes, with_call, with_condition};
 ghost use Rattle.sql_builder.specs.Calls.{clauses};
 ghost use Rattle.sql_builder.specs.Clauses.{map_clauses};
 ghost use Rattle.sql_builder.specs.Statement.{refusal_at, statement, text_at};
@@ -10,8 +10,8 @@ ghost use Rattle.sql_builder.specs.Text.{pieces_text};
 
 use crate::builder::SqlBuilder;
 use crate::clauses::JoinOperator;
-use crate::phrases::comparison;
-use crate::steps::{ListClause, PairClause, TextClause};
+use crate::condition_texts::{between, comparison, in_list, in_query, in_quoted, like, unary};
+use crate::steps::{ListClause, PairClause, TextClause, UnaryCondition};
 use sql_parts::{SqlBuilderError, ToText};
 use std::alloc::Global;
 
@@ -35,22 +35,61 @@ pub enum Start {
 pub enum Family {
     /// The condition opens a group of its own.
     And,
+    /// The condition joins the last group, and opens one only where there is none.
+    Or,
 }
 
 /// How two texts are compared.
 #[derive(Clone, Copy)]
 pub enum Relation {
+    /// Equal.
+    Eq,
+    /// Not equal.
+    Ne,
     /// Greater than.
     Gt,
+    /// Greater than or equal.
+    Ge,
+    /// Less than.
+    Lt,
+    /// Less than or equal.
+    Le,
 }
 
-/// A condition.
+/// Where percent signs stand beside a mask of LIKE.
+#[derive(Clone, Copy)]
+pub enum Percent {
+    /// Nowhere.
+    Plain,
+    /// In front of the mask, which the text so matches at its right end.
+    Right,
+    /// Behind the mask, which the text so matches at its left end.
+    Left,
+    /// On both sides.
+    Any,
+}
+
+/// A condition. A truth value says whether it is the NOT form.
 #[derive(Drop)]
 pub enum Condition {
     /// A condition as it stands.
     Raw(String),
     /// A field compared with a value.
     Compare(Relation, String, String),
+    /// A field that is like a mask, which is quoted with its percent signs.
+    Like(bool, Percent, String, String),
+    /// A field that is NULL.
+    IsNull(String),
+    /// A field that is not NULL.
+    IsNotNull(String),
+    /// A field that is one of a list of values.
+    InList(bool, String, Vec<String>),
+    /// A field that is one of a list of values, each of which is quoted.
+    InQuoted(bool, String, Vec<String>),
+    /// A field that is one of what a query gives.
+    InQuery(bool, String, String),
+    /// A field between a least and a greatest value.
+    Between(bool, String, String, String),
 }
 
 /// A call that changes a builder.
@@ -197,21 +236,42 @@ fn make(builder: &mut SqlBuilder, call: &Call) -> Result<(), SqlBuilderError>
     Ok(())
 }
 
+fn text_of(alloc: Global, condition: &Condition) -> Result<String, SqlBuilderError>
+    ensures made { IfOk result (λ s. string_bytes s
+        ≡ condition_bytes (condition_text condition.now)) }
+    ensures memory { FailsOnlyByMemory result }
+{
+    match condition {
+        Condition::Raw(condition) => condition.to_text(alloc),
+        Condition::Compare(relation, field, value) => comparison(alloc, *relation, field, value),
+        Condition::Like(negated, percent, field, mask) => {
+            like(alloc, *negated, *percent, field, mask)
+        }
+        Condition::IsNull(field) => unary(alloc, UnaryCondition::IsNull, field),
+        Condition::IsNotNull(field) => unary(alloc, UnaryCondition::IsNotNull, field),
+        Condition::InList(negated, field, values) => {
+            in_list(alloc, *negated, field, values.as_slice())
+        }
+        Condition::InQuoted(negated, field, values) => {
+            in_quoted(alloc, *negated, field, values.as_slice())
+        }
+        Condition::InQuery(negated, field, query) => in_query(alloc, *negated, field, query),
+        Condition::Between(negated, field, least, greatest) => {
+            between(alloc, *negated, field, least, greatest)
+        }
+    }
+}
+
 fn make_condition(
     builder: &mut SqlBuilder,
     family: Family,
     condition: &Condition,
 ) -> Result<(), SqlBuilderError>
     ensures made { OnOk result (builder.new
-        ≡ with_condition family (condition_bytes (condition_text condition.now)) builder.old) }
+        ≡ with_condition family (condition_text condition.now) builder.old) }
     ensures memory { FailsOnlyByMemory result }
 {
-    let text = match condition {
-        Condition::Raw(condition) => condition.to_text(builder.alloc)?,
-        Condition::Compare(relation, field, value) => {
-            comparison(builder.alloc, *relation, field, value)?
-        }
-    };
+    let text = text_of(builder.alloc, condition)?;
     builder.push_condition(family, text)
 }
 

@@ -6,17 +6,14 @@ ghost use Rattle.sql_builder.specs.Layout.{byte_atoms};
 ghost use Rattle.sql_builder.specs.Phrases.{count, count_as, equation};
 
 use crate::builder::SqlBuilder;
-use crate::calls::{Family, Relation};
 use crate::clauses::JoinOperator;
 use crate::steps::{ListClause, PairClause, TextClause, release};
 use sql_parts::{SqlBuilderError, ToText};
 
 impl SqlBuilder {
     ghost use Rattle.std.specs.Borrow.{sem};
-    ghost use Rattle.sql_builder.specs.Builder.{RefusesConstraint, with_comparison, with_condition, with_fields, with_fields_set, with_group_field, with_having, with_join, with_limit, with_offset, with_on, with_order, with_query, with_returning, with_row, with_set, with_table, with_union};
+    ghost use Rattle.sql_builder.specs.Builder.{RefusesConstraint, with_fields, with_fields_set, with_group_field, with_having, with_join, with_limit, with_offset, with_on, with_order, with_query, with_returning, with_row, with_set, with_table, with_union};
     ghost use Rattle.sql_builder.specs.Chaining.{IsUnchangedIfErr, IsChangedTo};
-    ghost use Rattle.sql_builder.specs.declared.calls.Family.TheVariants.{And};
-    ghost use Rattle.sql_builder.specs.declared.calls.Relation.TheVariants.{Gt};
 
     /// Adds a table: appends `, ` and the table to the table text, also to an empty one.
     pub fn and_table<S: ToText>(&mut self, table: S) -> Result<&mut Self, SqlBuilderError>
@@ -280,30 +277,6 @@ impl SqlBuilder {
         ensures memory { FailsOnlyByMemory result }
     {
         release(self.hold_text(TextClause::Offset, offset))
-    }
-
-    /// Adds a condition, in a group of its own.
-    pub fn and_where<S: ToText>(&mut self, condition: S) -> Result<&mut Self, SqlBuilderError>
-        ensures* refused { sem 𝓛 (IsUnchangedIfErr self.entry result) }
-        ensures changed { IsChangedTo self.entry
-            (with_condition And (S.text condition) self.old) result }
-        ensures memory { FailsOnlyByMemory result }
-    {
-        release(self.hold_text(TextClause::AndWhere, condition))
-    }
-
-    /// Adds the condition `field > value`, in a group of its own.
-    pub fn and_where_gt<S: ToText, T: ToText>(
-        &mut self,
-        field: S,
-        value: T,
-    ) -> Result<&mut Self, SqlBuilderError>
-        ensures* refused { sem 𝓛 (IsUnchangedIfErr self.entry result) }
-        ensures changed { IsChangedTo self.entry
-            (with_comparison And Gt (S.text field) (T.text value) self.old) result }
-        ensures memory { FailsOnlyByMemory result }
-    {
-        release(self.hold_comparison(Family::And, Relation::Gt, field, value))
     }
 }
 

@@ -5,6 +5,8 @@ mod builder;
 pub mod calls;
 mod chain;
 mod clauses;
+mod condition_texts;
+mod conditions;
 pub mod laws;
 mod phrases;
 pub mod prelude;

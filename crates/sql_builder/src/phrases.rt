@@ -3,39 +3,11 @@ ghost use Rattle.std.specs.Prelude.{◌≡◌, ◌++◌, IfOk, OnOk, codes, map,
 ghost use Rattle.sql_parts.specs.Error.{FailsOnlyByMemory};
 ghost use Rattle.sql_builder.specs.Builder.{texts};
 ghost use Rattle.sql_builder.specs.Layout.{byte_atoms};
-ghost use Rattle.sql_builder.specs.Phrases.{comparison, count, count_as, equation, order, relation_text, row};
+ghost use Rattle.sql_builder.specs.Phrases.{comma_list, count, count_as, equation, order, row};
 ghost use Rattle.sql_parts.specs.Quoting.{quoted};
 
-use crate::calls::Relation;
 use sql_parts::{SqlBuilderError, ToText, push_esc};
 use std::alloc::Global;
-
-impl Relation {
-    pub(crate) fn text(self) -> &'static str
-        ensures { result.now ≡ relation_text self }
-    {
-        match self {
-            Relation::Gt => " > ",
-        }
-    }
-}
-
-/// A field compared with a value.
-pub(crate) fn comparison<S: ToText, T: ToText>(
-    alloc: Global,
-    relation: Relation,
-    field: S,
-    value: T,
-) -> Result<String, SqlBuilderError>
-    ensures made { IfOk result (λ s. string_bytes s
-        ≡ comparison byte_atoms relation (S.text field) (T.text value)) }
-    ensures memory { FailsOnlyByMemory result }
-{
-    let mut text = field.to_text(alloc)?;
-    text.push_str(relation.text())?;
-    value.push_to(alloc, &mut text)?;
-    Ok(text)
-}
 
 /// `left = right`.
 pub(crate) fn equation<S: ToText, T: ToText>(
@@ -132,16 +104,30 @@ fn push_further<S: ToText>(
     Ok(())
 }
 
+/// The texts, with `, ` between each and the next.
+pub(crate) fn push_items<S: ToText>(
+    alloc: Global,
+    out: &mut String,
+    items: &[S],
+) -> Result<(), SqlBuilderError>
+    ensures pushed { OnOk result (string_bytes out.new
+        ≡ string_bytes out.old ++ comma_list byte_atoms (map S.text items.now)) }
+    ensures memory { FailsOnlyByMemory result }
+{
+    if let [first, further @ ..] = items {
+        first.push_to(alloc, out)?;
+        push_further(alloc, out, further)?;
+    }
+    Ok(())
+}
+
 /// The values in brackets, with commas between them.
 pub(crate) fn row<S: ToText>(alloc: Global, values: &[S]) -> Result<String, SqlBuilderError>
     ensures made { IfOk result (λ s. string_bytes s ≡ row byte_atoms (map S.text values.now)) }
     ensures memory { FailsOnlyByMemory result }
 {
     let mut text = String::from_str(alloc, "(")?;
-    if let [first, further @ ..] = values {
-        first.push_to(alloc, &mut text)?;
-        push_further(alloc, &mut text, further)?;
-    }
+    push_items(alloc, &mut text, values)?;
     text.push_str(")")?;
     Ok(text)
 }

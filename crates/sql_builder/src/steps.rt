@@ -1,16 +1,18 @@
 //! The steps of the chain calls: one for each way to be handed texts, told by a constant which
 //! clause is meant.
-ghost use Rattle.std.specs.Prelude.{◌≡◌, [], ◌∷◌, map, codes, string_bytes, IfErr, OnOk, OnErr};
+ghost use Rattle.std.specs.Prelude.{◌≡◌, [], ◌∷◌, ◌++◌, map, codes, string_bytes, IfErr, OnOk, OnErr};
 ghost use Rattle.sql_parts.specs.Error.{FailsOnlyByMemory, IsMemory};
-ghost use Rattle.sql_builder.specs.Builder.{texts, with_comparison, with_condition, with_order, with_pair, with_returning, with_text, with_texts, RefusesPair, RefusesText, Tells};
+ghost use Rattle.sql_builder.specs.Builder.{extend_last, texts, binary_condition, list_condition, range_condition, unary_condition, with_condition, with_condition_text, with_order, with_pair, with_returning, with_text, with_texts, RefusesPair, RefusesText, Tells};
 ghost use Rattle.sql_builder.specs.Chaining.{released_builder};
 
 use crate::builder::SqlBuilder;
-use crate::calls::{Family, Relation};
+use crate::calls::Family;
 use crate::clauses::{Join, Union, constrain_last};
-use crate::phrases::{comparison, count, count_as, equation, order, quoted_equation, row};
+use crate::condition_texts::{among, binary, range, unary};
+use crate::phrases::{count, count_as, equation, order, quoted_equation, row};
 use crate::texts::copies;
 use sql_parts::{SqlBuilderError, ToText};
+use std::alloc::AllocError;
 
 /// A call with one text.
 #[derive(Clone, Copy)]
@@ -31,7 +33,6 @@ pub(crate) enum TextClause {
     OrderDesc,
     Limit,
     Offset,
-    AndWhere,
 }
 
 /// A call with two texts.
@@ -51,6 +52,51 @@ pub(crate) enum ListClause {
     Values,
 }
 
+/// A condition with one text.
+#[derive(Clone, Copy)]
+pub(crate) enum UnaryCondition {
+    Bare,
+    IsNull,
+    IsNotNull,
+}
+
+/// A condition with two texts.
+#[derive(Clone, Copy)]
+pub(crate) enum BinaryCondition {
+    Eq,
+    Ne,
+    Gt,
+    Ge,
+    Lt,
+    Le,
+    Like,
+    LikeRight,
+    LikeLeft,
+    LikeAny,
+    NotLike,
+    NotLikeRight,
+    NotLikeLeft,
+    NotLikeAny,
+    InQuery,
+    NotInQuery,
+}
+
+/// A condition with a text and a list of texts.
+#[derive(Clone, Copy)]
+pub(crate) enum ListCondition {
+    In,
+    InQuoted,
+    NotIn,
+    NotInQuoted,
+}
+
+/// A condition with three texts.
+#[derive(Clone, Copy)]
+pub(crate) enum RangeCondition {
+    Between,
+    NotBetween,
+}
+
 // A builder that a step has changed. A call that lends the builder back is proved
 // to leave it alone where it is refused only if the loan comes in a struct.
 #[derive(Drop)]
@@ -67,6 +113,30 @@ pub(crate) fn release(
             Ok(builder)
         }
         Err(error) => Err(error),
+    }
+}
+
+// The last group goes on with the condition: its growth is made before it changes.
+#[tactic(auto, using(std::proofs::lemmas::List::append_assoc))]
+fn push_alternative(group: &mut String, condition: &str) -> Result<(), AllocError>
+    ensures ok { OnOk result
+        (string_bytes group.new ≡ string_bytes group.old ++ (codes " OR " ++ condition.now)) }
+    ensures err { OnErr result (string_bytes group.new ≡ string_bytes group.old) }
+{
+    group.reserve(condition.len().saturating_add(4))?;
+    group.push_str(" OR ")?;
+    group.push_str(condition)?;
+    Ok(())
+}
+
+fn join_last(groups: &mut [String], condition: &str) -> Result<(), AllocError>
+    ensures ok { OnOk result
+        (texts groups.new ≡ extend_last (codes " OR " ++ condition.now) (texts groups.old)) }
+    ensures err { OnErr result (texts groups.new ≡ texts groups.old) }
+{
+    match groups.last_mut() {
+        Some(group) => push_alternative(group, condition),
+        None => Ok(()),
     }
 }
 
@@ -192,10 +262,13 @@ impl SqlBuilder {
         family: Family,
         condition: String,
     ) -> Result<(), SqlBuilderError>
-        ensures { Tells result self.old self.new (with_condition family (string_bytes condition)) }
+        ensures { Tells result self.old self.new (with_condition_text family (string_bytes condition)) }
     {
         match family {
-            Family::And => self.groups.push(condition)?,
+            Family::Or if !self.groups.is_empty() => {
+                join_last(&mut self.groups, condition.as_str())?;
+            }
+            Family::And | Family::Or => self.groups.push(condition)?,
         }
         Ok(())
     }
@@ -230,7 +303,6 @@ impl SqlBuilder {
             TextClause::OrderDesc => self.push_order(true, text),
             TextClause::Limit => self.put_limit(text),
             TextClause::Offset => self.put_offset(text),
-            TextClause::AndWhere => self.push_condition(Family::And, text.to_text(alloc)?),
         }
     }
 
@@ -345,20 +417,71 @@ impl SqlBuilder {
         Ok(Held(self))
     }
 
-    pub(crate) fn hold_comparison<S: ToText, T: ToText>(
+    pub(crate) fn hold_unary<S: ToText>(
         &mut self,
         family: Family,
-        relation: Relation,
+        condition: UnaryCondition,
+        text: S,
+    ) -> Result<Held<'_>, SqlBuilderError>
+        ensures* refused { sem 𝓛 (IsUnchangedIfHeldErr self.entry result) }
+        ensures changed { IsHeldChangedTo self.entry
+            (with_condition family (unary_condition condition (S.text text)) self.old) result }
+        ensures memory { FailsOnlyByMemory result }
+    {
+        let text = unary(self.alloc, condition, text)?;
+        self.push_condition(family, text)?;
+        Ok(Held(self))
+    }
+
+    pub(crate) fn hold_binary<S: ToText, T: ToText>(
+        &mut self,
+        family: Family,
+        condition: BinaryCondition,
         field: S,
         value: T,
     ) -> Result<Held<'_>, SqlBuilderError>
         ensures* refused { sem 𝓛 (IsUnchangedIfHeldErr self.entry result) }
-        ensures changed { IsHeldChangedTo self.entry
-            (with_comparison family relation (S.text field) (T.text value) self.old) result }
+        ensures changed { IsHeldChangedTo self.entry (with_condition family
+            (binary_condition condition (S.text field) (T.text value)) self.old) result }
         ensures memory { FailsOnlyByMemory result }
     {
-        let condition = comparison(self.alloc, relation, field, value)?;
-        self.push_condition(family, condition)?;
+        let text = binary(self.alloc, condition, field, value)?;
+        self.push_condition(family, text)?;
+        Ok(Held(self))
+    }
+
+    pub(crate) fn hold_among<S: ToText, T: ToText>(
+        &mut self,
+        family: Family,
+        condition: ListCondition,
+        field: S,
+        values: &[T],
+    ) -> Result<Held<'_>, SqlBuilderError>
+        ensures* refused { sem 𝓛 (IsUnchangedIfHeldErr self.entry result) }
+        ensures changed { IsHeldChangedTo self.entry (with_condition family
+            (list_condition condition (S.text field) (map T.text values.now)) self.old) result }
+        ensures memory { FailsOnlyByMemory result }
+    {
+        let text = among(self.alloc, condition, field, values)?;
+        self.push_condition(family, text)?;
+        Ok(Held(self))
+    }
+
+    pub(crate) fn hold_range<S: ToText, T: ToText, U: ToText>(
+        &mut self,
+        family: Family,
+        condition: RangeCondition,
+        field: S,
+        least: T,
+        greatest: U,
+    ) -> Result<Held<'_>, SqlBuilderError>
+        ensures* refused { sem 𝓛 (IsUnchangedIfHeldErr self.entry result) }
+        ensures changed { IsHeldChangedTo self.entry (with_condition family
+            (range_condition condition (S.text field) (T.text least) (U.text greatest)) self.old) result }
+        ensures memory { FailsOnlyByMemory result }
+    {
+        let text = range(self.alloc, condition, field, least, greatest)?;
+        self.push_condition(family, text)?;
         Ok(Held(self))
     }
 }
