@@ -15,7 +15,7 @@ use Rattle.std.specs.Prelude.{codes, map}
 use Rattle.sql_parts.specs.Error.{IsMemory}
 use Rattle.sql_parts.specs.declared.text.ToText.{Ghosts}
 use Rattle.sql_parts.specs.contracts.text.ToText.TheBound.{Met}
-use Rattle.sql_builder.specs.Builder.{ClauseTexts, RefusesPair, RefusesText, binary_condition, list_condition, range_condition, unary_condition, with_condition, with_order, with_pair, with_returning, with_text, with_texts}
+use Rattle.sql_builder.specs.Builder.{RefusesPair, RefusesText, binary_condition, list_condition, range_condition, unary_condition, with_condition, with_order, with_pair, with_returning, with_text, with_texts}
 use Rattle.sql_builder.proofs.steps.release.Met.{met as release_met}
 use Rattle.sql_builder.proofs.steps.release.Symbol as release_code
 use Rattle.sql_builder.specs.contracts.steps.TextClause as text_clause

@@ -1,5 +1,5 @@
 -- Conditions of WHERE, and what they print.
-use Rattle.std.specs.Prelude.{ℕ, List, [], ◌∷◌, ◌++◌, Bool, true, false, codes, map}
+use Rattle.std.specs.Prelude.{ℕ, List, [], ◌++◌, Bool, true, false, codes, map}
 use Rattle.sql_builder.specs.Phrases.{comma_list}
 use Rattle.sql_builder.specs.declared.calls.Percent.{Percent}
 use Rattle.sql_builder.specs.declared.calls.Percent.TheVariants.{Plain, Right, Left, Any}
