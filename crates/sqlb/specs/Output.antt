@@ -1,13 +1,18 @@
 -- What a whole input says to print, and where it stops.
 use Rattle.std.specs.Prelude.{ℕ, ◌-◌, List, [], ◌∷◌, ◌++◌, Bool, true, false, Option, Some, None, Result, Ok, Err, if◌then◌else◌, take, map, filter_map, flat_map, length, codes, is_err, is_some, option_map}
 use Rattle.std.specs.List.{enumerate_from}
-use Rattle.sqlb.specs.Calls.{StartText, CallText}
-use Rattle.sqlb.specs.Filters.{any_unfollowed, first, since, until}
+use Rattle.sql_builder.specs.Calls.{StartText, CallText}
+use Rattle.sql_builder.specs.Filters.{any_unfollowed, since, until}
 use Rattle.sqlb.specs.Lines.{lines, CommandResult, Starts, Calls, Finishes, command_of}
-use Rattle.sqlb.specs.Statement.{statement}
+use Rattle.sql_builder.specs.Statement.{statement}
 use Rattle.sql_parts.specs.declared.error.SqlBuilderError.{SqlBuilderError}
 use Rattle.sqlb.specs.declared.fault.Reason.{Reason}
 use Rattle.sqlb.specs.declared.fault.Reason.TheVariants.{NoStatement, StatementOpen, NoEnd, Builder}
+
+-- the first element, if there is one
+abbrev pub first : {X : Type 0} → List X → Option X
+first [] = None
+first (x ∷ xs) = Some x
 
 -- A statement that is open: its start, and the calls made so far.
 pub record OpenStatement : Type 0 where
