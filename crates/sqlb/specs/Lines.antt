@@ -92,7 +92,8 @@ binary_command binary.OnEq left right = Calls (text.OnEq left right)
 binary_command binary.CountAs field name = Calls (text.CountAs field name)
 binary_command binary.SetTo field value = Calls (text.SetTo field value)
 binary_command binary.SetStr field value = Calls (text.SetStr field value)
-binary_command (binary.Compare family relation) field value = Calls (text.Cond family (text.Compare relation field value))
+binary_command (binary.Compare family relation) field value =
+    Calls (text.Cond family (text.Compare relation field value))
 
 -- what a name says of its one argument and the truth value after it
 abbrev pub flagged_command : Flagged → List ℕ → Bool → CommandText
@@ -107,14 +108,17 @@ variadic_command variadic.Values values = Calls (text.Values values)
 
 -- the truth value that a text names
 abbrev pub flag_in : List ℕ → Option Bool
-flag_in text = if bytes_eq text (codes "true") then Some true else if bytes_eq text (codes "false") then Some false else None
+flag_in text =
+    if bytes_eq text (codes "true") then Some true
+    else if bytes_eq text (codes "false") then Some false else None
 
 -- what a name says of its arguments, if they fit
 abbrev pub command : Meaning → List (List ℕ) → Option CommandText
 command (takes.Nullary meaning) [] = Some (nullary_command meaning)
 command (takes.Unary meaning) (argument ∷ []) = Some (unary_command meaning argument)
 command (takes.Binary meaning) (first ∷ second ∷ []) = Some (binary_command meaning first second)
-command (takes.Flagged meaning) (argument ∷ flag ∷ []) = option_map (flagged_command meaning argument) (flag_in flag)
+command (takes.Flagged meaning) (argument ∷ flag ∷ []) =
+    option_map (flagged_command meaning argument) (flag_in flag)
 command (takes.Variadic meaning) arguments = Some (variadic_command meaning arguments)
 command _ _ = None
 

@@ -51,7 +51,7 @@ open_statement_in commands = option_map (λ start. record { start = start; calls
 unfoldable pub open_statement : List CommandResult → Option OpenStatement
 open_statement before = if is_inside before then open_statement_in (since is_start before) else None
 
--- a finish_answer statement's text, or why it is refused
+-- a finished statement's text, or why it is refused
 abbrev pub finish_answer : Result (List ℕ) SqlBuilderError → Result (Option (List ℕ)) Reason
 finish_answer (Ok text) = Ok (Some text)
 finish_answer (Err refusal) = Err (Builder refusal)
@@ -93,7 +93,7 @@ pub record Output : Type 0 where
   pub statements : List (List ℕ)
   pub fault : Option (ℕ × Reason)
 
--- the statements that are finish_answer before the first line that fails a check, and that line's fault; where none fails, all of them
+-- the statements that are finished before the first line that fails a check, and that line's fault; where none fails, all of them
 abbrev pub output_of : List CommandResult → Output
 output_of commands = record {
   statements = filter_map printed_line (until is_err (answers commands));
