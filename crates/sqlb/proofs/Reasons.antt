@@ -1,15 +1,21 @@
 -- A line's reason never holds want of memory.
 use Rattle.std.proofs.Common.{◌≡◌, ℕ, Bool, true, false, List, [], ◌∷◌, if◌then◌else◌, subst}
-use Rattle.std.specs.Prelude.{Option, None, Some, Result, Ok, Err, IfErr, ok_or}
+use Rattle.std.specs.Prelude.{Option, None, Some, Result, Ok, Err, IfErr, IfSome, ok_or}
 use Rattle.std.specs.Str.{is_utf8}
-use Rattle.sqlb.specs.Calls.{StartText, CallText, FinishText, Sql, clauses}
-use Rattle.sqlb.specs.Layout.{refusal, sql}
+use Rattle.sql_parts.specs.Error.{IsMemory}
+use Rattle.sql_parts.specs.declared.error.SqlBuilderError.{SqlBuilderError}
+use Rattle.sql_parts.specs.declared.error.SqlBuilderError.TheVariants.{NoSetFields, NoValues}
+use Rattle.sql_builder.specs.Calls.{StartText, CallText, FinishText, Sql, Query, QueryValues, Subquery, SubqueryAs, clauses}
+use Rattle.sql_builder.specs.Clauses.{Clauses, map_clauses}
+use Rattle.sql_builder.specs.Layout.{refusal_of, refuse_empty, refuse_no_rows, refuse_no_table}
+use Rattle.sql_builder.specs.Statement.{layout_at, refusal_at, statement, text_unless_refused, unless_refused}
+use Rattle.sql_builder.specs.Text.{Pieces, fixed_piece, pieces_text, raw_piece}
+use Rattle.sql_builder.specs.declared.clauses.Kind.{Kind}
+use Rattle.sql_builder.specs.declared.clauses.Kind.TheVariants.{SelectFrom, SelectValues, InsertInto, UpdateTable, DeleteFrom}
 use Rattle.sqlb.specs.Lines.{CommandText, Starts, Calls, Finishes, CommandResult, command, command_of, command_in, command_in_parts, command_with, parts_of}
 use Rattle.sqlb.specs.Names.{meaning_of}
 use Rattle.sqlb.specs.Output.{OpenStatement, answer, finish_answer}
 use Rattle.sqlb.specs.Ran.{HoldsNoMemory}
-use Rattle.sqlb.specs.Statement.{statement, text_unless_refused, unless_refused}
-use Rattle.sqlb.specs.Text.{Pieces, fixed_piece, pieces_text}
 use Rattle.sqlb.specs.declared.fault.Reason.{Reason}
 use Rattle.sqlb.specs.declared.fault.Reason.TheVariants.{NotUtf8, WrongArguments}
 use Rattle.sqlb.specs.declared.names.Meaning.{Meaning}
@@ -34,12 +40,49 @@ command_of-holds_no_memory : (line : List ℕ) → IfErr (command_of line) Holds
 unfolding command_of
 command_of-holds_no_memory line = by_text (is_utf8 line) line
 
-by_table : (table : List ℕ) (printed : Pieces) → IfErr (finish_answer (text_unless_refused (unless_refused (refusal (record { table = table; fields = []; groups = [] })) printed))) HoldsNoMemory
-by_table [] printed = λ is. is
-by_table (byte ∷ bytes) printed = tt
+-- what `sql` refuses is never want of memory
+
+abbrev HoldNoMemory : Option SqlBuilderError → Type 0
+HoldNoMemory o = IfSome o (λ refusal. ¬ (IsMemory refusal))
+
+by_table : (table : List ℕ) (other : Option SqlBuilderError) → HoldNoMemory other → HoldNoMemory (refuse_no_table table other)
+by_table [] other h = λ is. is
+by_table (byte ∷ bytes) other h = h
+
+by_values : (values : List (List ℕ)) → HoldNoMemory (refuse_empty NoValues values)
+by_values [] = λ is. is
+by_values (value ∷ values) = tt
+
+by_sets : (sets : List (List ℕ)) → HoldNoMemory (refuse_empty NoSetFields sets)
+by_sets [] = λ is. is
+by_sets (set ∷ sets) = tt
+
+by_rows : (query : Option (List ℕ)) (rows : List (List ℕ)) → HoldNoMemory (refuse_no_rows query rows)
+by_rows None rows = by_values rows
+by_rows (Some query) rows = tt
+
+by_kind : (kind : Kind) (r : Clauses (List ℕ)) → HoldNoMemory (refusal_of kind r)
+by_kind SelectFrom r = by_table r.table None tt
+by_kind SelectValues r = by_values r.fields
+by_kind InsertInto r = by_table r.table (refuse_no_rows r.query r.rows) (by_rows r.query r.rows)
+by_kind UpdateTable r = by_table r.table (refuse_empty NoSetFields r.sets) (by_sets r.sets)
+by_kind DeleteFrom r = by_table r.table None tt
+
+by_refusal : (o : Option SqlBuilderError) (printed : Pieces) → HoldNoMemory o → IfErr (finish_answer (text_unless_refused (unless_refused o printed))) HoldsNoMemory
+by_refusal None printed h = tt
+by_refusal (Some refusal) printed h = h
+
+by_finish : (finish : FinishText) (r : Clauses (List ℕ)) → HoldNoMemory (refusal_at finish r)
+by_finish Sql r = by_kind r.kind r
+by_finish Query r = tt
+by_finish QueryValues r = tt
+by_finish Subquery r = tt
+by_finish (SubqueryAs name) r = tt
 
 finish-holds_no_memory : (start : StartText) (calls : List CallText) (finish : FinishText) → IfErr (finish_answer (statement start calls finish)) HoldsNoMemory
-finish-holds_no_memory start calls Sql = by_table (pieces_text (clauses start calls).table) (sql fixed_piece (clauses start calls))
+finish-holds_no_memory start calls finish =
+    let r = clauses start calls in
+    by_refusal (refusal_at finish (map_clauses pieces_text r)) (layout_at fixed_piece raw_piece finish r) (by_finish finish (map_clauses pieces_text r))
 
 answer-holds_no_memory : (o : Option OpenStatement) (s : CommandResult) → IfErr s HoldsNoMemory → IfErr (answer o s) HoldsNoMemory
 answer-holds_no_memory o (Err reason) h = h

@@ -1,5 +1,5 @@
 -- Worked rows: what the definitions give, by computing.
-use Rattle.std.specs.Prelude.{◌≡◌, ℕ, List, [], ◌∷◌, ◌++◌, Option, Some, None, Ok, Err, codes, refl, map, Bool, true, false, ◌&&◌, nat_lt}
+use Rattle.std.specs.Prelude.{◌≡◌, ℕ, List, [], ◌∷◌, ◌++◌, Option, Some, None, Err, codes, refl, map, Bool, true, false, ◌&&◌, nat_lt}
 use Rattle.std.proofs.Common.{ap, ◌∙◌, arith, lit<}
 use Rattle.std.proofs.lemmas.Fmt.{decimal_digit}
 use Rattle.std.proofs.lemmas.Bool.Decides.{nat_tests}
@@ -8,32 +8,14 @@ use Rattle.std.specs.Str.{IsAscii}
 use Rattle.std.proofs.lemmas.Str.{IsUtf8-from_ascii}
 use Rattle.sqlb.proofs.LineTexts.{command_of-text}
 use Rattle.std.specs.List.{list_all}
-use Rattle.sqlb.specs.Calls.{SelectFrom, Field, Cond, Raw, Compare, Sql}
 use Rattle.sqlb.specs.Fault.{fault_text}
 use Rattle.sqlb.specs.Lines.{lines, command_of, command_in}
 use Rattle.sqlb.specs.Names.{meaning_of, names}
 use Rattle.sqlb.specs.Output.{Output, open_statement, output, output_of}
-use Rattle.sqlb.specs.Statement.{statement}
-use Rattle.sqlb.specs.Text.{quote}
-use Rattle.sqlb.specs.declared.calls.Family.TheVariants.{And}
-use Rattle.sqlb.specs.declared.calls.Relation.TheVariants.{Gt}
-use Rattle.sql_parts.specs.declared.error.SqlBuilderError.TheVariants.{NoTableName}
+use Rattle.sql_parts.specs.declared.error.SqlBuilderError.TheVariants.{NoSetFields, NoTableName, NoValues}
 use Rattle.sqlb.specs.declared.fault.Reason.{Reason}
 use Rattle.sqlb.specs.declared.fault.Reason.TheVariants.{UnknownCall, WrongArguments, NoStatement, StatementOpen, NoEnd, NotUtf8, Builder}
 use Rattle.sqlb.specs.declared.fault.Fault.TheVariants.{At}
-
-company : statement (SelectFrom (codes "company")) (Field (codes "id") ∷ Field (codes "name") ∷ Cond And (Compare Gt (codes "salary") (codes "25000")) ∷ []) Sql
-    ≡ Ok (codes "SELECT id, name FROM company WHERE salary > 25000;")
-company = refl
-
-no_table : statement (SelectFrom []) [] Sql ≡ Err NoTableName
-no_table = refl
-
-two_groups : statement (SelectFrom (codes "t")) (Cond And (Raw (codes "a")) ∷ Cond And (Raw (codes "b")) ∷ []) Sql ≡ Ok (codes "SELECT * FROM t WHERE (a) AND (b);")
-two_groups = refl
-
-quoted : quote (codes "Hello, 'World'") ≡ codes "'Hello, ''World'''"
-quoted = refl
 
 abbrev is_ascii : List ℕ → Bool
 is_ascii text = list_all (λ byte. nat_lt byte 128) text
@@ -92,9 +74,40 @@ output-refused : output (codes "select_from" ++ 9 ∷ 10 ∷ [] ++ codes "sql" +
 unfolding open_statement meaning_of names
 output-refused = row _ _ refl refl
 
-output-limit_unknown : output (codes "limit" ++ 10 ∷ []) ≡ gives ([]) (Some (1, UnknownCall))
+output-limit_alone : output (codes "limit" ++ 10 ∷ [])
+    ≡ gives [] (Some (1, WrongArguments))
 unfolding open_statement meaning_of names
-output-limit_unknown = row _ _ refl refl
+output-limit_alone = row _ _ refl refl
+
+output-order_by_maybe : output (codes "select_from" ++ 9 ∷ [] ++ codes "t" ++ 10 ∷ [] ++ codes "order_by" ++ 9 ∷ [] ++ codes "a" ++ 9 ∷ [] ++ codes "maybe" ++ 10 ∷ [] ++ codes "sql" ++ 10 ∷ [])
+    ≡ gives [] (Some (2, WrongArguments))
+unfolding open_statement meaning_of names
+output-order_by_maybe = row _ _ refl refl
+
+output-order_by_alone : output (codes "select_from" ++ 9 ∷ [] ++ codes "t" ++ 10 ∷ [] ++ codes "order_by" ++ 9 ∷ [] ++ codes "a" ++ 10 ∷ [])
+    ≡ gives [] (Some (2, WrongArguments))
+unfolding open_statement meaning_of names
+output-order_by_alone = row _ _ refl refl
+
+output-orders : output (codes "select_from" ++ 9 ∷ [] ++ codes "t" ++ 10 ∷ [] ++ codes "order_by" ++ 9 ∷ [] ++ codes "a" ++ 9 ∷ [] ++ codes "true" ++ 10 ∷ [] ++ codes "order_by" ++ 9 ∷ [] ++ codes "b" ++ 9 ∷ [] ++ codes "false" ++ 10 ∷ [] ++ codes "sql" ++ 10 ∷ [])
+    ≡ gives ((codes "SELECT * FROM t ORDER BY a DESC, b;" ++ 10 ∷ []) ∷ []) None
+unfolding open_statement meaning_of names
+output-orders = row _ _ refl refl
+
+output-finishes : output (codes "select_values" ++ 9 ∷ [] ++ codes "1" ++ 9 ∷ [] ++ codes "'a'" ++ 10 ∷ [] ++ codes "query_values" ++ 10 ∷ [] ++ codes "select_from" ++ 9 ∷ [] ++ codes "t" ++ 10 ∷ [] ++ codes "limit" ++ 9 ∷ [] ++ codes "3" ++ 10 ∷ [] ++ codes "subquery_as" ++ 9 ∷ [] ++ codes "s" ++ 10 ∷ [])
+    ≡ gives ((codes "SELECT 1, 'a'" ++ 10 ∷ []) ∷ (codes "(SELECT * FROM t LIMIT 3) AS s" ++ 10 ∷ []) ∷ []) None
+unfolding open_statement meaning_of names
+output-finishes = row _ _ refl refl
+
+output-no_values : output (codes "select_values" ++ 10 ∷ [] ++ codes "sql" ++ 10 ∷ [])
+    ≡ gives [] (Some (2, Builder NoValues))
+unfolding open_statement meaning_of names
+output-no_values = row _ _ refl refl
+
+output-no_set_fields : output (codes "update_table" ++ 9 ∷ [] ++ codes "t" ++ 10 ∷ [] ++ codes "sql" ++ 10 ∷ [])
+    ≡ gives [] (Some (2, Builder NoSetFields))
+unfolding open_statement meaning_of names
+output-no_set_fields = row _ _ refl refl
 
 output-field_alone : output (codes "field" ++ 10 ∷ []) ≡ gives ([]) (Some (1, WrongArguments))
 unfolding open_statement meaning_of names

@@ -9,12 +9,12 @@ use Rattle.std.proofs.lemmas.List.{append-nil, length-map, map-append}
 use Rattle.std.proofs.lemmas.List.Elements.{filter_map-append}
 use Rattle.std.proofs.lemmas.Grind.{common_steps, flat_map-append}
 use Rattle.sqlb.proofs.Pieces.{begins}
-use Rattle.sqlb.proofs.Snoc.{any_unfollowed-snoc, since-snoc}
-use Rattle.sqlb.specs.Calls.{StartText, CallText}
+use Rattle.sql_builder.proofs.Snoc.{any_unfollowed-snoc, since-snoc}
+use Rattle.sql_builder.specs.Calls.{StartText, CallText}
 use Rattle.sqlb.specs.Device.{Wrote}
-use Rattle.sqlb.specs.Filters.{first, since, until}
+use Rattle.sql_builder.specs.Filters.{since, until}
 use Rattle.sqlb.specs.Lines.{lines, CommandResult, command_of, Starts, Calls, Finishes}
-use Rattle.sqlb.specs.Output.{OpenStatement, answer, answer_at, answers, call_in, end_fault, fault_at, is_finish, is_inside, is_start, open_statement, open_statement_in, output, printed_line, output_text, start_in}
+use Rattle.sqlb.specs.Output.{OpenStatement, answer, answer_at, answers, call_in, end_fault, fault_at, first, is_finish, is_inside, is_start, open_statement, open_statement_in, output, printed_line, output_text, start_in}
 use Rattle.sqlb.specs.Ran.{AreWhole, Ran}
 use Rattle.sqlb.specs.Script.{open_after}
 use Rattle.sqlb.specs.declared.fault.Fault.{Fault}

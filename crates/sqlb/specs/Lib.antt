@@ -1,17 +1,8 @@
-pub mod Answers
-pub mod Builder
-pub mod Calls
-pub mod Chaining
-pub mod Clauses
 pub mod Device
 pub mod Fault
-pub mod Filters
-pub mod Layout
 pub mod Lines
 pub mod Names
 pub mod Output
 pub mod Ran
 pub mod Script
-pub mod Statement
-pub mod Text
 pub mod Watch

@@ -1,22 +1,24 @@
 -- The lines of an input, and what each says.
-use Rattle.std.specs.Prelude.{ℕ, ◌==◌, List, [], ◌∷◌, Option, Some, None, Result, Err, if◌then◌else◌, ok_or}
+use Rattle.std.specs.Prelude.{ℕ, ◌==◌, List, [], ◌∷◌, Bool, true, false, Option, Some, None, Result, Err, if◌then◌else◌, bytes_eq, codes, ok_or, option_map}
 use Rattle.std.specs.List.{slice_split}
 use Rattle.std.specs.Str.{is_utf8}
-use Rattle.sqlb.specs.Calls as text
-use Rattle.sqlb.specs.Calls.{StartText, CallText, FinishText}
+use Rattle.sql_builder.specs.Calls as text
+use Rattle.sql_builder.specs.Calls.{StartText, CallText, FinishText}
 use Rattle.sqlb.specs.Names.{meaning_of}
 use Rattle.sqlb.specs.declared.fault.Reason.{Reason}
 use Rattle.sqlb.specs.declared.fault.Reason.TheVariants.{NotUtf8, UnknownCall, WrongArguments}
 use Rattle.sqlb.specs.declared.names.Meaning.{Meaning}
 use Rattle.sqlb.specs.declared.names.Meaning.TheVariants as takes
 use Rattle.sqlb.specs.declared.names.Nullary.{Nullary}
-use Rattle.sqlb.specs.declared.names.Nullary.TheVariants.{Sql}
+use Rattle.sqlb.specs.declared.names.Nullary.TheVariants as nullary
 use Rattle.sqlb.specs.declared.names.Unary.{Unary}
-use Rattle.sqlb.specs.declared.names.Unary.TheVariants.{SelectFrom, Field, Where}
+use Rattle.sqlb.specs.declared.names.Unary.TheVariants as unary
 use Rattle.sqlb.specs.declared.names.Binary.{Binary}
-use Rattle.sqlb.specs.declared.names.Binary.TheVariants.{Compare}
+use Rattle.sqlb.specs.declared.names.Binary.TheVariants as binary
+use Rattle.sqlb.specs.declared.names.Flagged.{Flagged}
+use Rattle.sqlb.specs.declared.names.Flagged.TheVariants as flagged
 use Rattle.sqlb.specs.declared.names.Variadic.{Variadic}
-use Rattle.sqlb.specs.declared.names.Variadic.TheVariants.{Fields}
+use Rattle.sqlb.specs.declared.names.Variadic.TheVariants as variadic
 
 -- an empty part after the last line feed is no line
 abbrev pub without_empty_last : List (List ℕ) → List (List ℕ)
@@ -45,27 +47,78 @@ CommandResult = Result CommandText Reason
 
 -- what a name says without an argument
 abbrev pub nullary_command : Nullary → CommandText
-nullary_command Sql = Finishes text.Sql
+nullary_command nullary.Natural = Calls text.Natural
+nullary_command nullary.Left = Calls text.Left
+nullary_command nullary.LeftOuter = Calls text.LeftOuter
+nullary_command nullary.Right = Calls text.Right
+nullary_command nullary.RightOuter = Calls text.RightOuter
+nullary_command nullary.Inner = Calls text.Inner
+nullary_command nullary.Cross = Calls text.Cross
+nullary_command nullary.Distinct = Calls text.Distinct
+nullary_command nullary.ReturningId = Calls text.ReturningId
+nullary_command nullary.Sql = Finishes text.Sql
+nullary_command nullary.Query = Finishes text.Query
+nullary_command nullary.QueryValues = Finishes text.QueryValues
+nullary_command nullary.Subquery = Finishes text.Subquery
 
 -- what a name says of its one argument
 abbrev pub unary_command : Unary → List ℕ → CommandText
-unary_command SelectFrom table = Starts (text.SelectFrom table)
-unary_command Field field = Calls (text.Field field)
-unary_command (Where family) condition = Calls (text.Cond family (text.Raw condition))
+unary_command unary.SelectFrom table = Starts (text.SelectFrom table)
+unary_command unary.InsertInto table = Starts (text.InsertInto table)
+unary_command unary.UpdateTable table = Starts (text.UpdateTable table)
+unary_command unary.DeleteFrom table = Starts (text.DeleteFrom table)
+unary_command unary.AndTable table = Calls (text.AndTable table)
+unary_command unary.Join table = Calls (text.Join table)
+unary_command unary.On constraint = Calls (text.On constraint)
+unary_command unary.Field field = Calls (text.Field field)
+unary_command unary.SetField field = Calls (text.SetField field)
+unary_command unary.Count field = Calls (text.Count field)
+unary_command unary.Select query = Calls (text.Select query)
+unary_command unary.Returning fields = Calls (text.Returning fields)
+unary_command unary.GroupBy field = Calls (text.GroupBy field)
+unary_command unary.Having condition = Calls (text.Having condition)
+unary_command unary.Union query = Calls (text.Union query)
+unary_command unary.UnionAll query = Calls (text.UnionAll query)
+unary_command unary.OrderAsc field = Calls (text.OrderAsc field)
+unary_command unary.OrderDesc field = Calls (text.OrderDesc field)
+unary_command unary.Limit limit = Calls (text.Limit limit)
+unary_command unary.Offset offset = Calls (text.Offset offset)
+unary_command (unary.Where family) condition = Calls (text.Cond family (text.Raw condition))
+unary_command unary.SubqueryAs name = Finishes (text.SubqueryAs name)
 
 -- what a name says of its two arguments
 abbrev pub binary_command : Binary → List ℕ → List ℕ → CommandText
-binary_command (Compare family relation) field value = Calls (text.Cond family (text.Compare relation field value))
+binary_command binary.OnEq left right = Calls (text.OnEq left right)
+binary_command binary.CountAs field name = Calls (text.CountAs field name)
+binary_command binary.SetTo field value = Calls (text.SetTo field value)
+binary_command binary.SetStr field value = Calls (text.SetStr field value)
+binary_command (binary.Compare family relation) field value =
+    Calls (text.Cond family (text.Compare relation field value))
+
+-- what a name says of its one argument and the truth value after it
+abbrev pub flagged_command : Flagged → List ℕ → Bool → CommandText
+flagged_command flagged.OrderBy field descending = Calls (text.OrderBy field descending)
 
 -- what a name says of its arguments, however many
 abbrev pub variadic_command : Variadic → List (List ℕ) → CommandText
-variadic_command Fields fields = Calls (text.Fields fields)
+variadic_command variadic.SelectValues values = Starts (text.SelectValues values)
+variadic_command variadic.Fields fields = Calls (text.Fields fields)
+variadic_command variadic.SetFields fields = Calls (text.SetFields fields)
+variadic_command variadic.Values values = Calls (text.Values values)
+
+-- the truth value that a text names
+abbrev pub flag_in : List ℕ → Option Bool
+flag_in text =
+    if bytes_eq text (codes "true") then Some true
+    else if bytes_eq text (codes "false") then Some false else None
 
 -- what a name says of its arguments, if they fit
 abbrev pub command : Meaning → List (List ℕ) → Option CommandText
 command (takes.Nullary meaning) [] = Some (nullary_command meaning)
 command (takes.Unary meaning) (argument ∷ []) = Some (unary_command meaning argument)
 command (takes.Binary meaning) (first ∷ second ∷ []) = Some (binary_command meaning first second)
+command (takes.Flagged meaning) (argument ∷ flag ∷ []) =
+    option_map (flagged_command meaning argument) (flag_in flag)
 command (takes.Variadic meaning) arguments = Some (variadic_command meaning arguments)
 command _ _ = None
 

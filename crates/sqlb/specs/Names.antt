@@ -1,24 +1,64 @@
 -- The names that a line may begin with: what each is, by how many arguments it takes.
 use Rattle.std.specs.Prelude.{ℕ, List, [], ◌∷◌, Option, bytes_eq, option_map, find, codes}
 use Rattle.std.specs.Borrow.{Bor}
-use Rattle.sqlb.specs.declared.calls.Family.TheVariants.{And}
-use Rattle.sqlb.specs.declared.calls.Relation.TheVariants.{Gt}
+use Rattle.sql_builder.specs.declared.calls.Family.TheVariants.{And}
+use Rattle.sql_builder.specs.declared.calls.Relation.TheVariants.{Gt}
 use Rattle.sqlb.specs.declared.names.Meaning.{Meaning}
 use Rattle.sqlb.specs.declared.names.Meaning.TheVariants as takes
 use Rattle.sqlb.specs.declared.names.Nullary.TheVariants as nullary
 use Rattle.sqlb.specs.declared.names.Unary.TheVariants as unary
 use Rattle.sqlb.specs.declared.names.Binary.TheVariants as binary
+use Rattle.sqlb.specs.declared.names.Flagged.TheVariants as flagged
 use Rattle.sqlb.specs.declared.names.Variadic.TheVariants as variadic
 
 -- each name, and what it stands for
 unfoldable pub names : List (List ℕ × Meaning)
 names =
     (codes "select_from", takes.Unary unary.SelectFrom) ∷
+    (codes "insert_into", takes.Unary unary.InsertInto) ∷
+    (codes "update_table", takes.Unary unary.UpdateTable) ∷
+    (codes "delete_from", takes.Unary unary.DeleteFrom) ∷
+    (codes "select_values", takes.Variadic variadic.SelectValues) ∷
+    (codes "natural", takes.Nullary nullary.Natural) ∷
+    (codes "left", takes.Nullary nullary.Left) ∷
+    (codes "left_outer", takes.Nullary nullary.LeftOuter) ∷
+    (codes "right", takes.Nullary nullary.Right) ∷
+    (codes "right_outer", takes.Nullary nullary.RightOuter) ∷
+    (codes "inner", takes.Nullary nullary.Inner) ∷
+    (codes "cross", takes.Nullary nullary.Cross) ∷
+    (codes "distinct", takes.Nullary nullary.Distinct) ∷
+    (codes "returning_id", takes.Nullary nullary.ReturningId) ∷
+    (codes "and_table", takes.Unary unary.AndTable) ∷
+    (codes "join", takes.Unary unary.Join) ∷
+    (codes "on", takes.Unary unary.On) ∷
     (codes "field", takes.Unary unary.Field) ∷
+    (codes "set_field", takes.Unary unary.SetField) ∷
+    (codes "count", takes.Unary unary.Count) ∷
+    (codes "select", takes.Unary unary.Select) ∷
+    (codes "returning", takes.Unary unary.Returning) ∷
+    (codes "group_by", takes.Unary unary.GroupBy) ∷
+    (codes "having", takes.Unary unary.Having) ∷
+    (codes "union", takes.Unary unary.Union) ∷
+    (codes "union_all", takes.Unary unary.UnionAll) ∷
+    (codes "order_asc", takes.Unary unary.OrderAsc) ∷
+    (codes "order_desc", takes.Unary unary.OrderDesc) ∷
+    (codes "limit", takes.Unary unary.Limit) ∷
+    (codes "offset", takes.Unary unary.Offset) ∷
+    (codes "on_eq", takes.Binary binary.OnEq) ∷
+    (codes "count_as", takes.Binary binary.CountAs) ∷
+    (codes "set", takes.Binary binary.SetTo) ∷
+    (codes "set_str", takes.Binary binary.SetStr) ∷
+    (codes "order_by", takes.Flagged flagged.OrderBy) ∷
     (codes "fields", takes.Variadic variadic.Fields) ∷
+    (codes "set_fields", takes.Variadic variadic.SetFields) ∷
+    (codes "values", takes.Variadic variadic.Values) ∷
     (codes "and_where", takes.Unary (unary.Where And)) ∷
     (codes "and_where_gt", takes.Binary (binary.Compare And Gt)) ∷
     (codes "sql", takes.Nullary nullary.Sql) ∷
+    (codes "query", takes.Nullary nullary.Query) ∷
+    (codes "query_values", takes.Nullary nullary.QueryValues) ∷
+    (codes "subquery", takes.Nullary nullary.Subquery) ∷
+    (codes "subquery_as", takes.Unary unary.SubqueryAs) ∷
     []
 
 -- what stands beside a name in a table, if the table has it

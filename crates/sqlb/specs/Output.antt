@@ -1,13 +1,18 @@
 -- What a whole input says to print, and where it stops.
 use Rattle.std.specs.Prelude.{ℕ, ◌-◌, List, [], ◌∷◌, ◌++◌, Bool, true, false, Option, Some, None, Result, Ok, Err, if◌then◌else◌, take, map, filter_map, flat_map, length, codes, is_err, is_some, option_map}
 use Rattle.std.specs.List.{enumerate_from}
-use Rattle.sqlb.specs.Calls.{StartText, CallText}
-use Rattle.sqlb.specs.Filters.{any_unfollowed, first, since, until}
+use Rattle.sql_builder.specs.Calls.{StartText, CallText}
+use Rattle.sql_builder.specs.Filters.{any_unfollowed, since, until}
 use Rattle.sqlb.specs.Lines.{lines, CommandResult, Starts, Calls, Finishes, command_of}
-use Rattle.sqlb.specs.Statement.{statement}
+use Rattle.sql_builder.specs.Statement.{statement}
 use Rattle.sql_parts.specs.declared.error.SqlBuilderError.{SqlBuilderError}
 use Rattle.sqlb.specs.declared.fault.Reason.{Reason}
 use Rattle.sqlb.specs.declared.fault.Reason.TheVariants.{NoStatement, StatementOpen, NoEnd, Builder}
+
+-- the first element, if there is one
+abbrev pub first : {X : Type 0} → List X → Option X
+first [] = None
+first (x ∷ xs) = Some x
 
 -- A statement that is open: its start, and the calls made so far.
 pub record OpenStatement : Type 0 where
@@ -46,7 +51,7 @@ open_statement_in commands = option_map (λ start. record { start = start; calls
 unfoldable pub open_statement : List CommandResult → Option OpenStatement
 open_statement before = if is_inside before then open_statement_in (since is_start before) else None
 
--- a finish_answer statement's text, or why it is refused
+-- a finished statement's text, or why it is refused
 abbrev pub finish_answer : Result (List ℕ) SqlBuilderError → Result (Option (List ℕ)) Reason
 finish_answer (Ok text) = Ok (Some text)
 finish_answer (Err refusal) = Err (Builder refusal)
@@ -88,7 +93,7 @@ pub record Output : Type 0 where
   pub statements : List (List ℕ)
   pub fault : Option (ℕ × Reason)
 
--- the statements that are finish_answer before the first line that fails a check, and that line's fault; where none fails, all of them
+-- the statements that are finished before the first line that fails a check, and that line's fault; where none fails, all of them
 abbrev pub output_of : List CommandResult → Output
 output_of commands = record {
   statements = filter_map printed_line (until is_err (answers commands));

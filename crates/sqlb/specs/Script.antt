@@ -1,6 +1,6 @@
 -- What the lines of an input do one after another.
 use Rattle.std.specs.Prelude.{◌≡◌, [], ◌∷◌, ◌++◌, Option, Some, None, Result, Ok, Err, option_map}
-use Rattle.sqlb.specs.Answers.{start_text, call_text, finish_text}
+use Rattle.sql_builder.specs.Answers.{start_text, call_text, finish_text}
 use Rattle.sqlb.specs.Lines.{CommandText, CommandResult, Starts, Calls, Finishes}
 use Rattle.sqlb.specs.Output.{OpenStatement}
 use Rattle.sqlb.specs.declared.fault.Reason.{Reason}

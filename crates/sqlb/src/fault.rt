@@ -2,7 +2,7 @@
 ghost use Rattle.std.specs.Prelude.{◌≡◌};
 ghost use Rattle.sqlb.specs.Fault.{fault_status, reason_text};
 
-use sql_parts::SqlBuilderError;
+use sql_builder::SqlBuilderError;
 
 /// Why a line is not accepted.
 #[derive(Debug, Drop)]

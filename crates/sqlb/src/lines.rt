@@ -1,12 +1,14 @@
 //! Takes an input apart into lines, and reads what each says.
-ghost use Rattle.std.specs.Prelude.{◌≡◌, ◌==◌, ◌∷◌, ◌<◌, length, map, position, string_bytes, IfOk};
-ghost use Rattle.std.specs.List.{slice_split};
-ghost use Rattle.sqlb.specs.Lines.{binary_command, lines, nullary_command, command_of, command_in, command_with, unary_command, variadic_command, parts_of};
+ghost use Rattle.std.specs.Prelude.{◌≡◌, ◌==◌, ◌∷◌, ◌<◌};
+ghost use Rattle.std.specs.Prelude.{IfOk, length, map, position, string_bytes};
+ghost use Rattle.sqlb.specs.Lines.{command_in, command_of, command_with, flag_in, lines, parts_of};
+ghost use Rattle.sqlb.specs.Lines.{binary_command, flagged_command, nullary_command};
+ghost use Rattle.sqlb.specs.Lines.{unary_command, variadic_command};
 ghost use Rattle.sqlb.specs.Script.{Answers, command_text};
 
-use crate::calls::{Call, Condition, Finish, Start};
 use crate::fault::Reason;
-use crate::names::{Binary, Meaning, Nullary, Unary, Variadic};
+use crate::names::{Binary, Flagged, Meaning, Nullary, Unary, Variadic};
+use sql_builder::calls::{Call, Condition, Finish, Start};
 use std::alloc::{AllocError, AllocFailed, Global};
 use std::str;
 
@@ -92,7 +94,19 @@ impl Nullary {
         ensures { command_text result ≡ nullary_command self }
     {
         match self {
+            Nullary::Natural => Command::Call(Call::Natural),
+            Nullary::Left => Command::Call(Call::Left),
+            Nullary::LeftOuter => Command::Call(Call::LeftOuter),
+            Nullary::Right => Command::Call(Call::Right),
+            Nullary::RightOuter => Command::Call(Call::RightOuter),
+            Nullary::Inner => Command::Call(Call::Inner),
+            Nullary::Cross => Command::Call(Call::Cross),
+            Nullary::Distinct => Command::Call(Call::Distinct),
+            Nullary::ReturningId => Command::Call(Call::ReturningId),
             Nullary::Sql => Command::Finish(Finish::Sql),
+            Nullary::Query => Command::Finish(Finish::Query),
+            Nullary::QueryValues => Command::Finish(Finish::QueryValues),
+            Nullary::Subquery => Command::Finish(Finish::Subquery),
         }
     }
 }
@@ -104,8 +118,27 @@ impl Unary {
         let argument = String::from_str(alloc, argument)?;
         Ok(match self {
             Unary::SelectFrom => Command::Start(Start::SelectFrom(argument)),
+            Unary::InsertInto => Command::Start(Start::InsertInto(argument)),
+            Unary::UpdateTable => Command::Start(Start::UpdateTable(argument)),
+            Unary::DeleteFrom => Command::Start(Start::DeleteFrom(argument)),
+            Unary::AndTable => Command::Call(Call::AndTable(argument)),
+            Unary::Join => Command::Call(Call::Join(argument)),
+            Unary::On => Command::Call(Call::On(argument)),
             Unary::Field => Command::Call(Call::Field(argument)),
+            Unary::SetField => Command::Call(Call::SetField(argument)),
+            Unary::Count => Command::Call(Call::Count(argument)),
+            Unary::Select => Command::Call(Call::Select(argument)),
+            Unary::Returning => Command::Call(Call::Returning(argument)),
+            Unary::GroupBy => Command::Call(Call::GroupBy(argument)),
+            Unary::Having => Command::Call(Call::Having(argument)),
+            Unary::Union => Command::Call(Call::Union(argument)),
+            Unary::UnionAll => Command::Call(Call::UnionAll(argument)),
+            Unary::OrderAsc => Command::Call(Call::OrderAsc(argument)),
+            Unary::OrderDesc => Command::Call(Call::OrderDesc(argument)),
+            Unary::Limit => Command::Call(Call::Limit(argument)),
+            Unary::Offset => Command::Call(Call::Offset(argument)),
             Unary::Where(family) => Command::Call(Call::Cond(family, Condition::Raw(argument))),
+            Unary::SubqueryAs => Command::Finish(Finish::SubqueryAs(argument)),
         })
     }
 }
@@ -116,11 +149,25 @@ impl Binary {
     {
         let first = String::from_str(alloc, first)?;
         let second = String::from_str(alloc, second)?;
-        Ok(match self {
+        Ok(Command::Call(match self {
+            Binary::OnEq => Call::OnEq(first, second),
+            Binary::CountAs => Call::CountAs(first, second),
+            Binary::SetTo => Call::SetTo(first, second),
+            Binary::SetStr => Call::SetStr(first, second),
             Binary::Compare(family, relation) => {
-                let condition = Condition::Compare(relation, first, second);
-                Command::Call(Call::Cond(family, condition))
+                Call::Cond(family, Condition::Compare(relation, first, second))
             }
+        }))
+    }
+}
+
+impl Flagged {
+    fn command(self, alloc: Global, argument: &str, flag: bool) -> Result<Command, AllocError>
+        ensures { IfOk result (λ c. command_text c ≡ flagged_command self argument.now flag) }
+    {
+        let argument = String::from_str(alloc, argument)?;
+        Ok(match self {
+            Flagged::OrderBy => Command::Call(Call::OrderBy(argument, flag)),
         })
     }
 }
@@ -132,8 +179,21 @@ impl Variadic {
     {
         let arguments = owned(alloc, arguments)?;
         Ok(match self {
+            Variadic::SelectValues => Command::Start(Start::SelectValues(arguments)),
             Variadic::Fields => Command::Call(Call::Fields(arguments)),
+            Variadic::SetFields => Command::Call(Call::SetFields(arguments)),
+            Variadic::Values => Command::Call(Call::Values(arguments)),
         })
+    }
+}
+
+fn read_flag(text: &str) -> Option<bool>
+    ensures { result ≡ flag_in text.now }
+{
+    match text {
+        "true" => Some(true),
+        "false" => Some(false),
+        _ => None,
     }
 }
 
@@ -152,6 +212,10 @@ fn read_arguments(
         (Meaning::Nullary(meaning), []) => Ok(meaning.command()),
         (Meaning::Unary(meaning), [argument]) => Ok(meaning.command(alloc, argument)?),
         (Meaning::Binary(meaning), [first, second]) => Ok(meaning.command(alloc, first, second)?),
+        (Meaning::Flagged(meaning), [argument, flag]) => match read_flag(flag) {
+            Some(flag) => Ok(meaning.command(alloc, argument, flag)?),
+            None => Err(LineError::Refused(Reason::WrongArguments)),
+        },
         (Meaning::Variadic(meaning), _) => Ok(meaning.command(alloc, arguments)?),
         _ => Err(LineError::Refused(Reason::WrongArguments)),
     }

@@ -1,19 +1,15 @@
 //! Reads lines of calls from standard input, and prints the statements that they make.
 #![tactic(auto)]
 
-mod builder;
-mod calls;
 mod fault;
 mod input;
 mod lines;
 mod names;
 mod output;
-mod printing;
 mod run;
 mod script;
 #[cfg(test)]
 mod tests;
-mod texts;
 mod watched;
 
 use crate::fault::Fault;

@@ -2,7 +2,7 @@
 ghost use Rattle.std.specs.Prelude.{◌≡◌, map};
 ghost use Rattle.sqlb.specs.Names.{found_by_reference, found_in, meaning_of};
 
-use crate::calls::{Family, Relation};
+use sql_builder::calls::{Family, Relation};
 
 /// What a name stands for, by how many arguments it takes.
 #[derive(Clone, Copy)]
@@ -13,6 +13,8 @@ pub(crate) enum Meaning {
     Unary(Unary),
     /// It takes two.
     Binary(Binary),
+    /// It takes two, of which the second is `true` or `false`.
+    Flagged(Flagged),
     /// It takes any number.
     Variadic(Variadic),
 }
@@ -20,39 +22,122 @@ pub(crate) enum Meaning {
 /// A name that takes no argument.
 #[derive(Clone, Copy)]
 pub(crate) enum Nullary {
+    Natural,
+    Left,
+    LeftOuter,
+    Right,
+    RightOuter,
+    Inner,
+    Cross,
+    Distinct,
+    ReturningId,
     Sql,
+    Query,
+    QueryValues,
+    Subquery,
 }
 
 /// A name that takes one.
 #[derive(Clone, Copy)]
 pub(crate) enum Unary {
     SelectFrom,
+    InsertInto,
+    UpdateTable,
+    DeleteFrom,
+    AndTable,
+    Join,
+    On,
     Field,
+    SetField,
+    Count,
+    Select,
+    Returning,
+    GroupBy,
+    Having,
+    Union,
+    UnionAll,
+    OrderAsc,
+    OrderDesc,
+    Limit,
+    Offset,
     Where(Family),
+    SubqueryAs,
 }
 
 /// A name that takes two.
 #[derive(Clone, Copy)]
 pub(crate) enum Binary {
+    OnEq,
+    CountAs,
+    SetTo,
+    SetStr,
     Compare(Family, Relation),
+}
+
+/// A name that takes two, of which the second is `true` or `false`.
+#[derive(Clone, Copy)]
+pub(crate) enum Flagged {
+    OrderBy,
 }
 
 /// A name that takes any number.
 #[derive(Clone, Copy)]
 pub(crate) enum Variadic {
+    SelectValues,
     Fields,
+    SetFields,
+    Values,
 }
 
-const NAMES: [(&str, Meaning); 6] = [
+const NAMES: [(&str, Meaning); 45] = [
     ("select_from", Meaning::Unary(Unary::SelectFrom)),
+    ("insert_into", Meaning::Unary(Unary::InsertInto)),
+    ("update_table", Meaning::Unary(Unary::UpdateTable)),
+    ("delete_from", Meaning::Unary(Unary::DeleteFrom)),
+    ("select_values", Meaning::Variadic(Variadic::SelectValues)),
+    ("natural", Meaning::Nullary(Nullary::Natural)),
+    ("left", Meaning::Nullary(Nullary::Left)),
+    ("left_outer", Meaning::Nullary(Nullary::LeftOuter)),
+    ("right", Meaning::Nullary(Nullary::Right)),
+    ("right_outer", Meaning::Nullary(Nullary::RightOuter)),
+    ("inner", Meaning::Nullary(Nullary::Inner)),
+    ("cross", Meaning::Nullary(Nullary::Cross)),
+    ("distinct", Meaning::Nullary(Nullary::Distinct)),
+    ("returning_id", Meaning::Nullary(Nullary::ReturningId)),
+    ("and_table", Meaning::Unary(Unary::AndTable)),
+    ("join", Meaning::Unary(Unary::Join)),
+    ("on", Meaning::Unary(Unary::On)),
     ("field", Meaning::Unary(Unary::Field)),
+    ("set_field", Meaning::Unary(Unary::SetField)),
+    ("count", Meaning::Unary(Unary::Count)),
+    ("select", Meaning::Unary(Unary::Select)),
+    ("returning", Meaning::Unary(Unary::Returning)),
+    ("group_by", Meaning::Unary(Unary::GroupBy)),
+    ("having", Meaning::Unary(Unary::Having)),
+    ("union", Meaning::Unary(Unary::Union)),
+    ("union_all", Meaning::Unary(Unary::UnionAll)),
+    ("order_asc", Meaning::Unary(Unary::OrderAsc)),
+    ("order_desc", Meaning::Unary(Unary::OrderDesc)),
+    ("limit", Meaning::Unary(Unary::Limit)),
+    ("offset", Meaning::Unary(Unary::Offset)),
+    ("on_eq", Meaning::Binary(Binary::OnEq)),
+    ("count_as", Meaning::Binary(Binary::CountAs)),
+    ("set", Meaning::Binary(Binary::SetTo)),
+    ("set_str", Meaning::Binary(Binary::SetStr)),
+    ("order_by", Meaning::Flagged(Flagged::OrderBy)),
     ("fields", Meaning::Variadic(Variadic::Fields)),
+    ("set_fields", Meaning::Variadic(Variadic::SetFields)),
+    ("values", Meaning::Variadic(Variadic::Values)),
     ("and_where", Meaning::Unary(Unary::Where(Family::And))),
     (
         "and_where_gt",
         Meaning::Binary(Binary::Compare(Family::And, Relation::Gt)),
     ),
     ("sql", Meaning::Nullary(Nullary::Sql)),
+    ("query", Meaning::Nullary(Nullary::Query)),
+    ("query_values", Meaning::Nullary(Nullary::QueryValues)),
+    ("subquery", Meaning::Nullary(Nullary::Subquery)),
+    ("subquery_as", Meaning::Unary(Unary::SubqueryAs)),
 ];
 
 // A table of references, which is what the code has; `find_in` says the same of the names.

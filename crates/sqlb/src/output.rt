@@ -1,5 +1,6 @@
 //! Writes texts and faults.
-ghost use Rattle.std.specs.Prelude.{◌≡◌, ◌≤◌, ℕ, List, ◌++◌, false, flat_map, codes, decimal, drop};
+ghost use Rattle.std.specs.Prelude.{◌≡◌, ◌≤◌, ℕ, List, ◌++◌};
+ghost use Rattle.std.specs.Prelude.{codes, decimal, drop, false, flat_map};
 ghost use Rattle.std.specs.Io.KnownBytes.{Appends};
 ghost use Rattle.sqlb.specs.Device.{Wrote};
 ghost use Rattle.sqlb.specs.Fault.{fault_text};

@@ -4,10 +4,10 @@ ghost use Rattle.sqlb.specs.Lines.{command_of};
 ghost use Rattle.sqlb.specs.Output.{answer};
 ghost use Rattle.sqlb.specs.Script.{Answers, open_after};
 
-use crate::calls::{Call, Finish, Start, run};
 use crate::fault::Reason;
 use crate::lines::{Command, LineError, read_line};
-use sql_parts::SqlBuilderError;
+use sql_builder::SqlBuilderError;
+use sql_builder::calls::{Call, Finish, Start, run};
 use std::alloc::Global;
 use std::marker::Model;
 
@@ -26,7 +26,7 @@ pub(crate) struct Script {
 
 impl Model for Script {
     ghost use Rattle.std.specs.Prelude.{Option, map, option_map};
-    ghost use Rattle.sqlb.specs.Answers.{call_text, start_text};
+    ghost use Rattle.sql_builder.specs.Answers.{call_text, start_text};
     ghost use Rattle.sqlb.specs.Output.{OpenStatement};
 
     ghost Value = { Option OpenStatement };
@@ -38,7 +38,7 @@ impl Model for Script {
 }
 
 impl Script {
-    ghost use Rattle.sqlb.specs.Answers.{call_text, finish_text, start_text};
+    ghost use Rattle.sql_builder.specs.Answers.{call_text, finish_text, start_text};
     ghost use Rattle.sqlb.specs.Lines.{Starts, Calls, Finishes};
 
     /// No statement is open.

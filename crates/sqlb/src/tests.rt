@@ -2,13 +2,11 @@
 //! does where a reader or a writer fails.
 ghost use Rattle.std.specs.Prelude.{◌<◌, ◌≤◌};
 
-use crate::builder::SqlBuilder;
-use crate::calls::{Call, Condition, Family, Finish, Relation, Start, run};
 use crate::fault::{Fault, Reason};
 use crate::output::write_fault;
 use crate::run::{run_flushed, run_input};
 use crate::watched::Watched;
-use sql_parts::SqlBuilderError;
+use sql_builder::SqlBuilderError;
 use std::alloc::{AllocError, Global};
 use std::io;
 use std::io::{BufWriter, ErrorKind, Read, Write};
@@ -113,7 +111,7 @@ impl Write for Small {
 /// An input, what it prints, the line of its fault, and the exit status.
 type Row = (&'static [u8], &'static [u8], &'static [u8], u8);
 
-const ROWS: [Row; 18] = [
+const ROWS: [Row; 24] = [
     (
         b"select_from\tcompany\nfield\tid\nfield\tname\nand_where_gt\tsalary\t25000\nsql\n",
         b"SELECT id, name FROM company WHERE salary > 25000;\n",
@@ -137,8 +135,41 @@ const ROWS: [Row; 18] = [
     (b"select_from\t\nsql\n", b"", b"line 2: No table name\n", 1),
     (b"\xff", b"", b"line 1: not UTF-8\n", 1),
     (b"", b"", b"", 0),
-    (b"limit\n", b"", b"line 1: unknown call\n", 1),
+    (b"limit\n", b"", b"line 1: wrong arguments\n", 1),
     (b"field\n", b"", b"line 1: wrong arguments\n", 1),
+    (
+        b"select_from\tt\norder_by\ta\tmaybe\nsql\n",
+        b"",
+        b"line 2: wrong arguments\n",
+        1,
+    ),
+    (
+        b"select_from\tt\norder_by\ta\ttrue\norder_by\tb\tfalse\nsql\n",
+        b"SELECT * FROM t ORDER BY a DESC, b;\n",
+        b"",
+        0,
+    ),
+    (
+        b"select_from\tt\norder_by\ta\n",
+        b"",
+        b"line 2: wrong arguments\n",
+        1,
+    ),
+    // A finish prints what it is, and no more than its text.
+    (
+        b"select_values\t1\t'a'\nquery_values\nselect_from\tt\nlimit\t3\nsubquery_as\ts\n",
+        b"SELECT 1, 'a'\n(SELECT * FROM t LIMIT 3) AS s\n",
+        b"",
+        0,
+    ),
+    // Each kind of statement is refused for its own reason.
+    (b"select_values\nsql\n", b"", b"line 2: No values\n", 1),
+    (
+        b"update_table\tt\nsql\n",
+        b"",
+        b"line 2: No set fields\n",
+        1,
+    ),
     (b"\nsql\n", b"", b"line 1: unknown call\n", 1),
     (
         b"select_from\tt\nand_where\ta\nand_where\tb\nsql\n",
@@ -348,55 +379,5 @@ fn watched_gives_the_answers_of_what_it_holds(rt: HostRuntime) -> Result<(), Fai
     let mut full = Watched::new(Small::new(0, 3, 0));
     assert_eq!(rt; full.write(b"a")?, 0);
     assert!(rt; full.failed());
-    Ok(())
-}
-
-#[test]
-fn builds_a_statement_by_a_chain(rt: HostRuntime) -> Result<(), Fail> {
-    let text = SqlBuilder::select_from(rt.alloc(), "company")?
-        .field("id")?
-        .field("name")?
-        .and_where_gt("salary", 25_000)?
-        .sql()?;
-    let wanted = "SELECT id, name FROM company WHERE salary > 25000;";
-    assert_eq!(rt; text.as_str(), wanted);
-
-    let text = SqlBuilder::select_from(rt.alloc(), "company")?
-        .field("id")?
-        .fields(&["name", "age"])?
-        .and_where_gt("salary", 25_000)?
-        .and_where("age < 30 OR age > 60")?
-        .sql()?;
-    let wanted =
-        "SELECT id, name, age FROM company WHERE (salary > 25000) AND (age < 30 OR age > 60);";
-    assert_eq!(rt; text.as_str(), wanted);
-    Ok(())
-}
-
-#[test]
-fn an_empty_table_is_refused(rt: HostRuntime) -> Result<(), Fail> {
-    let refusal = SqlBuilder::select_from(rt.alloc(), "")?.sql();
-    assert!(rt; matches!(&refusal, Err(SqlBuilderError::NoTableName)));
-    Ok(())
-}
-
-#[test]
-fn runs_a_list_of_calls(rt: HostRuntime) -> Result<(), Fail> {
-    let text = |s: &str| String::from_str(rt.alloc(), s);
-    let calls = vec![in rt.alloc();
-        Call::Fields(vec![in rt.alloc(); text("a")?, text("b")?]?),
-        Call::Field(text("c")?),
-        Call::Cond(Family::And, Condition::Raw(text("d")?)),
-        Call::Cond(
-            Family::And,
-            Condition::Compare(Relation::Gt, text("e")?, text("1")?)
-        ),
-    ]?;
-    let start = Start::SelectFrom(text("t")?);
-    let statement = run(rt.alloc(), &start, &calls, &Finish::Sql)?;
-    assert_eq!(rt;
-        statement.as_str(),
-        "SELECT a, b, c FROM t WHERE (d) AND (e > 1);"
-    );
     Ok(())
 }
