@@ -367,9 +367,9 @@ impl SqlBuilder {
         ensures text { IfOk result (λ s. string_bytes s ≡ query byte_atoms self.now) }
         ensures memory { FailsOnlyByMemory result }
     {
-        let mut out = String::new(self.alloc);
-        self.push_query(&mut out)?;
-        Ok(out)
+        let mut query = String::new(self.alloc);
+        self.push_query(&mut query)?;
+        Ok(query)
     }
 
     /// `SELECT` and the fields, nothing else, on a builder of any kind.
@@ -387,10 +387,10 @@ impl SqlBuilder {
         ensures text { IfOk result (λ s. string_bytes s ≡ subquery byte_atoms self.now) }
         ensures memory { FailsOnlyByMemory result }
     {
-        let mut out = String::from_str(self.alloc, "(")?;
-        self.push_query(&mut out)?;
-        out.push_str(")")?;
-        Ok(out)
+        let mut subquery = String::from_str(self.alloc, "(")?;
+        self.push_query(&mut subquery)?;
+        subquery.push_str(")")?;
+        Ok(subquery)
     }
 
     /// The query in brackets, `AS` and the name.
