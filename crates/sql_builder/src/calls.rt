@@ -181,7 +181,8 @@ pub enum Finish {
 }
 
 fn begin(alloc: Global, start: &Start) -> Result<SqlBuilder, SqlBuilderError>
-    ensures made { IfOk result (λ b. b ≡ map_clauses pieces_text (clauses (start_text start.now) [])) }
+    ensures made { IfOk result (λ b. b
+        ≡ map_clauses pieces_text (clauses (start_text start.now) [])) }
     ensures memory { FailsOnlyByMemory result }
 {
     match start {
@@ -289,7 +290,8 @@ fn build(alloc: Global, start: &Start, calls: &[Call]) -> Result<SqlBuilder, Sql
 }
 
 fn print(builder: &SqlBuilder, finish: &Finish) -> Result<String, SqlBuilderError>
-    ensures text { IfOk result (λ s. string_bytes s ≡ text_at (finish_text finish.now) builder.now) }
+    ensures text { IfOk result (λ s. string_bytes s
+        ≡ text_at (finish_text finish.now) builder.now) }
     ensures refused { IfSome (refusal_at (finish_text finish.now) builder.now)
         (λ refusal. result ≡ Err refusal) }
     ensures memory { IsNone (refusal_at (finish_text finish.now) builder.now)

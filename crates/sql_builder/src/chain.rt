@@ -24,7 +24,8 @@ impl SqlBuilder {
         release(self.hold_text(TextClause::AndTable, table))
     }
 
-    /// Adds a join with this table, NATURAL where `natural` waits for it, with the operator in force.
+    /// Adds a join with this table, with the operator in force, and NATURAL where `natural` waits
+    /// for it; no later join is then NATURAL by that `natural`.
     pub fn join<S: ToText>(&mut self, table: S) -> Result<&mut Self, SqlBuilderError>
         ensures* refused { sem 𝓛 (IsUnchangedIfErr self.entry result) }
         ensures changed { IsChangedTo self.entry (with_join (S.text table) self.old) result }
@@ -42,8 +43,8 @@ impl SqlBuilder {
         release(self.hold_text(TextClause::On, constraint))
     }
 
-    /// Adds the constraint `left = right` to the last join. Without a join it does nothing, and takes
-    /// no memory.
+    /// Adds the constraint `left = right` to the last join. Without a join it does nothing, and
+    /// takes no memory.
     pub fn on_eq<S: ToText, T: ToText>(
         &mut self,
         left: S,
@@ -135,7 +136,8 @@ impl SqlBuilder {
         release(self.hold_pair(PairClause::SetTo, field, value))
     }
 
-    /// Adds `field = 'value'` to what UPDATE sets, the value between single quotes as `quote` writes it.
+    /// Adds `field = 'value'` to what UPDATE sets, the value between single quotes as `quote`
+    /// writes it.
     pub fn set_str<S: ToText, T: ToText>(
         &mut self,
         field: S,
@@ -143,7 +145,8 @@ impl SqlBuilder {
     ) -> Result<&mut Self, SqlBuilderError>
         ensures* refused { sem 𝓛 (IsUnchangedIfErr self.entry result) }
         ensures changed { IsChangedTo self.entry
-            (with_set (equation byte_atoms (S.text field) (quoted (T.text value))) self.old) result }
+            (with_set (equation byte_atoms (S.text field) (quoted (T.text value))) self.old)
+            result }
         ensures memory { FailsOnlyByMemory result }
     {
         release(self.hold_pair(PairClause::SetStr, field, value))

@@ -97,7 +97,8 @@ pub(crate) fn copy_joins(alloc: Global, joins: &[Join]) -> Result<Vec<Join>, Sql
 }
 
 pub(crate) fn copy_unions(alloc: Global, unions: &[Union]) -> Result<Vec<Union>, SqlBuilderError>
-    ensures copied { IfOk result (λ copied. map union_text copied.items ≡ map union_text unions.now) }
+    ensures copied { IfOk result (λ copied. map union_text copied.items
+        ≡ map union_text unions.now) }
     ensures memory { FailsOnlyByMemory result }
 {
     let mut copied = Vec::with_capacity(alloc, unions.len())?;

@@ -15,7 +15,8 @@ use std::alloc::AllocError;
 // Each text, with `before` in front of it.
 #[tactic(auto, using(crate::proofs::Printed::one_more, std::proofs::lemmas::List::append_assoc))]
 fn push_each(out: &mut String, before: &str, parts: &[String]) -> Result<(), AllocError>
-    ensures { Adds result out.old out.new (flat_map (λ part. before.now ++ part) (texts parts.now)) }
+    ensures { Adds result out.old out.new
+        (flat_map (λ part. before.now ++ part) (texts parts.now)) }
 {
     for part in parts {
         out.push_str(before)?;
@@ -137,7 +138,8 @@ fn push_joins(out: &mut String, joins: &[Join]) -> Result<(), AllocError>
 }
 
 fn push_union(out: &mut String, union: &Union) -> Result<(), AllocError>
-    ensures { Adds result out.old out.new (union_opening union.now.all ++ string_bytes union.now.query) }
+    ensures { Adds result out.old out.new
+        (union_opening union.now.all ++ string_bytes union.now.query) }
 {
     out.push_str(if union.all { " UNION ALL " } else { " UNION " })?;
     out.push_str(union.query.as_str())?;
@@ -322,7 +324,8 @@ impl SqlBuilder {
 
 #[tactic(auto, using(crate::proofs::Printed::no_table))]
 fn has_no_table(table: &str, further: &[String]) -> bool
-    ensures { result ≡ nat_eq (length (table.now ++ flat_map (further_table byte_atoms) (texts further.now))) 0 }
+    ensures { result ≡ nat_eq
+        (length (table.now ++ flat_map (further_table byte_atoms) (texts further.now))) 0 }
 {
     table.is_empty() && further.is_empty()
 }
@@ -367,9 +370,9 @@ impl SqlBuilder {
         ensures text { IfOk result (λ s. string_bytes s ≡ query byte_atoms self.now) }
         ensures memory { FailsOnlyByMemory result }
     {
-        let mut out = String::new(self.alloc);
-        self.push_query(&mut out)?;
-        Ok(out)
+        let mut query = String::new(self.alloc);
+        self.push_query(&mut query)?;
+        Ok(query)
     }
 
     /// `SELECT` and the fields, nothing else, on a builder of any kind.
@@ -387,10 +390,10 @@ impl SqlBuilder {
         ensures text { IfOk result (λ s. string_bytes s ≡ subquery byte_atoms self.now) }
         ensures memory { FailsOnlyByMemory result }
     {
-        let mut out = String::from_str(self.alloc, "(")?;
-        self.push_query(&mut out)?;
-        out.push_str(")")?;
-        Ok(out)
+        let mut subquery = String::from_str(self.alloc, "(")?;
+        self.push_query(&mut subquery)?;
+        subquery.push_str(")")?;
+        Ok(subquery)
     }
 
     /// The query in brackets, `AS` and the name.

@@ -312,7 +312,8 @@ impl SqlBuilder {
         first: S,
         second: T,
     ) -> Result<(), SqlBuilderError>
-        ensures ok { OnOk result (self.new ≡ with_pair clause (S.text first) (T.text second) self.old) }
+        ensures ok { OnOk result (self.new
+            ≡ with_pair clause (S.text first) (T.text second) self.old) }
         ensures err { OnErr result (self.new ≡ self.old) }
         ensures memory { IfErr result (RefusesPair clause self.old) }
     {
@@ -358,7 +359,8 @@ impl SqlBuilder {
         text: S,
     ) -> Result<Held<'_>, SqlBuilderError>
         ensures* refused { sem 𝓛 (IsUnchangedIfHeldErr self.entry result) }
-        ensures changed { IsHeldChangedTo self.entry (with_text clause (S.text text) self.old) result }
+        ensures changed { IsHeldChangedTo self.entry
+            (with_text clause (S.text text) self.old) result }
         ensures memory { IfErr result (RefusesText clause self.old) }
     {
         self.push_text(clause, text)?;

@@ -1,1 +1,726 @@
-//! What no clause says: that calls succeed where there is memory.
+//! What no clause says: that calls succeed where there is memory, and what they print.
+ghost use Rattle.std.specs.Prelude.{codes, ◌++◌};
+ghost use Rattle.sql_parts.specs.Text.{decimal_text};
+
+use crate::calls::{Call, Condition, Family, Finish, Relation, Start, run};
+use crate::prelude::{SqlBuilder, ToText, quote};
+use crate::{SqlBuilderError, laws};
+use std::alloc::Global;
+use std::test::Fail;
+
+/// The name of a call, and the texts that it is handed.
+type Words = &'static [&'static str];
+
+/// A start, the calls after it, a finish, and the text that they make or the message of a refusal.
+type Row = (
+    Words,
+    &'static [Words],
+    Words,
+    Result<&'static str, &'static str>,
+);
+
+const SQL: Words = &["sql"];
+
+const QUERY: Words = &["query"];
+
+const EMPTY: [Row; 12] = [
+    (&["select_from", ""], &[], SQL, Err("No table name")),
+    (&["select_from", ""], &[], QUERY, Ok("SELECT * FROM ")),
+    (&["update_table", ""], &[], SQL, Err("No table name")),
+    (&["update_table", "t"], &[], SQL, Err("No set fields")),
+    (
+        &["select_from", ""],
+        &[&["and_table", "t"]],
+        SQL,
+        Ok("SELECT * FROM , t;"),
+    ),
+    (&["insert_into", "t"], &[], SQL, Err("No values")),
+    (
+        &["insert_into", "t"],
+        &[&["values"]],
+        SQL,
+        Ok("INSERT INTO t () VALUES ();"),
+    ),
+    (&["insert_into", "t"], &[], QUERY, Ok("SELECT * FROM t")),
+    (&["insert_into", ""], &[], SQL, Err("No table name")),
+    (&["select_values"], &[], SQL, Err("No values")),
+    (&["select_values"], &[], &["query_values"], Ok("SELECT ")),
+    (&["select_values"], &[], QUERY, Ok("SELECT * FROM ")),
+];
+
+const JOINS: [Row; 4] = [
+    (
+        &["select_from", "a"],
+        &[
+            &["left"],
+            &["join", "b"],
+            &["join", "c"],
+            &["on", "x"],
+            &["on", "y"],
+        ],
+        SQL,
+        Ok("SELECT * FROM a LEFT JOIN b LEFT JOIN c ON x ON y;"),
+    ),
+    (
+        &["select_from", "a"],
+        &[&["on", "x"], &["natural"], &["join", "b"], &["join", "c"]],
+        SQL,
+        Ok("SELECT * FROM a NATURAL JOIN b JOIN c;"),
+    ),
+    (
+        &["select_from", "a"],
+        &[&["on_eq", "x", "y"], &["cross"], &["join", "b"]],
+        SQL,
+        Ok("SELECT * FROM a CROSS JOIN b;"),
+    ),
+    (
+        &["select_from", "a"],
+        &[
+            &["natural"],
+            &["left"],
+            &["join", "b"],
+            &["on_eq", "x", "y"],
+            &["cross"],
+            &["join", "c"],
+        ],
+        SQL,
+        Ok("SELECT * FROM a NATURAL LEFT JOIN b ON x = y CROSS JOIN c;"),
+    ),
+];
+
+const CLAUSES: [Row; 15] = [
+    (
+        &["select_from", "a"],
+        &[&["order_asc", "x"], &["union", "SELECT 1"], &["limit", "3"]],
+        SQL,
+        Ok("SELECT * FROM a UNION SELECT 1 LIMIT 3;"),
+    ),
+    (
+        &["insert_into", "t"],
+        &[&["field", "a"], &["values", "1"], &["select", "SELECT 2"]],
+        SQL,
+        Ok("INSERT INTO t (a) SELECT 2;"),
+    ),
+    (
+        &["insert_into", "t"],
+        &[
+            &["field", "a"],
+            &["values", "1"],
+            &["select", "SELECT 2"],
+            &["values", "3"],
+        ],
+        SQL,
+        Ok("INSERT INTO t (a) VALUES (3);"),
+    ),
+    (
+        &["delete_from", "t"],
+        &[&["returning_id"]],
+        SQL,
+        Ok("DELETE FROM t;"),
+    ),
+    (
+        &["select_from", "t"],
+        &[&["having", "a > 1"]],
+        SQL,
+        Ok("SELECT * FROM t;"),
+    ),
+    (
+        &["select_from", "t"],
+        &[&["having", "a > 1"], &["group_by", "a"]],
+        SQL,
+        Ok("SELECT * FROM t GROUP BY a HAVING a > 1;"),
+    ),
+    (
+        &["select_from", "books"],
+        &[&["field", "title"]],
+        &["subquery_as", "b"],
+        Ok("(SELECT title FROM books) AS b"),
+    ),
+    (
+        &["select_from", "t"],
+        &[
+            &["distinct"],
+            &["field", "a"],
+            &["set_fields", "b", "c"],
+            &["count", "d"],
+        ],
+        SQL,
+        Ok("SELECT DISTINCT b, c, COUNT(d) FROM t;"),
+    ),
+    (
+        &["select_from", "t"],
+        &[
+            &["field", "a"],
+            &["set_field", "b"],
+            &["count_as", "c", "n"],
+        ],
+        SQL,
+        Ok("SELECT b, COUNT(c) AS n FROM t;"),
+    ),
+    (
+        &["select_from", "t"],
+        &[
+            &["order_by", "a", "true"],
+            &["order_by", "b", "false"],
+            &["offset", "2"],
+        ],
+        SQL,
+        Ok("SELECT * FROM t ORDER BY a DESC, b OFFSET 2;"),
+    ),
+    (
+        &["select_from", "t"],
+        &[
+            &["order_asc", "a"],
+            &["order_desc", "b"],
+            &["limit", "1"],
+            &["limit", "2"],
+        ],
+        SQL,
+        Ok("SELECT * FROM t ORDER BY a, b DESC LIMIT 2;"),
+    ),
+    (
+        &["select_from", "t"],
+        &[
+            &["fields", "a", "b"],
+            &["field", "c"],
+            &["fields"],
+            &["and_where", "a OR b"],
+        ],
+        SQL,
+        Ok("SELECT a, b, c FROM t WHERE a OR b;"),
+    ),
+    (
+        &["update_table", "t"],
+        &[&["set", "a", "1"], &["limit", "3"]],
+        SQL,
+        Ok("UPDATE t SET a = 1;"),
+    ),
+    (
+        &["update_table", "t"],
+        &[
+            &["set_str", "a", "it's"],
+            &["set", "b", "c"],
+            &["returning", "a, b"],
+        ],
+        SQL,
+        Ok("UPDATE t SET a = 'it''s', b = c RETURNING a, b;"),
+    ),
+    (
+        &["select_from", "books"],
+        &[
+            &["field", "price"],
+            &["count_as", "price", "cnt"],
+            &["and_where", "price > 1"],
+            &["group_by", "price"],
+            &["having", "cnt > 2"],
+            &["order_desc", "cnt"],
+        ],
+        SQL,
+        Ok(
+            "SELECT price, COUNT(price) AS cnt FROM books WHERE price > 1 GROUP BY price HAVING \
+                cnt > 2 ORDER BY cnt DESC;",
+        ),
+    ),
+];
+
+/// One call of each case.
+const EVERY_CALL: &[Words] = &[
+    &["distinct"],
+    &["and_table", "u"],
+    &["natural"],
+    &["left"],
+    &["join", "a"],
+    &["on", "x"],
+    &["on_eq", "y", "z"],
+    &["left_outer"],
+    &["join", "b"],
+    &["right"],
+    &["join", "c"],
+    &["right_outer"],
+    &["join", "d"],
+    &["inner"],
+    &["join", "e"],
+    &["cross"],
+    &["join", "f"],
+    &["fields", "g", "h"],
+    &["set_fields", "i", "j"],
+    &["set_field", "k"],
+    &["field", "l"],
+    &["count", "m"],
+    &["count_as", "n", "o"],
+    &["set", "p", "1"],
+    &["set_str", "q", "it's"],
+    &["select", "SELECT 3"],
+    &["values", "4", "5"],
+    &["values", "6"],
+    &["returning", "p"],
+    &["returning_id"],
+    &["and_where", "r"],
+    &["and_where_gt", "s", "7"],
+    &["group_by", "v"],
+    &["group_by", "w"],
+    &["having", "x > 8"],
+    &["union", "SELECT 9"],
+    &["union_all", "SELECT 10"],
+    &["order_by", "y", "true"],
+    &["order_asc", "z"],
+    &["order_desc", "z"],
+    &["limit", "11"],
+    &["offset", "12"],
+];
+
+/// Each start and each finish, and what they make of one call of each case.
+const EVERY_START_AND_FINISH: [(Words, Words, &str); 9] = [
+    (
+        &["select_from", "t"],
+        SQL,
+        "SELECT DISTINCT k, l, COUNT(m), COUNT(n) AS o FROM t, u NATURAL LEFT JOIN a ON x ON y = \
+            z LEFT OUTER JOIN b RIGHT JOIN c RIGHT OUTER JOIN d INNER JOIN e CROSS JOIN f WHERE \
+            (r) AND (s > 7) GROUP BY v, w HAVING x > 8 UNION SELECT 9 UNION ALL SELECT 10 LIMIT \
+            11 OFFSET 12;",
+    ),
+    (
+        &["select_values", "1"],
+        SQL,
+        "SELECT k, l, COUNT(m), COUNT(n) AS o;",
+    ),
+    (
+        &["insert_into", "t"],
+        SQL,
+        "INSERT INTO t, u (k, l, COUNT(m), COUNT(n) AS o) VALUES (4, 5), (6) RETURNING id;",
+    ),
+    (
+        &["update_table", "t"],
+        SQL,
+        "UPDATE t, u SET p = 1, q = 'it''s' WHERE (r) AND (s > 7) RETURNING id;",
+    ),
+    (
+        &["delete_from", "t"],
+        SQL,
+        "DELETE FROM t, u WHERE (r) AND (s > 7);",
+    ),
+    (
+        &["delete_from", "t"],
+        QUERY,
+        "SELECT DISTINCT k, l, COUNT(m), COUNT(n) AS o FROM t, u NATURAL LEFT JOIN a ON x ON y = \
+            z LEFT OUTER JOIN b RIGHT JOIN c RIGHT OUTER JOIN d INNER JOIN e CROSS JOIN f WHERE \
+            (r) AND (s > 7) GROUP BY v, w HAVING x > 8 UNION SELECT 9 UNION ALL SELECT 10 LIMIT \
+            11 OFFSET 12",
+    ),
+    (
+        &["select_from", "t"],
+        &["query_values"],
+        "SELECT k, l, COUNT(m), COUNT(n) AS o",
+    ),
+    (
+        &["select_from", "t"],
+        &["subquery"],
+        "(SELECT DISTINCT k, l, COUNT(m), COUNT(n) AS o FROM t, u NATURAL LEFT JOIN a ON x ON y \
+            = z LEFT OUTER JOIN b RIGHT JOIN c RIGHT OUTER JOIN d INNER JOIN e CROSS JOIN f \
+            WHERE (r) AND (s > 7) GROUP BY v, w HAVING x > 8 UNION SELECT 9 UNION ALL SELECT 10 \
+            LIMIT 11 OFFSET 12)",
+    ),
+    (
+        &["select_from", "t"],
+        &["subquery_as", "s"],
+        "(SELECT DISTINCT k, l, COUNT(m), COUNT(n) AS o FROM t, u NATURAL LEFT JOIN a ON x ON y \
+            = z LEFT OUTER JOIN b RIGHT JOIN c RIGHT OUTER JOIN d INNER JOIN e CROSS JOIN f \
+            WHERE (r) AND (s > 7) GROUP BY v, w HAVING x > 8 UNION SELECT 9 UNION ALL SELECT 10 \
+            LIMIT 11 OFFSET 12) AS s",
+    ),
+];
+
+/// What no call of these tests is refused with: a name that they do not know.
+const UNKNOWN: SqlBuilderError = SqlBuilderError::NoArguments;
+
+fn begin(alloc: Global, start: &[&str]) -> Result<SqlBuilder, SqlBuilderError> {
+    match start {
+        ["select_from", table] => SqlBuilder::select_from(alloc, table),
+        ["select_values", values @ ..] => SqlBuilder::select_values(alloc, values),
+        ["insert_into", table] => SqlBuilder::insert_into(alloc, table),
+        ["update_table", table] => SqlBuilder::update_table(alloc, table),
+        ["delete_from", table] => SqlBuilder::delete_from(alloc, table),
+        _ => Err(UNKNOWN),
+    }
+}
+
+fn tell_one(builder: &mut SqlBuilder, name: &str, text: &str) -> Result<(), SqlBuilderError> {
+    match name {
+        "and_table" => builder.and_table(text)?,
+        "join" => builder.join(text)?,
+        "on" => builder.on(text)?,
+        "field" => builder.field(text)?,
+        "set_field" => builder.set_field(text)?,
+        "count" => builder.count(text)?,
+        "select" => builder.select(text)?,
+        "returning" => builder.returning(text)?,
+        "group_by" => builder.group_by(text)?,
+        "having" => builder.having(text)?,
+        "union" => builder.union(text)?,
+        "union_all" => builder.union_all(text)?,
+        "order_asc" => builder.order_asc(text)?,
+        "order_desc" => builder.order_desc(text)?,
+        "limit" => builder.limit(text)?,
+        "offset" => builder.offset(text)?,
+        "and_where" => builder.and_where(text)?,
+        _ => return Err(UNKNOWN),
+    };
+    Ok(())
+}
+
+fn tell(builder: &mut SqlBuilder, call: &[&str]) -> Result<(), SqlBuilderError> {
+    match call {
+        ["natural"] => builder.natural(),
+        ["left"] => builder.left(),
+        ["left_outer"] => builder.left_outer(),
+        ["right"] => builder.right(),
+        ["right_outer"] => builder.right_outer(),
+        ["inner"] => builder.inner(),
+        ["cross"] => builder.cross(),
+        ["distinct"] => builder.distinct(),
+        ["returning_id"] => builder.returning_id()?,
+        ["fields", fields @ ..] => builder.fields(fields)?,
+        ["set_fields", fields @ ..] => builder.set_fields(fields)?,
+        ["values", values @ ..] => builder.values(values)?,
+        ["on_eq", left, right] => builder.on_eq(left, right)?,
+        ["count_as", field, name] => builder.count_as(field, name)?,
+        ["set", field, value] => builder.set(field, value)?,
+        ["set_str", field, value] => builder.set_str(field, value)?,
+        ["order_by", field, descending] => builder.order_by(field, *descending == "true")?,
+        ["and_where_gt", field, value] => builder.and_where_gt(field, value)?,
+        [name, text] => return tell_one(builder, name, text),
+        _ => return Err(UNKNOWN),
+    };
+    Ok(())
+}
+
+fn print(builder: &SqlBuilder, finish: &[&str]) -> Result<String, SqlBuilderError> {
+    match finish {
+        ["sql"] => builder.sql(),
+        ["query"] => builder.query(),
+        ["query_values"] => builder.query_values(),
+        ["subquery"] => builder.subquery(),
+        ["subquery_as", name] => builder.subquery_as(name),
+        _ => Err(UNKNOWN),
+    }
+}
+
+/// What the calls of a builder make.
+fn made_by_calls(
+    alloc: Global,
+    start: &[&str],
+    calls: &[Words],
+    finish: &[&str],
+) -> Result<String, SqlBuilderError> {
+    let mut builder = begin(alloc, start)?;
+    for call in calls {
+        tell(&mut builder, call)?;
+    }
+    print(&builder, finish)
+}
+
+fn texts(alloc: Global, items: &[&str]) -> Result<Vec<String>, SqlBuilderError> {
+    let mut texts = Vec::new(alloc);
+    for item in items {
+        texts.push(String::from_str(alloc, item)?)?;
+    }
+    Ok(texts)
+}
+
+fn start_value(alloc: Global, start: &[&str]) -> Result<Start, SqlBuilderError> {
+    let text = |s: &str| String::from_str(alloc, s);
+    Ok(match start {
+        ["select_from", table] => Start::SelectFrom(text(table)?),
+        ["select_values", values @ ..] => Start::SelectValues(texts(alloc, values)?),
+        ["insert_into", table] => Start::InsertInto(text(table)?),
+        ["update_table", table] => Start::UpdateTable(text(table)?),
+        ["delete_from", table] => Start::DeleteFrom(text(table)?),
+        _ => return Err(UNKNOWN),
+    })
+}
+
+fn bare_call(name: &str) -> Result<Call, SqlBuilderError> {
+    Ok(match name {
+        "natural" => Call::Natural,
+        "left" => Call::Left,
+        "left_outer" => Call::LeftOuter,
+        "right" => Call::Right,
+        "right_outer" => Call::RightOuter,
+        "inner" => Call::Inner,
+        "cross" => Call::Cross,
+        "distinct" => Call::Distinct,
+        "returning_id" => Call::ReturningId,
+        _ => return Err(UNKNOWN),
+    })
+}
+
+fn call_of_one(name: &str, text: String) -> Result<Call, SqlBuilderError> {
+    Ok(match name {
+        "and_table" => Call::AndTable(text),
+        "join" => Call::Join(text),
+        "on" => Call::On(text),
+        "field" => Call::Field(text),
+        "set_field" => Call::SetField(text),
+        "count" => Call::Count(text),
+        "select" => Call::Select(text),
+        "returning" => Call::Returning(text),
+        "group_by" => Call::GroupBy(text),
+        "having" => Call::Having(text),
+        "union" => Call::Union(text),
+        "union_all" => Call::UnionAll(text),
+        "order_asc" => Call::OrderAsc(text),
+        "order_desc" => Call::OrderDesc(text),
+        "limit" => Call::Limit(text),
+        "offset" => Call::Offset(text),
+        "and_where" => Call::Cond(Family::And, Condition::Raw(text)),
+        _ => return Err(UNKNOWN),
+    })
+}
+
+fn call_of_two(name: &str, first: String, second: String) -> Result<Call, SqlBuilderError> {
+    Ok(match name {
+        "on_eq" => Call::OnEq(first, second),
+        "count_as" => Call::CountAs(first, second),
+        "set" => Call::SetTo(first, second),
+        "set_str" => Call::SetStr(first, second),
+        "order_by" => Call::OrderBy(first, second.as_str() == "true"),
+        "and_where_gt" => Call::Cond(Family::And, Condition::Compare(Relation::Gt, first, second)),
+        _ => return Err(UNKNOWN),
+    })
+}
+
+fn call_value(alloc: Global, call: &[&str]) -> Result<Call, SqlBuilderError> {
+    let text = |s: &str| String::from_str(alloc, s);
+    match call {
+        ["fields", fields @ ..] => Ok(Call::Fields(texts(alloc, fields)?)),
+        ["set_fields", fields @ ..] => Ok(Call::SetFields(texts(alloc, fields)?)),
+        ["values", values @ ..] => Ok(Call::Values(texts(alloc, values)?)),
+        [name] => bare_call(name),
+        [name, only] => call_of_one(name, text(only)?),
+        [name, first, second] => call_of_two(name, text(first)?, text(second)?),
+        _ => Err(UNKNOWN),
+    }
+}
+
+fn finish_value(alloc: Global, finish: &[&str]) -> Result<Finish, SqlBuilderError> {
+    Ok(match finish {
+        ["sql"] => Finish::Sql,
+        ["query"] => Finish::Query,
+        ["query_values"] => Finish::QueryValues,
+        ["subquery"] => Finish::Subquery,
+        ["subquery_as", name] => Finish::SubqueryAs(String::from_str(alloc, name)?),
+        _ => return Err(UNKNOWN),
+    })
+}
+
+/// What `run` makes of the calls as values.
+fn made_by_run(
+    alloc: Global,
+    start: &[&str],
+    calls: &[Words],
+    finish: &[&str],
+) -> Result<String, SqlBuilderError> {
+    let start = start_value(alloc, start)?;
+    let mut values = Vec::new(alloc);
+    for call in calls {
+        values.push(call_value(alloc, call)?)?;
+    }
+    let finish = finish_value(alloc, finish)?;
+    run(alloc, &start, &values, &finish)
+}
+
+/// Whether this text was made, or the refusal has this message.
+fn is_wanted(made: &Result<String, SqlBuilderError>, wanted: &Result<&str, &str>) -> bool {
+    match (made, wanted) {
+        (Ok(text), Ok(wanted)) => text.as_str() == *wanted,
+        (Err(error), Err(message)) => error.message() == *message,
+        _ => false,
+    }
+}
+
+#[test]
+fn makes_what_the_rows_say(rt: HostRuntime) -> Result<(), Fail> {
+    let heap = rt.alloc();
+    for (table, rows) in [EMPTY.as_slice(), &JOINS, &CLAUSES].iter().enumerate() {
+        for (row, (start, calls, finish, wanted)) in rows.iter().enumerate() {
+            let made = made_by_calls(heap, start, calls, finish);
+            assert!(rt;
+                is_wanted(&made, wanted),
+                "by calls, table {table}, row {row}"
+            );
+            let made = made_by_run(heap, start, calls, finish);
+            assert!(rt;
+                is_wanted(&made, wanted),
+                "by run, table {table}, row {row}"
+            );
+        }
+    }
+    Ok(())
+}
+
+#[test]
+fn makes_every_call_after_every_start(rt: HostRuntime) -> Result<(), Fail> {
+    let heap = rt.alloc();
+    for (row, (start, finish, wanted)) in EVERY_START_AND_FINISH.iter().enumerate() {
+        let made = made_by_calls(heap, start, EVERY_CALL, finish)?;
+        assert_eq!(rt; made.as_str(), *wanted, "by calls, row {row}");
+        let made = made_by_run(heap, start, EVERY_CALL, finish)?;
+        assert_eq!(rt; made.as_str(), *wanted, "by run, row {row}");
+    }
+    Ok(())
+}
+
+/// A user's own type.
+#[derive(Drop)]
+struct Id(u32);
+
+impl ToText for Id {
+    ghost text = { λ id. codes "id" ++ decimal_text id.0 };
+
+    fn to_text(&self, alloc: Global) -> Result<String, SqlBuilderError> {
+        let mut text = String::from_str(alloc, "id")?;
+        text.push_str(self.0.to_text(alloc)?.as_str())?;
+        Ok(text)
+    }
+}
+
+#[test]
+fn takes_texts_of_many_types(rt: HostRuntime) -> Result<(), Fail> {
+    let heap = rt.alloc();
+    let table = String::from_str(heap, "t")?;
+    let name = String::from_str(heap, "n")?;
+    let made = SqlBuilder::select_from(heap, &table)?
+        .count_as(Id(1), name)?
+        .and_where_gt("salary", 25_000)?
+        .and_where(true)?
+        .limit(3u8)?
+        .offset(-1)?
+        .sql()?;
+    assert_eq!(rt;
+        made.as_str(),
+        "SELECT COUNT(id1) AS n FROM t WHERE (salary > 25000) AND (true) LIMIT 3 OFFSET -1;"
+    );
+    let made = SqlBuilder::update_table(heap, table)?
+        .set("a", true)?
+        .set_str(&Id(2), Id(3))?
+        .returning(Id(2))?
+        .sql()?;
+    assert_eq!(rt;
+        made.as_str(),
+        "UPDATE t SET a = true, id2 = 'id3' RETURNING id2;"
+    );
+    let made = SqlBuilder::insert_into(heap, Id(4))?
+        .fields(&[Id(5), Id(6)])?
+        .values(&[7, 8])?
+        .values(&[false, true])?
+        .sql()?;
+    assert_eq!(rt;
+        made.as_str(),
+        "INSERT INTO id4 (id5, id6) VALUES (7, 8), (false, true);"
+    );
+    Ok(())
+}
+
+#[test]
+fn puts_texts_of_one_builder_into_another(rt: HostRuntime) -> Result<(), Fail> {
+    let heap = rt.alloc();
+    let inner = SqlBuilder::select_from(heap, "books")?
+        .field("CASE WHEN p < 9 THEN 'a' ELSE 'b' END AS c")?
+        .subquery()?;
+    let made = SqlBuilder::select_from(heap, inner)?.field("c")?.sql()?;
+    assert_eq!(rt;
+        made.as_str(),
+        "SELECT c FROM (SELECT CASE WHEN p < 9 THEN 'a' ELSE 'b' END AS c FROM books);"
+    );
+    let added = SqlBuilder::select_values(heap, &["'Gatsby'", "124"])?.query_values()?;
+    let made = SqlBuilder::select_from(heap, "books")?
+        .field("title")?
+        .field("price")?
+        .order_desc("price")?
+        .union_all(added)?
+        .sql()?;
+    assert_eq!(rt;
+        made.as_str(),
+        "SELECT title, price FROM books UNION ALL SELECT 'Gatsby', 124;"
+    );
+    Ok(())
+}
+
+#[test]
+fn chains_calls(rt: HostRuntime) -> Result<(), Fail> {
+    let heap = rt.alloc();
+    let title = quote(heap, "Lost Time")?;
+    let made = SqlBuilder::insert_into(heap, "books")?
+        .field("title")?
+        .field("price")?
+        .values(&[title.as_str(), "150"])?
+        .values(&["'Don Quixote', 200"])?
+        .returning_id()?
+        .sql()?;
+    assert_eq!(rt;
+        made.as_str(),
+        "INSERT INTO books (title, price) VALUES ('Lost Time', 150), ('Don Quixote', 200) \
+            RETURNING id;"
+    );
+    let made = SqlBuilder::select_from(heap, "books AS b")?
+        .field("b.title")?
+        .left_outer()
+        .join("shops AS s")?
+        .on_eq("b.id", "s.book")?
+        .sql()?;
+    assert_eq!(rt;
+        made.as_str(),
+        "SELECT b.title FROM books AS b LEFT OUTER JOIN shops AS s ON b.id = s.book;"
+    );
+    let quoted = quote(heap, "100")?;
+    let made = SqlBuilder::select_values(heap, &["10", quoted.as_str()])?.sql()?;
+    assert_eq!(rt; made.as_str(), "SELECT 10, '100';");
+    Ok(())
+}
+
+#[test]
+fn a_clone_is_a_builder_of_its_own(rt: HostRuntime) -> Result<(), Fail> {
+    let heap = rt.alloc();
+    let mut first = SqlBuilder::select_from(heap, "a")?;
+    let mut second = first.natural().left().clone()?;
+    let made = second.join("b")?.sql()?;
+    assert_eq!(rt; made.as_str(), "SELECT * FROM a NATURAL LEFT JOIN b;");
+    let made = first.sql()?;
+    assert_eq!(rt; made.as_str(), "SELECT * FROM a;");
+    for (row, (start, finish, wanted)) in EVERY_START_AND_FINISH.iter().enumerate() {
+        let mut first = begin(heap, start)?;
+        for call in EVERY_CALL {
+            tell(&mut first, call)?;
+        }
+        let mut second = first.clone()?;
+        let made = print(&second, finish)?;
+        assert_eq!(rt; made.as_str(), *wanted, "clone of row {row}");
+        for call in EVERY_CALL {
+            tell(&mut second, call)?;
+        }
+        let made = print(&first, finish)?;
+        assert_eq!(rt; made.as_str(), *wanted, "original of row {row}");
+    }
+    Ok(())
+}
+
+#[test]
+fn a_constraint_without_a_join_is_dropped(rt: HostRuntime) -> Result<(), Fail> {
+    let heap = rt.alloc();
+    let mut builder = SqlBuilder::select_from(heap, "a")?;
+    assert!(rt; builder.on("x").is_ok());
+    assert!(rt; builder.on_eq("x", "y").is_ok());
+    let made = builder.join("b")?.sql()?;
+    assert_eq!(rt; made.as_str(), "SELECT * FROM a JOIN b;");
+    Ok(())
+}
+
+#[test]
+fn states_its_laws() {
+    laws::quoting_is_injective();
+    laws::fields_join();
+    laws::limit_counts_last();
+    laws::offset_counts_last();
+    laws::having_counts_last();
+    laws::returning_counts_last();
+}
