@@ -2,8 +2,9 @@
 use Rattle.std.specs.Prelude.{ℕ, ◌==◌, List, [], ◌∷◌, Bool, true, false, Option, Some, None, Result, Err, if◌then◌else◌, bytes_eq, codes, ok_or, option_map}
 use Rattle.std.specs.List.{slice_split}
 use Rattle.std.specs.Str.{is_utf8}
-use Rattle.sql_builder.specs.Calls as text
+use Rattle.sql_builder.specs.Calls as call
 use Rattle.sql_builder.specs.Calls.{StartText, CallText, FinishText}
+use Rattle.sql_builder.specs.Conditions as condition
 use Rattle.sqlb.specs.Names.{meaning_of}
 use Rattle.sqlb.specs.declared.fault.Reason.{Reason}
 use Rattle.sqlb.specs.declared.fault.Reason.TheVariants.{NotUtf8, UnknownCall, WrongArguments}
@@ -17,6 +18,10 @@ use Rattle.sqlb.specs.declared.names.Binary.{Binary}
 use Rattle.sqlb.specs.declared.names.Binary.TheVariants as binary
 use Rattle.sqlb.specs.declared.names.Flagged.{Flagged}
 use Rattle.sqlb.specs.declared.names.Flagged.TheVariants as flagged
+use Rattle.sqlb.specs.declared.names.Ternary.{Ternary}
+use Rattle.sqlb.specs.declared.names.Ternary.TheVariants as ternary
+use Rattle.sqlb.specs.declared.names.Listed.{Listed}
+use Rattle.sqlb.specs.declared.names.Listed.TheVariants as listed
 use Rattle.sqlb.specs.declared.names.Variadic.{Variadic}
 use Rattle.sqlb.specs.declared.names.Variadic.TheVariants as variadic
 
@@ -47,64 +52,82 @@ CommandResult = Result CommandText Reason
 
 -- what a name says without an argument
 abbrev pub nullary_command : Nullary → CommandText
-nullary_command nullary.Natural = Calls text.Natural
-nullary_command nullary.Left = Calls text.Left
-nullary_command nullary.LeftOuter = Calls text.LeftOuter
-nullary_command nullary.Right = Calls text.Right
-nullary_command nullary.RightOuter = Calls text.RightOuter
-nullary_command nullary.Inner = Calls text.Inner
-nullary_command nullary.Cross = Calls text.Cross
-nullary_command nullary.Distinct = Calls text.Distinct
-nullary_command nullary.ReturningId = Calls text.ReturningId
-nullary_command nullary.Sql = Finishes text.Sql
-nullary_command nullary.Query = Finishes text.Query
-nullary_command nullary.QueryValues = Finishes text.QueryValues
-nullary_command nullary.Subquery = Finishes text.Subquery
+nullary_command nullary.Natural = Calls call.Natural
+nullary_command nullary.Left = Calls call.Left
+nullary_command nullary.LeftOuter = Calls call.LeftOuter
+nullary_command nullary.Right = Calls call.Right
+nullary_command nullary.RightOuter = Calls call.RightOuter
+nullary_command nullary.Inner = Calls call.Inner
+nullary_command nullary.Cross = Calls call.Cross
+nullary_command nullary.Distinct = Calls call.Distinct
+nullary_command nullary.ReturningId = Calls call.ReturningId
+nullary_command nullary.Sql = Finishes call.Sql
+nullary_command nullary.Query = Finishes call.Query
+nullary_command nullary.QueryValues = Finishes call.QueryValues
+nullary_command nullary.Subquery = Finishes call.Subquery
 
 -- what a name says of its one argument
 abbrev pub unary_command : Unary → List ℕ → CommandText
-unary_command unary.SelectFrom table = Starts (text.SelectFrom table)
-unary_command unary.InsertInto table = Starts (text.InsertInto table)
-unary_command unary.UpdateTable table = Starts (text.UpdateTable table)
-unary_command unary.DeleteFrom table = Starts (text.DeleteFrom table)
-unary_command unary.AndTable table = Calls (text.AndTable table)
-unary_command unary.Join table = Calls (text.Join table)
-unary_command unary.On constraint = Calls (text.On constraint)
-unary_command unary.Field field = Calls (text.Field field)
-unary_command unary.SetField field = Calls (text.SetField field)
-unary_command unary.Count field = Calls (text.Count field)
-unary_command unary.Select query = Calls (text.Select query)
-unary_command unary.Returning fields = Calls (text.Returning fields)
-unary_command unary.GroupBy field = Calls (text.GroupBy field)
-unary_command unary.Having condition = Calls (text.Having condition)
-unary_command unary.Union query = Calls (text.Union query)
-unary_command unary.UnionAll query = Calls (text.UnionAll query)
-unary_command unary.OrderAsc field = Calls (text.OrderAsc field)
-unary_command unary.OrderDesc field = Calls (text.OrderDesc field)
-unary_command unary.Limit limit = Calls (text.Limit limit)
-unary_command unary.Offset offset = Calls (text.Offset offset)
-unary_command (unary.Where family) condition = Calls (text.Cond family (text.Raw condition))
-unary_command unary.SubqueryAs name = Finishes (text.SubqueryAs name)
+unary_command unary.SelectFrom table = Starts (call.SelectFrom table)
+unary_command unary.InsertInto table = Starts (call.InsertInto table)
+unary_command unary.UpdateTable table = Starts (call.UpdateTable table)
+unary_command unary.DeleteFrom table = Starts (call.DeleteFrom table)
+unary_command unary.AndTable table = Calls (call.AndTable table)
+unary_command unary.Join table = Calls (call.Join table)
+unary_command unary.On constraint = Calls (call.On constraint)
+unary_command unary.Field field = Calls (call.Field field)
+unary_command unary.SetField field = Calls (call.SetField field)
+unary_command unary.Count field = Calls (call.Count field)
+unary_command unary.Select query = Calls (call.Select query)
+unary_command unary.Returning fields = Calls (call.Returning fields)
+unary_command unary.GroupBy field = Calls (call.GroupBy field)
+unary_command unary.Having condition = Calls (call.Having condition)
+unary_command unary.Union query = Calls (call.Union query)
+unary_command unary.UnionAll query = Calls (call.UnionAll query)
+unary_command unary.OrderAsc field = Calls (call.OrderAsc field)
+unary_command unary.OrderDesc field = Calls (call.OrderDesc field)
+unary_command unary.Limit limit = Calls (call.Limit limit)
+unary_command unary.Offset offset = Calls (call.Offset offset)
+unary_command (unary.Where family) text = Calls (call.Cond family (condition.Raw text))
+unary_command (unary.WhereNull family) field = Calls (call.Cond family (condition.IsNull field))
+unary_command (unary.WhereNotNull family) field = Calls (call.Cond family (condition.IsNotNull field))
+unary_command unary.SubqueryAs name = Finishes (call.SubqueryAs name)
 
 -- what a name says of its two arguments
 abbrev pub binary_command : Binary → List ℕ → List ℕ → CommandText
-binary_command binary.OnEq left right = Calls (text.OnEq left right)
-binary_command binary.CountAs field name = Calls (text.CountAs field name)
-binary_command binary.SetTo field value = Calls (text.SetTo field value)
-binary_command binary.SetStr field value = Calls (text.SetStr field value)
+binary_command binary.OnEq left right = Calls (call.OnEq left right)
+binary_command binary.CountAs field name = Calls (call.CountAs field name)
+binary_command binary.SetTo field value = Calls (call.SetTo field value)
+binary_command binary.SetStr field value = Calls (call.SetStr field value)
 binary_command (binary.Compare family relation) field value =
-    Calls (text.Cond family (text.Compare relation field value))
+    Calls (call.Cond family (condition.Compare relation field value))
+binary_command (binary.Like family negated percent) field mask =
+    Calls (call.Cond family (condition.Like negated percent field mask))
+binary_command (binary.InQuery family negated) field query =
+    Calls (call.Cond family (condition.InQuery negated field query))
+
+-- what a name says of its three arguments
+abbrev pub ternary_command : Ternary → List ℕ → List ℕ → List ℕ → CommandText
+ternary_command (ternary.Between family negated) field least greatest =
+    Calls (call.Cond family (condition.Between negated field least greatest))
+
+-- what a name says of a field and the values after it
+abbrev pub listed_command : Listed → List ℕ → List (List ℕ) → CommandText
+listed_command (listed.InList family negated) field values =
+    Calls (call.Cond family (condition.InList negated field values))
+listed_command (listed.InQuoted family negated) field values =
+    Calls (call.Cond family (condition.InQuoted negated field values))
 
 -- what a name says of its one argument and the truth value after it
 abbrev pub flagged_command : Flagged → List ℕ → Bool → CommandText
-flagged_command flagged.OrderBy field descending = Calls (text.OrderBy field descending)
+flagged_command flagged.OrderBy field descending = Calls (call.OrderBy field descending)
 
 -- what a name says of its arguments, however many
 abbrev pub variadic_command : Variadic → List (List ℕ) → CommandText
-variadic_command variadic.SelectValues values = Starts (text.SelectValues values)
-variadic_command variadic.Fields fields = Calls (text.Fields fields)
-variadic_command variadic.SetFields fields = Calls (text.SetFields fields)
-variadic_command variadic.Values values = Calls (text.Values values)
+variadic_command variadic.SelectValues values = Starts (call.SelectValues values)
+variadic_command variadic.Fields fields = Calls (call.Fields fields)
+variadic_command variadic.SetFields fields = Calls (call.SetFields fields)
+variadic_command variadic.Values values = Calls (call.Values values)
 
 -- the truth value that a text names
 abbrev pub flag_in : List ℕ → Option Bool
@@ -119,6 +142,8 @@ command (takes.Unary meaning) (argument ∷ []) = Some (unary_command meaning ar
 command (takes.Binary meaning) (first ∷ second ∷ []) = Some (binary_command meaning first second)
 command (takes.Flagged meaning) (argument ∷ flag ∷ []) =
     option_map (flagged_command meaning argument) (flag_in flag)
+command (takes.Ternary meaning) (first ∷ second ∷ third ∷ []) = Some (ternary_command meaning first second third)
+command (takes.Listed meaning) (field ∷ values) = Some (listed_command meaning field values)
 command (takes.Variadic meaning) arguments = Some (variadic_command meaning arguments)
 command _ _ = None
 

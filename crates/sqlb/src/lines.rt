@@ -3,11 +3,11 @@ ghost use Rattle.std.specs.Prelude.{◌≡◌, ◌==◌, ◌∷◌, ◌<◌};
 ghost use Rattle.std.specs.Prelude.{IfOk, length, map, position, string_bytes};
 ghost use Rattle.sqlb.specs.Lines.{command_in, command_of, command_with, flag_in, lines, parts_of};
 ghost use Rattle.sqlb.specs.Lines.{binary_command, flagged_command, nullary_command};
-ghost use Rattle.sqlb.specs.Lines.{unary_command, variadic_command};
+ghost use Rattle.sqlb.specs.Lines.{listed_command, ternary_command, unary_command, variadic_command};
 ghost use Rattle.sqlb.specs.Script.{Answers, command_text};
 
 use crate::fault::Reason;
-use crate::names::{Binary, Flagged, Meaning, Nullary, Unary, Variadic};
+use crate::names::{Binary, Flagged, Listed, Meaning, Nullary, Ternary, Unary, Variadic};
 use sql_builder::calls::{Call, Condition, Finish, Start};
 use std::alloc::{AllocError, AllocFailed, Global};
 use std::str;
@@ -138,6 +138,12 @@ impl Unary {
             Unary::Limit => Command::Call(Call::Limit(argument)),
             Unary::Offset => Command::Call(Call::Offset(argument)),
             Unary::Where(family) => Command::Call(Call::Cond(family, Condition::Raw(argument))),
+            Unary::WhereNull(family) => {
+                Command::Call(Call::Cond(family, Condition::IsNull(argument)))
+            }
+            Unary::WhereNotNull(family) => {
+                Command::Call(Call::Cond(family, Condition::IsNotNull(argument)))
+            }
             Unary::SubqueryAs => Command::Finish(Finish::SubqueryAs(argument)),
         })
     }
@@ -156,6 +162,52 @@ impl Binary {
             Binary::SetStr => Call::SetStr(first, second),
             Binary::Compare(family, relation) => {
                 Call::Cond(family, Condition::Compare(relation, first, second))
+            }
+            Binary::Like(family, negated, percent) => {
+                Call::Cond(family, Condition::Like(negated, percent, first, second))
+            }
+            Binary::InQuery(family, negated) => {
+                Call::Cond(family, Condition::InQuery(negated, first, second))
+            }
+        }))
+    }
+}
+
+impl Ternary {
+    fn command(
+        self,
+        alloc: Global,
+        first: &str,
+        second: &str,
+        third: &str,
+    ) -> Result<Command, AllocError>
+        ensures { IfOk result (λ c. command_text c
+            ≡ ternary_command self first.now second.now third.now) }
+    {
+        let first = String::from_str(alloc, first)?;
+        let second = String::from_str(alloc, second)?;
+        let third = String::from_str(alloc, third)?;
+        Ok(Command::Call(match self {
+            Ternary::Between(family, negated) => {
+                Call::Cond(family, Condition::Between(negated, first, second, third))
+            }
+        }))
+    }
+}
+
+impl Listed {
+    fn command(self, alloc: Global, field: &str, values: &[&str]) -> Result<Command, AllocError>
+        ensures { IfOk result (λ c. command_text c
+            ≡ listed_command self field.now (map (λ value. value.now) values.now)) }
+    {
+        let field = String::from_str(alloc, field)?;
+        let values = owned(alloc, values)?;
+        Ok(Command::Call(match self {
+            Listed::InList(family, negated) => {
+                Call::Cond(family, Condition::InList(negated, field, values))
+            }
+            Listed::InQuoted(family, negated) => {
+                Call::Cond(family, Condition::InQuoted(negated, field, values))
             }
         }))
     }
@@ -216,6 +268,12 @@ fn read_arguments(
             Some(flag) => Ok(meaning.command(alloc, argument, flag)?),
             None => Err(LineError::Refused(Reason::WrongArguments)),
         },
+        (Meaning::Ternary(meaning), [first, second, third]) => {
+            Ok(meaning.command(alloc, first, second, third)?)
+        }
+        (Meaning::Listed(meaning), [field, values @ ..]) => {
+            Ok(meaning.command(alloc, field, values)?)
+        }
         (Meaning::Variadic(meaning), _) => Ok(meaning.command(alloc, arguments)?),
         _ => Err(LineError::Refused(Reason::WrongArguments)),
     }
