@@ -1,9 +1,8 @@
 //! The builder: it is told clauses call by call, and prints a statement of them.
-ghost use Rattle.std.specs.Prelude.{◌≡◌, [], ◌∷◌, map, IfOk, OnOk, OnErr, true, false, codes, string_bytes};
+ghost use Rattle.std.specs.Prelude.{◌≡◌, [], map, IfOk, string_bytes};
 ghost use Rattle.sql_parts.specs.Error.{FailsOnlyByMemory};
 ghost use Rattle.sql_builder.specs.Builder.{started, texts};
 ghost use Rattle.sql_builder.specs.Calls.{SelectFrom, SelectValues, InsertInto, UpdateTable, DeleteFrom};
-ghost use Rattle.sql_builder.specs.Chaining.{released_builder};
 ghost use Rattle.sql_builder.specs.Clauses.{new_clauses};
 
 use crate::clauses::{Join, JoinOperator, Kind, Union, copy_joins, copy_unions};

@@ -1,8 +1,8 @@
 //! The steps of the chain calls: one for each way to be handed texts, told by a constant which
 //! clause is meant.
 ghost use Rattle.std.specs.Prelude.{◌≡◌, [], ◌∷◌, map, codes, string_bytes, IfErr, OnOk, OnErr};
-ghost use Rattle.sql_parts.specs.Error.{FailsOnlyByMemory, IsMemory};
-ghost use Rattle.sql_builder.specs.Builder.{texts, with_comparison, with_condition, with_order, with_pair, with_returning, with_text, with_texts, RefusesPair, RefusesText, Tells};
+ghost use Rattle.sql_parts.specs.Error.{FailsOnlyByMemory};
+ghost use Rattle.sql_builder.specs.Builder.{with_comparison, with_condition, with_order, with_pair, with_returning, with_text, with_texts, RefusesPair, RefusesText, Tells};
 ghost use Rattle.sql_builder.specs.Chaining.{released_builder};
 
 use crate::builder::SqlBuilder;
@@ -71,7 +71,7 @@ pub(crate) fn release(
 }
 
 impl SqlBuilder {
-    ghost use Rattle.sql_builder.specs.Builder.{with_fields, with_fields_set, with_group_field, with_having, with_join, with_limit, with_offset, with_on, with_query, with_row, with_set, with_table, with_union};
+    ghost use Rattle.sql_builder.specs.Builder.{with_fields, with_fields_set, with_group_field, with_having, with_join, with_limit, with_offset, with_on, with_query, with_set, with_table, with_union};
 
     fn push_table<S: ToText>(&mut self, table: S) -> Result<(), SqlBuilderError>
         ensures { Tells result self.old self.new (with_table (S.text table)) }
