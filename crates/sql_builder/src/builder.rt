@@ -110,7 +110,7 @@ impl SqlBuilder {
     }
 
     /// A SELECT from this table, told nothing else. It is refused only for want of memory, as is
-    /// each call below that changes the builder.
+    /// each of the four starts below.
     pub fn select_from<S: ToText>(alloc: Global, table: S) -> Result<SqlBuilder, SqlBuilderError>
         ensures made { IfOk result (λ b. b ≡ started (SelectFrom (S.text table))) }
         ensures memory { FailsOnlyByMemory result }
