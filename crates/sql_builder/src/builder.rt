@@ -1,9 +1,8 @@
 //! The builder: it is told clauses call by call, and prints a statement of them.
-ghost use Rattle.std.specs.Prelude.{◌≡◌, [], ◌∷◌, map, IfOk, OnOk, OnErr, true, false, codes, string_bytes};
+ghost use Rattle.std.specs.Prelude.{◌≡◌, [], map, IfOk, string_bytes};
 ghost use Rattle.sql_parts.specs.Error.{FailsOnlyByMemory};
 ghost use Rattle.sql_builder.specs.Builder.{started, texts};
 ghost use Rattle.sql_builder.specs.Calls.{SelectFrom, SelectValues, InsertInto, UpdateTable, DeleteFrom};
-ghost use Rattle.sql_builder.specs.Chaining.{released_builder};
 ghost use Rattle.sql_builder.specs.Clauses.{new_clauses};
 
 use crate::clauses::{Join, JoinOperator, Kind, Union, copy_joins, copy_unions};
@@ -111,7 +110,7 @@ impl SqlBuilder {
     }
 
     /// A SELECT from this table, told nothing else. It is refused only for want of memory, as is
-    /// each call below that changes the builder.
+    /// each of the four starts below.
     pub fn select_from<S: ToText>(alloc: Global, table: S) -> Result<SqlBuilder, SqlBuilderError>
         ensures made { IfOk result (λ b. b ≡ started (SelectFrom (S.text table))) }
         ensures memory { FailsOnlyByMemory result }

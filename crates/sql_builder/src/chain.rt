@@ -1,4 +1,6 @@
 //! The calls that tell a builder a clause. Each gives the builder back, so that calls form a chain.
+//! Each that can be refused is refused only for want of memory, and then leaves the builder as it
+//! was.
 ghost use Rattle.std.specs.Prelude.{◌≡◌, [], ◌∷◌, codes, false, map, true, IfErr};
 ghost use Rattle.sql_parts.specs.Error.{FailsOnlyByMemory};
 ghost use Rattle.sql_parts.specs.Quoting.{quoted};
@@ -171,7 +173,7 @@ impl SqlBuilder {
         release(self.hold_text(TextClause::Select, query))
     }
 
-    /// What RETURNING returns; the last call counts.
+    /// What RETURNING returns; the last call of `returning` or `returning_id` counts.
     pub fn returning<S: ToText>(&mut self, fields: S) -> Result<&mut Self, SqlBuilderError>
         ensures* refused { sem 𝓛 (IsUnchangedIfErr self.entry result) }
         ensures changed { IsChangedTo self.entry
@@ -181,7 +183,7 @@ impl SqlBuilder {
         release(self.hold_text(TextClause::Returning, fields))
     }
 
-    /// RETURNING id; the last call counts.
+    /// RETURNING id; the last call of `returning` or `returning_id` counts.
     pub fn returning_id(&mut self) -> Result<&mut Self, SqlBuilderError>
         ensures* refused { sem 𝓛 (IsUnchangedIfErr self.entry result) }
         ensures changed { IsChangedTo self.entry (with_returning (codes "id") self.old) result }

@@ -1,7 +1,6 @@
 //! The texts that calls make of what they are handed.
 ghost use Rattle.std.specs.Prelude.{◌≡◌, ◌++◌, IfOk, OnOk, codes, map, string_bytes, flat_map};
 ghost use Rattle.sql_parts.specs.Error.{FailsOnlyByMemory};
-ghost use Rattle.sql_builder.specs.Builder.{texts};
 ghost use Rattle.sql_builder.specs.Layout.{byte_atoms};
 ghost use Rattle.sql_builder.specs.Phrases.{comma_list, count, count_as, equation, order, row};
 ghost use Rattle.sql_parts.specs.Quoting.{quoted};

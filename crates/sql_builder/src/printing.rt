@@ -2,7 +2,7 @@
 ghost use Rattle.std.specs.Prelude.{◌≡◌, ◌++◌, IsNone, IfOk, IfSome, None, Some, codes, flat_map, length, map, nat_eq, string_bytes};
 ghost use Rattle.sql_parts.specs.Error.{FailsOnlyByMemory};
 ghost use Rattle.sql_builder.specs.Builder.{join_text, optional_text, texts, union_text, Adds};
-ghost use Rattle.sql_builder.specs.Layout.{byte_atoms, concat_sections, delete_sections, fields_or_star, group_by_sections, insert_sections, optional_section, order_by_sections, query, query_values, refusal, select_opening, sql, statement_sections, subquery, subquery_as, table_and_joins, union_opening, update_sections, values_sections, where_sections};
+ghost use Rattle.sql_builder.specs.Layout.{byte_atoms, concat_sections, delete_sections, fields_or_star, group_by_sections, insert_sections, optional_section, order_by_sections, query, query_values, refusal, select_opening, sql, statement_sections, subquery, subquery_as, union_opening, update_sections, where_sections};
 ghost use Rattle.sql_builder.specs.Phrases.{comma_list, further_table, operator_text};
 ghost use Rattle.sql_builder.specs.Statement.{unless_refused};
 ghost use Rattle.sql_builder.specs.Text.{join_with};

@@ -1,7 +1,7 @@
 //! The steps of the chain calls: one for each way to be handed texts, told by a constant which
 //! clause is meant.
 ghost use Rattle.std.specs.Prelude.{◌≡◌, [], ◌∷◌, ◌++◌, map, codes, string_bytes, IfErr, OnOk, OnErr};
-ghost use Rattle.sql_parts.specs.Error.{FailsOnlyByMemory, IsMemory};
+ghost use Rattle.sql_parts.specs.Error.{FailsOnlyByMemory};
 ghost use Rattle.sql_builder.specs.Builder.{extend_last, texts, binary_condition, list_condition, range_condition, unary_condition, with_condition, with_condition_text, with_order, with_pair, with_returning, with_text, with_texts, RefusesPair, RefusesText, Tells};
 ghost use Rattle.sql_builder.specs.Chaining.{released_builder};
 
@@ -141,7 +141,7 @@ fn join_last(groups: &mut [String], condition: &str) -> Result<(), AllocError>
 }
 
 impl SqlBuilder {
-    ghost use Rattle.sql_builder.specs.Builder.{with_fields, with_fields_set, with_group_field, with_having, with_join, with_limit, with_offset, with_on, with_query, with_row, with_set, with_table, with_union};
+    ghost use Rattle.sql_builder.specs.Builder.{with_fields, with_fields_set, with_group_field, with_having, with_join, with_limit, with_offset, with_on, with_query, with_set, with_table, with_union};
 
     fn push_table<S: ToText>(&mut self, table: S) -> Result<(), SqlBuilderError>
         ensures { Tells result self.old self.new (with_table (S.text table)) }

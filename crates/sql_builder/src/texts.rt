@@ -6,7 +6,7 @@ ghost use Rattle.sql_builder.specs.Builder.{optional_text, texts};
 use sql_parts::{SqlBuilderError, ToText};
 use std::alloc::Global;
 
-/// Each text.
+/// The text of each item.
 pub(crate) fn copies<S: ToText>(alloc: Global, items: &[S]) -> Result<Vec<String>, SqlBuilderError>
     ensures copied { IfOk result (λ copied. texts copied.items ≡ map S.text items.now) }
     ensures memory { FailsOnlyByMemory result }
@@ -18,7 +18,7 @@ pub(crate) fn copies<S: ToText>(alloc: Global, items: &[S]) -> Result<Vec<String
     Ok(copied)
 }
 
-/// The text, if there is one.
+/// A copy of the text, if there is one.
 pub(crate) fn copy(alloc: Global, text: &Option<String>) -> Result<Option<String>, SqlBuilderError>
     ensures copied { IfOk result (λ copied. optional_text copied ≡ optional_text text.now) }
     ensures memory { FailsOnlyByMemory result }
