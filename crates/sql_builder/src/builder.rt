@@ -97,7 +97,7 @@ impl SqlBuilder {
         }
     }
 
-    fn with_table<S: ToText>(
+    fn starting_from<S: ToText>(
         alloc: Global,
         kind: Kind,
         table: S,
@@ -115,7 +115,7 @@ impl SqlBuilder {
         ensures made { IfOk result (λ b. b ≡ started (SelectFrom (S.text table))) }
         ensures memory { FailsOnlyByMemory result }
     {
-        SqlBuilder::with_table(alloc, Kind::SelectFrom, table)
+        SqlBuilder::starting_from(alloc, Kind::SelectFrom, table)
     }
 
     /// A SELECT of these values, without a table.
@@ -136,7 +136,7 @@ impl SqlBuilder {
         ensures made { IfOk result (λ b. b ≡ started (InsertInto (S.text table))) }
         ensures memory { FailsOnlyByMemory result }
     {
-        SqlBuilder::with_table(alloc, Kind::InsertInto, table)
+        SqlBuilder::starting_from(alloc, Kind::InsertInto, table)
     }
 
     /// An UPDATE of this table, told nothing else.
@@ -144,7 +144,7 @@ impl SqlBuilder {
         ensures made { IfOk result (λ b. b ≡ started (UpdateTable (S.text table))) }
         ensures memory { FailsOnlyByMemory result }
     {
-        SqlBuilder::with_table(alloc, Kind::UpdateTable, table)
+        SqlBuilder::starting_from(alloc, Kind::UpdateTable, table)
     }
 
     /// A DELETE from this table, told nothing else.
@@ -152,7 +152,7 @@ impl SqlBuilder {
         ensures made { IfOk result (λ b. b ≡ started (DeleteFrom (S.text table))) }
         ensures memory { FailsOnlyByMemory result }
     {
-        SqlBuilder::with_table(alloc, Kind::DeleteFrom, table)
+        SqlBuilder::starting_from(alloc, Kind::DeleteFrom, table)
     }
 
     /// An equal builder. It is refused only for want of memory.

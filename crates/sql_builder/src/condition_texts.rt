@@ -10,7 +10,7 @@ ghost use Rattle.sql_builder.specs.Phrases.{comma_list};
 use crate::calls::{Percent, Relation};
 use crate::phrases::push_items;
 use crate::steps::{BinaryCondition, ListCondition, RangeCondition, UnaryCondition};
-use sql_parts::{SqlBuilderError, ToText, push_esc};
+use sql_parts::{SqlBuilderError, ToText, esc, quote};
 use std::alloc::Global;
 
 impl Relation {
@@ -91,7 +91,7 @@ fn push_mask<S: ToText>(
     ensures memory { FailsOnlyByMemory result }
 {
     out.push_str(if percent.is_in_front() { "'%" } else { "'" })?;
-    push_esc(alloc, out, mask)?;
+    out.push_str(esc(alloc, mask)?.as_str())?;
     out.push_str(if percent.is_behind() { "%'" } else { "'" })?;
     Ok(())
 }
@@ -141,9 +141,7 @@ fn push_quoted<S: ToText>(
     ensures memory { FailsOnlyByMemory result }
 {
     out.push_str(before)?;
-    out.push_str("'")?;
-    push_esc(alloc, out, text)?;
-    out.push_str("'")?;
+    out.push_str(quote(alloc, text)?.as_str())?;
     Ok(())
 }
 

@@ -5,7 +5,7 @@ ghost use Rattle.sql_builder.specs.Layout.{byte_atoms};
 ghost use Rattle.sql_builder.specs.Phrases.{comma_list, count, count_as, equation, order, row};
 ghost use Rattle.sql_parts.specs.Quoting.{quoted};
 
-use sql_parts::{SqlBuilderError, ToText, push_esc};
+use sql_parts::{SqlBuilderError, ToText, quote};
 use std::alloc::Global;
 
 /// `left = right`.
@@ -35,9 +35,8 @@ pub(crate) fn quoted_equation<S: ToText, T: ToText>(
     ensures memory { FailsOnlyByMemory result }
 {
     let mut text = field.to_text(alloc)?;
-    text.push_str(" = '")?;
-    push_esc(alloc, &mut text, value)?;
-    text.push_str("'")?;
+    text.push_str(" = ")?;
+    text.push_str(quote(alloc, value)?.as_str())?;
     Ok(text)
 }
 

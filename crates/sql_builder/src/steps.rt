@@ -129,7 +129,7 @@ fn push_alternative(group: &mut String, condition: &str) -> Result<(), AllocErro
     Ok(())
 }
 
-fn join_last(groups: &mut [String], condition: &str) -> Result<(), AllocError>
+fn extend_last_group(groups: &mut [String], condition: &str) -> Result<(), AllocError>
     ensures ok { OnOk result
         (texts groups.new ≡ extend_last (codes " OR " ++ condition.now) (texts groups.old)) }
     ensures err { OnErr result (texts groups.new ≡ texts groups.old) }
@@ -266,7 +266,7 @@ impl SqlBuilder {
     {
         match family {
             Family::Or if !self.groups.is_empty() => {
-                join_last(&mut self.groups, condition.as_str())?;
+                extend_last_group(&mut self.groups, condition.as_str())?;
             }
             Family::And | Family::Or => self.groups.push(condition)?,
         }

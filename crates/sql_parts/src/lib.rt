@@ -4,12 +4,12 @@
 pub mod arg;
 pub mod error;
 pub mod laws;
-pub mod quoting;
+mod quoting;
 pub mod text;
 
 pub use arg::{Literal, SqlArg};
 pub use error::SqlBuilderError;
-pub use quoting::{baquote, brquote, dquote, esc, push_esc, quote};
+pub use quoting::{baquote, brquote, dquote, esc, quote};
 pub use text::ToText;
 
 #[cfg(test)]

@@ -47,17 +47,6 @@ pub fn esc<S: ToText>(alloc: Global, text: S) -> Result<String, SqlBuilderError>
     Ok(out)
 }
 
-/// Appends the text with each `'` in it doubled. It is refused only for want of memory; a part of
-/// it may have been appended by then.
-pub fn push_esc<S: ToText>(alloc: Global, out: &mut String, text: S) -> Result<(), SqlBuilderError>
-    ensures text { OnOk result
-        (string_bytes out.new ≡ string_bytes out.old ++ escaped (S.text text)) }
-    ensures memory { FailsOnlyByMemory result }
-{
-    let text = text.to_text(alloc)?;
-    Ok(push_doubled(out, '\'', text.as_str())?)
-}
-
 /// The text between single quotes, with each `'` in it doubled: an SQL text. It is refused only
 /// for want of memory.
 pub fn quote<S: ToText>(alloc: Global, text: S) -> Result<String, SqlBuilderError>

@@ -4,9 +4,7 @@ ghost use Rattle.sql_parts.specs.Literal.{whole};
 ghost use Rattle.sql_parts.specs.Text.{decimal_text};
 
 use crate::laws::quoting_is_injective;
-use crate::{
-    Literal, SqlArg, SqlBuilderError, ToText, baquote, brquote, dquote, esc, push_esc, quote,
-};
+use crate::{Literal, SqlArg, SqlBuilderError, ToText, baquote, brquote, dquote, esc, quote};
 use std::alloc::{AllocError, AllocFailed, Global};
 use std::borrow::CowStr;
 use std::error::Error;
@@ -146,9 +144,6 @@ fn appends_the_text_of_a_value(rt: HostRuntime) -> Result<(), Fail> {
     for (name, text, wanted) in rows.iter() {
         assert_eq!(rt; text.as_str(), *wanted, "push_to of {name}");
     }
-    let mut text = String::from_str(heap, "a ")?;
-    push_esc(heap, &mut text, Id(7))?;
-    assert_eq!(rt; text.as_str(), "a it''s 7");
     Ok(())
 }
 

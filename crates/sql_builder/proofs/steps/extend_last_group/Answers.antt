@@ -2,7 +2,7 @@ use Rattle.std.proofs.Common.{◌++◌, ◌-◌, codes, length, string_bytes, ap
 use Rattle.std.proofs.Math.Seq.{map-set_same}
 use Rattle.std.proofs.lemmas.Result.{on_ok_weaker, on_err_weaker}
 use Rattle.sql_builder.proofs.Lasts.{last_extended}
-use Rattle.sql_builder.proofs.steps.join_last.Goals as goal
+use Rattle.sql_builder.proofs.steps.extend_last_group.Goals as goal
 
 pub returns-in-Some-clause-ok : goal.returns-in-Some-clause-ok
 returns-in-Some-clause-ok c =
