@@ -23,6 +23,7 @@ const SQL: Words = &["sql"];
 
 const QUERY: Words = &["query"];
 
+/// Where a table's text is empty, or there are no rows, values or sets.
 const EMPTY: [Row; 12] = [
     (&["select_from", ""], &[], SQL, Err("No table name")),
     (&["select_from", ""], &[], QUERY, Ok("SELECT * FROM ")),
@@ -48,6 +49,7 @@ const EMPTY: [Row; 12] = [
     (&["select_values"], &[], QUERY, Ok("SELECT * FROM ")),
 ];
 
+/// How long NATURAL and an operator hold, and where a constraint goes.
 const JOINS: [Row; 4] = [
     (
         &["select_from", "a"],
@@ -88,7 +90,8 @@ const JOINS: [Row; 4] = [
     ),
 ];
 
-const CLAUSES: [Row; 15] = [
+/// Every other clause, and the last call that counts.
+const CLAUSES: [Row; 16] = [
     (
         &["select_from", "a"],
         &[&["order_asc", "x"], &["union", "SELECT 1"], &["limit", "3"]],
@@ -188,6 +191,12 @@ const CLAUSES: [Row; 15] = [
         ],
         SQL,
         Ok("SELECT a, b, c FROM t WHERE a OR b;"),
+    ),
+    (
+        &["update_table", "t"],
+        &[&["set", "a", "true"]],
+        SQL,
+        Ok("UPDATE t SET a = true;"),
     ),
     (
         &["update_table", "t"],
