@@ -118,7 +118,8 @@ impl SqlBuilder {
     ) -> Result<&mut Self, SqlBuilderError>
         ensures* refused { sem 𝓛 (IsUnchangedIfErr self.entry result) }
         ensures changed { IsChangedTo self.entry
-            (with_fields (count_as byte_atoms (S.text field) (T.text name) ∷ []) self.old) result }
+            (with_fields (count_as byte_atoms (S.text field) (T.text name) ∷ []) self.old)
+            result }
         ensures memory { FailsOnlyByMemory result }
     {
         release(self.hold_pair(PairClause::CountAs, field, name))
@@ -173,7 +174,8 @@ impl SqlBuilder {
         release(self.hold_text(TextClause::Select, query))
     }
 
-    /// What RETURNING returns; the last call of `returning` or `returning_id` counts.
+    /// What RETURNING returns, in an UPDATE and an INSERT of rows; the last call of `returning` or
+    /// `returning_id` counts.
     pub fn returning<S: ToText>(&mut self, fields: S) -> Result<&mut Self, SqlBuilderError>
         ensures* refused { sem 𝓛 (IsUnchangedIfErr self.entry result) }
         ensures changed { IsChangedTo self.entry
@@ -183,7 +185,8 @@ impl SqlBuilder {
         release(self.hold_text(TextClause::Returning, fields))
     }
 
-    /// RETURNING id; the last call of `returning` or `returning_id` counts.
+    /// RETURNING id, in an UPDATE and an INSERT of rows; the last call of `returning` or
+    /// `returning_id` counts.
     pub fn returning_id(&mut self) -> Result<&mut Self, SqlBuilderError>
         ensures* refused { sem 𝓛 (IsUnchangedIfErr self.entry result) }
         ensures changed { IsChangedTo self.entry (with_returning (codes "id") self.old) result }
@@ -202,7 +205,7 @@ impl SqlBuilder {
         release(self.hold_text(TextClause::GroupBy, field))
     }
 
-    /// The condition of HAVING; the last call counts.
+    /// The condition of HAVING, which stands behind GROUP BY alone; the last call counts.
     pub fn having<S: ToText>(&mut self, condition: S) -> Result<&mut Self, SqlBuilderError>
         ensures* refused { sem 𝓛 (IsUnchangedIfErr self.entry result) }
         ensures changed { IsChangedTo self.entry
@@ -232,7 +235,8 @@ impl SqlBuilder {
         release(self.hold_text(TextClause::UnionAll, query))
     }
 
-    /// Appends a field to ORDER BY, with DESC where it is descending.
+    /// Appends a field to ORDER BY, with DESC where it is descending. ORDER BY is left out beside
+    /// a union.
     pub fn order_by<S: ToText>(
         &mut self,
         field: S,
@@ -246,7 +250,7 @@ impl SqlBuilder {
         release(self.hold_order(field, descending))
     }
 
-    /// Appends a field to ORDER BY.
+    /// Appends a field to ORDER BY, which is left out beside a union.
     pub fn order_asc<S: ToText>(&mut self, field: S) -> Result<&mut Self, SqlBuilderError>
         ensures* refused { sem 𝓛 (IsUnchangedIfErr self.entry result) }
         ensures changed { IsChangedTo self.entry
@@ -256,7 +260,7 @@ impl SqlBuilder {
         release(self.hold_text(TextClause::OrderAsc, field))
     }
 
-    /// Appends a field with DESC to ORDER BY.
+    /// Appends a field with DESC to ORDER BY, which is left out beside a union.
     pub fn order_desc<S: ToText>(&mut self, field: S) -> Result<&mut Self, SqlBuilderError>
         ensures* refused { sem 𝓛 (IsUnchangedIfErr self.entry result) }
         ensures changed { IsChangedTo self.entry
@@ -266,7 +270,7 @@ impl SqlBuilder {
         release(self.hold_text(TextClause::OrderDesc, field))
     }
 
-    /// The text of LIMIT; the last call counts.
+    /// The text of a query's LIMIT; the last call counts.
     pub fn limit<S: ToText>(&mut self, limit: S) -> Result<&mut Self, SqlBuilderError>
         ensures* refused { sem 𝓛 (IsUnchangedIfErr self.entry result) }
         ensures changed { IsChangedTo self.entry (with_limit (S.text limit) self.old) result }
@@ -275,7 +279,7 @@ impl SqlBuilder {
         release(self.hold_text(TextClause::Limit, limit))
     }
 
-    /// The text of OFFSET; the last call counts.
+    /// The text of a query's OFFSET; the last call counts.
     pub fn offset<S: ToText>(&mut self, offset: S) -> Result<&mut Self, SqlBuilderError>
         ensures* refused { sem 𝓛 (IsUnchangedIfErr self.entry result) }
         ensures changed { IsChangedTo self.entry (with_offset (S.text offset) self.old) result }

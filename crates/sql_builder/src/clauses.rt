@@ -61,7 +61,8 @@ impl Join {
 /// A constraint of the last join. Where there is none, nothing is done.
 pub(crate) fn constrain_last(joins: &mut [Join], condition: String) -> Result<(), SqlBuilderError>
     ensures ok { OnOk result (map join_text joins.new
-        ≡ extend_last (constraint byte_atoms (string_bytes condition)) (map join_text joins.old)) }
+        ≡ extend_last (constraint byte_atoms (string_bytes condition))
+        (map join_text joins.old)) }
     ensures err { OnErr result (map join_text joins.new ≡ map join_text joins.old) }
     ensures memory { FailsOnlyByMemory result }
 {
@@ -86,7 +87,8 @@ impl Join {
 }
 
 pub(crate) fn copy_joins(alloc: Global, joins: &[Join]) -> Result<Vec<Join>, SqlBuilderError>
-    ensures copied { IfOk result (λ copied. map join_text copied.items ≡ map join_text joins.now) }
+    ensures copied { IfOk result (λ copied.
+        map join_text copied.items ≡ map join_text joins.now) }
     ensures memory { FailsOnlyByMemory result }
 {
     let mut copied = Vec::with_capacity(alloc, joins.len())?;

@@ -1,5 +1,5 @@
-//! The condition calls: twenty-five conditions, each in the family that opens a group of its own, and
-//! in the one that joins the last group by OR and opens one only where there is none.
+//! The condition calls: twenty-five conditions, each in the family that opens a group of its own,
+//! and in the one that joins the last group by OR and opens one only where there is none.
 ghost use Rattle.std.specs.Prelude.{false, map, true};
 ghost use Rattle.sql_parts.specs.Error.{FailsOnlyByMemory};
 
@@ -134,7 +134,7 @@ impl SqlBuilder {
         release(self.hold_binary(Family::And, BinaryCondition::Le, field, value))
     }
 
-    /// Adds `field LIKE` and the mask, quoted as `quote` writes it, in a group of its own.
+    /// Adds `field LIKE` the mask, as `quote` writes it, in a group of its own.
     pub fn and_where_like<S: ToText, T: ToText>(
         &mut self,
         field: S,
@@ -148,7 +148,8 @@ impl SqlBuilder {
         release(self.hold_binary(Family::And, BinaryCondition::Like, field, mask))
     }
 
-    /// Adds `field LIKE` and `%` and the mask, quoted as `quote` writes it, in a group of its own.
+    /// Adds `field LIKE` `%` and the mask, which `quote` writes together, in a group of its
+    /// own.
     pub fn and_where_like_right<S: ToText, T: ToText>(
         &mut self,
         field: S,
@@ -162,7 +163,8 @@ impl SqlBuilder {
         release(self.hold_binary(Family::And, BinaryCondition::LikeRight, field, mask))
     }
 
-    /// Adds `field LIKE` and the mask and `%`, quoted as `quote` writes it, in a group of its own.
+    /// Adds `field LIKE` the mask and `%`, which `quote` writes together, in a group of its
+    /// own.
     pub fn and_where_like_left<S: ToText, T: ToText>(
         &mut self,
         field: S,
@@ -176,7 +178,8 @@ impl SqlBuilder {
         release(self.hold_binary(Family::And, BinaryCondition::LikeLeft, field, mask))
     }
 
-    /// Adds `field LIKE` and `%`, the mask and `%`, quoted as `quote` writes it, in a group of its own.
+    /// Adds `field LIKE` `%`, the mask and `%`, which `quote` writes together, in a group of
+    /// its own.
     pub fn and_where_like_any<S: ToText, T: ToText>(
         &mut self,
         field: S,
@@ -190,7 +193,7 @@ impl SqlBuilder {
         release(self.hold_binary(Family::And, BinaryCondition::LikeAny, field, mask))
     }
 
-    /// Adds `field NOT LIKE` and the mask, quoted as `quote` writes it, in a group of its own.
+    /// Adds `field NOT LIKE` the mask, as `quote` writes it, in a group of its own.
     pub fn and_where_not_like<S: ToText, T: ToText>(
         &mut self,
         field: S,
@@ -204,7 +207,8 @@ impl SqlBuilder {
         release(self.hold_binary(Family::And, BinaryCondition::NotLike, field, mask))
     }
 
-    /// Adds `field NOT LIKE` and `%` and the mask, quoted as `quote` writes it, in a group of its own.
+    /// Adds `field NOT LIKE` `%` and the mask, which `quote` writes together, in a group of its
+    /// own.
     pub fn and_where_not_like_right<S: ToText, T: ToText>(
         &mut self,
         field: S,
@@ -218,7 +222,8 @@ impl SqlBuilder {
         release(self.hold_binary(Family::And, BinaryCondition::NotLikeRight, field, mask))
     }
 
-    /// Adds `field NOT LIKE` and the mask and `%`, quoted as `quote` writes it, in a group of its own.
+    /// Adds `field NOT LIKE` the mask and `%`, which `quote` writes together, in a group of its
+    /// own.
     pub fn and_where_not_like_left<S: ToText, T: ToText>(
         &mut self,
         field: S,
@@ -232,7 +237,8 @@ impl SqlBuilder {
         release(self.hold_binary(Family::And, BinaryCondition::NotLikeLeft, field, mask))
     }
 
-    /// Adds `field NOT LIKE` and `%`, the mask and `%`, quoted as `quote` writes it, in a group of its own.
+    /// Adds `field NOT LIKE` `%`, the mask and `%`, which `quote` writes together, in a group
+    /// of its own.
     pub fn and_where_not_like_any<S: ToText, T: ToText>(
         &mut self,
         field: S,
@@ -254,7 +260,8 @@ impl SqlBuilder {
     ) -> Result<&mut Self, SqlBuilderError>
         ensures* refused { sem 𝓛 (IsUnchangedIfErr self.entry result) }
         ensures changed { IsChangedTo self.entry
-            (with_condition And (InList false (S.text field) (map T.text values.now)) self.old) result }
+            (with_condition And
+            (InList false (S.text field) (map T.text values.now)) self.old) result }
         ensures memory { FailsOnlyByMemory result }
     {
         release(self.hold_among(Family::And, ListCondition::In, field, values))
@@ -268,7 +275,8 @@ impl SqlBuilder {
     ) -> Result<&mut Self, SqlBuilderError>
         ensures* refused { sem 𝓛 (IsUnchangedIfErr self.entry result) }
         ensures changed { IsChangedTo self.entry
-            (with_condition And (InQuoted false (S.text field) (map T.text values.now)) self.old) result }
+            (with_condition And
+            (InQuoted false (S.text field) (map T.text values.now)) self.old) result }
         ensures memory { FailsOnlyByMemory result }
     {
         release(self.hold_among(Family::And, ListCondition::InQuoted, field, values))
@@ -297,7 +305,8 @@ impl SqlBuilder {
     ) -> Result<&mut Self, SqlBuilderError>
         ensures* refused { sem 𝓛 (IsUnchangedIfErr self.entry result) }
         ensures changed { IsChangedTo self.entry
-            (with_condition And (Between false (S.text field) (T.text least) (U.text greatest)) self.old) result }
+            (with_condition And
+            (Between false (S.text field) (T.text least) (U.text greatest)) self.old) result }
         ensures memory { FailsOnlyByMemory result }
     {
         release(self.hold_range(Family::And, RangeCondition::Between, field, least, greatest))
@@ -311,13 +320,15 @@ impl SqlBuilder {
     ) -> Result<&mut Self, SqlBuilderError>
         ensures* refused { sem 𝓛 (IsUnchangedIfErr self.entry result) }
         ensures changed { IsChangedTo self.entry
-            (with_condition And (InList true (S.text field) (map T.text values.now)) self.old) result }
+            (with_condition And
+            (InList true (S.text field) (map T.text values.now)) self.old) result }
         ensures memory { FailsOnlyByMemory result }
     {
         release(self.hold_among(Family::And, ListCondition::NotIn, field, values))
     }
 
-    /// Adds `field NOT IN (..)` of these values, each as `quote` writes it, in a group of its own.
+    /// Adds `field NOT IN (..)` of these values, each as `quote` writes it, in a group of its
+    /// own.
     pub fn and_where_not_in_quoted<S: ToText, T: ToText>(
         &mut self,
         field: S,
@@ -325,7 +336,8 @@ impl SqlBuilder {
     ) -> Result<&mut Self, SqlBuilderError>
         ensures* refused { sem 𝓛 (IsUnchangedIfErr self.entry result) }
         ensures changed { IsChangedTo self.entry
-            (with_condition And (InQuoted true (S.text field) (map T.text values.now)) self.old) result }
+            (with_condition And
+            (InQuoted true (S.text field) (map T.text values.now)) self.old) result }
         ensures memory { FailsOnlyByMemory result }
     {
         release(self.hold_among(Family::And, ListCondition::NotInQuoted, field, values))
@@ -354,7 +366,8 @@ impl SqlBuilder {
     ) -> Result<&mut Self, SqlBuilderError>
         ensures* refused { sem 𝓛 (IsUnchangedIfErr self.entry result) }
         ensures changed { IsChangedTo self.entry
-            (with_condition And (Between true (S.text field) (T.text least) (U.text greatest)) self.old) result }
+            (with_condition And
+            (Between true (S.text field) (T.text least) (U.text greatest)) self.old) result }
         ensures memory { FailsOnlyByMemory result }
     {
         release(self.hold_range(
@@ -366,7 +379,8 @@ impl SqlBuilder {
         ))
     }
 
-    /// Adds the condition as it stands, to the last group, by OR.
+    /// Adds the condition as it stands: joins the last group by OR, and opens one where there
+    /// is none.
     pub fn or_where<S: ToText>(&mut self, condition: S) -> Result<&mut Self, SqlBuilderError>
         ensures* refused { sem 𝓛 (IsUnchangedIfErr self.entry result) }
         ensures changed { IsChangedTo self.entry
@@ -376,7 +390,7 @@ impl SqlBuilder {
         release(self.hold_unary(Family::Or, UnaryCondition::Bare, condition))
     }
 
-    /// Adds `field IS NULL`, to the last group, by OR.
+    /// Adds `field IS NULL`: joins the last group by OR, and opens one where there is none.
     pub fn or_where_is_null<S: ToText>(&mut self, field: S) -> Result<&mut Self, SqlBuilderError>
         ensures* refused { sem 𝓛 (IsUnchangedIfErr self.entry result) }
         ensures changed { IsChangedTo self.entry
@@ -386,7 +400,7 @@ impl SqlBuilder {
         release(self.hold_unary(Family::Or, UnaryCondition::IsNull, field))
     }
 
-    /// Adds `field IS NOT NULL`, to the last group, by OR.
+    /// Adds `field IS NOT NULL`: joins the last group by OR, and opens one where there is none.
     pub fn or_where_is_not_null<S: ToText>(
         &mut self,
         field: S,
@@ -399,7 +413,7 @@ impl SqlBuilder {
         release(self.hold_unary(Family::Or, UnaryCondition::IsNotNull, field))
     }
 
-    /// Adds `field = value`, to the last group, by OR.
+    /// Adds `field = value`: joins the last group by OR, and opens one where there is none.
     pub fn or_where_eq<S: ToText, T: ToText>(
         &mut self,
         field: S,
@@ -413,7 +427,7 @@ impl SqlBuilder {
         release(self.hold_binary(Family::Or, BinaryCondition::Eq, field, value))
     }
 
-    /// Adds `field <> value`, to the last group, by OR.
+    /// Adds `field <> value`: joins the last group by OR, and opens one where there is none.
     pub fn or_where_ne<S: ToText, T: ToText>(
         &mut self,
         field: S,
@@ -427,7 +441,7 @@ impl SqlBuilder {
         release(self.hold_binary(Family::Or, BinaryCondition::Ne, field, value))
     }
 
-    /// Adds `field > value`, to the last group, by OR.
+    /// Adds `field > value`: joins the last group by OR, and opens one where there is none.
     pub fn or_where_gt<S: ToText, T: ToText>(
         &mut self,
         field: S,
@@ -441,7 +455,7 @@ impl SqlBuilder {
         release(self.hold_binary(Family::Or, BinaryCondition::Gt, field, value))
     }
 
-    /// Adds `field >= value`, to the last group, by OR.
+    /// Adds `field >= value`: joins the last group by OR, and opens one where there is none.
     pub fn or_where_ge<S: ToText, T: ToText>(
         &mut self,
         field: S,
@@ -455,7 +469,7 @@ impl SqlBuilder {
         release(self.hold_binary(Family::Or, BinaryCondition::Ge, field, value))
     }
 
-    /// Adds `field < value`, to the last group, by OR.
+    /// Adds `field < value`: joins the last group by OR, and opens one where there is none.
     pub fn or_where_lt<S: ToText, T: ToText>(
         &mut self,
         field: S,
@@ -469,7 +483,7 @@ impl SqlBuilder {
         release(self.hold_binary(Family::Or, BinaryCondition::Lt, field, value))
     }
 
-    /// Adds `field <= value`, to the last group, by OR.
+    /// Adds `field <= value`: joins the last group by OR, and opens one where there is none.
     pub fn or_where_le<S: ToText, T: ToText>(
         &mut self,
         field: S,
@@ -483,7 +497,8 @@ impl SqlBuilder {
         release(self.hold_binary(Family::Or, BinaryCondition::Le, field, value))
     }
 
-    /// Adds `field LIKE` and the mask, quoted as `quote` writes it, to the last group, by OR.
+    /// Adds `field LIKE` the mask, as `quote` writes it: joins the last group by OR, and opens
+    /// one where there is none.
     pub fn or_where_like<S: ToText, T: ToText>(
         &mut self,
         field: S,
@@ -497,7 +512,8 @@ impl SqlBuilder {
         release(self.hold_binary(Family::Or, BinaryCondition::Like, field, mask))
     }
 
-    /// Adds `field LIKE` and `%` and the mask, quoted as `quote` writes it, to the last group, by OR.
+    /// Adds `field LIKE` `%` and the mask, which `quote` writes together: joins the last group
+    /// by OR, and opens one where there is none.
     pub fn or_where_like_right<S: ToText, T: ToText>(
         &mut self,
         field: S,
@@ -511,7 +527,8 @@ impl SqlBuilder {
         release(self.hold_binary(Family::Or, BinaryCondition::LikeRight, field, mask))
     }
 
-    /// Adds `field LIKE` and the mask and `%`, quoted as `quote` writes it, to the last group, by OR.
+    /// Adds `field LIKE` the mask and `%`, which `quote` writes together: joins the last group
+    /// by OR, and opens one where there is none.
     pub fn or_where_like_left<S: ToText, T: ToText>(
         &mut self,
         field: S,
@@ -525,7 +542,8 @@ impl SqlBuilder {
         release(self.hold_binary(Family::Or, BinaryCondition::LikeLeft, field, mask))
     }
 
-    /// Adds `field LIKE` and `%`, the mask and `%`, quoted as `quote` writes it, to the last group, by OR.
+    /// Adds `field LIKE` `%`, the mask and `%`, which `quote` writes together: joins the last
+    /// group by OR, and opens one where there is none.
     pub fn or_where_like_any<S: ToText, T: ToText>(
         &mut self,
         field: S,
@@ -539,7 +557,8 @@ impl SqlBuilder {
         release(self.hold_binary(Family::Or, BinaryCondition::LikeAny, field, mask))
     }
 
-    /// Adds `field NOT LIKE` and the mask, quoted as `quote` writes it, to the last group, by OR.
+    /// Adds `field NOT LIKE` the mask, as `quote` writes it: joins the last group by OR, and
+    /// opens one where there is none.
     pub fn or_where_not_like<S: ToText, T: ToText>(
         &mut self,
         field: S,
@@ -553,7 +572,8 @@ impl SqlBuilder {
         release(self.hold_binary(Family::Or, BinaryCondition::NotLike, field, mask))
     }
 
-    /// Adds `field NOT LIKE` and `%` and the mask, quoted as `quote` writes it, to the last group, by OR.
+    /// Adds `field NOT LIKE` `%` and the mask, which `quote` writes together: joins the last
+    /// group by OR, and opens one where there is none.
     pub fn or_where_not_like_right<S: ToText, T: ToText>(
         &mut self,
         field: S,
@@ -567,7 +587,8 @@ impl SqlBuilder {
         release(self.hold_binary(Family::Or, BinaryCondition::NotLikeRight, field, mask))
     }
 
-    /// Adds `field NOT LIKE` and the mask and `%`, quoted as `quote` writes it, to the last group, by OR.
+    /// Adds `field NOT LIKE` the mask and `%`, which `quote` writes together: joins the last
+    /// group by OR, and opens one where there is none.
     pub fn or_where_not_like_left<S: ToText, T: ToText>(
         &mut self,
         field: S,
@@ -581,7 +602,8 @@ impl SqlBuilder {
         release(self.hold_binary(Family::Or, BinaryCondition::NotLikeLeft, field, mask))
     }
 
-    /// Adds `field NOT LIKE` and `%`, the mask and `%`, quoted as `quote` writes it, to the last group, by OR.
+    /// Adds `field NOT LIKE` `%`, the mask and `%`, which `quote` writes together: joins the
+    /// last group by OR, and opens one where there is none.
     pub fn or_where_not_like_any<S: ToText, T: ToText>(
         &mut self,
         field: S,
@@ -595,7 +617,8 @@ impl SqlBuilder {
         release(self.hold_binary(Family::Or, BinaryCondition::NotLikeAny, field, mask))
     }
 
-    /// Adds `field IN (..)` of these values, to the last group, by OR.
+    /// Adds `field IN (..)` of these values: joins the last group by OR, and opens one where
+    /// there is none.
     pub fn or_where_in<S: ToText, T: ToText>(
         &mut self,
         field: S,
@@ -603,13 +626,15 @@ impl SqlBuilder {
     ) -> Result<&mut Self, SqlBuilderError>
         ensures* refused { sem 𝓛 (IsUnchangedIfErr self.entry result) }
         ensures changed { IsChangedTo self.entry
-            (with_condition Or (InList false (S.text field) (map T.text values.now)) self.old) result }
+            (with_condition Or
+            (InList false (S.text field) (map T.text values.now)) self.old) result }
         ensures memory { FailsOnlyByMemory result }
     {
         release(self.hold_among(Family::Or, ListCondition::In, field, values))
     }
 
-    /// Adds `field IN (..)` of these values, each as `quote` writes it, to the last group, by OR.
+    /// Adds `field IN (..)` of these values, each as `quote` writes it: joins the last group by
+    /// OR, and opens one where there is none.
     pub fn or_where_in_quoted<S: ToText, T: ToText>(
         &mut self,
         field: S,
@@ -617,13 +642,14 @@ impl SqlBuilder {
     ) -> Result<&mut Self, SqlBuilderError>
         ensures* refused { sem 𝓛 (IsUnchangedIfErr self.entry result) }
         ensures changed { IsChangedTo self.entry
-            (with_condition Or (InQuoted false (S.text field) (map T.text values.now)) self.old) result }
+            (with_condition Or
+            (InQuoted false (S.text field) (map T.text values.now)) self.old) result }
         ensures memory { FailsOnlyByMemory result }
     {
         release(self.hold_among(Family::Or, ListCondition::InQuoted, field, values))
     }
 
-    /// Adds `field IN (query)`, to the last group, by OR.
+    /// Adds `field IN (query)`: joins the last group by OR, and opens one where there is none.
     pub fn or_where_in_query<S: ToText, T: ToText>(
         &mut self,
         field: S,
@@ -637,7 +663,8 @@ impl SqlBuilder {
         release(self.hold_binary(Family::Or, BinaryCondition::InQuery, field, query))
     }
 
-    /// Adds `field BETWEEN least AND greatest`, to the last group, by OR.
+    /// Adds `field BETWEEN least AND greatest`: joins the last group by OR, and opens one where
+    /// there is none.
     pub fn or_where_between<S: ToText, T: ToText, U: ToText>(
         &mut self,
         field: S,
@@ -646,13 +673,15 @@ impl SqlBuilder {
     ) -> Result<&mut Self, SqlBuilderError>
         ensures* refused { sem 𝓛 (IsUnchangedIfErr self.entry result) }
         ensures changed { IsChangedTo self.entry
-            (with_condition Or (Between false (S.text field) (T.text least) (U.text greatest)) self.old) result }
+            (with_condition Or
+            (Between false (S.text field) (T.text least) (U.text greatest)) self.old) result }
         ensures memory { FailsOnlyByMemory result }
     {
         release(self.hold_range(Family::Or, RangeCondition::Between, field, least, greatest))
     }
 
-    /// Adds `field NOT IN (..)` of these values, to the last group, by OR.
+    /// Adds `field NOT IN (..)` of these values: joins the last group by OR, and opens one
+    /// where there is none.
     pub fn or_where_not_in<S: ToText, T: ToText>(
         &mut self,
         field: S,
@@ -660,13 +689,15 @@ impl SqlBuilder {
     ) -> Result<&mut Self, SqlBuilderError>
         ensures* refused { sem 𝓛 (IsUnchangedIfErr self.entry result) }
         ensures changed { IsChangedTo self.entry
-            (with_condition Or (InList true (S.text field) (map T.text values.now)) self.old) result }
+            (with_condition Or
+            (InList true (S.text field) (map T.text values.now)) self.old) result }
         ensures memory { FailsOnlyByMemory result }
     {
         release(self.hold_among(Family::Or, ListCondition::NotIn, field, values))
     }
 
-    /// Adds `field NOT IN (..)` of these values, each as `quote` writes it, to the last group, by OR.
+    /// Adds `field NOT IN (..)` of these values, each as `quote` writes it: joins the last
+    /// group by OR, and opens one where there is none.
     pub fn or_where_not_in_quoted<S: ToText, T: ToText>(
         &mut self,
         field: S,
@@ -674,13 +705,15 @@ impl SqlBuilder {
     ) -> Result<&mut Self, SqlBuilderError>
         ensures* refused { sem 𝓛 (IsUnchangedIfErr self.entry result) }
         ensures changed { IsChangedTo self.entry
-            (with_condition Or (InQuoted true (S.text field) (map T.text values.now)) self.old) result }
+            (with_condition Or
+            (InQuoted true (S.text field) (map T.text values.now)) self.old) result }
         ensures memory { FailsOnlyByMemory result }
     {
         release(self.hold_among(Family::Or, ListCondition::NotInQuoted, field, values))
     }
 
-    /// Adds `field NOT IN (query)`, to the last group, by OR.
+    /// Adds `field NOT IN (query)`: joins the last group by OR, and opens one where there is
+    /// none.
     pub fn or_where_not_in_query<S: ToText, T: ToText>(
         &mut self,
         field: S,
@@ -694,7 +727,8 @@ impl SqlBuilder {
         release(self.hold_binary(Family::Or, BinaryCondition::NotInQuery, field, query))
     }
 
-    /// Adds `field NOT BETWEEN least AND greatest`, to the last group, by OR.
+    /// Adds `field NOT BETWEEN least AND greatest`: joins the last group by OR, and opens one
+    /// where there is none.
     pub fn or_where_not_between<S: ToText, T: ToText, U: ToText>(
         &mut self,
         field: S,
@@ -703,7 +737,8 @@ impl SqlBuilder {
     ) -> Result<&mut Self, SqlBuilderError>
         ensures* refused { sem 𝓛 (IsUnchangedIfErr self.entry result) }
         ensures changed { IsChangedTo self.entry
-            (with_condition Or (Between true (S.text field) (T.text least) (U.text greatest)) self.old) result }
+            (with_condition Or
+            (Between true (S.text field) (T.text least) (U.text greatest)) self.old) result }
         ensures memory { FailsOnlyByMemory result }
     {
         release(self.hold_range(

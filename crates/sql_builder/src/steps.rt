@@ -262,7 +262,8 @@ impl SqlBuilder {
         family: Family,
         condition: String,
     ) -> Result<(), SqlBuilderError>
-        ensures { Tells result self.old self.new (with_condition_text family (string_bytes condition)) }
+        ensures { Tells result self.old self.new
+            (with_condition_text family (string_bytes condition)) }
     {
         match family {
             Family::Or if !self.groups.is_empty() => {
@@ -479,7 +480,8 @@ impl SqlBuilder {
     ) -> Result<Held<'_>, SqlBuilderError>
         ensures* refused { sem 𝓛 (IsUnchangedIfHeldErr self.entry result) }
         ensures changed { IsHeldChangedTo self.entry (with_condition family
-            (range_condition condition (S.text field) (T.text least) (U.text greatest)) self.old) result }
+            (range_condition condition (S.text field) (T.text least) (U.text greatest))
+            self.old) result }
         ensures memory { FailsOnlyByMemory result }
     {
         let text = range(self.alloc, condition, field, least, greatest)?;

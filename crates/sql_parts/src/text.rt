@@ -23,7 +23,8 @@ pub trait ToText: Drop {
     /// Appends the text to another, which a refusal leaves as it was. It is refused only for want
     /// of memory.
     fn push_to(&self, alloc: Global, out: &mut String) -> Result<(), SqlBuilderError>
-        ensures text { OnOk result (string_bytes out.new ≡ string_bytes out.old ++ text self.now) }
+        ensures text { OnOk result
+            (string_bytes out.new ≡ string_bytes out.old ++ text self.now) }
         ensures unchanged { OnErr result (string_bytes out.new ≡ string_bytes out.old) }
         ensures memory { FailsOnlyByMemory result }
     {
