@@ -5,7 +5,7 @@ use Rattle.std.proofs.lemmas.Bool.Decides.{nat_tests}
 use Rattle.std.proofs.lemmas.List.{take_more, map-append, append-nil, length-map}
 use Rattle.std.proofs.lemmas.Grind.{flat_map-append}
 use Rattle.sql_builder.specs.Builder.{ClauseTexts, texts}
-use Rattle.sql_builder.specs.Layout.{byte_atoms, concat_sections, delete_sections, fields_or_star, group_by_sections, insert_sections, optional_section, order_by_sections, query, select_opening, union_opening, union_sections, update_sections, where_sections}
+use Rattle.sql_builder.specs.Layout.{byte_atoms, concat_sections, delete_sections, fields_or_star, group_by_sections, insert_sections, is_no_text, optional_section, order_by_sections, query, select_opening, union_opening, union_sections, update_sections, where_sections}
 use Rattle.sql_builder.specs.Phrases.{comma_list, further_table, in_brackets}
 use Rattle.sql_builder.specs.Text.{join_with}
 
@@ -57,7 +57,7 @@ unions_are (union ∷ unions) = ap (◌++◌ (union_opening union.0 ++ union.1))
 
 -- a table text is empty if its first table is and there is no other
 pub no_table : {Z : Type 0} (table : List ℕ) (further : List (String Z))
-    → nat_eq (length (table ++ flat_map (further_table byte_atoms) (texts further))) 0
+    → is_no_text (table ++ flat_map (further_table byte_atoms) (texts further))
     ≡ (nat_eq (length table) 0 && nat_eq (length further) 0)
 no_table [] [] = refl
 no_table [] (name ∷ names) = grind (arith, nat_tests)

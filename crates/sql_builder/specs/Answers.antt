@@ -25,13 +25,18 @@ start_text (start.DeleteFrom table) = text.DeleteFrom (string_bytes table)
 -- a condition, its texts as bytes
 abbrev pub condition_text : Condition → ConditionText
 condition_text (condition.Raw t) = said.Raw (string_bytes t)
-condition_text (condition.Compare relation field value) = said.Compare relation (string_bytes field) (string_bytes value)
-condition_text (condition.Like negated percent field mask) = said.Like negated percent (string_bytes field) (string_bytes mask)
+condition_text (condition.Compare relation field value) =
+    said.Compare relation (string_bytes field) (string_bytes value)
+condition_text (condition.Like negated percent field mask) =
+    said.Like negated percent (string_bytes field) (string_bytes mask)
 condition_text (condition.IsNull field) = said.IsNull (string_bytes field)
 condition_text (condition.IsNotNull field) = said.IsNotNull (string_bytes field)
-condition_text (condition.InList negated field values) = said.InList negated (string_bytes field) (texts values.items)
-condition_text (condition.InQuoted negated field values) = said.InQuoted negated (string_bytes field) (texts values.items)
-condition_text (condition.InQuery negated field query) = said.InQuery negated (string_bytes field) (string_bytes query)
+condition_text (condition.InList negated field values) =
+    said.InList negated (string_bytes field) (texts values.items)
+condition_text (condition.InQuoted negated field values) =
+    said.InQuoted negated (string_bytes field) (texts values.items)
+condition_text (condition.InQuery negated field query) =
+    said.InQuery negated (string_bytes field) (string_bytes query)
 condition_text (condition.Between negated field least greatest) =
     said.Between negated (string_bytes field) (string_bytes least) (string_bytes greatest)
 

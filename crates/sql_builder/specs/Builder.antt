@@ -43,7 +43,9 @@ texts strings = map (λ s. string_bytes s) strings
 
 -- a join's text, with its constraints behind it
 abbrev pub join_text : Join → List ℕ
-join_text j = join byte_atoms j.natural j.operator (string_bytes j.table) ++ flat_map (constraint byte_atoms) (texts j.constraints.items)
+join_text j =
+    join byte_atoms j.natural j.operator (string_bytes j.table)
+    ++ flat_map (constraint byte_atoms) (texts j.constraints.items)
 
 -- a query that UNION adds, and whether it is of all rows
 abbrev pub union_text : Union → Bool × List ℕ
@@ -244,7 +246,8 @@ with_texts list.SetFields fields r = with_fields_set fields r
 with_texts list.Values values r = with_row values r
 
 -- a step tells the builder this, or is refused for want of memory and leaves it as it was
-abbrev pub Tells : Result (Unit {0}) SqlBuilderError → ClauseTexts → ClauseTexts → (ClauseTexts → ClauseTexts) → Type 0
+abbrev pub Tells : Result (Unit {0}) SqlBuilderError → ClauseTexts → ClauseTexts → (ClauseTexts → ClauseTexts)
+    → Type 0
 Tells (Ok done) old new told = new ≡ told old
 Tells (Err refusal) old new told = IsMemory refusal × (new ≡ old)
 

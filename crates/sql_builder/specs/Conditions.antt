@@ -66,10 +66,13 @@ module _ {A : Type 0} (word raw quoted : List ℕ → List A) where
   condition_atoms (IsNull field) = raw field ++ word (codes " IS NULL")
   condition_atoms (IsNotNull field) = raw field ++ word (codes " IS NOT NULL")
   condition_atoms (InList negated field values) =
-      raw field ++ (word (not_text negated ++ codes " IN (") ++ (comma_list word (map raw values) ++ word (codes ")")))
+      raw field ++ (word (not_text negated ++ codes " IN (")
+      ++ (comma_list word (map raw values) ++ word (codes ")")))
   condition_atoms (InQuoted negated field values) =
-      raw field ++ (word (not_text negated ++ codes " IN (") ++ (comma_list word (map quoted values) ++ word (codes ")")))
+      raw field ++ (word (not_text negated ++ codes " IN (")
+      ++ (comma_list word (map quoted values) ++ word (codes ")")))
   condition_atoms (InQuery negated field query) =
       raw field ++ (word (not_text negated ++ codes " IN (") ++ (raw query ++ word (codes ")")))
   condition_atoms (Between negated field least greatest) =
-      raw field ++ (word (not_text negated ++ codes " BETWEEN ") ++ (raw least ++ (word (codes " AND ") ++ raw greatest)))
+      raw field ++ (word (not_text negated ++ codes " BETWEEN ")
+      ++ (raw least ++ (word (codes " AND ") ++ raw greatest)))

@@ -1,8 +1,8 @@
 //! Prints a builder's clauses as a statement or a query.
-ghost use Rattle.std.specs.Prelude.{◌≡◌, ◌++◌, IsNone, IfOk, IfSome, None, Some, codes, flat_map, length, map, nat_eq, string_bytes};
+ghost use Rattle.std.specs.Prelude.{◌≡◌, ◌++◌, IsNone, IfOk, IfSome, None, Some, codes, flat_map, map, string_bytes};
 ghost use Rattle.sql_parts.specs.Error.{FailsOnlyByMemory};
 ghost use Rattle.sql_builder.specs.Builder.{join_text, optional_text, texts, union_text, Adds};
-ghost use Rattle.sql_builder.specs.Layout.{byte_atoms, concat_sections, delete_sections, fields_or_star, group_by_sections, insert_sections, optional_section, order_by_sections, query, query_values, refusal, select_opening, sql, statement_sections, subquery, subquery_as, union_opening, update_sections, where_sections};
+ghost use Rattle.sql_builder.specs.Layout.{byte_atoms, concat_sections, delete_sections, fields_or_star, group_by_sections, insert_sections, is_no_text, optional_section, order_by_sections, query, query_values, refusal, select_opening, sql, statement_sections, subquery, subquery_as, union_opening, update_sections, where_sections};
 ghost use Rattle.sql_builder.specs.Phrases.{comma_list, further_table, operator_text};
 ghost use Rattle.sql_builder.specs.Statement.{unless_refused};
 ghost use Rattle.sql_builder.specs.Text.{join_with};
@@ -324,8 +324,8 @@ impl SqlBuilder {
 
 #[tactic(auto, using(crate::proofs::Printed::no_table))]
 fn has_no_table(table: &str, further: &[String]) -> bool
-    ensures { result ≡ nat_eq
-        (length (table.now ++ flat_map (further_table byte_atoms) (texts further.now))) 0 }
+    ensures { result
+        ≡ is_no_text (table.now ++ flat_map (further_table byte_atoms) (texts further.now)) }
 {
     table.is_empty() && further.is_empty()
 }

@@ -45,7 +45,9 @@ is_inside before = any_unfollowed is_start is_finish before
 
 -- the first start of these lines, with all their calls
 abbrev pub open_statement_in : List CommandResult → Option OpenStatement
-open_statement_in commands = option_map (λ start. record { start = start; calls = filter_map call_in commands }) (first (filter_map start_in commands))
+open_statement_in commands =
+    option_map (λ start. record { start = start; calls = filter_map call_in commands })
+    (first (filter_map start_in commands))
 
 -- the statement that the line after these is inside of: the last start line's, with the calls after it
 unfoldable pub open_statement : List CommandResult → Option OpenStatement
@@ -56,7 +58,8 @@ abbrev pub finish_answer : Result (List ℕ) SqlBuilderError → Result (Option 
 finish_answer (Ok text) = Ok (Some text)
 finish_answer (Err refusal) = Err (Builder refusal)
 
--- what a line answers, by the statement that it is inside of: the first check that it fails, or the text that it finishes, if it finishes one
+-- what a line answers, by the statement that it is inside of: the first check that it fails, or the text that it
+-- finishes, if it finishes one
 abbrev pub answer : Option OpenStatement → CommandResult → Result (Option (List ℕ)) Reason
 answer inside (Err reason) = Err reason
 answer None (Ok (Starts start)) = Ok None
@@ -93,7 +96,8 @@ pub record Output : Type 0 where
   pub statements : List (List ℕ)
   pub fault : Option (ℕ × Reason)
 
--- the statements that are finished before the first line that fails a check, and that line's fault; where none fails, all of them
+-- the statements that are finished before the first line that fails a check, and that line's fault; where none
+-- fails, all of them
 abbrev pub output_of : List CommandResult → Output
 output_of commands = record {
   statements = filter_map printed_line (until is_err (answers commands));

@@ -11,7 +11,8 @@ use Rattle.sqlb.specs.declared.fault.Reason.TheVariants.{Builder}
 -- whole statements from the beginning, one after another
 abbrev pub AreWhole : List ℕ → List (List ℕ) → Type 0
 AreWhole written statements =
-    (first : List (List ℕ)) × (rest : List (List ℕ)) × (statements ≡ first ++ rest) × (written ≡ flat_map (λ statement. statement) first)
+    (first : List (List ℕ)) × (rest : List (List ℕ)) × (statements ≡ first ++ rest)
+    × (written ≡ flat_map (λ statement. statement) first)
 
 -- What is written agrees with the output, as far as the answer says: all of it where the answer is the output's fault or Ok,
 -- whole statements where memory ran out, a beginning where a write failed, and nothing where a read failed.

@@ -18,7 +18,9 @@ command_text (command.Finish finish) = Finishes (finish_text finish)
 -- the statement that is open after a line, by what was open before it
 abbrev pub open_after : Option OpenStatement → CommandResult → Option OpenStatement
 open_after before (Ok (Starts start)) = Some (record { start = start; calls = [] })
-open_after before (Ok (Calls call)) = option_map (λ open_statement. record { start = open_statement.start; calls = open_statement.calls ++ call ∷ [] }) before
+open_after before (Ok (Calls call)) =
+    option_map (λ open_statement. record { start = open_statement.start; calls = open_statement.calls ++ call ∷ [] })
+    before
 open_after before (Ok (Finishes finish)) = None
 open_after before (Err reason) = before
 
