@@ -1184,10 +1184,7 @@ fn is_wanted(made: &Result<String, SqlBuilderError>, wanted: &Result<&str, &str>
 #[test]
 fn makes_what_the_rows_say(rt: HostRuntime) -> Result<(), Fail> {
     let heap = rt.alloc();
-    for (table, rows) in [EMPTY.as_slice(), &JOINS, &CLAUSES, &CONDITIONS]
-        .iter()
-        .enumerate()
-    {
+    for (table, rows) in [EMPTY.as_slice(), &JOINS, &CLAUSES].iter().enumerate() {
         for (row, (start, calls, finish, wanted)) in rows.iter().enumerate() {
             let made = made_by_calls(heap, start, calls, finish);
             assert!(rt;
@@ -1200,6 +1197,18 @@ fn makes_what_the_rows_say(rt: HostRuntime) -> Result<(), Fail> {
                 "by run, table {table}, row {row}"
             );
         }
+    }
+    Ok(())
+}
+
+#[test]
+fn makes_what_the_rows_of_conditions_say(rt: HostRuntime) -> Result<(), Fail> {
+    let heap = rt.alloc();
+    for (row, (start, calls, finish, wanted)) in CONDITIONS.iter().enumerate() {
+        let made = made_by_calls(heap, start, calls, finish);
+        assert!(rt; is_wanted(&made, wanted), "by calls, row {row}");
+        let made = made_by_run(heap, start, calls, finish);
+        assert!(rt; is_wanted(&made, wanted), "by run, row {row}");
     }
     Ok(())
 }
