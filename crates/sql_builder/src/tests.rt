@@ -2,7 +2,7 @@
 ghost use Rattle.std.specs.Prelude.{codes, ◌++◌};
 ghost use Rattle.sql_parts.specs.Text.{decimal_text};
 
-use crate::calls::{Call, Condition, Family, Finish, Relation, Start, run};
+use crate::calls::{Call, Condition, Family, Finish, Percent, Relation, Start, run};
 use crate::prelude::{SqlBuilder, ToText, quote};
 use crate::{SqlBuilderError, laws};
 use std::alloc::Global;
@@ -232,6 +232,423 @@ const CLAUSES: [Row; 16] = [
     ),
 ];
 
+/// Each call that adds a condition, and what it makes as the only one of a statement.
+const ALONE: [(Words, &str); 50] = [
+    (&["and_where", "f"], "SELECT * FROM t WHERE f"),
+    (
+        &["and_where_is_null", "f"],
+        "SELECT * FROM t WHERE f IS NULL",
+    ),
+    (
+        &["and_where_is_not_null", "f"],
+        "SELECT * FROM t WHERE f IS NOT NULL",
+    ),
+    (&["and_where_eq", "f", "1"], "SELECT * FROM t WHERE f = 1"),
+    (&["and_where_ne", "f", "1"], "SELECT * FROM t WHERE f <> 1"),
+    (&["and_where_gt", "f", "1"], "SELECT * FROM t WHERE f > 1"),
+    (&["and_where_ge", "f", "1"], "SELECT * FROM t WHERE f >= 1"),
+    (&["and_where_lt", "f", "1"], "SELECT * FROM t WHERE f < 1"),
+    (&["and_where_le", "f", "1"], "SELECT * FROM t WHERE f <= 1"),
+    (
+        &["and_where_like", "f", "it's"],
+        "SELECT * FROM t WHERE f LIKE 'it''s'",
+    ),
+    (
+        &["and_where_like_right", "f", "it's"],
+        "SELECT * FROM t WHERE f LIKE '%it''s'",
+    ),
+    (
+        &["and_where_like_left", "f", "it's"],
+        "SELECT * FROM t WHERE f LIKE 'it''s%'",
+    ),
+    (
+        &["and_where_like_any", "f", "it's"],
+        "SELECT * FROM t WHERE f LIKE '%it''s%'",
+    ),
+    (
+        &["and_where_not_like", "f", "it's"],
+        "SELECT * FROM t WHERE f NOT LIKE 'it''s'",
+    ),
+    (
+        &["and_where_not_like_right", "f", "it's"],
+        "SELECT * FROM t WHERE f NOT LIKE '%it''s'",
+    ),
+    (
+        &["and_where_not_like_left", "f", "it's"],
+        "SELECT * FROM t WHERE f NOT LIKE 'it''s%'",
+    ),
+    (
+        &["and_where_not_like_any", "f", "it's"],
+        "SELECT * FROM t WHERE f NOT LIKE '%it''s%'",
+    ),
+    (
+        &["and_where_in", "f", "1", "2"],
+        "SELECT * FROM t WHERE f IN (1, 2)",
+    ),
+    (
+        &["and_where_in_quoted", "f", "1", "2"],
+        "SELECT * FROM t WHERE f IN ('1', '2')",
+    ),
+    (
+        &["and_where_in_query", "f", "SELECT 1"],
+        "SELECT * FROM t WHERE f IN (SELECT 1)",
+    ),
+    (
+        &["and_where_between", "f", "1", "2"],
+        "SELECT * FROM t WHERE f BETWEEN 1 AND 2",
+    ),
+    (
+        &["and_where_not_in", "f", "1", "2"],
+        "SELECT * FROM t WHERE f NOT IN (1, 2)",
+    ),
+    (
+        &["and_where_not_in_quoted", "f", "1", "2"],
+        "SELECT * FROM t WHERE f NOT IN ('1', '2')",
+    ),
+    (
+        &["and_where_not_in_query", "f", "SELECT 1"],
+        "SELECT * FROM t WHERE f NOT IN (SELECT 1)",
+    ),
+    (
+        &["and_where_not_between", "f", "1", "2"],
+        "SELECT * FROM t WHERE f NOT BETWEEN 1 AND 2",
+    ),
+    (&["or_where", "f"], "SELECT * FROM t WHERE f"),
+    (
+        &["or_where_is_null", "f"],
+        "SELECT * FROM t WHERE f IS NULL",
+    ),
+    (
+        &["or_where_is_not_null", "f"],
+        "SELECT * FROM t WHERE f IS NOT NULL",
+    ),
+    (&["or_where_eq", "f", "1"], "SELECT * FROM t WHERE f = 1"),
+    (&["or_where_ne", "f", "1"], "SELECT * FROM t WHERE f <> 1"),
+    (&["or_where_gt", "f", "1"], "SELECT * FROM t WHERE f > 1"),
+    (&["or_where_ge", "f", "1"], "SELECT * FROM t WHERE f >= 1"),
+    (&["or_where_lt", "f", "1"], "SELECT * FROM t WHERE f < 1"),
+    (&["or_where_le", "f", "1"], "SELECT * FROM t WHERE f <= 1"),
+    (
+        &["or_where_like", "f", "it's"],
+        "SELECT * FROM t WHERE f LIKE 'it''s'",
+    ),
+    (
+        &["or_where_like_right", "f", "it's"],
+        "SELECT * FROM t WHERE f LIKE '%it''s'",
+    ),
+    (
+        &["or_where_like_left", "f", "it's"],
+        "SELECT * FROM t WHERE f LIKE 'it''s%'",
+    ),
+    (
+        &["or_where_like_any", "f", "it's"],
+        "SELECT * FROM t WHERE f LIKE '%it''s%'",
+    ),
+    (
+        &["or_where_not_like", "f", "it's"],
+        "SELECT * FROM t WHERE f NOT LIKE 'it''s'",
+    ),
+    (
+        &["or_where_not_like_right", "f", "it's"],
+        "SELECT * FROM t WHERE f NOT LIKE '%it''s'",
+    ),
+    (
+        &["or_where_not_like_left", "f", "it's"],
+        "SELECT * FROM t WHERE f NOT LIKE 'it''s%'",
+    ),
+    (
+        &["or_where_not_like_any", "f", "it's"],
+        "SELECT * FROM t WHERE f NOT LIKE '%it''s%'",
+    ),
+    (
+        &["or_where_in", "f", "1", "2"],
+        "SELECT * FROM t WHERE f IN (1, 2)",
+    ),
+    (
+        &["or_where_in_quoted", "f", "1", "2"],
+        "SELECT * FROM t WHERE f IN ('1', '2')",
+    ),
+    (
+        &["or_where_in_query", "f", "SELECT 1"],
+        "SELECT * FROM t WHERE f IN (SELECT 1)",
+    ),
+    (
+        &["or_where_between", "f", "1", "2"],
+        "SELECT * FROM t WHERE f BETWEEN 1 AND 2",
+    ),
+    (
+        &["or_where_not_in", "f", "1", "2"],
+        "SELECT * FROM t WHERE f NOT IN (1, 2)",
+    ),
+    (
+        &["or_where_not_in_quoted", "f", "1", "2"],
+        "SELECT * FROM t WHERE f NOT IN ('1', '2')",
+    ),
+    (
+        &["or_where_not_in_query", "f", "SELECT 1"],
+        "SELECT * FROM t WHERE f NOT IN (SELECT 1)",
+    ),
+    (
+        &["or_where_not_between", "f", "1", "2"],
+        "SELECT * FROM t WHERE f NOT BETWEEN 1 AND 2",
+    ),
+];
+
+/// Each call that adds a condition by OR, and what it makes behind a group of one condition.
+const BEHIND_A_GROUP: [(Words, &str); 25] = [
+    (&["or_where", "f"], "SELECT * FROM t WHERE a OR f"),
+    (
+        &["or_where_is_null", "f"],
+        "SELECT * FROM t WHERE a OR f IS NULL",
+    ),
+    (
+        &["or_where_is_not_null", "f"],
+        "SELECT * FROM t WHERE a OR f IS NOT NULL",
+    ),
+    (
+        &["or_where_eq", "f", "1"],
+        "SELECT * FROM t WHERE a OR f = 1",
+    ),
+    (
+        &["or_where_ne", "f", "1"],
+        "SELECT * FROM t WHERE a OR f <> 1",
+    ),
+    (
+        &["or_where_gt", "f", "1"],
+        "SELECT * FROM t WHERE a OR f > 1",
+    ),
+    (
+        &["or_where_ge", "f", "1"],
+        "SELECT * FROM t WHERE a OR f >= 1",
+    ),
+    (
+        &["or_where_lt", "f", "1"],
+        "SELECT * FROM t WHERE a OR f < 1",
+    ),
+    (
+        &["or_where_le", "f", "1"],
+        "SELECT * FROM t WHERE a OR f <= 1",
+    ),
+    (
+        &["or_where_like", "f", "it's"],
+        "SELECT * FROM t WHERE a OR f LIKE 'it''s'",
+    ),
+    (
+        &["or_where_like_right", "f", "it's"],
+        "SELECT * FROM t WHERE a OR f LIKE '%it''s'",
+    ),
+    (
+        &["or_where_like_left", "f", "it's"],
+        "SELECT * FROM t WHERE a OR f LIKE 'it''s%'",
+    ),
+    (
+        &["or_where_like_any", "f", "it's"],
+        "SELECT * FROM t WHERE a OR f LIKE '%it''s%'",
+    ),
+    (
+        &["or_where_not_like", "f", "it's"],
+        "SELECT * FROM t WHERE a OR f NOT LIKE 'it''s'",
+    ),
+    (
+        &["or_where_not_like_right", "f", "it's"],
+        "SELECT * FROM t WHERE a OR f NOT LIKE '%it''s'",
+    ),
+    (
+        &["or_where_not_like_left", "f", "it's"],
+        "SELECT * FROM t WHERE a OR f NOT LIKE 'it''s%'",
+    ),
+    (
+        &["or_where_not_like_any", "f", "it's"],
+        "SELECT * FROM t WHERE a OR f NOT LIKE '%it''s%'",
+    ),
+    (
+        &["or_where_in", "f", "1", "2"],
+        "SELECT * FROM t WHERE a OR f IN (1, 2)",
+    ),
+    (
+        &["or_where_in_quoted", "f", "1", "2"],
+        "SELECT * FROM t WHERE a OR f IN ('1', '2')",
+    ),
+    (
+        &["or_where_in_query", "f", "SELECT 1"],
+        "SELECT * FROM t WHERE a OR f IN (SELECT 1)",
+    ),
+    (
+        &["or_where_between", "f", "1", "2"],
+        "SELECT * FROM t WHERE a OR f BETWEEN 1 AND 2",
+    ),
+    (
+        &["or_where_not_in", "f", "1", "2"],
+        "SELECT * FROM t WHERE a OR f NOT IN (1, 2)",
+    ),
+    (
+        &["or_where_not_in_quoted", "f", "1", "2"],
+        "SELECT * FROM t WHERE a OR f NOT IN ('1', '2')",
+    ),
+    (
+        &["or_where_not_in_query", "f", "SELECT 1"],
+        "SELECT * FROM t WHERE a OR f NOT IN (SELECT 1)",
+    ),
+    (
+        &["or_where_not_between", "f", "1", "2"],
+        "SELECT * FROM t WHERE a OR f NOT BETWEEN 1 AND 2",
+    ),
+];
+
+const CONDITIONS: [Row; 16] = [
+    (
+        &["select_from", "t"],
+        &[&["and_where", "a"], &["or_where", "b"], &["and_where", "c"]],
+        SQL,
+        Ok("SELECT * FROM t WHERE (a OR b) AND (c);"),
+    ),
+    (
+        &["select_from", "t"],
+        &[&["or_where", "a"], &["or_where", "b"]],
+        SQL,
+        Ok("SELECT * FROM t WHERE a OR b;"),
+    ),
+    (
+        &["select_from", "t"],
+        &[&["and_where_like_any", "t", "50%'"]],
+        QUERY,
+        Ok("SELECT * FROM t WHERE t LIKE '%50%''%'"),
+    ),
+    (
+        &["select_from", "t"],
+        &[
+            &["and_where", "x BETWEEN 1 AND 2"],
+            &["or_where", "NOT (p OR q)"],
+            &["and_where", "CASE WHEN a OR b THEN c END = 1"],
+        ],
+        SQL,
+        Ok(
+            "SELECT * FROM t WHERE (x BETWEEN 1 AND 2 OR NOT (p OR q)) AND (CASE WHEN a OR \
+                b THEN c END = 1);",
+        ),
+    ),
+    (
+        &["update_table", "books"],
+        &[
+            &["set_str", "comment", "Don't distribute!"],
+            &["and_where_le", "price", "100"],
+            &["returning", "id, comment"],
+        ],
+        SQL,
+        Ok(
+            "UPDATE books SET comment = 'Don''t distribute!' WHERE price <= 100 RETURNING \
+                id, comment;",
+        ),
+    ),
+    (
+        &["select_from", "t"],
+        &[&["limit", "1"], &["limit", "2"], &["and_where_in", "a"]],
+        SQL,
+        Ok("SELECT * FROM t WHERE a IN () LIMIT 2;"),
+    ),
+    (
+        &["select_from", "t"],
+        &[&["and_where_not_in_quoted", "a", "x", "it's"]],
+        QUERY,
+        Ok("SELECT * FROM t WHERE a NOT IN ('x', 'it''s')"),
+    ),
+    (
+        &["select_from", "t"],
+        &[&["or_where_not_between", "a", "1", "2"]],
+        QUERY,
+        Ok("SELECT * FROM t WHERE a NOT BETWEEN 1 AND 2"),
+    ),
+    (
+        &["select_from", "t"],
+        &[&["and_where_not_like_right", "t", "a"]],
+        QUERY,
+        Ok("SELECT * FROM t WHERE t NOT LIKE '%a'"),
+    ),
+    (
+        &["select_from", "t"],
+        &[&["or_where_in_query", "a", "SELECT 1"]],
+        QUERY,
+        Ok("SELECT * FROM t WHERE a IN (SELECT 1)"),
+    ),
+    (
+        &["select_from", "t"],
+        &[
+            &["and_where_in_quoted", "a"],
+            &["or_where_not_in", "b", "1"],
+        ],
+        QUERY,
+        Ok("SELECT * FROM t WHERE a IN () OR b NOT IN (1)"),
+    ),
+    (
+        &["select_from", "t"],
+        &[
+            &["and_where", "a"],
+            &["and_where_is_null", "b"],
+            &["or_where_eq", "c", "1"],
+            &["or_where", "d"],
+        ],
+        QUERY,
+        Ok("SELECT * FROM t WHERE (a) AND (b IS NULL OR c = 1 OR d)"),
+    ),
+    (
+        &["select_from", "books"],
+        &[
+            &["and_where", "price < 2"],
+            &["or_where_eq", "title", "'it''s'"],
+            &["or_where_ne", "price", "100"],
+            &["or_where_like", "title", "Alice's"],
+            &["or_where_not_like_any", "LOWER(title)", " the "],
+            &["or_where_is_null", "title"],
+            &["or_where_is_not_null", "price"],
+        ],
+        SQL,
+        Ok(
+            "SELECT * FROM books WHERE price < 2 OR title = 'it''s' OR price <> 100 OR \
+                title LIKE 'Alice''s' OR LOWER(title) NOT LIKE '% the %' OR title IS NULL OR \
+                price IS NOT NULL;",
+        ),
+    ),
+    (
+        &["select_from", "books"],
+        &[
+            &["and_where_ge", "price", "300"],
+            &["and_where_like_left", "title", "Harry"],
+            &["order_desc", "price"],
+            &["order_asc", "title"],
+            &["limit", "3"],
+            &["offset", "2"],
+        ],
+        SQL,
+        Ok(
+            "SELECT * FROM books WHERE (price >= 300) AND (title LIKE 'Harry%') ORDER BY \
+                price DESC, title LIMIT 3 OFFSET 2;",
+        ),
+    ),
+    (
+        &["update_table", "books"],
+        &[
+            &["set", "price", "0"],
+            &["set", "title", "'[SOLD!]' || title"],
+            &["and_where_like_left", "title", "Harry"],
+            &["returning_id"],
+        ],
+        SQL,
+        Ok(
+            "UPDATE books SET price = 0, title = '[SOLD!]' || title WHERE title LIKE \
+                'Harry%' RETURNING id;",
+        ),
+    ),
+    (
+        &["delete_from", "company"],
+        &[
+            &["or_where_lt", "salary", "1000"],
+            &["or_where_gt", "salary", "25000"],
+        ],
+        SQL,
+        Ok("DELETE FROM company WHERE salary < 1000 OR salary > 25000;"),
+    ),
+];
+
 /// One call of each case.
 const EVERY_CALL: &[Words] = &[
     &["distinct"],
@@ -371,10 +788,144 @@ fn tell_one(builder: &mut SqlBuilder, name: &str, text: &str) -> Result<(), SqlB
         "order_desc" => builder.order_desc(text)?,
         "limit" => builder.limit(text)?,
         "offset" => builder.offset(text)?,
-        "and_where" => builder.and_where(text)?,
         _ => return Err(UNKNOWN),
     };
     Ok(())
+}
+
+fn tell_unary(builder: &mut SqlBuilder, name: &str, text: &str) -> Result<(), SqlBuilderError> {
+    match name {
+        "and_where" => builder.and_where(text)?,
+        "and_where_is_null" => builder.and_where_is_null(text)?,
+        "and_where_is_not_null" => builder.and_where_is_not_null(text)?,
+        "or_where" => builder.or_where(text)?,
+        "or_where_is_null" => builder.or_where_is_null(text)?,
+        "or_where_is_not_null" => builder.or_where_is_not_null(text)?,
+        _ => return Err(UNKNOWN),
+    };
+    Ok(())
+}
+
+fn tell_comparison(
+    builder: &mut SqlBuilder,
+    name: &str,
+    field: &str,
+    value: &str,
+) -> Result<(), SqlBuilderError> {
+    match name {
+        "and_where_eq" => builder.and_where_eq(field, value)?,
+        "and_where_ne" => builder.and_where_ne(field, value)?,
+        "and_where_gt" => builder.and_where_gt(field, value)?,
+        "and_where_ge" => builder.and_where_ge(field, value)?,
+        "and_where_lt" => builder.and_where_lt(field, value)?,
+        "and_where_le" => builder.and_where_le(field, value)?,
+        "or_where_eq" => builder.or_where_eq(field, value)?,
+        "or_where_ne" => builder.or_where_ne(field, value)?,
+        "or_where_gt" => builder.or_where_gt(field, value)?,
+        "or_where_ge" => builder.or_where_ge(field, value)?,
+        "or_where_lt" => builder.or_where_lt(field, value)?,
+        "or_where_le" => builder.or_where_le(field, value)?,
+        _ => return Err(UNKNOWN),
+    };
+    Ok(())
+}
+
+fn tell_like(
+    builder: &mut SqlBuilder,
+    name: &str,
+    field: &str,
+    mask: &str,
+) -> Result<(), SqlBuilderError> {
+    match name {
+        "and_where_like" => builder.and_where_like(field, mask)?,
+        "and_where_like_right" => builder.and_where_like_right(field, mask)?,
+        "and_where_like_left" => builder.and_where_like_left(field, mask)?,
+        "and_where_like_any" => builder.and_where_like_any(field, mask)?,
+        "and_where_not_like" => builder.and_where_not_like(field, mask)?,
+        "and_where_not_like_right" => builder.and_where_not_like_right(field, mask)?,
+        "and_where_not_like_left" => builder.and_where_not_like_left(field, mask)?,
+        "and_where_not_like_any" => builder.and_where_not_like_any(field, mask)?,
+        "or_where_like" => builder.or_where_like(field, mask)?,
+        "or_where_like_right" => builder.or_where_like_right(field, mask)?,
+        "or_where_like_left" => builder.or_where_like_left(field, mask)?,
+        "or_where_like_any" => builder.or_where_like_any(field, mask)?,
+        "or_where_not_like" => builder.or_where_not_like(field, mask)?,
+        "or_where_not_like_right" => builder.or_where_not_like_right(field, mask)?,
+        "or_where_not_like_left" => builder.or_where_not_like_left(field, mask)?,
+        "or_where_not_like_any" => builder.or_where_not_like_any(field, mask)?,
+        _ => return Err(UNKNOWN),
+    };
+    Ok(())
+}
+
+fn tell_query(
+    builder: &mut SqlBuilder,
+    name: &str,
+    field: &str,
+    query: &str,
+) -> Result<(), SqlBuilderError> {
+    match name {
+        "and_where_in_query" => builder.and_where_in_query(field, query)?,
+        "and_where_not_in_query" => builder.and_where_not_in_query(field, query)?,
+        "or_where_in_query" => builder.or_where_in_query(field, query)?,
+        "or_where_not_in_query" => builder.or_where_not_in_query(field, query)?,
+        _ => return Err(UNKNOWN),
+    };
+    Ok(())
+}
+
+fn tell_among(
+    builder: &mut SqlBuilder,
+    name: &str,
+    field: &str,
+    values: &[&str],
+) -> Result<(), SqlBuilderError> {
+    match name {
+        "and_where_in" => builder.and_where_in(field, values)?,
+        "and_where_in_quoted" => builder.and_where_in_quoted(field, values)?,
+        "and_where_not_in" => builder.and_where_not_in(field, values)?,
+        "and_where_not_in_quoted" => builder.and_where_not_in_quoted(field, values)?,
+        "or_where_in" => builder.or_where_in(field, values)?,
+        "or_where_in_quoted" => builder.or_where_in_quoted(field, values)?,
+        "or_where_not_in" => builder.or_where_not_in(field, values)?,
+        "or_where_not_in_quoted" => builder.or_where_not_in_quoted(field, values)?,
+        _ => return Err(UNKNOWN),
+    };
+    Ok(())
+}
+
+fn tell_range(
+    builder: &mut SqlBuilder,
+    name: &str,
+    field: &str,
+    least: &str,
+    greatest: &str,
+) -> Result<(), SqlBuilderError> {
+    match name {
+        "and_where_between" => builder.and_where_between(field, least, greatest)?,
+        "and_where_not_between" => builder.and_where_not_between(field, least, greatest)?,
+        "or_where_between" => builder.or_where_between(field, least, greatest)?,
+        "or_where_not_between" => builder.or_where_not_between(field, least, greatest)?,
+        _ => return Err(UNKNOWN),
+    };
+    Ok(())
+}
+
+fn tell_condition(
+    builder: &mut SqlBuilder,
+    name: &str,
+    arguments: &[&str],
+) -> Result<(), SqlBuilderError> {
+    let is_list = name.ends_with("_in") || name.ends_with("_in_quoted");
+    match arguments {
+        [field, values @ ..] if is_list => tell_among(builder, name, field, values),
+        [text] => tell_unary(builder, name, text),
+        [field, mask] if name.contains("_like") => tell_like(builder, name, field, mask),
+        [field, query] if name.ends_with("_query") => tell_query(builder, name, field, query),
+        [field, value] => tell_comparison(builder, name, field, value),
+        [field, least, greatest] => tell_range(builder, name, field, least, greatest),
+        _ => Err(UNKNOWN),
+    }
 }
 
 fn tell(builder: &mut SqlBuilder, call: &[&str]) -> Result<(), SqlBuilderError> {
@@ -396,7 +947,9 @@ fn tell(builder: &mut SqlBuilder, call: &[&str]) -> Result<(), SqlBuilderError> 
         ["set", field, value] => builder.set(field, value)?,
         ["set_str", field, value] => builder.set_str(field, value)?,
         ["order_by", field, descending] => builder.order_by(field, *descending == "true")?,
-        ["and_where_gt", field, value] => builder.and_where_gt(field, value)?,
+        [name, arguments @ ..] if name.contains("_where") => {
+            return tell_condition(builder, name, arguments);
+        }
         [name, text] => return tell_one(builder, name, text),
         _ => return Err(UNKNOWN),
     };
@@ -481,7 +1034,6 @@ fn call_of_one(name: &str, text: String) -> Result<Call, SqlBuilderError> {
         "order_desc" => Call::OrderDesc(text),
         "limit" => Call::Limit(text),
         "offset" => Call::Offset(text),
-        "and_where" => Call::Cond(Family::And, Condition::Raw(text)),
         _ => return Err(UNKNOWN),
     })
 }
@@ -493,9 +1045,97 @@ fn call_of_two(name: &str, first: String, second: String) -> Result<Call, SqlBui
         "set" => Call::SetTo(first, second),
         "set_str" => Call::SetStr(first, second),
         "order_by" => Call::OrderBy(first, second.as_str() == "true"),
-        "and_where_gt" => Call::Cond(Family::And, Condition::Compare(Relation::Gt, first, second)),
         _ => return Err(UNKNOWN),
     })
+}
+
+fn relation_value(ending: &str) -> Option<Relation> {
+    match ending {
+        "_eq" => Some(Relation::Eq),
+        "_ne" => Some(Relation::Ne),
+        "_gt" => Some(Relation::Gt),
+        "_ge" => Some(Relation::Ge),
+        "_lt" => Some(Relation::Lt),
+        "_le" => Some(Relation::Le),
+        _ => None,
+    }
+}
+
+fn percent_value(ending: &str) -> Option<Percent> {
+    match ending {
+        "_like" => Some(Percent::Plain),
+        "_like_right" => Some(Percent::Right),
+        "_like_left" => Some(Percent::Left),
+        "_like_any" => Some(Percent::Any),
+        _ => None,
+    }
+}
+
+fn binary_value(
+    negated: bool,
+    ending: &str,
+    field: String,
+    text: String,
+) -> Result<Condition, SqlBuilderError> {
+    if let Some(relation) = relation_value(ending) {
+        return Ok(Condition::Compare(relation, field, text));
+    }
+    if let Some(percent) = percent_value(ending) {
+        return Ok(Condition::Like(negated, percent, field, text));
+    }
+    match ending {
+        "_in_query" => Ok(Condition::InQuery(negated, field, text)),
+        _ => Err(UNKNOWN),
+    }
+}
+
+fn condition_value(
+    alloc: Global,
+    ending: &str,
+    arguments: &[&str],
+) -> Result<Condition, SqlBuilderError> {
+    let text = |s: &str| String::from_str(alloc, s);
+    let (negated, ending) = match ending.strip_prefix("_not") {
+        Some(ending) => (true, ending),
+        None => (false, ending),
+    };
+    match (ending, arguments) {
+        ("", [condition]) => Ok(Condition::Raw(text(condition)?)),
+        ("_is_null", [field]) => Ok(Condition::IsNull(text(field)?)),
+        ("_is_not_null", [field]) => Ok(Condition::IsNotNull(text(field)?)),
+        ("_in", [field, values @ ..]) => Ok(Condition::InList(
+            negated,
+            text(field)?,
+            texts(alloc, values)?,
+        )),
+        ("_in_quoted", [field, values @ ..]) => Ok(Condition::InQuoted(
+            negated,
+            text(field)?,
+            texts(alloc, values)?,
+        )),
+        ("_between", [field, least, greatest]) => Ok(Condition::Between(
+            negated,
+            text(field)?,
+            text(least)?,
+            text(greatest)?,
+        )),
+        (_, [field, second]) => binary_value(negated, ending, text(field)?, text(second)?),
+        _ => Err(UNKNOWN),
+    }
+}
+
+fn condition_call(alloc: Global, name: &str, arguments: &[&str]) -> Result<Call, SqlBuilderError> {
+    if let Some(ending) = name.strip_prefix("and_where") {
+        let condition = condition_value(alloc, ending, arguments)?;
+        return Ok(Call::Cond(Family::And, condition));
+    }
+    match name.strip_prefix("or_where") {
+        Some(ending) => {
+            let condition = condition_value(alloc, ending, arguments)?;
+            Ok(Call::Cond(Family::Or, condition))
+        }
+        None => Err(UNKNOWN),
+    }
 }
 
 fn call_value(alloc: Global, call: &[&str]) -> Result<Call, SqlBuilderError> {
@@ -504,6 +1144,9 @@ fn call_value(alloc: Global, call: &[&str]) -> Result<Call, SqlBuilderError> {
         ["fields", fields @ ..] => Ok(Call::Fields(texts(alloc, fields)?)),
         ["set_fields", fields @ ..] => Ok(Call::SetFields(texts(alloc, fields)?)),
         ["values", values @ ..] => Ok(Call::Values(texts(alloc, values)?)),
+        [name, arguments @ ..] if name.contains("_where") => {
+            condition_call(alloc, name, arguments)
+        }
         [name] => bare_call(name),
         [name, only] => call_of_one(name, text(only)?),
         [name, first, second] => call_of_two(name, text(first)?, text(second)?),
@@ -568,6 +1211,43 @@ fn makes_what_the_rows_say(rt: HostRuntime) -> Result<(), Fail> {
 }
 
 #[test]
+fn makes_what_the_rows_of_conditions_say(rt: HostRuntime) -> Result<(), Fail> {
+    let heap = rt.alloc();
+    for (row, (start, calls, finish, wanted)) in CONDITIONS.iter().enumerate() {
+        let made = made_by_calls(heap, start, calls, finish);
+        assert!(rt; is_wanted(&made, wanted), "by calls, row {row}");
+        let made = made_by_run(heap, start, calls, finish);
+        assert!(rt; is_wanted(&made, wanted), "by run, row {row}");
+    }
+    Ok(())
+}
+
+#[test]
+fn adds_each_condition_alone(rt: HostRuntime) -> Result<(), Fail> {
+    let heap = rt.alloc();
+    for (row, (call, wanted)) in ALONE.iter().enumerate() {
+        let made = made_by_calls(heap, &["select_from", "t"], &[*call], QUERY)?;
+        assert_eq!(rt; made.as_str(), *wanted, "by calls, row {row}");
+        let made = made_by_run(heap, &["select_from", "t"], &[*call], QUERY)?;
+        assert_eq!(rt; made.as_str(), *wanted, "by run, row {row}");
+    }
+    Ok(())
+}
+
+#[test]
+fn joins_each_condition_to_a_group(rt: HostRuntime) -> Result<(), Fail> {
+    let heap = rt.alloc();
+    for (row, (call, wanted)) in BEHIND_A_GROUP.iter().enumerate() {
+        let calls: [Words; 2] = [&["and_where", "a"], *call];
+        let made = made_by_calls(heap, &["select_from", "t"], &calls, QUERY)?;
+        assert_eq!(rt; made.as_str(), *wanted, "by calls, row {row}");
+        let made = made_by_run(heap, &["select_from", "t"], &calls, QUERY)?;
+        assert_eq!(rt; made.as_str(), *wanted, "by run, row {row}");
+    }
+    Ok(())
+}
+
+#[test]
 fn makes_every_call_after_every_start(rt: HostRuntime) -> Result<(), Fail> {
     let heap = rt.alloc();
     for (row, (start, finish, wanted)) in EVERY_START_AND_FINISH.iter().enumerate() {
@@ -626,6 +1306,37 @@ fn takes_texts_of_many_types(rt: HostRuntime) -> Result<(), Fail> {
     assert_eq!(rt;
         made.as_str(),
         "INSERT INTO id4 (id5, id6) VALUES (7, 8), (false, true);"
+    );
+    Ok(())
+}
+
+#[test]
+fn chains_conditions_of_many_types(rt: HostRuntime) -> Result<(), Fail> {
+    let heap = rt.alloc();
+    let title = quote(heap, "it's")?;
+    let made = SqlBuilder::select_from(heap, "books")?
+        .and_where("price < 2")?
+        .or_where_eq("title", title)?
+        .or_where_ne("price", 100)?
+        .query()?;
+    assert_eq!(rt;
+        made.as_str(),
+        "SELECT * FROM books WHERE price < 2 OR title = 'it''s' OR price <> 100"
+    );
+    Ok(())
+}
+
+#[test]
+fn chains_lists_and_bounds_of_many_types(rt: HostRuntime) -> Result<(), Fail> {
+    let heap = rt.alloc();
+    let made = SqlBuilder::delete_from(heap, "t")?
+        .and_where_in(Id(1), &[1, -2])?
+        .and_where_not_between("b", 3, "c")?
+        .or_where_in_quoted("d", &[Id(4)])?
+        .sql()?;
+    assert_eq!(rt;
+        made.as_str(),
+        "DELETE FROM t WHERE (id1 IN (1, -2)) AND (b NOT BETWEEN 3 AND c OR d IN ('id4'));"
     );
     Ok(())
 }

@@ -111,7 +111,7 @@ impl Write for Small {
 /// An input, what it prints, the line of its fault, and the exit status.
 type Row = (&'static [u8], &'static [u8], &'static [u8], u8);
 
-const ROWS: [Row; 24] = [
+const ROWS: [Row; 32] = [
     (
         b"select_from\tcompany\nfield\tid\nfield\tname\nand_where_gt\tsalary\t25000\nsql\n",
         b"SELECT id, name FROM company WHERE salary > 25000;\n",
@@ -174,6 +174,50 @@ const ROWS: [Row; 24] = [
     (
         b"select_from\tt\nand_where\ta\nand_where\tb\nsql\n",
         b"SELECT * FROM t WHERE (a) AND (b);\n",
+        b"",
+        0,
+    ),
+    // A list may be empty, but its field may not be left out.
+    (
+        b"select_from\tt\nand_where_in\ta\nquery\n",
+        b"SELECT * FROM t WHERE a IN ()\n",
+        b"",
+        0,
+    ),
+    (
+        b"select_from\tt\nor_where_in\ta\t1\t2\nquery\n",
+        b"SELECT * FROM t WHERE a IN (1, 2)\n",
+        b"",
+        0,
+    ),
+    (b"and_where_in\n", b"", b"line 1: wrong arguments\n", 1),
+    (
+        b"or_where_not_in_quoted\n",
+        b"",
+        b"line 1: wrong arguments\n",
+        1,
+    ),
+    (
+        b"select_from\tt\nor_where_is_null\ta\tb\n",
+        b"",
+        b"line 2: wrong arguments\n",
+        1,
+    ),
+    (
+        b"select_from\tt\nand_where_between\ta\t1\n",
+        b"",
+        b"line 2: wrong arguments\n",
+        1,
+    ),
+    (
+        b"select_from\tt\nor_where_not_between\ta\t1\t2\t3\n",
+        b"",
+        b"line 2: wrong arguments\n",
+        1,
+    ),
+    (
+        b"select_from\tt\nand_where\ta\nor_where_like_any\tb\tit's\nquery\n",
+        b"SELECT * FROM t WHERE a OR b LIKE '%it''s%'\n",
         b"",
         0,
     ),
