@@ -1367,6 +1367,32 @@ fn puts_texts_of_one_builder_into_another(rt: HostRuntime) -> Result<(), Fail> {
 }
 
 #[test]
+fn chains_the_first_statements(rt: HostRuntime) -> Result<(), Fail> {
+    let made = SqlBuilder::select_from(rt.alloc(), "company")?
+        .field("id")?
+        .field("name")?
+        .and_where_gt("salary", 25_000)?
+        .sql()?;
+    assert_eq!(rt;
+        made.as_str(),
+        "SELECT id, name FROM company WHERE salary > 25000;"
+    );
+    let made = SqlBuilder::select_from(rt.alloc(), "company")?
+        .field("id")?
+        .field("name")?
+        .and_where_gt("salary", 25_000)?
+        .or_where_like_left("name", "Sch")?
+        .order_desc("salary")?
+        .sql()?;
+    assert_eq!(rt;
+        made.as_str(),
+        "SELECT id, name FROM company WHERE salary > 25000 OR name LIKE 'Sch%' \
+            ORDER BY salary DESC;"
+    );
+    Ok(())
+}
+
+#[test]
 fn chains_calls(rt: HostRuntime) -> Result<(), Fail> {
     let heap = rt.alloc();
     let title = quote(heap, "Lost Time")?;
