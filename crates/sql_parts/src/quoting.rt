@@ -8,11 +8,12 @@ use crate::error::SqlBuilderError;
 use crate::text::ToText;
 use std::alloc::{AllocError, Global};
 
-// Appends the text with each `mark` in it written twice.
-fn push_doubled(out: &mut String, mark: char, text: &str) -> Result<(), AllocError>
+/// Appends the text with each `mark` in it written twice. Room for a closing mark is taken too.
+pub(crate) fn push_doubled(out: &mut String, mark: char, text: &str) -> Result<(), AllocError>
     requires one_byte { mark < 128 }
     ensures { OnOk result (string_bytes out.new ≡ string_bytes out.old ++ doubled mark text.now) }
 {
+    out.reserve(text.len().saturating_add(1))?;
     let mut rest = text;
     'marks: while let Some((before, after)) = rest.split_once(mark) {
         out.push_str(before)?;
@@ -24,14 +25,20 @@ fn push_doubled(out: &mut String, mark: char, text: &str) -> Result<(), AllocErr
 }
 
 // The text between two marks, with each closing mark in it written twice.
-fn enclose(alloc: Global, opening: char, closing: char, text: &str) -> Result<String, AllocError>
+fn enclose<S: ToText>(
+    alloc: Global,
+    opening: char,
+    closing: char,
+    text: S,
+) -> Result<String, SqlBuilderError>
     requires opening_is_one_byte { opening < 128 }
     requires closing_is_one_byte { closing < 128 }
-    ensures { IfOk result (λ s. string_bytes s ≡ enclosed opening closing text.now) }
+    ensures text { IfOk result (λ s. string_bytes s ≡ enclosed opening closing (S.text text)) }
+    ensures memory { FailsOnlyByMemory result }
 {
-    let mut out = String::with_capacity(alloc, text.len() + 2)?;
+    let mut out = String::new(alloc);
     out.push(opening)?;
-    push_doubled(&mut out, closing, text)?;
+    text.push_doubled_to(alloc, &mut out, closing)?;
     out.push(closing)?;
     Ok(out)
 }
@@ -41,9 +48,8 @@ pub fn esc<S: ToText>(alloc: Global, text: S) -> Result<String, SqlBuilderError>
     ensures text { IfOk result (λ s. string_bytes s ≡ escaped (S.text text)) }
     ensures memory { FailsOnlyByMemory result }
 {
-    let text = text.to_text(alloc)?;
-    let mut out = String::with_capacity(alloc, text.len())?;
-    push_doubled(&mut out, '\'', text.as_str())?;
+    let mut out = String::new(alloc);
+    text.push_doubled_to(alloc, &mut out, '\'')?;
     Ok(out)
 }
 
@@ -53,7 +59,7 @@ pub fn quote<S: ToText>(alloc: Global, text: S) -> Result<String, SqlBuilderErro
     ensures text { IfOk result (λ s. string_bytes s ≡ quoted (S.text text)) }
     ensures memory { FailsOnlyByMemory result }
 {
-    Ok(enclose(alloc, '\'', '\'', text.to_text(alloc)?.as_str())?)
+    enclose(alloc, '\'', '\'', text)
 }
 
 /// The text between backquotes, with each backquote in it doubled: an SQL name. It is refused
@@ -62,7 +68,7 @@ pub fn baquote<S: ToText>(alloc: Global, text: S) -> Result<String, SqlBuilderEr
     ensures text { IfOk result (λ s. string_bytes s ≡ baquoted (S.text text)) }
     ensures memory { FailsOnlyByMemory result }
 {
-    Ok(enclose(alloc, '`', '`', text.to_text(alloc)?.as_str())?)
+    enclose(alloc, '`', '`', text)
 }
 
 /// The text between square brackets, with each `]` in it doubled: an SQL name. It is refused
@@ -71,7 +77,7 @@ pub fn brquote<S: ToText>(alloc: Global, text: S) -> Result<String, SqlBuilderEr
     ensures text { IfOk result (λ s. string_bytes s ≡ brquoted (S.text text)) }
     ensures memory { FailsOnlyByMemory result }
 {
-    Ok(enclose(alloc, '[', ']', text.to_text(alloc)?.as_str())?)
+    enclose(alloc, '[', ']', text)
 }
 
 /// The text between double quotes, with each `"` in it doubled: an SQL name. It is refused only
@@ -80,5 +86,5 @@ pub fn dquote<S: ToText>(alloc: Global, text: S) -> Result<String, SqlBuilderErr
     ensures text { IfOk result (λ s. string_bytes s ≡ dquoted (S.text text)) }
     ensures memory { FailsOnlyByMemory result }
 {
-    Ok(enclose(alloc, '"', '"', text.to_text(alloc)?.as_str())?)
+    enclose(alloc, '"', '"', text)
 }

@@ -125,6 +125,12 @@ fn pushed<T: ToText>(alloc: Global, value: T) -> Result<String, SqlBuilderError>
     Ok(text)
 }
 
+fn doubled<T: ToText>(alloc: Global, value: T) -> Result<String, SqlBuilderError> {
+    let mut text = String::from_str(alloc, "a ")?;
+    value.push_doubled_to(alloc, &mut text, '!')?;
+    Ok(text)
+}
+
 #[test]
 fn appends_the_text_of_a_value(rt: HostRuntime) -> Result<(), Fail> {
     let heap = rt.alloc();
@@ -143,6 +149,21 @@ fn appends_the_text_of_a_value(rt: HostRuntime) -> Result<(), Fail> {
     ];
     for (name, text, wanted) in rows.iter() {
         assert_eq!(rt; text.as_str(), *wanted, "push_to of {name}");
+    }
+    let bang = String::from_str(heap, "o!o")?;
+    let rows = [
+        ("&str", doubled(heap, "o!o")?, "a o!!o"),
+        ("&String", doubled(heap, &bang)?, "a o!!o"),
+        ("String", doubled(heap, bang)?, "a o!!o"),
+        (
+            "CowStr",
+            doubled(heap, CowStr::<Global>::Borrowed("!"))?,
+            "a !!",
+        ),
+        ("number", doubled(heap, -5)?, "a -5"),
+    ];
+    for (name, text, wanted) in rows.iter() {
+        assert_eq!(rt; text.as_str(), *wanted, "push_doubled_to of {name}");
     }
     Ok(())
 }

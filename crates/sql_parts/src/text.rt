@@ -1,12 +1,14 @@
 //! What can be written as a text.
 
-ghost use Rattle.std.specs.Prelude.{◌≡◌, ◌++◌, ℕ, List, string_bytes, IfOk, OnOk, OnErr};
+ghost use Rattle.std.specs.Prelude.{◌≡◌, ◌++◌, ℕ, List, string_bytes, ◌<◌, IfOk, OnOk, OnErr};
 ghost use Rattle.std.specs.Char.{encode_utf8};
 ghost use Rattle.std.specs.Cow.{cow_str_bytes};
 ghost use Rattle.sql_parts.specs.Error.{FailsOnlyByMemory};
+ghost use Rattle.sql_parts.specs.Quoting.{doubled};
 ghost use Rattle.sql_parts.specs.Text.{bool_text, decimal_text, number_text};
 
 use crate::error::SqlBuilderError;
+use crate::quoting::push_doubled;
 use std::alloc::{AllocError, Global};
 use std::borrow::CowStr;
 
@@ -32,6 +34,23 @@ pub trait ToText: Drop {
         out.push_str(text.as_str())?;
         Ok(())
     }
+
+    /// Appends the text to another, with each `mark` in it written twice. It is refused only for
+    /// want of memory; a part of it may have been appended by then.
+    fn push_doubled_to(
+        &self,
+        alloc: Global,
+        out: &mut String,
+        mark: char,
+    ) -> Result<(), SqlBuilderError>
+        requires one_byte { mark < 128 }
+        ensures text { OnOk result
+            (string_bytes out.new ≡ string_bytes out.old ++ doubled mark (text self.now)) }
+        ensures memory { FailsOnlyByMemory result }
+    {
+        let text = self.to_text(alloc)?;
+        Ok(push_doubled(out, mark, text.as_str())?)
+    }
 }
 
 impl ToText for &str {
@@ -43,6 +62,15 @@ impl ToText for &str {
 
     fn push_to(&self, _alloc: Global, out: &mut String) -> Result<(), SqlBuilderError> {
         Ok(out.push_str(self)?)
+    }
+
+    fn push_doubled_to(
+        &self,
+        _alloc: Global,
+        out: &mut String,
+        mark: char,
+    ) -> Result<(), SqlBuilderError> {
+        Ok(push_doubled(out, mark, self)?)
     }
 }
 
@@ -56,6 +84,15 @@ impl ToText for String {
     fn push_to(&self, _alloc: Global, out: &mut String) -> Result<(), SqlBuilderError> {
         Ok(out.push_str(self.as_str())?)
     }
+
+    fn push_doubled_to(
+        &self,
+        _alloc: Global,
+        out: &mut String,
+        mark: char,
+    ) -> Result<(), SqlBuilderError> {
+        Ok(push_doubled(out, mark, self.as_str())?)
+    }
 }
 
 impl ToText for CowStr<'_> {
@@ -67,6 +104,15 @@ impl ToText for CowStr<'_> {
 
     fn push_to(&self, _alloc: Global, out: &mut String) -> Result<(), SqlBuilderError> {
         Ok(out.push_str(self.as_str())?)
+    }
+
+    fn push_doubled_to(
+        &self,
+        _alloc: Global,
+        out: &mut String,
+        mark: char,
+    ) -> Result<(), SqlBuilderError> {
+        Ok(push_doubled(out, mark, self.as_str())?)
     }
 }
 
@@ -220,5 +266,14 @@ impl<T: ToText> ToText for &T {
 
     fn push_to(&self, alloc: Global, out: &mut String) -> Result<(), SqlBuilderError> {
         (**self).push_to(alloc, out)
+    }
+
+    fn push_doubled_to(
+        &self,
+        alloc: Global,
+        out: &mut String,
+        mark: char,
+    ) -> Result<(), SqlBuilderError> {
+        (**self).push_doubled_to(alloc, out, mark)
     }
 }
