@@ -10,7 +10,7 @@ ghost use Rattle.sql_builder.specs.Phrases.{comma_list};
 use crate::calls::{Percent, Relation};
 use crate::phrases::push_items;
 use crate::steps::{BinaryCondition, ListCondition, RangeCondition, UnaryCondition};
-use sql_parts::{SqlBuilderError, ToText, esc, quote};
+use sql_parts::{SqlBuilderError, ToText};
 use std::alloc::Global;
 
 impl Relation {
@@ -91,7 +91,7 @@ fn push_mask<S: ToText>(
     ensures memory { FailsOnlyByMemory result }
 {
     out.push_str(if percent.is_in_front() { "'%" } else { "'" })?;
-    out.push_str(esc(alloc, mask)?.as_str())?;
+    mask.push_doubled_to(alloc, out, '\'')?;
     out.push_str(if percent.is_behind() { "%'" } else { "'" })?;
     Ok(())
 }
@@ -141,7 +141,9 @@ fn push_quoted<S: ToText>(
     ensures memory { FailsOnlyByMemory result }
 {
     out.push_str(before)?;
-    out.push_str(quote(alloc, text)?.as_str())?;
+    out.push_str("'")?;
+    text.push_doubled_to(alloc, out, '\'')?;
+    out.push_str("'")?;
     Ok(())
 }
 

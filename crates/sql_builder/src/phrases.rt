@@ -5,7 +5,7 @@ ghost use Rattle.sql_builder.specs.Layout.{byte_atoms};
 ghost use Rattle.sql_builder.specs.Phrases.{comma_list, count, count_as, equation, order, row};
 ghost use Rattle.sql_parts.specs.Quoting.{quoted};
 
-use sql_parts::{SqlBuilderError, ToText, quote};
+use sql_parts::{SqlBuilderError, ToText};
 use std::alloc::Global;
 
 /// `left = right`.
@@ -35,8 +35,9 @@ pub(crate) fn quoted_equation<S: ToText, T: ToText>(
     ensures memory { FailsOnlyByMemory result }
 {
     let mut text = field.to_text(alloc)?;
-    text.push_str(" = ")?;
-    text.push_str(quote(alloc, value)?.as_str())?;
+    text.push_str(" = '")?;
+    value.push_doubled_to(alloc, &mut text, '\'')?;
+    text.push_str("'")?;
     Ok(text)
 }
 

@@ -1,3 +1,4 @@
 pub mod Decimal
 pub mod Doubled
+pub mod Kept
 pub mod Rows

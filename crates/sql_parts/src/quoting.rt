@@ -1,5 +1,6 @@
 //! Texts between quotes.
-ghost use Rattle.std.specs.Prelude.{◌≡◌, ◌<◌, ◌++◌, string_bytes, IfOk, OnOk};
+ghost use Rattle.std.specs.Prelude.{◌≡◌, ◌<◌, ◌++◌, string_bytes, IfOk, OnErr, OnOk};
+ghost use Rattle.std.specs.Io.{StartsWith};
 ghost use Rattle.sql_parts.specs.Error.{FailsOnlyByMemory};
 ghost use Rattle.sql_parts.specs.Quoting.{baquoted, brquoted, dquoted, escaped, quoted};
 ghost use Rattle.sql_parts.specs.Quoting.{doubled, enclosed};
@@ -9,9 +10,12 @@ use crate::text::ToText;
 use std::alloc::{AllocError, Global};
 
 /// Appends the text with each `mark` in it written twice. Room for a closing mark is taken too.
+#[tactic(auto, using(crate::proofs::Kept::kept_by_more))]
 pub(crate) fn push_doubled(out: &mut String, mark: char, text: &str) -> Result<(), AllocError>
     requires one_byte { mark < 128 }
-    ensures { OnOk result (string_bytes out.new ≡ string_bytes out.old ++ doubled mark text.now) }
+    ensures text { OnOk result
+        (string_bytes out.new ≡ string_bytes out.old ++ doubled mark text.now) }
+    ensures kept { OnErr result (StartsWith (string_bytes out.new) (string_bytes out.old)) }
 {
     out.reserve(text.len().saturating_add(1))?;
     let mut rest = text;

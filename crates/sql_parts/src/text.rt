@@ -2,6 +2,7 @@
 
 ghost use Rattle.std.specs.Prelude.{◌≡◌, ◌++◌, ℕ, List, string_bytes, ◌<◌, IfOk, OnOk, OnErr};
 ghost use Rattle.std.specs.Char.{encode_utf8};
+ghost use Rattle.std.specs.Io.{StartsWith};
 ghost use Rattle.std.specs.Cow.{cow_str_bytes};
 ghost use Rattle.sql_parts.specs.Error.{FailsOnlyByMemory};
 ghost use Rattle.sql_parts.specs.Quoting.{doubled};
@@ -35,8 +36,8 @@ pub trait ToText: Drop {
         Ok(())
     }
 
-    /// Appends the text to another, with each `mark` in it written twice. It is refused only for
-    /// want of memory; a part of it may have been appended by then.
+    /// Appends the text to another, with each `mark` in it written twice. A refusal, for want of
+    /// memory alone, leaves the other with what it had, and perhaps with a part of this behind it.
     fn push_doubled_to(
         &self,
         alloc: Global,
@@ -46,6 +47,7 @@ pub trait ToText: Drop {
         requires one_byte { mark < 128 }
         ensures text { OnOk result
             (string_bytes out.new ≡ string_bytes out.old ++ doubled mark (text self.now)) }
+        ensures kept { OnErr result (StartsWith (string_bytes out.new) (string_bytes out.old)) }
         ensures memory { FailsOnlyByMemory result }
     {
         let text = self.to_text(alloc)?;
