@@ -1,9 +1,10 @@
 -- Worked rows of conditions and groups: what the definitions give, by computing.
 use Rattle.std.specs.Prelude.{◌≡◌, [], ◌∷◌, Ok, codes, refl, true, false}
-use Rattle.sql_builder.specs.Calls.{SelectFrom, UpdateTable, DeleteFrom, Cond, Limit, Offset, OrderAsc, OrderDesc, Returning, ReturningId, SetTo, SetStr, Sql}
+use Rattle.sql_builder.specs.Calls.{SelectFrom, UpdateTable, DeleteFrom, Cond, Limit, Offset, OrderAsc, OrderDesc, Returning, ReturningId, SetTo, SetStr, Sql, condition_pieces}
 use Rattle.sql_builder.specs.Conditions.{Raw, Compare, Like, IsNull, IsNotNull, InList, InQuoted, InQuery, Between}
 use Rattle.sql_builder.specs.Builder.{condition_bytes}
 use Rattle.sql_builder.specs.Statement.{statement}
+use Rattle.sql_builder.specs.Text as piece
 use Rattle.sql_builder.specs.declared.calls.Family.TheVariants.{And, Or}
 use Rattle.sql_builder.specs.declared.calls.Percent.TheVariants.{Plain, Right, Left, Any}
 use Rattle.sql_builder.specs.declared.calls.Relation.TheVariants.{Eq, Ne, Gt, Ge, Lt, Le}
@@ -91,6 +92,20 @@ like_any_of_a_quote = refl
 
 not_in_quoted_of_a_quote : condition_bytes (InQuoted true (codes "a") (codes "x" ∷ codes "it's" ∷ [])) ≡ codes "a NOT IN ('x', 'it''s')"
 not_in_quoted_of_a_quote = refl
+
+like_any_in_pieces : condition_pieces (Like false Any (codes "f") (codes "it's"))
+    ≡ piece.Raw (codes "f") ∷ piece.Fixed (codes " LIKE ") ∷ piece.Quoted (codes "%it's%") ∷ []
+like_any_in_pieces = refl
+
+in_list_in_pieces : condition_pieces (InList false (codes "f") (codes "1" ∷ codes "2" ∷ []))
+    ≡ piece.Raw (codes "f") ∷ piece.Fixed (codes " IN (") ∷
+    piece.Raw (codes "1") ∷ piece.Fixed (codes ", ") ∷ piece.Raw (codes "2") ∷ piece.Fixed (codes ")") ∷ []
+in_list_in_pieces = refl
+
+not_in_quoted_in_pieces : condition_pieces (InQuoted true (codes "f") (codes "1" ∷ codes "it's" ∷ []))
+    ≡ piece.Raw (codes "f") ∷ piece.Fixed (codes " NOT IN (") ∷
+    piece.Quoted (codes "1") ∷ piece.Fixed (codes ", ") ∷ piece.Quoted (codes "it's") ∷ piece.Fixed (codes ")") ∷ []
+not_in_quoted_in_pieces = refl
 
 two_groups_of_three : statement (SelectFrom (codes "t"))
     (Cond And (Raw (codes "a")) ∷

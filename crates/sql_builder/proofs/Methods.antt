@@ -1,7 +1,7 @@
 -- The chain calls of each step. A chain call's proof is one use of these.
-use Rattle.sql_builder.proofs.Walking.{[], ◌∷◌, a_type, dcons, dnil, bounded, inst_fn, Ura, Logic, RattleType, SProp}
-use Rattle.sql_builder.proofs.Loans.{Effect, Variant, boolean, constant, generic, slice}
-use Rattle.sql_builder.proofs.ChainCalls as calls
+use Rattle.sql_parts.proofs.Walking.{[], ◌∷◌, a_type, dcons, dnil, bounded, inst_fn, Ura, Logic, RattleType, SProp}
+use Rattle.sql_parts.proofs.Loans.{Effect, Lent, Variant, boolean, constant, generic, slice}
+use Rattle.sql_parts.proofs.ChainCalls as calls
 use mir.Syntax.{Args, Callee, Dict, Fn}
 use contract.Lifetimes.{Lfts}
 use contract.Running.{Running}
@@ -15,7 +15,12 @@ use Rattle.std.specs.Prelude.{codes, map}
 use Rattle.sql_parts.specs.Error.{IsMemory}
 use Rattle.sql_parts.specs.declared.text.ToText.{Ghosts}
 use Rattle.sql_parts.specs.contracts.text.ToText.TheBound.{Met}
-use Rattle.sql_builder.specs.Builder.{RefusesPair, RefusesText, binary_condition, list_condition, range_condition, unary_condition, with_condition, with_order, with_pair, with_returning, with_text, with_texts}
+use Rattle.sql_builder.specs.Builder.{ClauseTexts, with_condition, with_order, with_returning}
+use Rattle.sql_builder.specs.Steps.{RefusesPair, RefusesText, binary_condition, list_condition, range_condition, unary_condition, with_pair, with_text, with_texts}
+use Rattle.sql_builder.specs.contracts.builder.SqlBuilder.{the_row}
+use Rattle.sql_builder.proofs.builder.SqlBuilder.TheLaws as builder_laws
+use Rattle.sql_builder.specs.contracts.steps.Held as held
+use Rattle.sql_builder.proofs.steps.Held.TheLaws as held_laws
 use Rattle.sql_builder.proofs.steps.release.Met.{met as release_met}
 use Rattle.sql_builder.proofs.steps.release.Symbol as release_code
 use Rattle.sql_builder.specs.contracts.steps.TextClause as text_clause
@@ -62,6 +67,16 @@ use Rattle.sql_builder.specs.contracts.builder.SqlBuilder.hold_range as range_st
 use Rattle.sql_builder.proofs.builder.SqlBuilder.hold_range.Met as range_met
 use Rattle.sql_builder.proofs.builder.SqlBuilder.hold_range.Symbol as range_code
 
+abbrev pub builder : Lent
+builder = record {
+  row = the_row;
+  ty = builder_laws.mir;
+  held = held.the_row;
+  laws = held_laws.the_row_laws;
+  loan = λ κ h. h.0;
+  fits = λ κ v t. t.0;
+}
+
 module _ {M : Type 1} (𝓤 : Ura M) (𝓛 : Logic 𝓤) (𝓜 : Model 𝓤 𝓛.H) (𝓡 : Running 𝓤 𝓛.H 𝓜) where
   -- a call with one text, by its clause
   module _ (X : Variant text_clause.the_type) (fn : Fn) (name : Args → Callee) (S : RattleType) (LS : Laws S)
@@ -73,17 +88,17 @@ module _ {M : Type 1} (𝓤 : Ura M) (𝓛 : Logic 𝓤) (𝓜 : Model 𝓤 𝓛
     abbrev asked-text : (κs : Lfts 2) → Denots (types_at (text_step.signature S).params κs) → SProp 𝓤
     asked-text κs a = (text_step.clauses S s d d' 𝓛 𝓜.mem 𝓡.returns κs a).requires tt
 
-    abbrev told-text : (κs : Lfts 2) → Denots (types_at (text_step.signature S).params κs) → Effect
+    abbrev told-text : (κs : Lfts 2) → Denots (types_at (text_step.signature S).params κs) → Effect ClauseTexts
     told-text κs a = record { told = with_text a.1.0 (s.text a.1.1.0) a.0.now; refuses = RefusesText a.1.0 a.0.now }
 
-    pub by_text : calls.Code-text 𝓛 𝓜 𝓡 1 [] (constant 𝓛 text_clause.the_type text_clause_laws.the_plain X) (generic 𝓛 2 0 S LS)
+    pub by_text : calls.Code-text builder 𝓛 𝓜 𝓡 1 [] (constant 𝓛 text_clause.the_type text_clause_laws.the_plain X) (generic 𝓛 2 0 S LS)
         asked-text told-text (inst_fn types-text fn) (text_code.name types-text) release_code.name (name types-text)
-        → calls.Coded-text 𝓛 𝓜 𝓡 1 [] (constant 𝓛 text_clause.the_type text_clause_laws.the_plain X) (generic 𝓛 2 0 S LS)
+        → calls.Coded-text builder 𝓛 𝓜 𝓡 1 [] (constant 𝓛 text_clause.the_type text_clause_laws.the_plain X) (generic 𝓛 2 0 S LS)
         asked-text told-text (inst_fn types-text fn) (text_code.name types-text) release_code.name (name types-text)
         → Wired 𝓡.env text_code.code → Wired 𝓡.env release_code.code
-        → calls.Method-text 𝓛 𝓜 𝓡 1 [] (constant 𝓛 text_clause.the_type text_clause_laws.the_plain X) (generic 𝓛 2 0 S LS)
+        → calls.Method-text builder 𝓛 𝓜 𝓡 1 [] (constant 𝓛 text_clause.the_type text_clause_laws.the_plain X) (generic 𝓛 2 0 S LS)
         asked-text told-text (inst_fn types-text fn) (text_code.name types-text) release_code.name (name types-text)
-    by_text code closed w w' = calls.by-text 𝓛 𝓜 𝓡 1 [] (constant 𝓛 text_clause.the_type text_clause_laws.the_plain X) (generic 𝓛 2 0 S LS)
+    by_text code closed w w' = calls.by-text builder 𝓛 𝓜 𝓡 1 [] (constant 𝓛 text_clause.the_type text_clause_laws.the_plain X) (generic 𝓛 2 0 S LS)
         asked-text told-text (inst_fn types-text fn) (text_code.name types-text) release_code.name (name types-text)
         code closed (text_met.met 𝓤 𝓛 𝓜 𝓡 w S LS s d d' ms md) (release_met 𝓤 𝓛 𝓜 𝓡 w')
 
@@ -92,17 +107,17 @@ module _ {M : Type 1} (𝓤 : Ura M) (𝓛 : Logic 𝓤) (𝓜 : Model 𝓤 𝓛
     abbrev asked-returning_id : (κs : Lfts 1) → Denots (types_at returning_id_step.signature.params κs) → SProp 𝓤
     asked-returning_id κs a = (returning_id_step.clauses 𝓛 𝓜.mem 𝓡.returns κs a).requires tt
 
-    abbrev told-returning_id : (κs : Lfts 1) → Denots (types_at returning_id_step.signature.params κs) → Effect
+    abbrev told-returning_id : (κs : Lfts 1) → Denots (types_at returning_id_step.signature.params κs) → Effect ClauseTexts
     told-returning_id κs a = record { told = with_returning (codes "id") a.0.now; refuses = IsMemory }
 
-    pub by_returning_id : calls.Code-bare 𝓛 𝓜 𝓡 0 []
+    pub by_returning_id : calls.Code-bare builder 𝓛 𝓜 𝓡 0 []
         asked-returning_id told-returning_id fn returning_id_code.name release_code.name name
-        → calls.Coded-bare 𝓛 𝓜 𝓡 0 []
+        → calls.Coded-bare builder 𝓛 𝓜 𝓡 0 []
         asked-returning_id told-returning_id fn returning_id_code.name release_code.name name
         → Wired 𝓡.env returning_id_code.code → Wired 𝓡.env release_code.code
-        → calls.Method-bare 𝓛 𝓜 𝓡 0 []
+        → calls.Method-bare builder 𝓛 𝓜 𝓡 0 []
         asked-returning_id told-returning_id fn returning_id_code.name release_code.name name
-    by_returning_id code closed w w' = calls.by-bare 𝓛 𝓜 𝓡 0 []
+    by_returning_id code closed w w' = calls.by-bare builder 𝓛 𝓜 𝓡 0 []
         asked-returning_id told-returning_id fn returning_id_code.name release_code.name name
         code closed (returning_id_met.met 𝓤 𝓛 𝓜 𝓡 w) (release_met 𝓤 𝓛 𝓜 𝓡 w')
 
@@ -116,17 +131,17 @@ module _ {M : Type 1} (𝓤 : Ura M) (𝓛 : Logic 𝓤) (𝓜 : Model 𝓤 𝓛
     abbrev asked-pair : (κs : Lfts 3) → Denots (types_at (pair_step.signature S T).params κs) → SProp 𝓤
     asked-pair κs a = (pair_step.clauses S T s d t e d' e' 𝓛 𝓜.mem 𝓡.returns κs a).requires tt
 
-    abbrev told-pair : (κs : Lfts 3) → Denots (types_at (pair_step.signature S T).params κs) → Effect
+    abbrev told-pair : (κs : Lfts 3) → Denots (types_at (pair_step.signature S T).params κs) → Effect ClauseTexts
     told-pair κs a = record { told = with_pair a.1.0 (s.text a.1.1.0) (t.text a.1.1.1.0) a.0.now; refuses = RefusesPair a.1.0 a.0.now }
 
-    pub by_pair : calls.Code-pair 𝓛 𝓜 𝓡 2 [] (constant 𝓛 pair_clause.the_type pair_clause_laws.the_plain X) (generic 𝓛 3 0 S LS) (generic 𝓛 3 1 T LT)
+    pub by_pair : calls.Code-pair builder 𝓛 𝓜 𝓡 2 [] (constant 𝓛 pair_clause.the_type pair_clause_laws.the_plain X) (generic 𝓛 3 0 S LS) (generic 𝓛 3 1 T LT)
         asked-pair told-pair (inst_fn types-pair fn) (pair_code.name types-pair) release_code.name (name types-pair)
-        → calls.Coded-pair 𝓛 𝓜 𝓡 2 [] (constant 𝓛 pair_clause.the_type pair_clause_laws.the_plain X) (generic 𝓛 3 0 S LS) (generic 𝓛 3 1 T LT)
+        → calls.Coded-pair builder 𝓛 𝓜 𝓡 2 [] (constant 𝓛 pair_clause.the_type pair_clause_laws.the_plain X) (generic 𝓛 3 0 S LS) (generic 𝓛 3 1 T LT)
         asked-pair told-pair (inst_fn types-pair fn) (pair_code.name types-pair) release_code.name (name types-pair)
         → Wired 𝓡.env pair_code.code → Wired 𝓡.env release_code.code
-        → calls.Method-pair 𝓛 𝓜 𝓡 2 [] (constant 𝓛 pair_clause.the_type pair_clause_laws.the_plain X) (generic 𝓛 3 0 S LS) (generic 𝓛 3 1 T LT)
+        → calls.Method-pair builder 𝓛 𝓜 𝓡 2 [] (constant 𝓛 pair_clause.the_type pair_clause_laws.the_plain X) (generic 𝓛 3 0 S LS) (generic 𝓛 3 1 T LT)
         asked-pair told-pair (inst_fn types-pair fn) (pair_code.name types-pair) release_code.name (name types-pair)
-    by_pair code closed w w' = calls.by-pair 𝓛 𝓜 𝓡 2 [] (constant 𝓛 pair_clause.the_type pair_clause_laws.the_plain X) (generic 𝓛 3 0 S LS) (generic 𝓛 3 1 T LT)
+    by_pair code closed w w' = calls.by-pair builder 𝓛 𝓜 𝓡 2 [] (constant 𝓛 pair_clause.the_type pair_clause_laws.the_plain X) (generic 𝓛 3 0 S LS) (generic 𝓛 3 1 T LT)
         asked-pair told-pair (inst_fn types-pair fn) (pair_code.name types-pair) release_code.name (name types-pair)
         code closed (pair_met.met 𝓤 𝓛 𝓜 𝓡 w S T LS LT s d t e d' e' ms mt md me) (release_met 𝓤 𝓛 𝓜 𝓡 w')
 
@@ -140,17 +155,17 @@ module _ {M : Type 1} (𝓤 : Ura M) (𝓛 : Logic 𝓤) (𝓜 : Model 𝓤 𝓛
     abbrev asked-texts : (κs : Lfts 3) → Denots (types_at (texts_step.signature S).params κs) → SProp 𝓤
     asked-texts κs a = (texts_step.clauses S s d d' 𝓛 𝓜.mem 𝓡.returns κs a).requires tt
 
-    abbrev told-texts : (κs : Lfts 3) → Denots (types_at (texts_step.signature S).params κs) → Effect
+    abbrev told-texts : (κs : Lfts 3) → Denots (types_at (texts_step.signature S).params κs) → Effect ClauseTexts
     told-texts κs a = record { told = with_texts a.1.0 (map s.text a.1.1.0.now) a.0.now; refuses = IsMemory }
 
-    pub by_texts : calls.Code-list 𝓛 𝓜 𝓡 2 ((texts_step.signature S).outlives) (constant 𝓛 list_clause.the_type list_clause_laws.the_plain X) (slice 𝓛 3 1 tt 0 S)
+    pub by_texts : calls.Code-list builder 𝓛 𝓜 𝓡 2 ((texts_step.signature S).outlives) (constant 𝓛 list_clause.the_type list_clause_laws.the_plain X) (slice 𝓛 3 1 tt 0 S)
         asked-texts told-texts (inst_fn types-texts fn) (texts_code.name types-texts) release_code.name (name types-texts)
-        → calls.Coded-list 𝓛 𝓜 𝓡 2 ((texts_step.signature S).outlives) (constant 𝓛 list_clause.the_type list_clause_laws.the_plain X) (slice 𝓛 3 1 tt 0 S)
+        → calls.Coded-list builder 𝓛 𝓜 𝓡 2 ((texts_step.signature S).outlives) (constant 𝓛 list_clause.the_type list_clause_laws.the_plain X) (slice 𝓛 3 1 tt 0 S)
         asked-texts told-texts (inst_fn types-texts fn) (texts_code.name types-texts) release_code.name (name types-texts)
         → Wired 𝓡.env texts_code.code → Wired 𝓡.env release_code.code
-        → calls.Method-list 𝓛 𝓜 𝓡 2 ((texts_step.signature S).outlives) (constant 𝓛 list_clause.the_type list_clause_laws.the_plain X) (slice 𝓛 3 1 tt 0 S)
+        → calls.Method-list builder 𝓛 𝓜 𝓡 2 ((texts_step.signature S).outlives) (constant 𝓛 list_clause.the_type list_clause_laws.the_plain X) (slice 𝓛 3 1 tt 0 S)
         asked-texts told-texts (inst_fn types-texts fn) (texts_code.name types-texts) release_code.name (name types-texts)
-    by_texts code closed w w' = calls.by-list 𝓛 𝓜 𝓡 2 ((texts_step.signature S).outlives) (constant 𝓛 list_clause.the_type list_clause_laws.the_plain X) (slice 𝓛 3 1 tt 0 S)
+    by_texts code closed w w' = calls.by-list builder 𝓛 𝓜 𝓡 2 ((texts_step.signature S).outlives) (constant 𝓛 list_clause.the_type list_clause_laws.the_plain X) (slice 𝓛 3 1 tt 0 S)
         asked-texts told-texts (inst_fn types-texts fn) (texts_code.name types-texts) release_code.name (name types-texts)
         code closed (texts_met.met 𝓤 𝓛 𝓜 𝓡 w S LS s d d' ms md) (release_met 𝓤 𝓛 𝓜 𝓡 w')
 
@@ -164,17 +179,17 @@ module _ {M : Type 1} (𝓤 : Ura M) (𝓛 : Logic 𝓤) (𝓜 : Model 𝓤 𝓛
     abbrev asked-order : (κs : Lfts 2) → Denots (types_at (order_step.signature S).params κs) → SProp 𝓤
     asked-order κs a = (order_step.clauses S s d d' 𝓛 𝓜.mem 𝓡.returns κs a).requires tt
 
-    abbrev told-order : (κs : Lfts 2) → Denots (types_at (order_step.signature S).params κs) → Effect
+    abbrev told-order : (κs : Lfts 2) → Denots (types_at (order_step.signature S).params κs) → Effect ClauseTexts
     told-order κs a = record { told = with_order a.1.1.0 (s.text a.1.0) a.0.now; refuses = IsMemory }
 
-    pub by_order : calls.Code-flagged 𝓛 𝓜 𝓡 1 [] (generic 𝓛 2 0 S LS) (boolean 𝓛 2)
+    pub by_order : calls.Code-flagged builder 𝓛 𝓜 𝓡 1 [] (generic 𝓛 2 0 S LS) (boolean 𝓛 2)
         asked-order told-order (inst_fn types-order fn) (order_code.name types-order) release_code.name (name types-order)
-        → calls.Coded-flagged 𝓛 𝓜 𝓡 1 [] (generic 𝓛 2 0 S LS) (boolean 𝓛 2)
+        → calls.Coded-flagged builder 𝓛 𝓜 𝓡 1 [] (generic 𝓛 2 0 S LS) (boolean 𝓛 2)
         asked-order told-order (inst_fn types-order fn) (order_code.name types-order) release_code.name (name types-order)
         → Wired 𝓡.env order_code.code → Wired 𝓡.env release_code.code
-        → calls.Method-flagged 𝓛 𝓜 𝓡 1 [] (generic 𝓛 2 0 S LS) (boolean 𝓛 2)
+        → calls.Method-flagged builder 𝓛 𝓜 𝓡 1 [] (generic 𝓛 2 0 S LS) (boolean 𝓛 2)
         asked-order told-order (inst_fn types-order fn) (order_code.name types-order) release_code.name (name types-order)
-    by_order code closed w w' = calls.by-flagged 𝓛 𝓜 𝓡 1 [] (generic 𝓛 2 0 S LS) (boolean 𝓛 2)
+    by_order code closed w w' = calls.by-flagged builder 𝓛 𝓜 𝓡 1 [] (generic 𝓛 2 0 S LS) (boolean 𝓛 2)
         asked-order told-order (inst_fn types-order fn) (order_code.name types-order) release_code.name (name types-order)
         code closed (order_met.met 𝓤 𝓛 𝓜 𝓡 w S LS s d d' ms md) (release_met 𝓤 𝓛 𝓜 𝓡 w')
 
@@ -188,17 +203,17 @@ module _ {M : Type 1} (𝓤 : Ura M) (𝓛 : Logic 𝓤) (𝓜 : Model 𝓤 𝓛
     abbrev asked-unary : (κs : Lfts 2) → Denots (types_at (unary_step.signature S).params κs) → SProp 𝓤
     asked-unary κs a = (unary_step.clauses S s d d' 𝓛 𝓜.mem 𝓡.returns κs a).requires tt
 
-    abbrev told-unary : (κs : Lfts 2) → Denots (types_at (unary_step.signature S).params κs) → Effect
+    abbrev told-unary : (κs : Lfts 2) → Denots (types_at (unary_step.signature S).params κs) → Effect ClauseTexts
     told-unary κs a = record { told = with_condition a.1.0 (unary_condition a.1.1.0 (s.text a.1.1.1.0)) a.0.now; refuses = IsMemory }
 
-    pub by_unary : calls.Code-condition 𝓛 𝓜 𝓡 1 [] (constant 𝓛 family.the_type family_laws.the_plain X) (constant 𝓛 unary.the_type unary_laws.the_plain Y) (generic 𝓛 2 0 S LS)
+    pub by_unary : calls.Code-condition builder 𝓛 𝓜 𝓡 1 [] (constant 𝓛 family.the_type family_laws.the_plain X) (constant 𝓛 unary.the_type unary_laws.the_plain Y) (generic 𝓛 2 0 S LS)
         asked-unary told-unary (inst_fn types-unary fn) (unary_code.name types-unary) release_code.name (name types-unary)
-        → calls.Coded-condition 𝓛 𝓜 𝓡 1 [] (constant 𝓛 family.the_type family_laws.the_plain X) (constant 𝓛 unary.the_type unary_laws.the_plain Y) (generic 𝓛 2 0 S LS)
+        → calls.Coded-condition builder 𝓛 𝓜 𝓡 1 [] (constant 𝓛 family.the_type family_laws.the_plain X) (constant 𝓛 unary.the_type unary_laws.the_plain Y) (generic 𝓛 2 0 S LS)
         asked-unary told-unary (inst_fn types-unary fn) (unary_code.name types-unary) release_code.name (name types-unary)
         → Wired 𝓡.env unary_code.code → Wired 𝓡.env release_code.code
-        → calls.Method-condition 𝓛 𝓜 𝓡 1 [] (constant 𝓛 family.the_type family_laws.the_plain X) (constant 𝓛 unary.the_type unary_laws.the_plain Y) (generic 𝓛 2 0 S LS)
+        → calls.Method-condition builder 𝓛 𝓜 𝓡 1 [] (constant 𝓛 family.the_type family_laws.the_plain X) (constant 𝓛 unary.the_type unary_laws.the_plain Y) (generic 𝓛 2 0 S LS)
         asked-unary told-unary (inst_fn types-unary fn) (unary_code.name types-unary) release_code.name (name types-unary)
-    by_unary code closed w w' = calls.by-condition 𝓛 𝓜 𝓡 1 [] (constant 𝓛 family.the_type family_laws.the_plain X) (constant 𝓛 unary.the_type unary_laws.the_plain Y) (generic 𝓛 2 0 S LS)
+    by_unary code closed w w' = calls.by-condition builder 𝓛 𝓜 𝓡 1 [] (constant 𝓛 family.the_type family_laws.the_plain X) (constant 𝓛 unary.the_type unary_laws.the_plain Y) (generic 𝓛 2 0 S LS)
         asked-unary told-unary (inst_fn types-unary fn) (unary_code.name types-unary) release_code.name (name types-unary)
         code closed (unary_met.met 𝓤 𝓛 𝓜 𝓡 w S LS s d d' ms md) (release_met 𝓤 𝓛 𝓜 𝓡 w')
 
@@ -212,17 +227,17 @@ module _ {M : Type 1} (𝓤 : Ura M) (𝓛 : Logic 𝓤) (𝓜 : Model 𝓤 𝓛
     abbrev asked-binary : (κs : Lfts 3) → Denots (types_at (binary_step.signature S T).params κs) → SProp 𝓤
     asked-binary κs a = (binary_step.clauses S T s d t e d' e' 𝓛 𝓜.mem 𝓡.returns κs a).requires tt
 
-    abbrev told-binary : (κs : Lfts 3) → Denots (types_at (binary_step.signature S T).params κs) → Effect
+    abbrev told-binary : (κs : Lfts 3) → Denots (types_at (binary_step.signature S T).params κs) → Effect ClauseTexts
     told-binary κs a = record { told = with_condition a.1.0 (binary_condition a.1.1.0 (s.text a.1.1.1.0) (t.text a.1.1.1.1.0)) a.0.now; refuses = IsMemory }
 
-    pub by_binary : calls.Code-comparison 𝓛 𝓜 𝓡 2 [] (constant 𝓛 family.the_type family_laws.the_plain X) (constant 𝓛 binary.the_type binary_laws.the_plain Y) (generic 𝓛 3 0 S LS) (generic 𝓛 3 1 T LT)
+    pub by_binary : calls.Code-comparison builder 𝓛 𝓜 𝓡 2 [] (constant 𝓛 family.the_type family_laws.the_plain X) (constant 𝓛 binary.the_type binary_laws.the_plain Y) (generic 𝓛 3 0 S LS) (generic 𝓛 3 1 T LT)
         asked-binary told-binary (inst_fn types-binary fn) (binary_code.name types-binary) release_code.name (name types-binary)
-        → calls.Coded-comparison 𝓛 𝓜 𝓡 2 [] (constant 𝓛 family.the_type family_laws.the_plain X) (constant 𝓛 binary.the_type binary_laws.the_plain Y) (generic 𝓛 3 0 S LS) (generic 𝓛 3 1 T LT)
+        → calls.Coded-comparison builder 𝓛 𝓜 𝓡 2 [] (constant 𝓛 family.the_type family_laws.the_plain X) (constant 𝓛 binary.the_type binary_laws.the_plain Y) (generic 𝓛 3 0 S LS) (generic 𝓛 3 1 T LT)
         asked-binary told-binary (inst_fn types-binary fn) (binary_code.name types-binary) release_code.name (name types-binary)
         → Wired 𝓡.env binary_code.code → Wired 𝓡.env release_code.code
-        → calls.Method-comparison 𝓛 𝓜 𝓡 2 [] (constant 𝓛 family.the_type family_laws.the_plain X) (constant 𝓛 binary.the_type binary_laws.the_plain Y) (generic 𝓛 3 0 S LS) (generic 𝓛 3 1 T LT)
+        → calls.Method-comparison builder 𝓛 𝓜 𝓡 2 [] (constant 𝓛 family.the_type family_laws.the_plain X) (constant 𝓛 binary.the_type binary_laws.the_plain Y) (generic 𝓛 3 0 S LS) (generic 𝓛 3 1 T LT)
         asked-binary told-binary (inst_fn types-binary fn) (binary_code.name types-binary) release_code.name (name types-binary)
-    by_binary code closed w w' = calls.by-comparison 𝓛 𝓜 𝓡 2 [] (constant 𝓛 family.the_type family_laws.the_plain X) (constant 𝓛 binary.the_type binary_laws.the_plain Y) (generic 𝓛 3 0 S LS) (generic 𝓛 3 1 T LT)
+    by_binary code closed w w' = calls.by-comparison builder 𝓛 𝓜 𝓡 2 [] (constant 𝓛 family.the_type family_laws.the_plain X) (constant 𝓛 binary.the_type binary_laws.the_plain Y) (generic 𝓛 3 0 S LS) (generic 𝓛 3 1 T LT)
         asked-binary told-binary (inst_fn types-binary fn) (binary_code.name types-binary) release_code.name (name types-binary)
         code closed (binary_met.met 𝓤 𝓛 𝓜 𝓡 w S T LS LT s d t e d' e' ms mt md me) (release_met 𝓤 𝓛 𝓜 𝓡 w')
 
@@ -236,17 +251,17 @@ module _ {M : Type 1} (𝓤 : Ura M) (𝓛 : Logic 𝓤) (𝓜 : Model 𝓤 𝓛
     abbrev asked-among : (κs : Lfts 4) → Denots (types_at (among_step.signature S T).params κs) → SProp 𝓤
     asked-among κs a = (among_step.clauses S T s d t e d' e' 𝓛 𝓜.mem 𝓡.returns κs a).requires tt
 
-    abbrev told-among : (κs : Lfts 4) → Denots (types_at (among_step.signature S T).params κs) → Effect
+    abbrev told-among : (κs : Lfts 4) → Denots (types_at (among_step.signature S T).params κs) → Effect ClauseTexts
     told-among κs a = record { told = with_condition a.1.0 (list_condition a.1.1.0 (s.text a.1.1.1.0) (map t.text a.1.1.1.1.0.now)) a.0.now; refuses = IsMemory }
 
-    pub by_among : calls.Code-membership 𝓛 𝓜 𝓡 3 ((among_step.signature S T).outlives) (constant 𝓛 family.the_type family_laws.the_plain X) (constant 𝓛 list.the_type list_laws.the_plain Y) (generic 𝓛 4 0 S LS) (slice 𝓛 4 1 tt 1 T)
+    pub by_among : calls.Code-membership builder 𝓛 𝓜 𝓡 3 ((among_step.signature S T).outlives) (constant 𝓛 family.the_type family_laws.the_plain X) (constant 𝓛 list.the_type list_laws.the_plain Y) (generic 𝓛 4 0 S LS) (slice 𝓛 4 1 tt 1 T)
         asked-among told-among (inst_fn types-among fn) (among_code.name types-among) release_code.name (name types-among)
-        → calls.Coded-membership 𝓛 𝓜 𝓡 3 ((among_step.signature S T).outlives) (constant 𝓛 family.the_type family_laws.the_plain X) (constant 𝓛 list.the_type list_laws.the_plain Y) (generic 𝓛 4 0 S LS) (slice 𝓛 4 1 tt 1 T)
+        → calls.Coded-membership builder 𝓛 𝓜 𝓡 3 ((among_step.signature S T).outlives) (constant 𝓛 family.the_type family_laws.the_plain X) (constant 𝓛 list.the_type list_laws.the_plain Y) (generic 𝓛 4 0 S LS) (slice 𝓛 4 1 tt 1 T)
         asked-among told-among (inst_fn types-among fn) (among_code.name types-among) release_code.name (name types-among)
         → Wired 𝓡.env among_code.code → Wired 𝓡.env release_code.code
-        → calls.Method-membership 𝓛 𝓜 𝓡 3 ((among_step.signature S T).outlives) (constant 𝓛 family.the_type family_laws.the_plain X) (constant 𝓛 list.the_type list_laws.the_plain Y) (generic 𝓛 4 0 S LS) (slice 𝓛 4 1 tt 1 T)
+        → calls.Method-membership builder 𝓛 𝓜 𝓡 3 ((among_step.signature S T).outlives) (constant 𝓛 family.the_type family_laws.the_plain X) (constant 𝓛 list.the_type list_laws.the_plain Y) (generic 𝓛 4 0 S LS) (slice 𝓛 4 1 tt 1 T)
         asked-among told-among (inst_fn types-among fn) (among_code.name types-among) release_code.name (name types-among)
-    by_among code closed w w' = calls.by-membership 𝓛 𝓜 𝓡 3 ((among_step.signature S T).outlives) (constant 𝓛 family.the_type family_laws.the_plain X) (constant 𝓛 list.the_type list_laws.the_plain Y) (generic 𝓛 4 0 S LS) (slice 𝓛 4 1 tt 1 T)
+    by_among code closed w w' = calls.by-membership builder 𝓛 𝓜 𝓡 3 ((among_step.signature S T).outlives) (constant 𝓛 family.the_type family_laws.the_plain X) (constant 𝓛 list.the_type list_laws.the_plain Y) (generic 𝓛 4 0 S LS) (slice 𝓛 4 1 tt 1 T)
         asked-among told-among (inst_fn types-among fn) (among_code.name types-among) release_code.name (name types-among)
         code closed (among_met.met 𝓤 𝓛 𝓜 𝓡 w S T LS LT s d t e d' e' ms mt md me) (release_met 𝓤 𝓛 𝓜 𝓡 w')
 
@@ -260,16 +275,16 @@ module _ {M : Type 1} (𝓤 : Ura M) (𝓛 : Logic 𝓤) (𝓜 : Model 𝓤 𝓛
     abbrev asked-range : (κs : Lfts 4) → Denots (types_at (range_step.signature S T U).params κs) → SProp 𝓤
     asked-range κs a = (range_step.clauses S T U s d t e u f d' e' f' 𝓛 𝓜.mem 𝓡.returns κs a).requires tt
 
-    abbrev told-range : (κs : Lfts 4) → Denots (types_at (range_step.signature S T U).params κs) → Effect
+    abbrev told-range : (κs : Lfts 4) → Denots (types_at (range_step.signature S T U).params κs) → Effect ClauseTexts
     told-range κs a = record { told = with_condition a.1.0 (range_condition a.1.1.0 (s.text a.1.1.1.0) (t.text a.1.1.1.1.0) (u.text a.1.1.1.1.1.0)) a.0.now; refuses = IsMemory }
 
-    pub by_range : calls.Code-between 𝓛 𝓜 𝓡 3 [] (constant 𝓛 family.the_type family_laws.the_plain X) (constant 𝓛 range.the_type range_laws.the_plain Y) (generic 𝓛 4 0 S LS) (generic 𝓛 4 1 T LT) (generic 𝓛 4 2 U LU)
+    pub by_range : calls.Code-between builder 𝓛 𝓜 𝓡 3 [] (constant 𝓛 family.the_type family_laws.the_plain X) (constant 𝓛 range.the_type range_laws.the_plain Y) (generic 𝓛 4 0 S LS) (generic 𝓛 4 1 T LT) (generic 𝓛 4 2 U LU)
         asked-range told-range (inst_fn types-range fn) (range_code.name types-range) release_code.name (name types-range)
-        → calls.Coded-between 𝓛 𝓜 𝓡 3 [] (constant 𝓛 family.the_type family_laws.the_plain X) (constant 𝓛 range.the_type range_laws.the_plain Y) (generic 𝓛 4 0 S LS) (generic 𝓛 4 1 T LT) (generic 𝓛 4 2 U LU)
+        → calls.Coded-between builder 𝓛 𝓜 𝓡 3 [] (constant 𝓛 family.the_type family_laws.the_plain X) (constant 𝓛 range.the_type range_laws.the_plain Y) (generic 𝓛 4 0 S LS) (generic 𝓛 4 1 T LT) (generic 𝓛 4 2 U LU)
         asked-range told-range (inst_fn types-range fn) (range_code.name types-range) release_code.name (name types-range)
         → Wired 𝓡.env range_code.code → Wired 𝓡.env release_code.code
-        → calls.Method-between 𝓛 𝓜 𝓡 3 [] (constant 𝓛 family.the_type family_laws.the_plain X) (constant 𝓛 range.the_type range_laws.the_plain Y) (generic 𝓛 4 0 S LS) (generic 𝓛 4 1 T LT) (generic 𝓛 4 2 U LU)
+        → calls.Method-between builder 𝓛 𝓜 𝓡 3 [] (constant 𝓛 family.the_type family_laws.the_plain X) (constant 𝓛 range.the_type range_laws.the_plain Y) (generic 𝓛 4 0 S LS) (generic 𝓛 4 1 T LT) (generic 𝓛 4 2 U LU)
         asked-range told-range (inst_fn types-range fn) (range_code.name types-range) release_code.name (name types-range)
-    by_range code closed w w' = calls.by-between 𝓛 𝓜 𝓡 3 [] (constant 𝓛 family.the_type family_laws.the_plain X) (constant 𝓛 range.the_type range_laws.the_plain Y) (generic 𝓛 4 0 S LS) (generic 𝓛 4 1 T LT) (generic 𝓛 4 2 U LU)
+    by_range code closed w w' = calls.by-between builder 𝓛 𝓜 𝓡 3 [] (constant 𝓛 family.the_type family_laws.the_plain X) (constant 𝓛 range.the_type range_laws.the_plain Y) (generic 𝓛 4 0 S LS) (generic 𝓛 4 1 T LT) (generic 𝓛 4 2 U LU)
         asked-range told-range (inst_fn types-range fn) (range_code.name types-range) release_code.name (name types-range)
         code closed (range_met.met 𝓤 𝓛 𝓜 𝓡 w S T U LS LT LU s d t e u f d' e' f' ms mt mu md me mf) (release_met 𝓤 𝓛 𝓜 𝓡 w')

@@ -4,10 +4,11 @@ use Rattle.std.specs.Prelude.{nat_eq, ◌&&◌}
 use Rattle.std.proofs.lemmas.Bool.Decides.{nat_tests}
 use Rattle.std.proofs.lemmas.List.{take_more, map-append, append-nil, length-map}
 use Rattle.std.proofs.lemmas.Grind.{flat_map-append}
-use Rattle.sql_builder.specs.Builder.{ClauseTexts, texts}
+use Rattle.sql_builder.specs.Builder.{ClauseTexts}
+use Rattle.sql_parts.specs.Text.{texts}
 use Rattle.sql_builder.specs.Layout.{byte_atoms, concat_sections, delete_sections, fields_or_star, group_by_sections, insert_sections, is_no_text, optional_section, order_by_sections, query, select_opening, union_opening, union_sections, update_sections, where_sections}
 use Rattle.sql_builder.specs.Phrases.{comma_list, further_table, in_brackets}
-use Rattle.sql_builder.specs.Text.{join_with}
+use Rattle.sql_parts.specs.Text.{join_with}
 
 -- one more element of a loop over xs, of which each adds h of its value
 pub one_more : {X Y A : Type 0} (h : Y → List A) (v : X → Y) (xs : List X) (i : ℕ) (x : X) → i < length xs

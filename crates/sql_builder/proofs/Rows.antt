@@ -3,7 +3,8 @@ use Rattle.std.specs.Prelude.{◌≡◌, [], ◌∷◌, ◌++◌, Ok, Err, codes
 use Rattle.sql_parts.specs.declared.error.SqlBuilderError.TheVariants.{NoTableName, NoValues, NoSetFields}
 use Rattle.sql_builder.specs.Calls.{SelectFrom, SelectValues, InsertInto, UpdateTable, DeleteFrom, Natural, Left, LeftOuter, Right, RightOuter, Inner, Cross, Distinct, AndTable, Join, On, OnEq, Fields, SetFields, Field, SetField, Count, CountAs, SetTo, SetStr, Values, Select, Returning, ReturningId, GroupBy, Having, Union, UnionAll, OrderBy, OrderAsc, OrderDesc, Limit, Offset, Cond, Sql, Query, QueryValues, Subquery, SubqueryAs}
 use Rattle.sql_builder.specs.Conditions.{Raw, Compare}
-use Rattle.sql_builder.specs.Statement.{statement}
+use Rattle.sql_builder.specs.Statement.{pieces, statement}
+use Rattle.sql_builder.specs.Text as piece
 use Rattle.sql_parts.specs.Quoting.{quoted}
 use Rattle.sql_builder.specs.declared.calls.Family.TheVariants.{And}
 use Rattle.sql_builder.specs.declared.calls.Relation.TheVariants.{Gt}
@@ -170,12 +171,6 @@ two_groups : statement (SelectFrom (codes "t"))
     ≡ Ok (codes "SELECT * FROM t WHERE (a) AND (b);")
 two_groups = refl
 
-set_quoted : statement (UpdateTable (codes "books"))
-    (SetStr (codes "comment") (codes "Don't distribute!") ∷
-    Cond And (Raw (codes "price <= 100")) ∷ Returning (codes "id, comment") ∷ []) Sql
-    ≡ Ok (codes "UPDATE books SET comment = 'Don''t distribute!' WHERE price <= 100 RETURNING id, comment;")
-set_quoted = refl
-
 last_limit : statement (SelectFrom (codes "t")) (Limit (codes "1") ∷ Limit (codes "2") ∷ []) Sql
     ≡ Ok (codes "SELECT * FROM t LIMIT 2;")
 last_limit = refl
@@ -191,3 +186,19 @@ added_fields : statement (SelectFrom (codes "t"))
     (AndTable (codes "u") ∷ Fields (codes "a" ∷ codes "b" ∷ []) ∷ Field (codes "c") ∷ []) Query
     ≡ Ok (codes "SELECT a, b, c FROM t, u")
 added_fields = refl
+
+-- which texts are quoted, and which are as handed in
+
+set_str_in_pieces : pieces (UpdateTable (codes "t"))
+    (SetStr (codes "a") (codes "it's") ∷ ReturningId ∷ []) Sql
+    ≡ Ok (piece.Fixed (codes "UPDATE ") ∷ piece.Raw (codes "t") ∷
+    piece.Fixed (codes " SET ") ∷ piece.Raw (codes "a") ∷ piece.Fixed (codes " = ") ∷ piece.Quoted (codes "it's") ∷
+    piece.Fixed (codes " RETURNING ") ∷ piece.Fixed (codes "id") ∷ piece.Fixed (codes ";") ∷ [])
+set_str_in_pieces = refl
+
+set_in_pieces : pieces (UpdateTable (codes "t"))
+    (SetTo (codes "a") (codes "'b'") ∷ Returning (codes "id") ∷ []) Sql
+    ≡ Ok (piece.Fixed (codes "UPDATE ") ∷ piece.Raw (codes "t") ∷
+    piece.Fixed (codes " SET ") ∷ piece.Raw (codes "a") ∷ piece.Fixed (codes " = ") ∷ piece.Raw (codes "'b'") ∷
+    piece.Fixed (codes " RETURNING ") ∷ piece.Raw (codes "id") ∷ piece.Fixed (codes ";") ∷ [])
+set_in_pieces = refl

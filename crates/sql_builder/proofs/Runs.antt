@@ -4,7 +4,8 @@ use Rattle.std.proofs.lemmas.List.{take_more, map-append, append-nil}
 use Rattle.std.proofs.lemmas.Grind.{flat_map-append}
 use Rattle.std.specs.Prelude.{IfSome, IsNone, ◌⊎◌}
 use Rattle.sql_builder.specs.Answers.{call_text}
-use Rattle.sql_builder.specs.Builder.{ClauseTexts, condition_bytes, extend_last, join_last, started, with_call}
+use Rattle.sql_builder.specs.Builder.{ClauseTexts, condition_bytes, extend_last, join_last, started}
+use Rattle.sql_builder.specs.Steps.{with_call}
 use Rattle.sql_builder.specs.Calls as call
 use Rattle.sql_builder.specs.Calls.{StartText, CallText, FinishText, clauses, condition_pieces}
 use Rattle.sql_builder.specs.Clauses.{Clauses, map_clauses}
@@ -19,7 +20,7 @@ use Rattle.sql_parts.specs.Error.{FailsOnlyByMemory, IsMemory}
 use Rattle.sql_parts.specs.Quoting.{quoted}
 use Rattle.sql_parts.specs.declared.error.SqlBuilderError.{SqlBuilderError}
 use Rattle.sql_builder.proofs.MoreCalls.{clauses_after, one_more_clauses, or_pieces}
-use Rattle.sql_builder.proofs.Natural.{joined_in_form, layout_in_form, row_in_form}
+use Rattle.sql_builder.proofs.Forms.{joined_in_form, layout_in_form, row_in_form}
 use Rattle.sql_builder.proofs.Snoc.{add, add_is}
 
 -- the texts of pieces
@@ -35,10 +36,10 @@ map_bytes : (values : List (List ℕ)) → map byte_atoms values ≡ values
 map_bytes [] = refl
 map_bytes (value ∷ values) = ap (λ (vs : List (List ℕ)). value ∷ vs) (map_bytes values)
 
-conditions_printed : (values : List (List ℕ))
+texts_of_quoted : (values : List (List ℕ))
     → map pieces_text (map quoted_piece values) ≡ map quoted values
-conditions_printed [] = refl
-conditions_printed (value ∷ values) = simp (append-nil, conditions_printed values)
+texts_of_quoted [] = refl
+texts_of_quoted (value ∷ values) = simp (append-nil, texts_of_quoted values)
 
 -- a list of values behind a field and words, printed
 listed : (field words : List ℕ) (printed : List Pieces)
@@ -63,7 +64,7 @@ condition_printed (InList negated field values) =
 condition_printed (InQuoted negated field values) =
     let words = not_text negated ++ codes " IN (" in
     listed field words (map quoted_piece values)
-    ∙ ap (λ (vs : List (List ℕ)). field ++ (words ++ (comma_list byte_atoms vs ++ codes ")"))) (conditions_printed values)
+    ∙ ap (λ (vs : List (List ℕ)). field ++ (words ++ (comma_list byte_atoms vs ++ codes ")"))) (texts_of_quoted values)
 condition_printed (InQuery negated field query) = simp append-nil
 condition_printed (Between negated field least greatest) = simp append-nil
 

@@ -1,6 +1,6 @@
 -- How what `run` is handed reads as bytes.
 use Rattle.std.specs.Prelude.{string_bytes}
-use Rattle.sql_builder.specs.Builder.{texts}
+use Rattle.sql_parts.specs.Text.{texts}
 use Rattle.sql_builder.specs.Calls as text
 use Rattle.sql_builder.specs.Calls.{StartText, CallText, FinishText}
 use Rattle.sql_builder.specs.Conditions as said

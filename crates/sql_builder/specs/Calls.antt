@@ -5,7 +5,8 @@ use Rattle.sql_builder.specs.Clauses.{Clauses}
 use Rattle.sql_builder.specs.Conditions.{ConditionText, condition_atoms}
 use Rattle.sql_builder.specs.Filters.{any_unfollowed, cut, Group, in_place, last_said, since, until}
 use Rattle.sql_builder.specs.Phrases.{constraint, count, count_as, equation, further_table, join, order, row}
-use Rattle.sql_builder.specs.Text.{Pieces, fixed_piece, quoted_piece, raw_piece, join_with}
+use Rattle.sql_builder.specs.Text.{Pieces, fixed_piece, quoted_piece, raw_piece}
+use Rattle.sql_parts.specs.Text.{join_with}
 use Rattle.sql_builder.specs.declared.calls.Family.{Family}
 use Rattle.sql_builder.specs.declared.calls.Family.TheVariants.{And, Or}
 use Rattle.sql_builder.specs.declared.clauses.JoinOperator.{JoinOperator}

@@ -9,4 +9,5 @@ pub mod Laws
 pub mod Layout
 pub mod Phrases
 pub mod Statement
+pub mod Steps
 pub mod Text

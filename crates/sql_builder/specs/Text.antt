@@ -1,11 +1,6 @@
 -- Texts, and the pieces that a statement is made of.
-use Rattle.std.specs.Prelude.{ℕ, List, [], ◌∷◌, ◌++◌, flat_map}
+use Rattle.std.specs.Prelude.{ℕ, List, [], ◌∷◌, flat_map}
 use Rattle.sql_parts.specs.Quoting.{quoted}
-
--- the lists one after another, with `between` between each and the next
-abbrev pub join_with : {A : Type 0} → List A → List (List A) → List A
-join_with between [] = []
-join_with between (x ∷ xs) = x ++ flat_map (λ y. between ++ y) xs
 
 -- A piece of a statement: a text of the product's own, a text between single quotes, or a text as handed in.
 pub data Piece : Type 0 where

@@ -1,12 +1,13 @@
 //! The builder: it is told clauses call by call, and prints a statement of them.
 ghost use Rattle.std.specs.Prelude.{◌≡◌, [], map, IfOk, string_bytes};
 ghost use Rattle.sql_parts.specs.Error.{FailsOnlyByMemory};
-ghost use Rattle.sql_builder.specs.Builder.{started, texts};
+ghost use Rattle.sql_builder.specs.Builder.{started};
+ghost use Rattle.sql_parts.specs.Text.{texts};
 ghost use Rattle.sql_builder.specs.Calls.{SelectFrom, SelectValues, InsertInto, UpdateTable, DeleteFrom};
 ghost use Rattle.sql_builder.specs.Clauses.{new_clauses};
 
 use crate::clauses::{Join, JoinOperator, Kind, Union, copy_joins, copy_unions};
-use crate::texts::{copies, copy};
+use sql_parts::text::{copies, copy};
 use sql_parts::{SqlBuilderError, ToText};
 use std::alloc::Global;
 use std::marker::Model;
@@ -42,7 +43,8 @@ pub struct SqlBuilder {
 
 impl Model for SqlBuilder {
     ghost use Rattle.std.specs.Prelude.{List, ℕ, map};
-    ghost use Rattle.sql_builder.specs.Builder.{join_text, optional_text, table_text, texts, union_text};
+    ghost use Rattle.sql_builder.specs.Builder.{join_text, table_text, union_text};
+    ghost use Rattle.sql_parts.specs.Text.{optional_text, texts};
     ghost use Rattle.sql_builder.specs.Clauses.{Clauses};
 
     ghost Value = { Clauses (List ℕ) };

@@ -2,15 +2,17 @@
 ghost use Rattle.std.specs.Prelude.{◌≡◌, ◌⊎◌, [], map, IfErr, IfOk, IfSome, IsNone, OnOk, string_bytes};
 ghost use Rattle.sql_parts.specs.Error.{FailsOnlyByMemory, IsMemory};
 ghost use Rattle.sql_builder.specs.Answers.{call_text, condition_text, finish_text, start_text};
-ghost use Rattle.sql_builder.specs.Builder.{condition_bytes, with_call, with_condition};
-ghost use Rattle.sql_builder.specs.Calls.{clauses};
+ghost use Rattle.sql_builder.specs.Builder.{condition_bytes, with_condition};
+ghost use Rattle.sql_builder.specs.Steps.{with_call};
+ghost use Rattle.sql_builder.specs.Calls.{clauses, operator_in};
 ghost use Rattle.sql_builder.specs.Clauses.{map_clauses};
 ghost use Rattle.sql_builder.specs.Statement.{refusal_at, statement, text_at};
 ghost use Rattle.sql_builder.specs.Text.{pieces_text};
 
 use crate::builder::SqlBuilder;
 use crate::clauses::JoinOperator;
-use crate::condition_texts::{between, comparison, in_list, in_query, in_quoted, like, unary};
+use crate::condition_texts::{between, in_list, in_query, in_quoted, like, unary};
+use crate::phrases::comparison;
 use crate::steps::{ListClause, PairClause, TextClause, UnaryCondition};
 use sql_parts::{SqlBuilderError, ToText};
 use std::alloc::Global;
@@ -194,18 +196,31 @@ fn begin(alloc: Global, start: &Start) -> Result<SqlBuilder, SqlBuilderError>
     }
 }
 
+// The operator that a call chooses for the joins to come.
+fn operator_in(call: &Call) -> Option<JoinOperator>
+    ensures { result ≡ operator_in (call_text call.now) }
+{
+    match call {
+        Call::Left => Some(JoinOperator::Left),
+        Call::LeftOuter => Some(JoinOperator::LeftOuter),
+        Call::Right => Some(JoinOperator::Right),
+        Call::RightOuter => Some(JoinOperator::RightOuter),
+        Call::Inner => Some(JoinOperator::Inner),
+        Call::Cross => Some(JoinOperator::Cross),
+        _ => None,
+    }
+}
+
 fn make(builder: &mut SqlBuilder, call: &Call) -> Result<(), SqlBuilderError>
     ensures made { OnOk result (builder.new ≡ with_call (call_text call.now) builder.old) }
     ensures memory { FailsOnlyByMemory result }
 {
     match call {
         Call::Natural => builder.natural = true,
-        Call::Left => builder.operator = Some(JoinOperator::Left),
-        Call::LeftOuter => builder.operator = Some(JoinOperator::LeftOuter),
-        Call::Right => builder.operator = Some(JoinOperator::Right),
-        Call::RightOuter => builder.operator = Some(JoinOperator::RightOuter),
-        Call::Inner => builder.operator = Some(JoinOperator::Inner),
-        Call::Cross => builder.operator = Some(JoinOperator::Cross),
+        Call::Left | Call::LeftOuter | Call::Right | Call::RightOuter | Call::Inner | Call::Cross =>
+            {
+                builder.operator = operator_in(call);
+            }
         Call::Distinct => builder.distinct = true,
         Call::AndTable(table) => builder.push_text(TextClause::AndTable, table)?,
         Call::Join(table) => builder.push_text(TextClause::Join, table)?,

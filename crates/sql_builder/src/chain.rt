@@ -15,7 +15,8 @@ use sql_parts::{SqlBuilderError, ToText};
 impl SqlBuilder {
     ghost use Rattle.std.specs.Borrow.{sem};
     ghost use Rattle.sql_builder.specs.Builder.{RefusesConstraint, with_fields, with_fields_set, with_group_field, with_having, with_join, with_limit, with_offset, with_on, with_order, with_query, with_returning, with_row, with_set, with_table, with_union};
-    ghost use Rattle.sql_builder.specs.Chaining.{IsUnchangedIfErr, IsChangedTo};
+    ghost use Rattle.sql_builder.specs.Chaining.{IsUnchangedIfErr};
+    ghost use Rattle.sql_parts.specs.Lending.{IsChangedTo};
 
     /// Adds a table: appends `, ` and the table to the table text, also to an empty one.
     pub fn and_table<S: ToText>(&mut self, table: S) -> Result<&mut Self, SqlBuilderError>

@@ -5,7 +5,7 @@ ghost use Rattle.sql_builder.specs.Builder.{extend_last, join_text, union_text};
 ghost use Rattle.sql_builder.specs.Layout.{byte_atoms};
 ghost use Rattle.sql_builder.specs.Phrases.{constraint};
 
-use crate::texts::copies;
+use sql_parts::text::copies;
 use sql_parts::{SqlBuilderError, ToText};
 use std::alloc::Global;
 

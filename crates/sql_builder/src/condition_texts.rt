@@ -2,31 +2,18 @@
 ghost use Rattle.std.specs.Prelude.{◌≡◌, ◌++◌, codes, flat_map, map, string_bytes, IfOk, OnOk};
 ghost use Rattle.sql_parts.specs.Error.{FailsOnlyByMemory};
 ghost use Rattle.sql_parts.specs.Quoting.{quoted};
-ghost use Rattle.sql_builder.specs.Builder.{binary_condition, condition_bytes, list_condition, range_condition, unary_condition};
-ghost use Rattle.sql_builder.specs.Conditions.{Between, Compare, InList, InQuery, InQuoted, Like, is_behind, is_in_front, mask_text, not_text, relation_text};
+ghost use Rattle.sql_builder.specs.Builder.{condition_bytes};
+ghost use Rattle.sql_builder.specs.Steps.{binary_condition, list_condition, range_condition, unary_condition};
+ghost use Rattle.sql_builder.specs.Conditions.{Between, InList, InQuery, InQuoted, Like, is_behind, is_in_front, mask_text, not_text};
 ghost use Rattle.sql_builder.specs.Layout.{byte_atoms};
 ghost use Rattle.sql_builder.specs.Phrases.{comma_list};
 
 use crate::calls::{Percent, Relation};
-use crate::phrases::push_items;
+use crate::phrases::{comparison, push_items, push_quoted};
 use crate::steps::{BinaryCondition, ListCondition, RangeCondition, UnaryCondition};
+use sql_parts::text::Quotes;
 use sql_parts::{SqlBuilderError, ToText};
 use std::alloc::Global;
-
-impl Relation {
-    fn text(self) -> &'static str
-        ensures { result.now ≡ relation_text self }
-    {
-        match self {
-            Relation::Eq => " = ",
-            Relation::Ne => " <> ",
-            Relation::Gt => " > ",
-            Relation::Ge => " >= ",
-            Relation::Lt => " < ",
-            Relation::Le => " <= ",
-        }
-    }
-}
 
 impl Percent {
     fn is_in_front(self) -> bool
@@ -61,23 +48,6 @@ fn field_and_words<S: ToText>(
     Ok(text)
 }
 
-/// A field compared with a value.
-pub(crate) fn comparison<S: ToText, T: ToText>(
-    alloc: Global,
-    relation: Relation,
-    field: S,
-    value: T,
-) -> Result<String, SqlBuilderError>
-    ensures made { IfOk result (λ s. string_bytes s
-        ≡ condition_bytes (Compare relation (S.text field) (T.text value))) }
-    ensures memory { FailsOnlyByMemory result }
-{
-    let mut text = field.to_text(alloc)?;
-    text.push_str(relation.text())?;
-    value.push_to(alloc, &mut text)?;
-    Ok(text)
-}
-
 // A mask with its percent signs, between single quotes.
 #[tactic(auto, using(crate::proofs::Masks::quoted_mask, std::proofs::lemmas::List::append_assoc))]
 fn push_mask<S: ToText>(
@@ -91,7 +61,7 @@ fn push_mask<S: ToText>(
     ensures memory { FailsOnlyByMemory result }
 {
     out.push_str(if percent.is_in_front() { "'%" } else { "'" })?;
-    mask.push_doubled_to(alloc, out, '\'')?;
+    mask.push_doubled_to(alloc, out, Quotes::Single)?;
     out.push_str(if percent.is_behind() { "%'" } else { "'" })?;
     Ok(())
 }
@@ -128,23 +98,6 @@ pub(crate) fn in_list<S: ToText, T: ToText>(
     push_items(alloc, &mut text, values)?;
     text.push_str(")")?;
     Ok(text)
-}
-
-fn push_quoted<S: ToText>(
-    alloc: Global,
-    out: &mut String,
-    before: &str,
-    text: &S,
-) -> Result<(), SqlBuilderError>
-    ensures pushed { OnOk result (string_bytes out.new
-        ≡ string_bytes out.old ++ (before.now ++ quoted (S.text text.now))) }
-    ensures memory { FailsOnlyByMemory result }
-{
-    out.push_str(before)?;
-    out.push_str("'")?;
-    text.push_doubled_to(alloc, out, '\'')?;
-    out.push_str("'")?;
-    Ok(())
 }
 
 // Each text, quoted, with `, ` in front of it.

@@ -11,7 +11,8 @@ use sql_parts::{SqlBuilderError, ToText};
 impl SqlBuilder {
     ghost use Rattle.std.specs.Borrow.{sem};
     ghost use Rattle.sql_builder.specs.Builder.{with_condition};
-    ghost use Rattle.sql_builder.specs.Chaining.{IsUnchangedIfErr, IsChangedTo};
+    ghost use Rattle.sql_builder.specs.Chaining.{IsUnchangedIfErr};
+    ghost use Rattle.sql_parts.specs.Lending.{IsChangedTo};
     ghost use Rattle.sql_builder.specs.Conditions.{Raw, Compare, Like, IsNull, IsNotNull, InList, InQuoted, InQuery, Between};
     ghost use Rattle.sql_builder.specs.declared.calls.Family.TheVariants.{And, Or};
     ghost use Rattle.sql_builder.specs.declared.calls.Percent.TheVariants.{Plain, Right, Left, Any};

@@ -8,13 +8,17 @@ mod clauses;
 mod condition_texts;
 mod conditions;
 pub mod laws;
+#[cfg(test)]
+mod name_tests;
 mod phrases;
 pub mod prelude;
 mod printing;
 mod steps;
 #[cfg(test)]
 mod tests;
-mod texts;
 
 pub use builder::SqlBuilder;
-pub use sql_parts::{SqlBuilderError, arg, baquote, brquote, dquote, error, esc, quote, text};
+pub use sql_parts::{
+    SqlBuilderError, SqlName, arg, baname, baquote, bind, brname, brquote, dname, dquote, error,
+    esc, name, qname, quote, text,
+};

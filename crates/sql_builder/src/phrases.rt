@@ -1,12 +1,48 @@
 //! The texts that calls make of what they are handed.
 ghost use Rattle.std.specs.Prelude.{◌≡◌, ◌++◌, IfOk, OnOk, codes, map, string_bytes, flat_map};
 ghost use Rattle.sql_parts.specs.Error.{FailsOnlyByMemory};
+ghost use Rattle.sql_builder.specs.Builder.{condition_bytes};
+ghost use Rattle.sql_builder.specs.Conditions.{Compare, relation_text};
 ghost use Rattle.sql_builder.specs.Layout.{byte_atoms};
 ghost use Rattle.sql_builder.specs.Phrases.{comma_list, count, count_as, equation, order, row};
 ghost use Rattle.sql_parts.specs.Quoting.{quoted};
 
+use crate::calls::Relation;
+use sql_parts::text::Quotes;
 use sql_parts::{SqlBuilderError, ToText};
 use std::alloc::Global;
+
+impl Relation {
+    fn text(self) -> &'static str
+        ensures { result.now ≡ relation_text self }
+    {
+        match self {
+            Relation::Eq => " = ",
+            Relation::Ne => " <> ",
+            Relation::Gt => " > ",
+            Relation::Ge => " >= ",
+            Relation::Lt => " < ",
+            Relation::Le => " <= ",
+        }
+    }
+}
+
+/// A field compared with a value.
+pub(crate) fn comparison<S: ToText, T: ToText>(
+    alloc: Global,
+    relation: Relation,
+    field: S,
+    value: T,
+) -> Result<String, SqlBuilderError>
+    ensures made { IfOk result (λ s. string_bytes s
+        ≡ condition_bytes (Compare relation (S.text field) (T.text value))) }
+    ensures memory { FailsOnlyByMemory result }
+{
+    let mut text = field.to_text(alloc)?;
+    text.push_str(relation.text())?;
+    value.push_to(alloc, &mut text)?;
+    Ok(text)
+}
 
 /// `left = right`.
 pub(crate) fn equation<S: ToText, T: ToText>(
@@ -18,10 +54,25 @@ pub(crate) fn equation<S: ToText, T: ToText>(
         ≡ equation byte_atoms (S.text left) (T.text right)) }
     ensures memory { FailsOnlyByMemory result }
 {
-    let mut text = left.to_text(alloc)?;
-    text.push_str(" = ")?;
-    right.push_to(alloc, &mut text)?;
-    Ok(text)
+    comparison(alloc, Relation::Eq, left, right)
+}
+
+/// Words, and a text between single quotes, each single quote in it doubled.
+pub(crate) fn push_quoted<S: ToText>(
+    alloc: Global,
+    out: &mut String,
+    before: &str,
+    text: &S,
+) -> Result<(), SqlBuilderError>
+    ensures pushed { OnOk result (string_bytes out.new
+        ≡ string_bytes out.old ++ (before.now ++ quoted (S.text text.now))) }
+    ensures memory { FailsOnlyByMemory result }
+{
+    out.push_str(before)?;
+    out.push_str("'")?;
+    text.push_doubled_to(alloc, out, Quotes::Single)?;
+    out.push_str("'")?;
+    Ok(())
 }
 
 /// `field = 'value'`, each single quote in the value doubled.
@@ -35,9 +86,7 @@ pub(crate) fn quoted_equation<S: ToText, T: ToText>(
     ensures memory { FailsOnlyByMemory result }
 {
     let mut text = field.to_text(alloc)?;
-    text.push_str(" = '")?;
-    value.push_doubled_to(alloc, &mut text, '\'')?;
-    text.push_str("'")?;
+    push_quoted(alloc, &mut text, " = ", &value)?;
     Ok(text)
 }
 

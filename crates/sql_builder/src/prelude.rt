@@ -2,5 +2,7 @@
 
 pub use crate::builder::SqlBuilder;
 pub use sql_parts::arg::{Literal, SqlArg};
+pub use sql_parts::bind::{Bind, BindNames, Marks};
+pub use sql_parts::name::SqlName;
 pub use sql_parts::quote;
 pub use sql_parts::text::ToText;

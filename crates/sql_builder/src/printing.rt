@@ -1,11 +1,13 @@
 //! Prints a builder's clauses as a statement or a query.
 ghost use Rattle.std.specs.Prelude.{◌≡◌, ◌++◌, IsNone, IfOk, IfSome, None, Some, codes, flat_map, map, string_bytes};
 ghost use Rattle.sql_parts.specs.Error.{FailsOnlyByMemory};
-ghost use Rattle.sql_builder.specs.Builder.{join_text, optional_text, texts, union_text, Adds};
+ghost use Rattle.sql_builder.specs.Builder.{join_text, union_text};
+ghost use Rattle.sql_builder.specs.Steps.{Adds};
+ghost use Rattle.sql_parts.specs.Text.{optional_text, texts};
 ghost use Rattle.sql_builder.specs.Layout.{byte_atoms, concat_sections, delete_sections, fields_or_star, group_by_sections, insert_sections, is_no_text, optional_section, order_by_sections, query, query_values, refusal, select_opening, sql, statement_sections, subquery, subquery_as, union_opening, update_sections, where_sections};
 ghost use Rattle.sql_builder.specs.Phrases.{comma_list, further_table, operator_text};
 ghost use Rattle.sql_builder.specs.Statement.{unless_refused};
-ghost use Rattle.sql_builder.specs.Text.{join_with};
+ghost use Rattle.sql_parts.specs.Text.{join_with};
 
 use crate::builder::SqlBuilder;
 use crate::clauses::{Join, JoinOperator, Kind, Union};

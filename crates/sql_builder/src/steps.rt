@@ -2,15 +2,17 @@
 //! clause is meant.
 ghost use Rattle.std.specs.Prelude.{◌≡◌, [], ◌∷◌, ◌++◌, map, codes, string_bytes, IfErr, OnOk, OnErr};
 ghost use Rattle.sql_parts.specs.Error.{FailsOnlyByMemory};
-ghost use Rattle.sql_builder.specs.Builder.{extend_last, texts, binary_condition, list_condition, range_condition, unary_condition, with_condition, with_condition_text, with_order, with_pair, with_returning, with_text, with_texts, RefusesPair, RefusesText, Tells};
-ghost use Rattle.sql_builder.specs.Chaining.{released_builder};
+ghost use Rattle.sql_builder.specs.Builder.{extend_last, with_condition, with_condition_text, with_order, with_returning};
+ghost use Rattle.sql_builder.specs.Steps.{binary_condition, list_condition, range_condition, unary_condition, with_pair, with_text, with_texts, RefusesPair, RefusesText, Tells};
+ghost use Rattle.sql_parts.specs.Text.{texts};
+ghost use Rattle.std.specs.Result.{result_map_both};
 
 use crate::builder::SqlBuilder;
 use crate::calls::Family;
 use crate::clauses::{Join, Union, constrain_last};
 use crate::condition_texts::{among, binary, range, unary};
 use crate::phrases::{count, count_as, equation, order, quoted_equation, row};
-use crate::texts::copies;
+use sql_parts::text::copies;
 use sql_parts::{SqlBuilderError, ToText};
 use std::alloc::AllocError;
 
@@ -105,7 +107,7 @@ pub(crate) struct Held<'a>(&'a mut SqlBuilder);
 pub(crate) fn release(
     held: Result<Held<'_>, SqlBuilderError>,
 ) -> Result<&mut SqlBuilder, SqlBuilderError>
-    ensures { result ≡ released_builder held.entry }
+    ensures { result ≡ result_map_both (λ held. held.0) (λ error. error) held.entry }
 {
     match held {
         Ok(held) => {

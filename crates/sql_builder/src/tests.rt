@@ -3,9 +3,10 @@ ghost use Rattle.std.specs.Prelude.{codes, ◌++◌};
 ghost use Rattle.sql_parts.specs.Text.{decimal_text};
 
 use crate::calls::{Call, Condition, Family, Finish, Percent, Relation, Start, run};
-use crate::prelude::{SqlBuilder, ToText, quote};
+use crate::prelude::{Bind, SqlArg, SqlBuilder, ToText, quote};
 use crate::{SqlBuilderError, laws};
 use std::alloc::Global;
+use std::collections::HashMap;
 use std::test::Fail;
 
 /// The name of a call, and the texts that it is handed.
@@ -1193,18 +1194,12 @@ fn is_wanted(made: &Result<String, SqlBuilderError>, wanted: &Result<&str, &str>
 #[test]
 fn makes_what_the_rows_say(rt: HostRuntime) -> Result<(), Fail> {
     let heap = rt.alloc();
-    for (table, rows) in [EMPTY.as_slice(), &JOINS, &CLAUSES].iter().enumerate() {
-        for (row, (start, calls, finish, wanted)) in rows.iter().enumerate() {
+    for rows in [EMPTY.as_slice(), &JOINS, &CLAUSES].iter() {
+        for (start, calls, finish, wanted) in rows.iter() {
             let made = made_by_calls(heap, start, calls, finish);
-            assert!(rt;
-                is_wanted(&made, wanted),
-                "by calls, table {table}, row {row}"
-            );
+            assert!(rt; is_wanted(&made, wanted), "by calls, {wanted:?}");
             let made = made_by_run(heap, start, calls, finish);
-            assert!(rt;
-                is_wanted(&made, wanted),
-                "by run, table {table}, row {row}"
-            );
+            assert!(rt; is_wanted(&made, wanted), "by run, {wanted:?}");
         }
     }
     Ok(())
@@ -1213,11 +1208,11 @@ fn makes_what_the_rows_say(rt: HostRuntime) -> Result<(), Fail> {
 #[test]
 fn makes_what_the_rows_of_conditions_say(rt: HostRuntime) -> Result<(), Fail> {
     let heap = rt.alloc();
-    for (row, (start, calls, finish, wanted)) in CONDITIONS.iter().enumerate() {
+    for (start, calls, finish, wanted) in CONDITIONS.iter() {
         let made = made_by_calls(heap, start, calls, finish);
-        assert!(rt; is_wanted(&made, wanted), "by calls, row {row}");
+        assert!(rt; is_wanted(&made, wanted), "by calls, {wanted:?}");
         let made = made_by_run(heap, start, calls, finish);
-        assert!(rt; is_wanted(&made, wanted), "by run, row {row}");
+        assert!(rt; is_wanted(&made, wanted), "by run, {wanted:?}");
     }
     Ok(())
 }
@@ -1225,11 +1220,11 @@ fn makes_what_the_rows_of_conditions_say(rt: HostRuntime) -> Result<(), Fail> {
 #[test]
 fn adds_each_condition_alone(rt: HostRuntime) -> Result<(), Fail> {
     let heap = rt.alloc();
-    for (row, (call, wanted)) in ALONE.iter().enumerate() {
+    for (call, wanted) in ALONE.iter() {
         let made = made_by_calls(heap, &["select_from", "t"], &[*call], QUERY)?;
-        assert_eq!(rt; made.as_str(), *wanted, "by calls, row {row}");
+        assert_eq!(rt; made.as_str(), *wanted, "by calls, {call:?}");
         let made = made_by_run(heap, &["select_from", "t"], &[*call], QUERY)?;
-        assert_eq!(rt; made.as_str(), *wanted, "by run, row {row}");
+        assert_eq!(rt; made.as_str(), *wanted, "by run, {call:?}");
     }
     Ok(())
 }
@@ -1237,12 +1232,12 @@ fn adds_each_condition_alone(rt: HostRuntime) -> Result<(), Fail> {
 #[test]
 fn joins_each_condition_to_a_group(rt: HostRuntime) -> Result<(), Fail> {
     let heap = rt.alloc();
-    for (row, (call, wanted)) in BEHIND_A_GROUP.iter().enumerate() {
+    for (call, wanted) in BEHIND_A_GROUP.iter() {
         let calls: [Words; 2] = [&["and_where", "a"], *call];
         let made = made_by_calls(heap, &["select_from", "t"], &calls, QUERY)?;
-        assert_eq!(rt; made.as_str(), *wanted, "by calls, row {row}");
+        assert_eq!(rt; made.as_str(), *wanted, "by calls, {call:?}");
         let made = made_by_run(heap, &["select_from", "t"], &calls, QUERY)?;
-        assert_eq!(rt; made.as_str(), *wanted, "by run, row {row}");
+        assert_eq!(rt; made.as_str(), *wanted, "by run, {call:?}");
     }
     Ok(())
 }
@@ -1250,11 +1245,11 @@ fn joins_each_condition_to_a_group(rt: HostRuntime) -> Result<(), Fail> {
 #[test]
 fn makes_every_call_after_every_start(rt: HostRuntime) -> Result<(), Fail> {
     let heap = rt.alloc();
-    for (row, (start, finish, wanted)) in EVERY_START_AND_FINISH.iter().enumerate() {
+    for (start, finish, wanted) in EVERY_START_AND_FINISH.iter() {
         let made = made_by_calls(heap, start, EVERY_CALL, finish)?;
-        assert_eq!(rt; made.as_str(), *wanted, "by calls, row {row}");
+        assert_eq!(rt; made.as_str(), *wanted, "by calls, {start:?} .. {finish:?}");
         let made = made_by_run(heap, start, EVERY_CALL, finish)?;
-        assert_eq!(rt; made.as_str(), *wanted, "by run, row {row}");
+        assert_eq!(rt; made.as_str(), *wanted, "by run, {start:?} .. {finish:?}");
     }
     Ok(())
 }
@@ -1433,19 +1428,23 @@ fn a_clone_is_a_builder_of_its_own(rt: HostRuntime) -> Result<(), Fail> {
     assert_eq!(rt; made.as_str(), "SELECT * FROM a NATURAL LEFT JOIN b;");
     let made = first.sql()?;
     assert_eq!(rt; made.as_str(), "SELECT * FROM a;");
-    for (row, (start, finish, wanted)) in EVERY_START_AND_FINISH.iter().enumerate() {
+    for (start, finish, wanted) in EVERY_START_AND_FINISH.iter() {
         let mut first = begin(heap, start)?;
         for call in EVERY_CALL {
             tell(&mut first, call)?;
         }
         let mut second = first.clone()?;
         let made = print(&second, finish)?;
-        assert_eq!(rt; made.as_str(), *wanted, "clone of row {row}");
+        assert_eq!(rt; made.as_str(), *wanted, "clone of {start:?} .. {finish:?}");
         for call in EVERY_CALL {
             tell(&mut second, call)?;
         }
         let made = print(&first, finish)?;
-        assert_eq!(rt; made.as_str(), *wanted, "original of row {row}");
+        assert_eq!(rt;
+            made.as_str(),
+            *wanted,
+            "original of {start:?} .. {finish:?}"
+        );
     }
     Ok(())
 }
@@ -1461,12 +1460,74 @@ fn a_constraint_without_a_join_is_dropped(rt: HostRuntime) -> Result<(), Fail> {
     Ok(())
 }
 
+// The contracts of these say all: here each is only called once.
 #[test]
 fn states_its_laws() {
     laws::quoting_is_injective();
+    laws::doubling_is_undone();
+    laws::unmarked_is_unchanged();
     laws::fields_join();
-    laws::limit_counts_last();
-    laws::offset_counts_last();
-    laws::having_counts_last();
-    laws::returning_counts_last();
+    laws::only_last_counts();
+}
+
+#[test]
+fn binds_rows_of_an_insert(rt: HostRuntime) -> Result<(), Fail> {
+    let heap = rt.alloc();
+    let made = SqlBuilder::insert_into(heap, "company")?
+        .field("name")?
+        .field("salary")?
+        .field("staff")?
+        .values(&["$1, ?, ?"])?
+        .values(&["$2, ?, ?"])?
+        .sql()?;
+    let mut names: Vec<Box<dyn SqlArg>> = Vec::new(heap);
+    names.push(Box::new(heap, String::from_str(heap, "D&G")?)?)?;
+    names.push(Box::new(heap, String::from_str(heap, "G&D")?)?)?;
+    let mut numbers: Vec<Box<dyn SqlArg>> = Vec::new(heap);
+    numbers.push(Box::new(heap, 10_000)?)?;
+    numbers.push(Box::new(heap, 100)?)?;
+    let made = made
+        .bind_nums(heap, names.as_slice())?
+        .binds(heap, numbers.as_slice())?;
+    assert_eq!(rt;
+        made.as_str(),
+        "INSERT INTO company (name, salary, staff) VALUES ('D&G', 10000, 100), ('G&D', 10000, 100);"
+    );
+    Ok(())
+}
+
+#[test]
+fn binds_names_of_a_condition(rt: HostRuntime) -> Result<(), Fail> {
+    let heap = rt.alloc();
+    let mut range: HashMap<&str, Box<dyn SqlArg>> = HashMap::new(heap);
+    let _ = range.insert("min", Box::new(heap, 1_000)?)?;
+    let _ = range.insert("max", Box::new(heap, 25_000)?)?;
+    let made = SqlBuilder::delete_from(heap, "company")?
+        .and_where("salary >= :min:")?
+        .and_where("salary <= :max:")?
+        .sql()?
+        .bind_names(heap, &range)?;
+    assert_eq!(rt;
+        made.as_str(),
+        "DELETE FROM company WHERE (salary >= 1000) AND (salary <= 25000);"
+    );
+    Ok(())
+}
+
+#[test]
+fn binds_numbers_beside_quoted_text(rt: HostRuntime) -> Result<(), Fail> {
+    let heap = rt.alloc();
+    let comment = quote(heap, "up $1$$")?;
+    let mut rise: Vec<Box<dyn SqlArg>> = Vec::new(heap);
+    rise.push(Box::new(heap, 100)?)?;
+    let made = SqlBuilder::update_table(heap, "company")?
+        .set("salary", "salary + $1")?
+        .set("comment", comment.as_str())?
+        .sql()?
+        .bind_nums(heap, rise.as_slice())?;
+    assert_eq!(rt;
+        made.as_str(),
+        "UPDATE company SET salary = salary + 100, comment = 'up 100$';"
+    );
+    Ok(())
 }

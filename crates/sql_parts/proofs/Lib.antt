@@ -1,4 +1,15 @@
+pub mod ChainCalls
 pub mod Decimal
 pub mod Doubled
 pub mod Kept
+pub mod LastPairs
+pub mod Loans
+pub mod MarkerLemmas
+pub mod NameRows
+pub mod Names
+pub mod Resolving
 pub mod Rows
+pub mod TemplateLaws
+pub mod TemplateRows
+pub mod Variants
+pub mod Walking

@@ -1,5 +1,7 @@
 -- Texts between quotes.
 use Rattle.std.specs.Prelude.{ℕ, List, [], ◌∷◌, ◌++◌, ◌==◌, flat_map, if◌then◌else◌}
+use Rattle.sql_parts.specs.declared.text.Quotes.{Quotes}
+use Rattle.sql_parts.specs.declared.text.Quotes.TheVariants.{Single, Back, Square, Double}
 
 -- the text with each byte `mark` in it written twice
 abbrev pub doubled : ℕ → List ℕ → List ℕ
@@ -8,6 +10,24 @@ doubled mark text = flat_map (λ byte. if byte == mark then mark ∷ mark ∷ []
 -- the text between two marks, with each closing mark in it written twice
 abbrev pub enclosed : ℕ → ℕ → List ℕ → List ℕ
 enclosed opening closing text = opening ∷ doubled closing text ++ closing ∷ []
+
+-- the mark before a text
+abbrev pub opening : Quotes → ℕ
+opening Single = 39
+opening Back = 96
+opening Square = 91
+opening Double = 34
+
+-- the mark behind a text
+abbrev pub closing : Quotes → ℕ
+closing Single = 39
+closing Back = 96
+closing Square = 93
+closing Double = 34
+
+-- the text between these marks
+abbrev pub between : Quotes → List ℕ → List ℕ
+between quotes text = enclosed (opening quotes) (closing quotes) text
 
 -- the text with each single quote in it written twice
 abbrev pub escaped : List ℕ → List ℕ

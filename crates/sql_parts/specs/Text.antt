@@ -1,5 +1,6 @@
--- How numbers and truth values are written as texts.
-use Rattle.std.specs.Prelude.{ℕ, suc, ℤ, pos, negsuc, ◌+◌, List, ◌∷◌, Bool, ◌==◌, if◌then◌else◌, map, codes}
+-- How numbers and truth values are written as texts, and how texts are joined.
+use Rattle.std.specs.Prelude.{ℕ, suc, ℤ, pos, negsuc, ◌+◌, List, [], ◌∷◌, ◌++◌, Bool, ◌==◌, if◌then◌else◌, Option, option_map, flat_map, map, codes}
+use Rattle.std.specs.Prelude.{String, string_bytes}
 use Rattle.std.specs.Int.Digits.{digits_of}
 
 -- a natural number of any size in decimal, without leading zeros
@@ -14,3 +15,16 @@ number_text (negsuc n) = 45 ∷ decimal_text (suc n)
 -- a truth value in small letters
 abbrev pub bool_text : Bool → List ℕ
 bool_text value = if value then codes "true" else codes "false"
+
+-- the bytes of each text
+abbrev pub texts : {Z : Type 0} → List (String Z) → List (List ℕ)
+texts strings = map (λ s. string_bytes s) strings
+
+-- the bytes of a text, where there is one
+abbrev pub optional_text : {Z : Type 0} → Option (String Z) → Option (List ℕ)
+optional_text string = option_map (λ s. string_bytes s) string
+
+-- the lists one after another, with `between` between each and the next
+abbrev pub join_with : {A : Type 0} → List A → List (List A) → List A
+join_with between [] = []
+join_with between (x ∷ xs) = x ++ flat_map (λ y. between ++ y) xs

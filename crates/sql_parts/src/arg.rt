@@ -3,7 +3,7 @@ ghost use Rattle.std.specs.Prelude.{◌≡◌, pos, string_bytes, IfOk};
 ghost use Rattle.std.specs.Cow.{cow_str_bytes};
 ghost use Rattle.sql_parts.specs.Error.{FailsOnlyByMemory};
 ghost use Rattle.sql_parts.specs.Literal.{LiteralValue, literal_or_null, literal_text, literal_value};
-ghost use Rattle.sql_parts.specs.Literal.{null, truth, whole, words};
+ghost use Rattle.sql_parts.specs.Literal.{truth, whole, words};
 
 use crate::error::SqlBuilderError;
 use crate::quoting::quote;

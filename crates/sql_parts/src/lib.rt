@@ -1,16 +1,30 @@
-//! The parts of SQL statements: texts, quoted texts, literals, and the error that all calls share.
+//! The parts of SQL statements: texts, quoted texts, literals, names, binding, and the error that
+//! all calls share.
 #![tactic(auto)]
 
 pub mod arg;
+pub mod bind;
+mod bind_names;
+mod binding;
 pub mod error;
 pub mod laws;
+pub mod name;
+mod places;
 mod quoting;
 pub mod text;
 
 pub use arg::{Literal, SqlArg};
+pub use bind::{Bind, BindNames, Marks};
 pub use error::SqlBuilderError;
+pub use name::SqlName;
 pub use quoting::{baquote, brquote, dquote, esc, quote};
 pub use text::ToText;
 
+#[cfg(test)]
+mod bind_sample;
+#[cfg(test)]
+mod bind_tests;
+#[cfg(test)]
+mod name_tests;
 #[cfg(test)]
 mod tests;

@@ -3,10 +3,10 @@ ghost use Rattle.std.specs.Prelude.{◌≡◌, ◌<◌, ◌++◌, string_bytes, 
 ghost use Rattle.std.specs.Io.{StartsWith};
 ghost use Rattle.sql_parts.specs.Error.{FailsOnlyByMemory};
 ghost use Rattle.sql_parts.specs.Quoting.{baquoted, brquoted, dquoted, escaped, quoted};
-ghost use Rattle.sql_parts.specs.Quoting.{doubled, enclosed};
+ghost use Rattle.sql_parts.specs.Quoting.{between, doubled};
 
 use crate::error::SqlBuilderError;
-use crate::text::ToText;
+use crate::text::{Quotes, ToText};
 use std::alloc::{AllocError, Global};
 
 /// Appends the text with each `mark` in it written twice. Room for a closing mark is taken too.
@@ -28,22 +28,28 @@ pub(crate) fn push_doubled(out: &mut String, mark: char, text: &str) -> Result<(
     out.push_str(rest)
 }
 
-// The text between two marks, with each closing mark in it written twice.
-fn enclose<S: ToText>(
+/// Appends the text between its marks, with each closing mark in it written twice.
+pub(crate) fn push_enclosed<S: ToText>(
     alloc: Global,
-    opening: char,
-    closing: char,
+    out: &mut String,
+    quotes: Quotes,
     text: S,
-) -> Result<String, SqlBuilderError>
-    requires opening_is_one_byte { opening < 128 }
-    requires closing_is_one_byte { closing < 128 }
-    ensures text { IfOk result (λ s. string_bytes s ≡ enclosed opening closing (S.text text)) }
+) -> Result<(), SqlBuilderError>
+    ensures text { OnOk result
+        (string_bytes out.new ≡ string_bytes out.old ++ between quotes (S.text text)) }
+    ensures memory { FailsOnlyByMemory result }
+{
+    out.push(quotes.opening())?;
+    text.push_doubled_to(alloc, out, quotes)?;
+    Ok(out.push(quotes.closing())?)
+}
+
+fn enclose<S: ToText>(alloc: Global, quotes: Quotes, text: S) -> Result<String, SqlBuilderError>
+    ensures text { IfOk result (λ s. string_bytes s ≡ between quotes (S.text text)) }
     ensures memory { FailsOnlyByMemory result }
 {
     let mut out = String::new(alloc);
-    out.push(opening)?;
-    text.push_doubled_to(alloc, &mut out, closing)?;
-    out.push(closing)?;
+    push_enclosed(alloc, &mut out, quotes, text)?;
     Ok(out)
 }
 
@@ -53,7 +59,7 @@ pub fn esc<S: ToText>(alloc: Global, text: S) -> Result<String, SqlBuilderError>
     ensures memory { FailsOnlyByMemory result }
 {
     let mut out = String::new(alloc);
-    text.push_doubled_to(alloc, &mut out, '\'')?;
+    text.push_doubled_to(alloc, &mut out, Quotes::Single)?;
     Ok(out)
 }
 
@@ -63,7 +69,7 @@ pub fn quote<S: ToText>(alloc: Global, text: S) -> Result<String, SqlBuilderErro
     ensures text { IfOk result (λ s. string_bytes s ≡ quoted (S.text text)) }
     ensures memory { FailsOnlyByMemory result }
 {
-    enclose(alloc, '\'', '\'', text)
+    enclose(alloc, Quotes::Single, text)
 }
 
 /// The text between backquotes, with each backquote in it doubled: an SQL name. It is refused
@@ -72,7 +78,7 @@ pub fn baquote<S: ToText>(alloc: Global, text: S) -> Result<String, SqlBuilderEr
     ensures text { IfOk result (λ s. string_bytes s ≡ baquoted (S.text text)) }
     ensures memory { FailsOnlyByMemory result }
 {
-    enclose(alloc, '`', '`', text)
+    enclose(alloc, Quotes::Back, text)
 }
 
 /// The text between square brackets, with each `]` in it doubled: an SQL name. It is refused
@@ -81,7 +87,7 @@ pub fn brquote<S: ToText>(alloc: Global, text: S) -> Result<String, SqlBuilderEr
     ensures text { IfOk result (λ s. string_bytes s ≡ brquoted (S.text text)) }
     ensures memory { FailsOnlyByMemory result }
 {
-    enclose(alloc, '[', ']', text)
+    enclose(alloc, Quotes::Square, text)
 }
 
 /// The text between double quotes, with each `"` in it doubled: an SQL name. It is refused only
@@ -90,5 +96,5 @@ pub fn dquote<S: ToText>(alloc: Global, text: S) -> Result<String, SqlBuilderErr
     ensures text { IfOk result (λ s. string_bytes s ≡ dquoted (S.text text)) }
     ensures memory { FailsOnlyByMemory result }
 {
-    enclose(alloc, '"', '"', text)
+    enclose(alloc, Quotes::Double, text)
 }

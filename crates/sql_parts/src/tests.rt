@@ -4,6 +4,7 @@ ghost use Rattle.sql_parts.specs.Literal.{whole};
 ghost use Rattle.sql_parts.specs.Text.{decimal_text};
 
 use crate::laws::quoting_is_injective;
+use crate::text::Quotes;
 use crate::{Literal, SqlArg, SqlBuilderError, ToText, baquote, brquote, dquote, esc, quote};
 use std::alloc::{AllocError, AllocFailed, Global};
 use std::borrow::CowStr;
@@ -127,7 +128,7 @@ fn pushed<T: ToText>(alloc: Global, value: T) -> Result<String, SqlBuilderError>
 
 fn doubled<T: ToText>(alloc: Global, value: T) -> Result<String, SqlBuilderError> {
     let mut text = String::from_str(alloc, "a ")?;
-    value.push_doubled_to(alloc, &mut text, '!')?;
+    value.push_doubled_to(alloc, &mut text, Quotes::Single)?;
     Ok(text)
 }
 
@@ -150,15 +151,15 @@ fn appends_the_text_of_a_value(rt: HostRuntime) -> Result<(), Fail> {
     for (name, text, wanted) in rows.iter() {
         assert_eq!(rt; text.as_str(), *wanted, "push_to of {name}");
     }
-    let bang = String::from_str(heap, "o!o")?;
+    let quoted = String::from_str(heap, "o'o")?;
     let rows = [
-        ("&str", doubled(heap, "o!o")?, "a o!!o"),
-        ("&String", doubled(heap, &bang)?, "a o!!o"),
-        ("String", doubled(heap, bang)?, "a o!!o"),
+        ("&str", doubled(heap, "o'o")?, "a o''o"),
+        ("&String", doubled(heap, &quoted)?, "a o''o"),
+        ("String", doubled(heap, quoted)?, "a o''o"),
         (
             "CowStr",
-            doubled(heap, CowStr::<Global>::Borrowed("!"))?,
-            "a !!",
+            doubled(heap, CowStr::<Global>::Borrowed("'"))?,
+            "a ''",
         ),
         ("number", doubled(heap, -5)?, "a -5"),
     ];

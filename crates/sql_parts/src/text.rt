@@ -1,17 +1,58 @@
 //! What can be written as a text.
 
-ghost use Rattle.std.specs.Prelude.{◌≡◌, ◌++◌, ℕ, List, string_bytes, ◌<◌, IfOk, OnOk, OnErr};
+ghost use Rattle.std.specs.Prelude.{◌≡◌, ◌++◌, ℕ, List, map, string_bytes, ◌<◌, IfOk, OnOk, OnErr};
 ghost use Rattle.std.specs.Char.{encode_utf8};
 ghost use Rattle.std.specs.Io.{StartsWith};
 ghost use Rattle.std.specs.Cow.{cow_str_bytes};
 ghost use Rattle.sql_parts.specs.Error.{FailsOnlyByMemory};
-ghost use Rattle.sql_parts.specs.Quoting.{doubled};
-ghost use Rattle.sql_parts.specs.Text.{bool_text, decimal_text, number_text};
+ghost use Rattle.sql_parts.specs.Quoting.{closing, doubled, opening};
+ghost use Rattle.sql_parts.specs.Text.{bool_text, decimal_text, number_text, optional_text, texts};
 
 use crate::error::SqlBuilderError;
 use crate::quoting::push_doubled;
 use std::alloc::{AllocError, Global};
 use std::borrow::CowStr;
+
+/// The marks that a text is put between.
+#[derive(Clone, Copy)]
+pub enum Quotes {
+    /// `'` and `'`, round an SQL text.
+    Single,
+    /// Two backquotes, round an SQL name.
+    Back,
+    /// `[` and `]`, round an SQL name.
+    Square,
+    /// `"` and `"`, round an SQL name.
+    Double,
+}
+
+impl Quotes {
+    /// The mark before a text.
+    pub fn opening(self) -> char
+        ensures mark { result ≡ opening self }
+        ensures one_byte { result < 128 }
+    {
+        match self {
+            Quotes::Single => '\'',
+            Quotes::Back => '`',
+            Quotes::Square => '[',
+            Quotes::Double => '"',
+        }
+    }
+
+    /// The mark behind a text, which is written twice where the text has it.
+    pub fn closing(self) -> char
+        ensures mark { result ≡ closing self }
+        ensures one_byte { result < 128 }
+    {
+        match self {
+            Quotes::Single => '\'',
+            Quotes::Back => '`',
+            Quotes::Square => ']',
+            Quotes::Double => '"',
+        }
+    }
+}
 
 /// What has a text: a user's own type has one by an implementation.
 pub trait ToText: Drop {
@@ -36,22 +77,45 @@ pub trait ToText: Drop {
         Ok(())
     }
 
-    /// Appends the text to another, with each `mark` in it written twice. A refusal, for want of
-    /// memory alone, leaves the other with what it had, and perhaps with a part of this behind it.
+    /// Appends the text to another, with each closing mark in it written twice. A refusal, for
+    /// want of memory alone, leaves the other with what it had, and perhaps with a part of this
+    /// behind it.
     fn push_doubled_to(
         &self,
         alloc: Global,
         out: &mut String,
-        mark: char,
+        quotes: Quotes,
     ) -> Result<(), SqlBuilderError>
-        requires one_byte { mark < 128 }
         ensures text { OnOk result
-            (string_bytes out.new ≡ string_bytes out.old ++ doubled mark (text self.now)) }
+            (string_bytes out.new ≡ string_bytes out.old ++ doubled (closing quotes) (text self.now)) }
         ensures kept { OnErr result (StartsWith (string_bytes out.new) (string_bytes out.old)) }
         ensures memory { FailsOnlyByMemory result }
     {
         let text = self.to_text(alloc)?;
-        Ok(push_doubled(out, mark, text.as_str())?)
+        Ok(push_doubled(out, quotes.closing(), text.as_str())?)
+    }
+}
+
+/// The text of each item. It is refused only for want of memory.
+pub fn copies<S: ToText>(alloc: Global, items: &[S]) -> Result<Vec<String>, SqlBuilderError>
+    ensures copied { IfOk result (λ copied. texts copied.items ≡ map S.text items.now) }
+    ensures memory { FailsOnlyByMemory result }
+{
+    let mut copied = Vec::with_capacity(alloc, items.len())?;
+    for item in items {
+        copied.push(item.to_text(alloc)?)?;
+    }
+    Ok(copied)
+}
+
+/// A copy of the text, if there is one. It is refused only for want of memory.
+pub fn copy(alloc: Global, text: &Option<String>) -> Result<Option<String>, SqlBuilderError>
+    ensures copied { IfOk result (λ copied. optional_text copied ≡ optional_text text.now) }
+    ensures memory { FailsOnlyByMemory result }
+{
+    match text {
+        Some(text) => Ok(Some(text.to_text(alloc)?)),
+        None => Ok(None),
     }
 }
 
@@ -70,9 +134,9 @@ impl ToText for &str {
         &self,
         _alloc: Global,
         out: &mut String,
-        mark: char,
+        quotes: Quotes,
     ) -> Result<(), SqlBuilderError> {
-        Ok(push_doubled(out, mark, self)?)
+        Ok(push_doubled(out, quotes.closing(), self)?)
     }
 }
 
@@ -91,9 +155,9 @@ impl ToText for String {
         &self,
         _alloc: Global,
         out: &mut String,
-        mark: char,
+        quotes: Quotes,
     ) -> Result<(), SqlBuilderError> {
-        Ok(push_doubled(out, mark, self.as_str())?)
+        Ok(push_doubled(out, quotes.closing(), self.as_str())?)
     }
 }
 
@@ -112,9 +176,9 @@ impl ToText for CowStr<'_> {
         &self,
         _alloc: Global,
         out: &mut String,
-        mark: char,
+        quotes: Quotes,
     ) -> Result<(), SqlBuilderError> {
-        Ok(push_doubled(out, mark, self.as_str())?)
+        Ok(push_doubled(out, quotes.closing(), self.as_str())?)
     }
 }
 
@@ -274,8 +338,8 @@ impl<T: ToText> ToText for &T {
         &self,
         alloc: Global,
         out: &mut String,
-        mark: char,
+        quotes: Quotes,
     ) -> Result<(), SqlBuilderError> {
-        (**self).push_doubled_to(alloc, out, mark)
+        (**self).push_doubled_to(alloc, out, quotes)
     }
 }

@@ -121,6 +121,31 @@ output-groups : output (codes "select_from" ++ 9 ∷ [] ++ codes "t" ++ 10 ∷ [
 unfolding open_statement meaning_of names
 output-groups = row _ _ refl refl
 
+output-in_no_values : output (codes "select_from" ++ 9 ∷ [] ++ codes "t" ++ 10 ∷ [] ++ codes "and_where_in" ++ 9 ∷ [] ++ codes "a" ++ 10 ∷ [] ++ codes "sql" ++ 10 ∷ [])
+    ≡ gives ((codes "SELECT * FROM t WHERE a IN ();" ++ 10 ∷ []) ∷ []) None
+unfolding open_statement meaning_of names
+output-in_no_values = row _ _ refl refl
+
+output-in_values : output (codes "select_from" ++ 9 ∷ [] ++ codes "t" ++ 10 ∷ [] ++ codes "or_where_in" ++ 9 ∷ [] ++ codes "a" ++ 9 ∷ [] ++ codes "1" ++ 9 ∷ [] ++ codes "2" ++ 10 ∷ [] ++ codes "sql" ++ 10 ∷ [])
+    ≡ gives ((codes "SELECT * FROM t WHERE a IN (1, 2);" ++ 10 ∷ []) ∷ []) None
+unfolding open_statement meaning_of names
+output-in_values = row _ _ refl refl
+
+output-in_alone : output (codes "and_where_in" ++ 10 ∷ [])
+    ≡ gives [] (Some (1, WrongArguments))
+unfolding open_statement meaning_of names
+output-in_alone = row _ _ refl refl
+
+output-is_null_of_two : output (codes "or_where_is_null" ++ 9 ∷ [] ++ codes "a" ++ 9 ∷ [] ++ codes "b" ++ 10 ∷ [])
+    ≡ gives [] (Some (1, WrongArguments))
+unfolding open_statement meaning_of names
+output-is_null_of_two = row _ _ refl refl
+
+output-between : output (codes "select_from" ++ 9 ∷ [] ++ codes "t" ++ 10 ∷ [] ++ codes "and_where_between" ++ 9 ∷ [] ++ codes "a" ++ 9 ∷ [] ++ codes "1" ++ 9 ∷ [] ++ codes "2" ++ 10 ∷ [] ++ codes "sql" ++ 10 ∷ [])
+    ≡ gives ((codes "SELECT * FROM t WHERE a BETWEEN 1 AND 2;" ++ 10 ∷ []) ∷ []) None
+unfolding open_statement meaning_of names
+output-between = row _ _ refl refl
+
 output-no_fields : output (codes "select_from" ++ 9 ∷ [] ++ codes "t" ++ 10 ∷ [] ++ codes "fields" ++ 10 ∷ [] ++ codes "sql" ++ 10 ∷ []) ≡ gives ((codes "SELECT * FROM t;" ++ 10 ∷ []) ∷ []) None
 unfolding open_statement meaning_of names
 output-no_fields = row _ _ refl refl

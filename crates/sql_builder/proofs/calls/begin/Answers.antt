@@ -1,4 +1,4 @@
-use Rattle.sql_builder.specs.Builder.{texts}
+use Rattle.sql_parts.specs.Text.{texts}
 use Rattle.sql_builder.specs.Calls.{SelectValues}
 use Rattle.sql_builder.proofs.Runs.{clauses-start}
 use Rattle.sql_builder.proofs.calls.begin.Goals as goal

@@ -1,5 +1,5 @@
 use Rattle.std.proofs.Common.{◌≡◌, ◌++◌, flat_map, string_bytes, take}
-use Rattle.sql_builder.specs.Builder.{texts}
+use Rattle.sql_parts.specs.Text.{texts}
 use Rattle.sql_builder.proofs.printing.push_each.Given as goal
 
 abbrev pub invariant-loop-part : goal.invariant-loop-part

@@ -1,4 +1,4 @@
-use Rattle.sql_builder.proofs.Walking.{refl}
+use Rattle.sql_parts.proofs.Walking.{refl}
 use Rattle.sql_builder.proofs.Constants as constants
 use Rattle.sql_builder.proofs.Methods.{by_among}
 use Rattle.sql_builder.specs.contracts.builder.SqlBuilder.and_where_in_quoted.Key.{name as #self}

@@ -1,5 +1,6 @@
 use Rattle.std.proofs.Common.{◌++◌, ◌∙◌, ap, flat_map, map}
-use Rattle.sql_builder.specs.Builder.{join_text, texts, union_text}
+use Rattle.sql_builder.specs.Builder.{join_text, union_text}
+use Rattle.sql_parts.specs.Text.{texts}
 use Rattle.sql_builder.specs.Layout.{byte_atoms}
 use Rattle.sql_builder.specs.Phrases.{further_table}
 use Rattle.sql_builder.proofs.builder.SqlBuilder.clone.Goals as goal

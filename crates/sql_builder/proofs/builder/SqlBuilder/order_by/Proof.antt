@@ -1,4 +1,4 @@
-use Rattle.sql_builder.proofs.Walking.{refl}
+use Rattle.sql_parts.proofs.Walking.{refl}
 use Rattle.sql_builder.proofs.Methods.{by_order}
 use Rattle.sql_builder.specs.contracts.builder.SqlBuilder.order_by.Key.{name as #self}
 use Rattle.sql_builder.proofs.builder.SqlBuilder.order_by.Statement.{statement}

@@ -1,4 +1,4 @@
-use Rattle.sql_builder.proofs.Walking.{refl}
+use Rattle.sql_parts.proofs.Walking.{refl}
 use Rattle.sql_builder.proofs.Methods.{by_returning_id}
 use Rattle.sql_builder.specs.contracts.builder.SqlBuilder.returning_id.Key.{name as #self}
 use Rattle.sql_builder.proofs.builder.SqlBuilder.returning_id.Statement.{statement}

@@ -1,6 +1,0 @@
-use Rattle.std.proofs.Common.{◌≡◌, map, take}
-use Rattle.sql_builder.specs.Builder.{texts}
-use Rattle.sql_builder.proofs.texts.copies.Given as goal
-
-abbrev pub invariant-loop-item : goal.invariant-loop-item
-invariant-loop-item g l = texts l.copied.items ≡ map g.S.ToText.text (take l.item-index l.items)

@@ -1,0 +1,90 @@
+//! That names and their macros are reached through this crate.
+use crate::name::SqlName;
+use crate::{SqlBuilder, SqlBuilderError, baname, brname, dname, name, qname};
+use std::alloc::Global;
+use std::test::Fail;
+
+type Named = Result<String, SqlBuilderError>;
+
+fn safe_part_and_a_comma(alloc: Global) -> Named {
+    Ok(name!(alloc, "safe_name",))
+}
+
+fn safe_parts_and_an_alias(alloc: Global) -> Named {
+    Ok(name!(alloc, "safe_name", "sub"; "sn"))
+}
+
+fn books(alloc: Global) -> Named {
+    Ok(name!(alloc, "public", "BOOKS"; "b"))
+}
+
+fn spaced_and_an_alias(alloc: Global) -> Named {
+    Ok(name!(alloc, "spaced name"; "s n"))
+}
+
+fn awesome(alloc: Global) -> Named {
+    Ok(qname!(alloc, "some 'awesome' name"))
+}
+
+fn quoted_parts_and_an_alias(alloc: Global) -> Named {
+    Ok(qname!(alloc, "safe_name", "sub"; "sn"))
+}
+
+fn baquoted_parts_and_an_alias(alloc: Global) -> Named {
+    Ok(baname!(alloc, "safe_name", "sub"; "sn"))
+}
+
+fn brquoted_parts_and_an_alias(alloc: Global) -> Named {
+    Ok(brname!(alloc, "safe_name", "sub"; "sn"))
+}
+
+fn dquoted_parts_and_an_alias(alloc: Global) -> Named {
+    Ok(dname!(alloc, "safe_name", "sub"; "sn"))
+}
+
+#[test]
+fn writes_names_by_macros(rt: HostRuntime) -> Result<(), Fail> {
+    let heap = rt.alloc();
+    let rows = [
+        (safe_part_and_a_comma(heap)?, "safe_name"),
+        (safe_parts_and_an_alias(heap)?, "safe_name.sub AS sn"),
+        (books(heap)?, "`public`.`BOOKS` AS b"),
+        (spaced_and_an_alias(heap)?, "`spaced name` AS `s n`"),
+        (awesome(heap)?, "'some ''awesome'' name'"),
+        (quoted_parts_and_an_alias(heap)?, "'safe_name'.'sub' AS sn"),
+        (
+            baquoted_parts_and_an_alias(heap)?,
+            "`safe_name`.`sub` AS sn",
+        ),
+        (
+            brquoted_parts_and_an_alias(heap)?,
+            "[safe_name].[sub] AS sn",
+        ),
+        (
+            dquoted_parts_and_an_alias(heap)?,
+            "\"safe_name\".\"sub\" AS sn",
+        ),
+    ];
+    for (made, wanted) in rows.iter() {
+        assert_eq!(rt; made.as_str(), *wanted, "{wanted}");
+    }
+    Ok(())
+}
+
+fn statement(alloc: Global) -> Named {
+    SqlBuilder::select_from(alloc, name!(alloc, "books"; "b"))?
+        .field(name!(alloc, "b", "title"))?
+        .left()
+        .join(name!(alloc, "shops"; "s"))?
+        .on_eq(name!(alloc, "b", "id"), name!(alloc, "s", "book"))?
+        .sql()
+}
+
+#[test]
+fn takes_names(rt: HostRuntime) -> Result<(), Fail> {
+    assert_eq!(rt;
+        statement(rt.alloc())?.as_str(),
+        "SELECT b.title FROM books AS b LEFT JOIN shops AS s ON b.id = s.book;"
+    );
+    Ok(())
+}

@@ -1,0 +1,69 @@
+-- The calls that tell a name something and hand it back. Such a call's proof is one use of `by_told`.
+use Rattle.sql_parts.proofs.Walking.{[], ◌∷◌, a_type, dcons, dnil, bounded, inst_fn, refl, Ura, Logic, RattleType, SProp}
+use Rattle.sql_parts.proofs.Loans.{Effect, Lent, Variant, constant, generic}
+use Rattle.sql_parts.proofs.Variants.{variant}
+use Rattle.sql_parts.proofs.ChainCalls as calls
+use mir.Syntax.{Args, Callee, Dict, Fn}
+use contract.Lifetimes.{Lfts}
+use contract.Running.{Running}
+use prog.Model.{Model}
+use prog.Wired.{Wired}
+use denote.Param.Glue.{Met as Drops}
+use denote.Param.Laws.{Laws}
+use denote.RattleType.{Denots}
+use denote.Signature.{types_at}
+use Rattle.sql_parts.specs.Error.{IsMemory}
+use Rattle.sql_parts.specs.Name.{Name, with_told}
+use Rattle.sql_parts.specs.declared.text.ToText.{Ghosts}
+use Rattle.sql_parts.specs.contracts.text.ToText.TheBound.{Met}
+use Rattle.sql_parts.specs.contracts.name.SqlName.{the_row}
+use Rattle.sql_parts.proofs.name.SqlName.TheLaws as name_laws
+use Rattle.sql_parts.specs.contracts.name.Held as held
+use Rattle.sql_parts.proofs.name.Held.TheLaws as held_laws
+use Rattle.sql_parts.proofs.name.release.Met.{met as release_met}
+use Rattle.sql_parts.proofs.name.release.Symbol as release_code
+use Rattle.sql_parts.specs.contracts.name.Told as told
+use Rattle.sql_parts.specs.declared.name.Told.TheVariants as told_case
+use Rattle.sql_parts.proofs.name.Told.TheLaws as told_laws
+use Rattle.sql_parts.specs.contracts.name.SqlName.hold as step
+use Rattle.sql_parts.proofs.name.SqlName.hold.Met as step_met
+use Rattle.sql_parts.proofs.name.SqlName.hold.Symbol as step_code
+
+abbrev pub name : Lent
+name = record {
+  row = the_row;
+  ty = name_laws.mir;
+  held = held.the_row;
+  laws = held_laws.the_row_laws;
+  loan = λ κ h. h.0;
+  fits = λ κ v t. t.0;
+}
+
+abbrev pub part : Variant told.the_type
+part = variant told.the_type told_laws.the_laws told_case.Part 0 tt tt tt refl
+
+abbrev pub alias : Variant told.the_type
+alias = variant told.the_type told_laws.the_laws told_case.Alias 1 tt tt tt refl
+
+module _ {M : Type 1} (𝓤 : Ura M) (𝓛 : Logic 𝓤) (𝓜 : Model 𝓤 𝓛.H) (𝓡 : Running 𝓤 𝓛.H 𝓜) (X : Variant told.the_type) (fn : Fn)
+    (callee : Args → Callee) (S : RattleType) (LS : Laws S) (s : Ghosts S.Denot) (d : Dict) (d' : Dict)
+    (ms : Met 𝓛 𝓜 𝓡 𝓡.env S s d) (md : Drops 𝓛 𝓜 𝓡 𝓡.env S d') where
+  abbrev types : Args
+  types = bounded (a_type ∷ []) (S, tt) (dcons d (dcons d' dnil))
+
+  abbrev asked : (κs : Lfts 2) → Denots (types_at (step.signature S).params κs) → SProp 𝓤
+  asked κs a = (step.clauses S s d d' 𝓛 𝓜.mem 𝓡.returns κs a).requires tt
+
+  abbrev tells : (κs : Lfts 2) → Denots (types_at (step.signature S).params κs) → Effect Name
+  tells κs a = record { told = with_told a.1.0 (s.text a.1.1.0) a.0.now; refuses = IsMemory }
+
+  pub by_told : calls.Code-text name 𝓛 𝓜 𝓡 1 [] (constant 𝓛 told.the_type told_laws.the_plain X) (generic 𝓛 2 0 S LS)
+      asked tells (inst_fn types fn) (step_code.name types) release_code.name (callee types)
+      → calls.Coded-text name 𝓛 𝓜 𝓡 1 [] (constant 𝓛 told.the_type told_laws.the_plain X) (generic 𝓛 2 0 S LS)
+      asked tells (inst_fn types fn) (step_code.name types) release_code.name (callee types)
+      → Wired 𝓡.env step_code.code → Wired 𝓡.env release_code.code
+      → calls.Method-text name 𝓛 𝓜 𝓡 1 [] (constant 𝓛 told.the_type told_laws.the_plain X) (generic 𝓛 2 0 S LS)
+      asked tells (inst_fn types fn) (step_code.name types) release_code.name (callee types)
+  by_told code closed w w' = calls.by-text name 𝓛 𝓜 𝓡 1 [] (constant 𝓛 told.the_type told_laws.the_plain X) (generic 𝓛 2 0 S LS)
+      asked tells (inst_fn types fn) (step_code.name types) release_code.name (callee types)
+      code closed (step_met.met 𝓤 𝓛 𝓜 𝓡 w S LS s d d' ms md) (release_met 𝓤 𝓛 𝓜 𝓡 w')

@@ -1,0 +1,104 @@
+-- How a template is resolved from one place to the next.
+use Rattle.std.proofs.Common.{◌≡◌, ◌≢◌, ℕ, zero, suc, ◌+◌, ◌-◌, ◌<◌, ◌≤◌, Bool, true, false, List, [], ◌∷◌, ◌++◌, length, take, drop, Some, None, refl, sym, ap, ◌∙◌, inl, inr, arith, length-append}
+use Rattle.std.specs.Prelude.{MatchBool, codes, if◌then◌else◌, nat_eq}
+use Rattle.std.specs.List.{starts_with}
+use Rattle.std.specs.Str.Pattern.{FindsText, HasMatch, LacksTextAt}
+use Rattle.std.proofs.Math.Seq.{drop-append_seam}
+use Rattle.std.proofs.lemmas.Bool.{cases_Bool}
+use Rattle.std.proofs.lemmas.Bool.Decides.{Decides-eqb}
+use Rattle.std.proofs.lemmas.List.{drop-drop}
+use Rattle.std.proofs.lemmas.Slice.Eq.{starts_is}
+use Rattle.sql_parts.specs.Templates.{Marks, First, Cycle, Num, Nums, Name, Names, Place, Writes, counted, followed_by, opening, resolve, resolved_from, stands, supplied}
+
+-- a text that begins with another, and one that doesn't
+starts_with-yes : (text front rest : List ℕ) → text ≡ front ++ rest → starts_with nat_eq text front ≡ true
+starts_with-yes text front rest is = (starts_is Decides-eqb text front _ refl).1 rest is
+
+starts_with-no : (text front : List ℕ) → LacksTextAt front text 0 → starts_with nat_eq text front ≡ false
+starts_with-no text front lacks =
+    elim (cases_Bool (starts_with nat_eq text front)) [
+      | inl begins ↦ absurd (lacks _ ((starts_is Decides-eqb text front _ refl).0 begins))
+      | inr differs ↦ differs
+    ]
+
+-- the first byte of an opening, and the bytes behind it
+opening-parts : (marks : Marks) → (byte : ℕ) × (more : List ℕ) × (opening marks ≡ byte ∷ more)
+opening-parts First = (_, _, refl)
+opening-parts (Cycle count) = (_, _, refl)
+opening-parts (Num number) = (_, _, refl)
+opening-parts (Nums count) = (_, _, refl)
+opening-parts (Name name) = (_, _, refl)
+opening-parts Names = (_, _, refl)
+
+pub opening-some : (marks : Marks) → 0 < length (opening marks)
+opening-some marks = let parts = opening-parts marks in rw parts.2 (omega arith)
+
+pub resolved_from-drop : (marks : Marks) (seen skipped : ℕ) (text : List ℕ) → resolved_from marks seen skipped text ≡ resolved_from marks seen 0 (drop skipped text)
+resolved_from-drop marks seen zero text = refl
+resolved_from-drop marks seen (suc skipped) [] = refl
+resolved_from-drop marks seen (suc skipped) (byte ∷ text) = resolved_from-drop marks seen skipped text
+
+-- a byte where no opening begins
+pub resolved_from-text : (marks : Marks) (seen byte : ℕ) (behind : List ℕ) → LacksTextAt (opening marks) (byte ∷ behind) 0
+    → resolved_from marks seen 0 (byte ∷ behind) ≡ followed_by (Writes (byte ∷ [])) (resolved_from marks seen 0 behind)
+resolved_from-text marks seen byte behind lacks = rw (starts_with-no (byte ∷ behind) (opening marks) lacks)
+
+opening-first : (marks : Marks) (seen byte : ℕ) (more behind : List ℕ) → opening marks ≡ byte ∷ more
+    → resolved_from marks seen 0 (byte ∷ (more ++ behind))
+    ≡ followed_by (stands marks seen behind).0 (resolved_from marks (counted (stands marks seen behind).0 seen) 0 (drop (stands marks seen behind).1 behind))
+opening-first marks seen byte more behind is =
+    let rest = more ++ behind in
+    let fewer : length (opening marks) - 1 ≡ length more = omega (arith, ap length is) in
+    let past : drop (length (opening marks) - 1) rest ≡ behind = ap (λ n. drop n rest) fewer ∙ drop-append_seam more behind in
+    let found = stands marks seen behind in
+    rw (starts_with-yes (byte ∷ rest) (opening marks) behind (ap (λ o. o ++ behind) (sym is)), past)
+    (ap (followed_by found.0) (resolved_from-drop marks (counted found.0 seen) (length (opening marks) - 1 + found.1) rest
+    ∙ ap (resolved_from marks (counted found.0 seen) 0) (sym (drop-drop found.1 (length (opening marks) - 1) rest) ∙ ap (drop found.1) past)))
+
+-- a text that an opening begins
+pub resolved_from-opening : (marks : Marks) (seen : ℕ) (text behind : List ℕ) → text ≡ opening marks ++ behind
+    → resolved_from marks seen 0 text
+    ≡ followed_by (stands marks seen behind).0 (resolved_from marks (counted (stands marks seen behind).0 seen) 0 (drop (stands marks seen behind).1 behind))
+resolved_from-opening marks seen text behind is =
+    let parts = opening-parts marks in
+    ap (resolved_from marks seen 0) (is ∙ ap (λ o. o ++ behind) parts.2) ∙ opening-first marks seen parts.0 parts.1 behind parts.2
+
+nowhere : (marks : Marks) (behind : List ℕ) → [] ≢ opening marks ++ behind
+nowhere marks behind is =
+    let some = opening-some marks in
+    let none : 0 ≡ length (opening marks) + length behind = ap length is ∙ length-append (opening marks) behind in
+    absurd (omega (arith, some, none))
+
+-- the first opening of a text
+pub resolved_from-first : (marks : Marks) (seen i : ℕ) (text behind : List ℕ)
+    → ((n : ℕ) → n < i → LacksTextAt (opening marks) text n) → drop i text ≡ opening marks ++ behind
+    → resolved_from marks seen 0 text
+    ≡ followed_by (Writes (take i text)) (followed_by (stands marks seen behind).0 (resolved_from marks (counted (stands marks seen behind).0 seen) 0 (drop (stands marks seen behind).1 behind)))
+resolved_from-first marks seen zero text behind lacks is = resolved_from-opening marks seen text behind is
+resolved_from-first marks seen (suc i) [] behind lacks is = absurd (nowhere marks behind is)
+resolved_from-first marks seen (suc i) (byte ∷ text) behind lacks is =
+    resolved_from-text marks seen byte text (lacks 0 (omega arith))
+    ∙ ap (followed_by (Writes (byte ∷ []))) (resolved_from-first marks seen i text behind (λ n h. lacks (suc n) (omega arith)) is)
+
+pub found-first : (marks : Marks) (seen i : ℕ) (text piece behind rest : List ℕ) (place : Place)
+    → ((n : ℕ) → n < i → LacksTextAt (opening marks) text n) → drop i text ≡ opening marks ++ behind
+    → piece ≡ take i text → place ≡ (stands marks seen behind).0 → rest ≡ drop (stands marks seen behind).1 behind
+    → resolved_from marks seen 0 text ≡ followed_by (Writes piece) (followed_by place (resolved_from marks (counted place seen) 0 rest))
+found-first marks seen i text piece behind rest place lacks is before here left = rw (before, here, left) (resolved_from-first marks seen i text behind lacks is)
+
+-- a text without an opening
+pub resolved_from-none : (marks : Marks) (seen : ℕ) (text : List ℕ)
+    → ((i : ℕ) → i ≤ length text → LacksTextAt (opening marks) text i) → resolved_from marks seen 0 text ≡ (text, [])
+resolved_from-none marks seen [] lacks = refl
+resolved_from-none marks seen (byte ∷ text) lacks =
+    resolved_from-text marks seen byte text (lacks 0 (omega arith))
+    ∙ ap (followed_by (Writes (byte ∷ []))) (resolved_from-none marks seen text (λ i h. lacks (suc i) (omega arith)))
+
+-- where there are no arguments, a `?` leaves nothing to give
+pub resolve-unsupplied : (template : List ℕ) (has : Bool) → MatchBool has (HasMatch (FindsText (codes "?")) template) (FindsText (codes "?") template None)
+    → resolve template (Cycle 0) ≡ (if has then None else Some (resolved_from (Cycle 0) 0 0 template))
+resolve-unsupplied template true found =
+    ap (supplied (Cycle 0)) (resolved_from-first (Cycle 0) 0 found.0 template (drop found.1 template) found.2.0 found.2.1.split)
+resolve-unsupplied template false none =
+    let whole = resolved_from-none (Cycle 0) 0 template none in
+    ap (supplied (Cycle 0)) whole ∙ ap Some (sym whole)

@@ -1,0 +1,10 @@
+use Rattle.std.proofs.Common.{◌≡◌, ◌++◌, map, take}
+use Rattle.std.specs.Prelude.{codes, flat_map, string_bytes}
+use Rattle.sql_parts.specs.Name.{written_in}
+use Rattle.sql_parts.specs.Text.{texts}
+use Rattle.sql_parts.proofs.name.Form.push_rest.Given as goal
+
+abbrev pub invariant-loop-part : goal.invariant-loop-part
+invariant-loop-part l =
+    string_bytes l.out
+    ≡ string_bytes l.initial.out ++ flat_map (λ part. codes "." ++ part) (map (written_in l.self) (texts (take l.part-index l.parts)))

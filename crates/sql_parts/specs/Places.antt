@@ -1,0 +1,37 @@
+-- What the code says of a template, in the words of its definition.
+use Rattle.std.specs.Prelude.{◌≡◌, ℕ, ◌≤◌, ◌^◌, List, Option, MatchOption, drop}
+use Rattle.std.specs.Borrow.{Bor}
+use Rattle.sql_parts.specs.Templates as templates
+use Rattle.sql_parts.specs.declared.bind.Marks.{Marks}
+use Rattle.sql_parts.specs.declared.bind.Marks.TheVariants as marks
+use Rattle.sql_parts.specs.declared.places.Place.{Place}
+use Rattle.sql_parts.specs.declared.places.Place.TheVariants as places
+use Rattle.sql_parts.specs.declared.places.Value.{Value}
+use Rattle.sql_parts.specs.declared.places.Value.TheVariants as values
+
+-- the marks that are meant
+abbrev pub marks_of : Marks → templates.Marks
+marks_of marks.First = templates.First
+marks_of (marks.Cycle count) = templates.Cycle count
+marks_of (marks.Num number) = templates.Num number
+marks_of (marks.Nums count) = templates.Nums count
+marks_of (marks.Name name) = templates.Name name.now
+marks_of marks.Names = templates.Names
+
+-- the value that is meant
+abbrev pub value_of : Value → templates.Value
+value_of (values.Argument at) = templates.Argument at
+value_of (values.Named name) = templates.Named name.now
+
+-- the place that is meant
+abbrev pub place_of : Place → templates.Place
+place_of (places.Writes text) = templates.Writes text.now
+place_of (places.Holds value) = templates.Holds (value_of value)
+
+-- the number, or none where it is past the numbers of the code
+abbrev pub IsNumber : Option ℕ → ℕ → Type 0
+IsNumber found number = MatchOption found (2 ^ 64 ≤ number) (λ n. n ≡ number)
+
+-- a place and the text behind it are those that are defined
+abbrev pub StandsBefore : List ℕ → Place × Bor (List ℕ) → templates.Place × ℕ → Type 0
+StandsBefore text found defined = (place_of found.0 ≡ defined.0) × (found.1.now ≡ drop defined.1 text)

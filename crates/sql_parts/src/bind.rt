@@ -1,0 +1,195 @@
+//! Values in place of the markers of a text.
+ghost use Rattle.std.specs.Prelude.{◌≡◌, Err, IfOk, IsSome, List, None, Some, length, map, string_bytes, ℕ};
+ghost use Rattle.sql_parts.specs.Error.{FailsOnlyByMemory};
+ghost use Rattle.sql_parts.specs.Templates as templates;
+ghost use Rattle.sql_parts.specs.Templates.{alone, bound, listed, looked_up, resolve};
+ghost use Rattle.sql_parts.specs.declared.error.SqlBuilderError.TheVariants.{NoArguments};
+
+use crate::arg::SqlArg;
+pub use crate::bind_names::BindNames;
+use crate::binding::{Alone, LookedUp, bound_text, lacks_arguments};
+use crate::error::SqlBuilderError;
+use crate::text::ToText;
+use std::alloc::Global;
+
+/// Which call of binding is meant, and so what a marker is. In contracts it is the `Marks` of
+/// `specs/Templates.antt`, by `marks_of`.
+#[derive(Clone, Copy)]
+pub enum Marks<'a> {
+    /// `bind`: the first `?`.
+    First,
+    /// `binds`: each `?`, with this many arguments.
+    Cycle(usize),
+    /// `bind_num`: `$` and this number.
+    Num(u16),
+    /// `bind_nums`: `$` and any number, with this many arguments.
+    Nums(usize),
+    /// `bind_name`: this name between colons.
+    Name(&'a str),
+    /// `bind_names`: any name between colons.
+    Names,
+}
+
+/// A text whose markers can be bound. Each call goes through the text once, from the left, and
+/// gives a new one: what is put in is not looked at again, and quotes in the text mean nothing.
+pub trait Bind: Drop {
+    /// The text, as its bytes.
+    ghost template: { Self → List ℕ };
+
+    /// The text with the argument in place of the first `?`. It is refused only for want of
+    /// memory.
+    fn bind<A: SqlArg>(&self, alloc: Global, arg: &A) -> Result<String, SqlBuilderError>
+        ensures text { IfOk result (λ s. Some (string_bytes s)
+            ≡ bound (template self.now) templates.First (alone (A.literal arg.now))) }
+        ensures memory { FailsOnlyByMemory result };
+
+    /// The text with the arguments in place of each `?` in turn, the first again after the last.
+    /// A text with a `?` and no argument is refused as `NoArguments`, before any memory is asked
+    /// for.
+    fn binds(&self, alloc: Global, args: &[Box<dyn SqlArg>]) -> Result<String, SqlBuilderError>
+        ensures text { IfOk result (λ s. Some (string_bytes s)
+            ≡ bound (template self.now) (templates.Cycle (length args.now))
+            (listed (map (λ b. literal b) args.now))) }
+        ensures refused { resolve (template self.now) (templates.Cycle (length args.now)) ≡ None
+            → result ≡ Err NoArguments }
+        ensures memory { IsSome (resolve (template self.now) (templates.Cycle (length args.now)))
+            → FailsOnlyByMemory result };
+
+    /// The text with the argument in place of each `$` and the number, also where further digits
+    /// follow. It is refused only for want of memory.
+    fn bind_num<A: SqlArg>(
+        &self,
+        alloc: Global,
+        num: u16,
+        arg: &A,
+    ) -> Result<String, SqlBuilderError>
+        ensures text { IfOk result (λ s. Some (string_bytes s)
+            ≡ bound (template self.now) (templates.Num num) (alone (A.literal arg.now))) }
+        ensures memory { FailsOnlyByMemory result };
+
+    /// The text with the arguments in place of `$1`, `$2` and so on. `$$` gives `$`, also with
+    /// zeros between, and a number without an argument, or a `$` without a number, gives nothing.
+    /// It is refused only for want of memory.
+    fn bind_nums(&self, alloc: Global, args: &[Box<dyn SqlArg>]) -> Result<String, SqlBuilderError>
+        ensures text { IfOk result (λ s. Some (string_bytes s)
+            ≡ bound (template self.now) (templates.Nums (length args.now))
+            (listed (map (λ b. literal b) args.now))) }
+        ensures memory { FailsOnlyByMemory result };
+
+    /// The text with the argument in place of each `:name:`, from the left and without overlap; the
+    /// name may be empty. It is refused only for want of memory.
+    fn bind_name<K: ToText, A: SqlArg>(
+        &self,
+        alloc: Global,
+        name: &K,
+        arg: &A,
+    ) -> Result<String, SqlBuilderError>
+        ensures text { IfOk result (λ s. Some (string_bytes s)
+            ≡ bound (template self.now) (templates.Name (K.text name.now))
+            (alone (A.literal arg.now))) }
+        ensures memory { FailsOnlyByMemory result };
+
+    /// The text with what the names are bound to in place of each `:name:`, and NULL where a name
+    /// is bound to nothing. `::` gives `:`, and a `:` that no other one closes stays, with all
+    /// behind it. It is refused only for want of memory.
+    fn bind_names<N: BindNames>(&self, alloc: Global, names: &N) -> Result<String, SqlBuilderError>
+        ensures text { IfOk result (λ s. Some (string_bytes s)
+            ≡ bound (template self.now) templates.Names (looked_up (N.literals names.now))) }
+        ensures memory { FailsOnlyByMemory result };
+}
+
+impl Bind for &str {
+    ghost template = { λ s. s.now };
+
+    fn bind<A: SqlArg>(&self, alloc: Global, arg: &A) -> Result<String, SqlBuilderError> {
+        bound_text(alloc, self, &Marks::First, &Alone { arg })
+    }
+
+    fn binds(&self, alloc: Global, args: &[Box<dyn SqlArg>]) -> Result<String, SqlBuilderError> {
+        if lacks_arguments(self, args.len()) {
+            return Err(SqlBuilderError::NoArguments);
+        }
+        bound_text(alloc, self, &Marks::Cycle(args.len()), &args)
+    }
+
+    fn bind_num<A: SqlArg>(
+        &self,
+        alloc: Global,
+        num: u16,
+        arg: &A,
+    ) -> Result<String, SqlBuilderError> {
+        bound_text(alloc, self, &Marks::Num(num), &Alone { arg })
+    }
+
+    fn bind_nums(
+        &self,
+        alloc: Global,
+        args: &[Box<dyn SqlArg>],
+    ) -> Result<String, SqlBuilderError> {
+        bound_text(alloc, self, &Marks::Nums(args.len()), &args)
+    }
+
+    fn bind_name<K: ToText, A: SqlArg>(
+        &self,
+        alloc: Global,
+        name: &K,
+        arg: &A,
+    ) -> Result<String, SqlBuilderError> {
+        let name = name.to_text(alloc)?;
+        bound_text(alloc, self, &Marks::Name(name.as_str()), &Alone { arg })
+    }
+
+    fn bind_names<N: BindNames>(
+        &self,
+        alloc: Global,
+        names: &N,
+    ) -> Result<String, SqlBuilderError> {
+        bound_text(alloc, self, &Marks::Names, &LookedUp { names })
+    }
+}
+
+impl Bind for String {
+    ghost template = { λ s. string_bytes s };
+
+    fn bind<A: SqlArg>(&self, alloc: Global, arg: &A) -> Result<String, SqlBuilderError> {
+        self.as_str().bind(alloc, arg)
+    }
+
+    fn binds(&self, alloc: Global, args: &[Box<dyn SqlArg>]) -> Result<String, SqlBuilderError> {
+        self.as_str().binds(alloc, args)
+    }
+
+    fn bind_num<A: SqlArg>(
+        &self,
+        alloc: Global,
+        num: u16,
+        arg: &A,
+    ) -> Result<String, SqlBuilderError> {
+        self.as_str().bind_num(alloc, num, arg)
+    }
+
+    fn bind_nums(
+        &self,
+        alloc: Global,
+        args: &[Box<dyn SqlArg>],
+    ) -> Result<String, SqlBuilderError> {
+        self.as_str().bind_nums(alloc, args)
+    }
+
+    fn bind_name<K: ToText, A: SqlArg>(
+        &self,
+        alloc: Global,
+        name: &K,
+        arg: &A,
+    ) -> Result<String, SqlBuilderError> {
+        self.as_str().bind_name(alloc, name, arg)
+    }
+
+    fn bind_names<N: BindNames>(
+        &self,
+        alloc: Global,
+        names: &N,
+    ) -> Result<String, SqlBuilderError> {
+        self.as_str().bind_names(alloc, names)
+    }
+}

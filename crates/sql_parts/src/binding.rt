@@ -1,0 +1,138 @@
+//! One pass over a template, which puts literals in place of its markers.
+ghost use Rattle.std.specs.Prelude.{◌≡◌, ◌++◌, IfOk, None, OnOk, Some, if◌then◌else◌, map, string_bytes};
+ghost use Rattle.sql_parts.specs.Error.{FailsOnlyByMemory};
+ghost use Rattle.sql_parts.specs.Literal.{LiteralValue, literal_text};
+ghost use Rattle.sql_parts.specs.Places.{marks_of, value_of};
+ghost use Rattle.sql_parts.specs.Templates as templates;
+ghost use Rattle.sql_parts.specs.Templates.{alone, listed, looked_up, resolve, resolved_from, written};
+
+use crate::arg::SqlArg;
+use crate::bind::Marks;
+use crate::bind_names::BindNames;
+use crate::error::SqlBuilderError;
+use crate::places::{Place, Value, first_place, opening};
+use std::alloc::Global;
+
+/// What the values of a template stand for.
+pub(crate) trait Literals: Drop {
+    /// The literal of each value.
+    ghost literals: { Self → templates.Value → LiteralValue };
+
+    /// Appends the literal of a value. It is refused only for want of memory.
+    fn push_literal(
+        &self,
+        alloc: Global,
+        value: &Value<'_>,
+        out: &mut String,
+    ) -> Result<(), SqlBuilderError>
+        ensures text { OnOk result (string_bytes out.new
+            ≡ string_bytes out.old ++ literal_text (literals self.now (value_of value.now))) }
+        ensures memory { FailsOnlyByMemory result };
+}
+
+/// One argument for every value.
+#[derive(Drop)]
+pub(crate) struct Alone<A> {
+    pub(crate) arg: A,
+}
+
+impl<A: SqlArg> Literals for Alone<A> {
+    ghost literals = { λ single. alone (A.literal single.arg) };
+
+    fn push_literal(
+        &self,
+        alloc: Global,
+        _value: &Value<'_>,
+        out: &mut String,
+    ) -> Result<(), SqlBuilderError> {
+        let text = self.arg.sql_arg(alloc)?;
+        Ok(out.push_str(text.as_str())?)
+    }
+}
+
+impl Literals for &[Box<dyn SqlArg>] {
+    ghost literals = { λ args. listed (map (λ b. (SqlArg-box b).literal b.value) args.now) };
+
+    fn push_literal(
+        &self,
+        alloc: Global,
+        value: &Value<'_>,
+        out: &mut String,
+    ) -> Result<(), SqlBuilderError> {
+        let found = match value {
+            Value::Argument(at) => self.get(*at),
+            Value::Named(_) => None,
+        };
+        match found {
+            None => Ok(out.push_str("NULL")?),
+            Some(arg) => {
+                let text = arg.sql_arg(alloc)?;
+                Ok(out.push_str(text.as_str())?)
+            }
+        }
+    }
+}
+
+/// What names are bound to.
+#[derive(Drop)]
+pub(crate) struct LookedUp<N> {
+    pub(crate) names: N,
+}
+
+impl<N: BindNames> Literals for LookedUp<N> {
+    ghost literals = { λ bound. looked_up (N.literals bound.names) };
+
+    fn push_literal(
+        &self,
+        alloc: Global,
+        value: &Value<'_>,
+        out: &mut String,
+    ) -> Result<(), SqlBuilderError> {
+        let found = match value {
+            Value::Argument(_) => None,
+            Value::Named(name) => self.names.look_up(alloc, name)?,
+        };
+        match found {
+            None => Ok(out.push_str("NULL")?),
+            Some(text) => Ok(out.push_str(text.as_str())?),
+        }
+    }
+}
+
+/// Whether the template has a `?` and there is no argument to put there.
+pub(crate) fn lacks_arguments(template: &str, count: usize) -> bool
+    ensures { resolve template.now (templates.Cycle count)
+        ≡ (if result then None else Some (resolved_from (templates.Cycle count) 0 0 template.now)) }
+{
+    count == 0 && template.contains("?")
+}
+
+/// The template with literals in place of its markers. It is refused only for want of memory.
+pub(crate) fn bound_text<L: Literals>(
+    alloc: Global,
+    template: &str,
+    marks: &Marks<'_>,
+    literals: &L,
+) -> Result<String, SqlBuilderError>
+    ensures text { IfOk result (λ s. string_bytes s
+        ≡ written (L.literals literals.now) (resolved_from (marks_of marks.now) 0 0 template.now)) }
+    ensures memory { FailsOnlyByMemory result }
+{
+    let opening = opening(alloc, marks)?;
+    let mut out = String::new(alloc);
+    let mut rest = template;
+    let mut seen = 0;
+    while let Some(found) = first_place(marks, opening.as_str(), seen, rest) {
+        out.push_str(found.piece)?;
+        match found.place {
+            Place::Writes(text) => out.push_str(text)?,
+            Place::Holds(value) => {
+                literals.push_literal(alloc, &value, &mut out)?;
+                seen += 1;
+            }
+        }
+        rest = found.rest;
+    }
+    out.push_str(rest)?;
+    Ok(out)
+}

@@ -1,0 +1,301 @@
+//! Names of tables and columns, as parts with dots between them and perhaps an alias.
+ghost use Rattle.std.specs.Prelude.{◌≡◌, ◌++◌, Some, codes, flat_map, map, string_bytes, IfOk, OnOk};
+ghost use Rattle.std.specs.List.{list_all};
+ghost use Rattle.std.specs.Result.{result_map_both};
+ghost use Rattle.sql_parts.specs.Error.{FailsOnlyByMemory};
+ghost use Rattle.sql_parts.specs.Name.{alias_text, is_plain, name_of, name_text, safe_text, with_alias, with_part, with_told, written_in};
+ghost use Rattle.sql_parts.specs.Quoting.{baquoted, brquoted, dquoted, quoted};
+ghost use Rattle.sql_parts.specs.Text.{texts};
+
+use crate::error::SqlBuilderError;
+use crate::quoting::push_enclosed;
+use crate::text::{Quotes, ToText, copies, copy};
+use std::alloc::Global;
+use std::marker::Model;
+
+/// A name: at least one part, and perhaps an alias. Each form writes the parts with dots between
+/// them, and then ` AS ` and the alias, which is bare if it is plain and else between backquotes. A
+/// text is plain if each byte is one of `a` to `z`, `0` to `9` and `_`; the empty text is.
+#[derive(Drop)]
+pub struct SqlName {
+    alloc: Global,
+    first: String,
+    rest: Vec<String>,
+    alias: Option<String>,
+}
+
+impl Model for SqlName {
+    ghost use Rattle.std.specs.Prelude.{string_bytes};
+    ghost use Rattle.sql_parts.specs.Name.{Name};
+    ghost use Rattle.sql_parts.specs.Text.{optional_text, texts};
+
+    ghost Value = { Name };
+
+    ghost view = { λ name. record {
+      first = string_bytes name.first;
+      rest = texts name.rest.items;
+      alias = optional_text name.alias;
+    } };
+}
+
+/// How the parts of a name are written: as they stand, or between marks.
+#[derive(Clone, Copy)]
+enum Form {
+    Bare,
+    Between(Quotes),
+}
+
+impl Form {
+    fn push_part(self, alloc: Global, out: &mut String, part: &str) -> Result<(), SqlBuilderError>
+        ensures text { OnOk result
+            (string_bytes out.new ≡ string_bytes out.old ++ written_in self part.now) }
+        ensures memory { FailsOnlyByMemory result }
+    {
+        match self {
+            Form::Bare => Ok(out.push_str(part)?),
+            Form::Between(quotes) => push_enclosed(alloc, out, quotes, part),
+        }
+    }
+
+    // The parts behind the first, each with a dot before it.
+    fn push_rest(
+        self,
+        alloc: Global,
+        out: &mut String,
+        parts: &[String],
+    ) -> Result<(), SqlBuilderError>
+        ensures text { OnOk result (string_bytes out.new
+            ≡ string_bytes out.old ++ flat_map (λ part. codes "." ++ part) (map (written_in self) (texts parts.now))) }
+        ensures memory { FailsOnlyByMemory result }
+    {
+        for part in parts {
+            out.push('.')?;
+            self.push_part(alloc, out, part.as_str())?;
+        }
+        Ok(())
+    }
+}
+
+fn is_plain(text: &str) -> bool
+    ensures { result ≡ is_plain text.now }
+{
+    text.bytes()
+        .all(|byte| matches!(byte, b'a'..=b'z' | b'0'..=b'9' | b'_'))
+}
+
+fn are_plain(parts: &[String]) -> bool
+    ensures { result ≡ list_all is_plain (texts parts.now) }
+{
+    parts.iter().all(|part| is_plain(part.as_str()))
+}
+
+/// What a name is told.
+#[derive(Clone, Copy)]
+pub(crate) enum Told {
+    Part,
+    Alias,
+}
+
+// A name that a step has changed. A call that lends the name back is proved
+// to leave it alone where it is refused only if the loan comes in a struct.
+#[derive(Drop)]
+pub(crate) struct Held<'a>(&'a mut SqlName);
+
+pub(crate) fn release(
+    held: Result<Held<'_>, SqlBuilderError>,
+) -> Result<&mut SqlName, SqlBuilderError>
+    ensures { result ≡ result_map_both (λ held. held.0) (λ error. error) held.entry }
+{
+    match held {
+        Ok(held) => {
+            let Held(name) = held;
+            Ok(name)
+        }
+        Err(error) => Err(error),
+    }
+}
+
+impl SqlName {
+    ghost use Rattle.std.specs.Borrow.{sem};
+    ghost use Rattle.sql_parts.specs.Chaining.{IsUnchangedIfErr, IsUnchangedIfHeldErr, IsHeldChangedTo};
+    ghost use Rattle.sql_parts.specs.Lending.{IsChangedTo};
+
+    /// A name of one part, without an alias. It is refused only for want of memory.
+    pub fn new<S: ToText>(alloc: Global, part: S) -> Result<SqlName, SqlBuilderError>
+        ensures name { IfOk result (λ name. name ≡ name_of (S.text part)) }
+        ensures memory { FailsOnlyByMemory result }
+    {
+        Ok(SqlName {
+            alloc,
+            first: part.to_text(alloc)?,
+            rest: Vec::new(alloc),
+            alias: None,
+        })
+    }
+
+    fn hold<S: ToText>(&mut self, told: Told, text: S) -> Result<Held<'_>, SqlBuilderError>
+        ensures* refused { sem 𝓛 (IsUnchangedIfHeldErr self.entry result) }
+        ensures changed { IsHeldChangedTo self.entry (with_told told (S.text text) self.old) result }
+        ensures memory { FailsOnlyByMemory result }
+    {
+        let text = text.to_text(self.alloc)?;
+        match told {
+            Told::Part => self.rest.push(text)?,
+            Told::Alias => self.alias = Some(text),
+        }
+        Ok(Held(self))
+    }
+
+    /// Adds a part behind the others. It is refused only for want of memory, and then the name
+    /// is as it was.
+    pub fn add<S: ToText>(&mut self, part: S) -> Result<&mut Self, SqlBuilderError>
+        ensures* refused { sem 𝓛 (IsUnchangedIfErr self.entry result) }
+        ensures changed { IsChangedTo self.entry (with_part (S.text part) self.old) result }
+        ensures memory { FailsOnlyByMemory result }
+    {
+        release(self.hold(Told::Part, part))
+    }
+
+    /// Sets the alias, in place of any other. It is refused only for want of memory, and then
+    /// the name is as it was.
+    pub fn alias<S: ToText>(&mut self, alias: S) -> Result<&mut Self, SqlBuilderError>
+        ensures* refused { sem 𝓛 (IsUnchangedIfErr self.entry result) }
+        ensures changed { IsChangedTo self.entry (with_alias (S.text alias) self.old) result }
+        ensures memory { FailsOnlyByMemory result }
+    {
+        release(self.hold(Told::Alias, alias))
+    }
+
+    /// A name with the same parts and the same alias. It is refused only for want of memory.
+    pub fn clone(&self) -> Result<SqlName, SqlBuilderError>
+        ensures equal { IfOk result (λ name. name ≡ self.now) }
+        ensures memory { FailsOnlyByMemory result }
+    {
+        Ok(SqlName {
+            alloc: self.alloc,
+            first: self.first.to_text(self.alloc)?,
+            rest: copies(self.alloc, &self.rest)?,
+            alias: copy(self.alloc, &self.alias)?,
+        })
+    }
+
+    /// The name with all parts bare if all are plain, else with each part between backquotes. It is
+    /// refused only for want of memory.
+    pub fn safe(&self) -> Result<String, SqlBuilderError>
+        ensures text { IfOk result (λ s. string_bytes s ≡ safe_text self.now) }
+        ensures memory { FailsOnlyByMemory result }
+    {
+        let is_plain = is_plain(self.first.as_str()) && are_plain(&self.rest);
+        self.print(if is_plain {
+            Form::Bare
+        } else {
+            Form::Between(Quotes::Back)
+        })
+    }
+
+    /// The name with each part between single quotes. It is refused only for want of memory.
+    pub fn quoted(&self) -> Result<String, SqlBuilderError>
+        ensures text { IfOk result (λ s. string_bytes s ≡ name_text quoted self.now) }
+        ensures memory { FailsOnlyByMemory result }
+    {
+        self.print(Form::Between(Quotes::Single))
+    }
+
+    /// The name with each part between backquotes. It is refused only for want of memory.
+    pub fn baquoted(&self) -> Result<String, SqlBuilderError>
+        ensures text { IfOk result (λ s. string_bytes s ≡ name_text baquoted self.now) }
+        ensures memory { FailsOnlyByMemory result }
+    {
+        self.print(Form::Between(Quotes::Back))
+    }
+
+    /// The name with each part between square brackets. It is refused only for want of memory.
+    pub fn brquoted(&self) -> Result<String, SqlBuilderError>
+        ensures text { IfOk result (λ s. string_bytes s ≡ name_text brquoted self.now) }
+        ensures memory { FailsOnlyByMemory result }
+    {
+        self.print(Form::Between(Quotes::Square))
+    }
+
+    /// The name with each part between double quotes. It is refused only for want of memory.
+    pub fn dquoted(&self) -> Result<String, SqlBuilderError>
+        ensures text { IfOk result (λ s. string_bytes s ≡ name_text dquoted self.now) }
+        ensures memory { FailsOnlyByMemory result }
+    {
+        self.print(Form::Between(Quotes::Double))
+    }
+
+    fn print(&self, form: Form) -> Result<String, SqlBuilderError>
+        ensures text { IfOk result (λ s. string_bytes s ≡ name_text (written_in form) self.now) }
+        ensures memory { FailsOnlyByMemory result }
+    {
+        let mut out = String::new(self.alloc);
+        form.push_part(self.alloc, &mut out, self.first.as_str())?;
+        form.push_rest(self.alloc, &mut out, &self.rest)?;
+        if let Some(alias) = &self.alias {
+            push_alias(self.alloc, &mut out, alias.as_str())?;
+        }
+        Ok(out)
+    }
+}
+
+fn push_alias(alloc: Global, out: &mut String, alias: &str) -> Result<(), SqlBuilderError>
+    ensures text { OnOk result
+        (string_bytes out.new ≡ string_bytes out.old ++ alias_text (Some alias.now)) }
+    ensures memory { FailsOnlyByMemory result }
+{
+    out.push_str(" AS ")?;
+    let form = if is_plain(alias) {
+        Form::Bare
+    } else {
+        Form::Between(Quotes::Back)
+    };
+    form.push_part(alloc, out, alias)
+}
+
+/// The text of a name in the form that stands first: what the five macros below share.
+#[doc(hidden)]
+#[macro_export]
+macro_rules! name_in_form {
+    ($form:ident; $alloc:expr, $first:expr $(; $alias:expr)?) => {
+        $crate::name_in_form!($form; $alloc, $first, $(; $alias)?)
+    };
+    ($form:ident; $alloc:expr, $first:expr, $($part:expr),* $(; $alias:expr)?) => {{
+        let mut name = SqlName::new($alloc, $first)?;
+        $(name.add($part)?;)*
+        $(name.alias($alias)?;)?
+        name.$form()?
+    }};
+}
+
+/// A name by `safe`: `name!(alloc, part, ..; alias)`, with one part or more and perhaps an alias.
+/// The five macros want `SqlName` in the caller's scope. The value is the text, and a refusal is
+/// what the caller's function answers, by `?`.
+#[macro_export]
+macro_rules! name {
+    ($($name:tt)*) => { $crate::name_in_form!(safe; $($name)*) };
+}
+
+/// A name by `quoted`, as `name!` has it by `safe`.
+#[macro_export]
+macro_rules! qname {
+    ($($name:tt)*) => { $crate::name_in_form!(quoted; $($name)*) };
+}
+
+/// A name by `baquoted`, as `name!` has it by `safe`.
+#[macro_export]
+macro_rules! baname {
+    ($($name:tt)*) => { $crate::name_in_form!(baquoted; $($name)*) };
+}
+
+/// A name by `brquoted`, as `name!` has it by `safe`.
+#[macro_export]
+macro_rules! brname {
+    ($($name:tt)*) => { $crate::name_in_form!(brquoted; $($name)*) };
+}
+
+/// A name by `dquoted`, as `name!` has it by `safe`.
+#[macro_export]
+macro_rules! dname {
+    ($($name:tt)*) => { $crate::name_in_form!(dquoted; $($name)*) };
+}

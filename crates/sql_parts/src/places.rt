@@ -1,0 +1,159 @@
+//! What stands at a place of a template.
+ghost use Rattle.std.specs.Prelude.{◌≡◌, ◌<◌, ◌+◌, ◌*◌, ℕ, [], IfOk, IfSome, MatchOption, drop, length, string_bytes, take};
+ghost use Rattle.std.specs.Char.{is_ascii_digit};
+ghost use Rattle.std.specs.List.{prefix_len};
+ghost use Rattle.std.specs.Str.Parse.{digits_value};
+ghost use Rattle.sql_parts.specs.Error.{FailsOnlyByMemory};
+ghost use Rattle.sql_parts.specs.Places.{IsNumber, StandsBefore, marks_of, place_of};
+ghost use Rattle.sql_parts.specs.Templates as templates;
+ghost use Rattle.sql_parts.specs.Templates.{Writes, counted, followed_by, named, numbered, opening, resolved_from, stands};
+
+use crate::bind::Marks;
+use crate::error::SqlBuilderError;
+use crate::text::ToText;
+use std::alloc::Global;
+
+/// What a marker stands for.
+#[derive(Clone, Copy)]
+pub(crate) enum Value<'t> {
+    /// The argument with this number, from 0.
+    Argument(usize),
+    /// What this name is bound to.
+    Named(&'t str),
+}
+
+/// What stands at a place.
+#[derive(Clone, Copy)]
+pub(crate) enum Place<'t> {
+    /// A text, perhaps another than is read there.
+    Writes(&'t str),
+    /// A marker.
+    Holds(Value<'t>),
+}
+
+/// The text before a place, what stands there, and the text behind it.
+#[derive(Clone, Copy)]
+pub(crate) struct Found<'t> {
+    pub(crate) piece: &'t str,
+    pub(crate) place: Place<'t>,
+    pub(crate) rest: &'t str,
+}
+
+/// The text that every marker and every escape begins with.
+pub(crate) fn opening(alloc: Global, marks: &Marks<'_>) -> Result<String, SqlBuilderError>
+    ensures text { IfOk result (λ s. string_bytes s ≡ opening (marks_of marks.now)) }
+    ensures memory { FailsOnlyByMemory result }
+{
+    let mut text = String::new(alloc);
+    match marks {
+        Marks::First | Marks::Cycle(_) => text.push('?')?,
+        Marks::Num(number) => {
+            text.push('$')?;
+            number.push_to(alloc, &mut text)?;
+        }
+        Marks::Nums(_) => text.push('$')?,
+        Marks::Name(name) => {
+            text.push(':')?;
+            text.push_str(name)?;
+            text.push(':')?;
+        }
+        Marks::Names => text.push(':')?,
+    }
+    Ok(text)
+}
+
+// The number with one more digit behind it.
+fn with_digit(number: Option<usize>, digit: u8) -> Option<usize>
+    ensures { (n : ℕ) → IsNumber number n → IsNumber result (n * 10 + digit) }
+{
+    number?.checked_mul(10)?.checked_add(usize::from(digit))
+}
+
+// The number that the digits at the front make, where it fits, and the text behind them.
+fn number(text: &str) -> (Option<usize>, &str)
+    ensures number { IsNumber result.0
+        (digits_value 10 (take (prefix_len is_ascii_digit text.now) text.now)) }
+    ensures rest { result.1.now ≡ drop (prefix_len is_ascii_digit text.now) text.now }
+{
+    let bytes = text.as_bytes();
+    let mut number = Some(0);
+    let mut end = 0;
+    while end < bytes.len() && bytes[end].is_ascii_digit() {
+        number = with_digit(number, bytes[end] - b'0');
+        end += 1;
+    }
+    (number, &text[end..])
+}
+
+// What stands at a `$`, where there are so many arguments.
+fn numbered(count: usize, behind: &str) -> (Place<'_>, &str)
+    ensures { StandsBefore behind.now result (numbered count behind.now) }
+{
+    let (number, rest) = number(behind);
+    match number {
+        Some(0) => match rest.strip_prefix("$") {
+            Some(rest) => (Place::Writes("$"), rest),
+            None => (Place::Writes(""), rest),
+        },
+        Some(number) if number <= count => (Place::Holds(Value::Argument(number - 1)), rest),
+        _ => (Place::Writes(""), rest),
+    }
+}
+
+// What stands at a `:`.
+fn named(behind: &str) -> (Place<'_>, &str)
+    ensures { StandsBefore behind.now result (named behind.now) }
+{
+    match behind.split_once(':') {
+        None => (Place::Writes(":"), behind),
+        Some((name, rest)) => {
+            if name.is_empty() {
+                (Place::Writes(":"), rest)
+            } else {
+                (Place::Holds(Value::Named(name)), rest)
+            }
+        }
+    }
+}
+
+// What stands at an opening, and the text behind it.
+fn stands<'t>(marks: &Marks<'_>, seen: usize, behind: &'t str) -> (Place<'t>, &'t str)
+    ensures { StandsBefore behind.now result (stands (marks_of marks.now) seen behind.now) }
+{
+    match *marks {
+        Marks::First if seen > 0 => (Place::Writes("?"), behind),
+        Marks::First | Marks::Num(_) | Marks::Name(_) => {
+            (Place::Holds(Value::Argument(0)), behind)
+        }
+        Marks::Cycle(count) => {
+            let argument = seen.checked_rem(count).unwrap_or(seen);
+            (Place::Holds(Value::Argument(argument)), behind)
+        }
+        Marks::Nums(count) => numbered(count, behind),
+        Marks::Names => named(behind),
+    }
+}
+
+/// The first place of a text where something stands, if `seen` markers stand before the text.
+pub(crate) fn first_place<'t>(
+    marks: &Marks<'_>,
+    opening: &str,
+    seen: usize,
+    text: &'t str,
+) -> Option<Found<'t>>
+    requires opening { opening.now ≡ templates.opening (marks_of marks.now) }
+    ensures found { MatchOption result
+        (resolved_from (marks_of marks.now) seen 0 text.now ≡ (text.now, []))
+        (λ f. resolved_from (marks_of marks.now) seen 0 text.now
+        ≡ followed_by (Writes f.piece.now) (followed_by (place_of f.place)
+        (resolved_from (marks_of marks.now) (counted (place_of f.place) seen) 0 f.rest.now))) }
+    ensures shorter { IfSome result (λ f. length f.rest.now < length text.now) }
+{
+    match text.split_once(opening) {
+        None => None,
+        Some((piece, behind)) => {
+            let (place, rest) = stands(marks, seen, behind);
+            Some(Found { piece, place, rest })
+        }
+    }
+}
