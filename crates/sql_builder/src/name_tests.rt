@@ -42,35 +42,6 @@ fn dquoted_parts_and_an_alias(alloc: Global) -> Named {
     Ok(dname!(alloc, "safe_name", "sub"; "sn"))
 }
 
-#[test]
-fn writes_names_by_macros(rt: HostRuntime) -> Result<(), Fail> {
-    let heap = rt.alloc();
-    let rows = [
-        (safe_part_and_a_comma(heap)?, "safe_name"),
-        (safe_parts_and_an_alias(heap)?, "safe_name.sub AS sn"),
-        (books(heap)?, "`public`.`BOOKS` AS b"),
-        (spaced_and_an_alias(heap)?, "`spaced name` AS `s n`"),
-        (awesome(heap)?, "'some ''awesome'' name'"),
-        (quoted_parts_and_an_alias(heap)?, "'safe_name'.'sub' AS sn"),
-        (
-            baquoted_parts_and_an_alias(heap)?,
-            "`safe_name`.`sub` AS sn",
-        ),
-        (
-            brquoted_parts_and_an_alias(heap)?,
-            "[safe_name].[sub] AS sn",
-        ),
-        (
-            dquoted_parts_and_an_alias(heap)?,
-            "\"safe_name\".\"sub\" AS sn",
-        ),
-    ];
-    for (made, wanted) in rows.iter() {
-        assert_eq!(rt; made.as_str(), *wanted, "{wanted}");
-    }
-    Ok(())
-}
-
 fn statement(alloc: Global) -> Named {
     SqlBuilder::select_from(alloc, name!(alloc, "books"; "b"))?
         .field(name!(alloc, "b", "title"))?
@@ -80,11 +51,27 @@ fn statement(alloc: Global) -> Named {
         .sql()
 }
 
+/// Each macro, names in the calls of a builder, and what they write.
+const BY_MACROS: [(fn(Global) -> Named, &str); 10] = [
+    (safe_part_and_a_comma, "safe_name"),
+    (safe_parts_and_an_alias, "safe_name.sub AS sn"),
+    (books, "`public`.`BOOKS` AS b"),
+    (spaced_and_an_alias, "`spaced name` AS `s n`"),
+    (awesome, "'some ''awesome'' name'"),
+    (quoted_parts_and_an_alias, "'safe_name'.'sub' AS sn"),
+    (baquoted_parts_and_an_alias, "`safe_name`.`sub` AS sn"),
+    (brquoted_parts_and_an_alias, "[safe_name].[sub] AS sn"),
+    (dquoted_parts_and_an_alias, "\"safe_name\".\"sub\" AS sn"),
+    (
+        statement,
+        "SELECT b.title FROM books AS b LEFT JOIN shops AS s ON b.id = s.book;",
+    ),
+];
+
 #[test]
-fn takes_names(rt: HostRuntime) -> Result<(), Fail> {
-    assert_eq!(rt;
-        statement(rt.alloc())?.as_str(),
-        "SELECT b.title FROM books AS b LEFT JOIN shops AS s ON b.id = s.book;"
-    );
+fn writes_names_by_macros(rt: HostRuntime) -> Result<(), Fail> {
+    for (made, wanted) in BY_MACROS.iter() {
+        assert_eq!(rt; made(rt.alloc())?.as_str(), *wanted, "{wanted}");
+    }
     Ok(())
 }

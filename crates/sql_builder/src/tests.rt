@@ -929,32 +929,61 @@ fn tell_condition(
     }
 }
 
-fn tell(builder: &mut SqlBuilder, call: &[&str]) -> Result<(), SqlBuilderError> {
-    match call {
-        ["natural"] => builder.natural(),
-        ["left"] => builder.left(),
-        ["left_outer"] => builder.left_outer(),
-        ["right"] => builder.right(),
-        ["right_outer"] => builder.right_outer(),
-        ["inner"] => builder.inner(),
-        ["cross"] => builder.cross(),
-        ["distinct"] => builder.distinct(),
-        ["returning_id"] => builder.returning_id()?,
-        ["fields", fields @ ..] => builder.fields(fields)?,
-        ["set_fields", fields @ ..] => builder.set_fields(fields)?,
-        ["values", values @ ..] => builder.values(values)?,
-        ["on_eq", left, right] => builder.on_eq(left, right)?,
-        ["count_as", field, name] => builder.count_as(field, name)?,
-        ["set", field, value] => builder.set(field, value)?,
-        ["set_str", field, value] => builder.set_str(field, value)?,
-        ["order_by", field, descending] => builder.order_by(field, *descending == "true")?,
-        [name, arguments @ ..] if name.contains("_where") => {
-            return tell_condition(builder, name, arguments);
-        }
-        [name, text] => return tell_one(builder, name, text),
+fn tell_bare(builder: &mut SqlBuilder, name: &str) -> Result<(), SqlBuilderError> {
+    match name {
+        "natural" => builder.natural(),
+        "left" => builder.left(),
+        "left_outer" => builder.left_outer(),
+        "right" => builder.right(),
+        "right_outer" => builder.right_outer(),
+        "inner" => builder.inner(),
+        "cross" => builder.cross(),
+        "distinct" => builder.distinct(),
+        "returning_id" => builder.returning_id()?,
         _ => return Err(UNKNOWN),
     };
     Ok(())
+}
+
+fn tell_two(
+    builder: &mut SqlBuilder,
+    name: &str,
+    first: &str,
+    second: &str,
+) -> Result<(), SqlBuilderError> {
+    match name {
+        "on_eq" => builder.on_eq(first, second)?,
+        "count_as" => builder.count_as(first, second)?,
+        "set" => builder.set(first, second)?,
+        "set_str" => builder.set_str(first, second)?,
+        "order_by" => builder.order_by(first, second == "true")?,
+        _ => return Err(UNKNOWN),
+    };
+    Ok(())
+}
+
+fn tell_list(builder: &mut SqlBuilder, name: &str, items: &[&str]) -> Result<(), SqlBuilderError> {
+    match name {
+        "fields" => builder.fields(items)?,
+        "set_fields" => builder.set_fields(items)?,
+        _ => builder.values(items)?,
+    };
+    Ok(())
+}
+
+fn tell(builder: &mut SqlBuilder, call: &[&str]) -> Result<(), SqlBuilderError> {
+    match call {
+        [name, arguments @ ..] if name.contains("_where") => {
+            tell_condition(builder, name, arguments)
+        }
+        [name, items @ ..] if matches!(*name, "fields" | "set_fields" | "values") => {
+            tell_list(builder, name, items)
+        }
+        [name] => tell_bare(builder, name),
+        [name, text] => tell_one(builder, name, text),
+        [name, first, second] => tell_two(builder, name, first, second),
+        _ => Err(UNKNOWN),
+    }
 }
 
 fn print(builder: &SqlBuilder, finish: &[&str]) -> Result<String, SqlBuilderError> {
@@ -968,13 +997,10 @@ fn print(builder: &SqlBuilder, finish: &[&str]) -> Result<String, SqlBuilderErro
     }
 }
 
+type Made = Result<String, SqlBuilderError>;
+
 /// What the calls of a builder make.
-fn made_by_calls(
-    alloc: Global,
-    start: &[&str],
-    calls: &[Words],
-    finish: &[&str],
-) -> Result<String, SqlBuilderError> {
+fn made(alloc: Global, start: &[&str], calls: &[Words], finish: &[&str]) -> Made {
     let mut builder = begin(alloc, start)?;
     for call in calls {
         tell(&mut builder, call)?;
@@ -982,208 +1008,8 @@ fn made_by_calls(
     print(&builder, finish)
 }
 
-fn texts(alloc: Global, items: &[&str]) -> Result<Vec<String>, SqlBuilderError> {
-    let mut texts = Vec::new(alloc);
-    for item in items {
-        texts.push(String::from_str(alloc, item)?)?;
-    }
-    Ok(texts)
-}
-
-fn start_value(alloc: Global, start: &[&str]) -> Result<Start, SqlBuilderError> {
-    let text = |s: &str| String::from_str(alloc, s);
-    Ok(match start {
-        ["select_from", table] => Start::SelectFrom(text(table)?),
-        ["select_values", values @ ..] => Start::SelectValues(texts(alloc, values)?),
-        ["insert_into", table] => Start::InsertInto(text(table)?),
-        ["update_table", table] => Start::UpdateTable(text(table)?),
-        ["delete_from", table] => Start::DeleteFrom(text(table)?),
-        _ => return Err(UNKNOWN),
-    })
-}
-
-fn bare_call(name: &str) -> Result<Call, SqlBuilderError> {
-    Ok(match name {
-        "natural" => Call::Natural,
-        "left" => Call::Left,
-        "left_outer" => Call::LeftOuter,
-        "right" => Call::Right,
-        "right_outer" => Call::RightOuter,
-        "inner" => Call::Inner,
-        "cross" => Call::Cross,
-        "distinct" => Call::Distinct,
-        "returning_id" => Call::ReturningId,
-        _ => return Err(UNKNOWN),
-    })
-}
-
-fn call_of_one(name: &str, text: String) -> Result<Call, SqlBuilderError> {
-    Ok(match name {
-        "and_table" => Call::AndTable(text),
-        "join" => Call::Join(text),
-        "on" => Call::On(text),
-        "field" => Call::Field(text),
-        "set_field" => Call::SetField(text),
-        "count" => Call::Count(text),
-        "select" => Call::Select(text),
-        "returning" => Call::Returning(text),
-        "group_by" => Call::GroupBy(text),
-        "having" => Call::Having(text),
-        "union" => Call::Union(text),
-        "union_all" => Call::UnionAll(text),
-        "order_asc" => Call::OrderAsc(text),
-        "order_desc" => Call::OrderDesc(text),
-        "limit" => Call::Limit(text),
-        "offset" => Call::Offset(text),
-        _ => return Err(UNKNOWN),
-    })
-}
-
-fn call_of_two(name: &str, first: String, second: String) -> Result<Call, SqlBuilderError> {
-    Ok(match name {
-        "on_eq" => Call::OnEq(first, second),
-        "count_as" => Call::CountAs(first, second),
-        "set" => Call::SetTo(first, second),
-        "set_str" => Call::SetStr(first, second),
-        "order_by" => Call::OrderBy(first, second.as_str() == "true"),
-        _ => return Err(UNKNOWN),
-    })
-}
-
-fn relation_value(ending: &str) -> Option<Relation> {
-    match ending {
-        "_eq" => Some(Relation::Eq),
-        "_ne" => Some(Relation::Ne),
-        "_gt" => Some(Relation::Gt),
-        "_ge" => Some(Relation::Ge),
-        "_lt" => Some(Relation::Lt),
-        "_le" => Some(Relation::Le),
-        _ => None,
-    }
-}
-
-fn percent_value(ending: &str) -> Option<Percent> {
-    match ending {
-        "_like" => Some(Percent::Plain),
-        "_like_right" => Some(Percent::Right),
-        "_like_left" => Some(Percent::Left),
-        "_like_any" => Some(Percent::Any),
-        _ => None,
-    }
-}
-
-fn binary_value(
-    negated: bool,
-    ending: &str,
-    field: String,
-    text: String,
-) -> Result<Condition, SqlBuilderError> {
-    if let Some(relation) = relation_value(ending) {
-        return Ok(Condition::Compare(relation, field, text));
-    }
-    if let Some(percent) = percent_value(ending) {
-        return Ok(Condition::Like(negated, percent, field, text));
-    }
-    match ending {
-        "_in_query" => Ok(Condition::InQuery(negated, field, text)),
-        _ => Err(UNKNOWN),
-    }
-}
-
-fn condition_value(
-    alloc: Global,
-    ending: &str,
-    arguments: &[&str],
-) -> Result<Condition, SqlBuilderError> {
-    let text = |s: &str| String::from_str(alloc, s);
-    let (negated, ending) = match ending.strip_prefix("_not") {
-        Some(ending) => (true, ending),
-        None => (false, ending),
-    };
-    match (ending, arguments) {
-        ("", [condition]) => Ok(Condition::Raw(text(condition)?)),
-        ("_is_null", [field]) => Ok(Condition::IsNull(text(field)?)),
-        ("_is_not_null", [field]) => Ok(Condition::IsNotNull(text(field)?)),
-        ("_in", [field, values @ ..]) => Ok(Condition::InList(
-            negated,
-            text(field)?,
-            texts(alloc, values)?,
-        )),
-        ("_in_quoted", [field, values @ ..]) => Ok(Condition::InQuoted(
-            negated,
-            text(field)?,
-            texts(alloc, values)?,
-        )),
-        ("_between", [field, least, greatest]) => Ok(Condition::Between(
-            negated,
-            text(field)?,
-            text(least)?,
-            text(greatest)?,
-        )),
-        (_, [field, second]) => binary_value(negated, ending, text(field)?, text(second)?),
-        _ => Err(UNKNOWN),
-    }
-}
-
-fn condition_call(alloc: Global, name: &str, arguments: &[&str]) -> Result<Call, SqlBuilderError> {
-    if let Some(ending) = name.strip_prefix("and_where") {
-        let condition = condition_value(alloc, ending, arguments)?;
-        return Ok(Call::Cond(Family::And, condition));
-    }
-    match name.strip_prefix("or_where") {
-        Some(ending) => {
-            let condition = condition_value(alloc, ending, arguments)?;
-            Ok(Call::Cond(Family::Or, condition))
-        }
-        None => Err(UNKNOWN),
-    }
-}
-
-fn call_value(alloc: Global, call: &[&str]) -> Result<Call, SqlBuilderError> {
-    let text = |s: &str| String::from_str(alloc, s);
-    match call {
-        ["fields", fields @ ..] => Ok(Call::Fields(texts(alloc, fields)?)),
-        ["set_fields", fields @ ..] => Ok(Call::SetFields(texts(alloc, fields)?)),
-        ["values", values @ ..] => Ok(Call::Values(texts(alloc, values)?)),
-        [name, arguments @ ..] if name.contains("_where") => {
-            condition_call(alloc, name, arguments)
-        }
-        [name] => bare_call(name),
-        [name, only] => call_of_one(name, text(only)?),
-        [name, first, second] => call_of_two(name, text(first)?, text(second)?),
-        _ => Err(UNKNOWN),
-    }
-}
-
-fn finish_value(alloc: Global, finish: &[&str]) -> Result<Finish, SqlBuilderError> {
-    Ok(match finish {
-        ["sql"] => Finish::Sql,
-        ["query"] => Finish::Query,
-        ["query_values"] => Finish::QueryValues,
-        ["subquery"] => Finish::Subquery,
-        ["subquery_as", name] => Finish::SubqueryAs(String::from_str(alloc, name)?),
-        _ => return Err(UNKNOWN),
-    })
-}
-
-/// What `run` makes of the calls as values.
-fn made_by_run(
-    alloc: Global,
-    start: &[&str],
-    calls: &[Words],
-    finish: &[&str],
-) -> Result<String, SqlBuilderError> {
-    let start = start_value(alloc, start)?;
-    let mut values = Vec::new(alloc);
-    for call in calls {
-        values.push(call_value(alloc, call)?)?;
-    }
-    let finish = finish_value(alloc, finish)?;
-    run(alloc, &start, &values, &finish)
-}
-
 /// Whether this text was made, or the refusal has this message.
-fn is_wanted(made: &Result<String, SqlBuilderError>, wanted: &Result<&str, &str>) -> bool {
+fn is_wanted(made: &Made, wanted: &Result<&str, &str>) -> bool {
     match (made, wanted) {
         (Ok(text), Ok(wanted)) => text.as_str() == *wanted,
         (Err(error), Err(message)) => error.message() == *message,
@@ -1193,64 +1019,75 @@ fn is_wanted(made: &Result<String, SqlBuilderError>, wanted: &Result<&str, &str>
 
 #[test]
 fn makes_what_the_rows_say(rt: HostRuntime) -> Result<(), Fail> {
-    let heap = rt.alloc();
-    for rows in [EMPTY.as_slice(), &JOINS, &CLAUSES].iter() {
+    for rows in [EMPTY.as_slice(), &JOINS, &CLAUSES, &CONDITIONS].iter() {
         for (start, calls, finish, wanted) in rows.iter() {
-            let made = made_by_calls(heap, start, calls, finish);
-            assert!(rt; is_wanted(&made, wanted), "by calls, {wanted:?}");
-            let made = made_by_run(heap, start, calls, finish);
-            assert!(rt; is_wanted(&made, wanted), "by run, {wanted:?}");
+            let made = made(rt.alloc(), start, calls, finish);
+            assert!(rt; is_wanted(&made, wanted), "{wanted:?}");
         }
     }
     Ok(())
 }
 
 #[test]
-fn makes_what_the_rows_of_conditions_say(rt: HostRuntime) -> Result<(), Fail> {
-    let heap = rt.alloc();
-    for (start, calls, finish, wanted) in CONDITIONS.iter() {
-        let made = made_by_calls(heap, start, calls, finish);
-        assert!(rt; is_wanted(&made, wanted), "by calls, {wanted:?}");
-        let made = made_by_run(heap, start, calls, finish);
-        assert!(rt; is_wanted(&made, wanted), "by run, {wanted:?}");
-    }
-    Ok(())
-}
-
-#[test]
 fn adds_each_condition_alone(rt: HostRuntime) -> Result<(), Fail> {
-    let heap = rt.alloc();
     for (call, wanted) in ALONE.iter() {
-        let made = made_by_calls(heap, &["select_from", "t"], &[*call], QUERY)?;
-        assert_eq!(rt; made.as_str(), *wanted, "by calls, {call:?}");
-        let made = made_by_run(heap, &["select_from", "t"], &[*call], QUERY)?;
-        assert_eq!(rt; made.as_str(), *wanted, "by run, {call:?}");
+        let made = made(rt.alloc(), &["select_from", "t"], &[*call], QUERY)?;
+        assert_eq!(rt; made.as_str(), *wanted, "{call:?}");
     }
     Ok(())
 }
 
 #[test]
 fn joins_each_condition_to_a_group(rt: HostRuntime) -> Result<(), Fail> {
-    let heap = rt.alloc();
     for (call, wanted) in BEHIND_A_GROUP.iter() {
         let calls: [Words; 2] = [&["and_where", "a"], *call];
-        let made = made_by_calls(heap, &["select_from", "t"], &calls, QUERY)?;
-        assert_eq!(rt; made.as_str(), *wanted, "by calls, {call:?}");
-        let made = made_by_run(heap, &["select_from", "t"], &calls, QUERY)?;
-        assert_eq!(rt; made.as_str(), *wanted, "by run, {call:?}");
+        let made = made(rt.alloc(), &["select_from", "t"], &calls, QUERY)?;
+        assert_eq!(rt; made.as_str(), *wanted, "{call:?}");
     }
     Ok(())
 }
 
 #[test]
 fn makes_every_call_after_every_start(rt: HostRuntime) -> Result<(), Fail> {
-    let heap = rt.alloc();
     for (start, finish, wanted) in EVERY_START_AND_FINISH.iter() {
-        let made = made_by_calls(heap, start, EVERY_CALL, finish)?;
-        assert_eq!(rt; made.as_str(), *wanted, "by calls, {start:?} .. {finish:?}");
-        let made = made_by_run(heap, start, EVERY_CALL, finish)?;
-        assert_eq!(rt; made.as_str(), *wanted, "by run, {start:?} .. {finish:?}");
+        let made = made(rt.alloc(), start, EVERY_CALL, finish)?;
+        assert_eq!(rt; made.as_str(), *wanted, "{start:?} .. {finish:?}");
     }
+    Ok(())
+}
+
+fn list_of_calls(alloc: Global, finish: &Finish) -> Made {
+    let start = Start::UpdateTable(String::from_str(alloc, "books")?);
+    let mask = Condition::Like(
+        true,
+        Percent::Any,
+        String::from_str(alloc, "title")?,
+        String::from_str(alloc, "it's")?,
+    );
+    let price = Condition::Compare(
+        Relation::Ge,
+        String::from_str(alloc, "price")?,
+        String::from_str(alloc, "1")?,
+    );
+    let mut calls = Vec::new(alloc);
+    calls.push(Call::Cond(Family::And, mask))?;
+    calls.push(Call::Cond(Family::Or, price))?;
+    run(alloc, &start, &calls, finish)
+}
+
+// Every case of a list of calls goes through the program, by the rows that `tests/program` runs.
+#[test]
+fn runs_a_list_of_calls(rt: HostRuntime) -> Result<(), Fail> {
+    assert_eq!(rt;
+        list_of_calls(rt.alloc(), &Finish::Query)?.as_str(),
+        "SELECT * FROM books WHERE title NOT LIKE '%it''s%' OR price >= 1"
+    );
+    assert!(rt;
+        is_wanted(
+            &list_of_calls(rt.alloc(), &Finish::Sql),
+            &Err("No set fields")
+        )
+    );
     Ok(())
 }
 
@@ -1268,154 +1105,224 @@ impl ToText for Id {
     }
 }
 
-#[test]
-fn takes_texts_of_many_types(rt: HostRuntime) -> Result<(), Fail> {
-    let heap = rt.alloc();
-    let table = String::from_str(heap, "t")?;
-    let name = String::from_str(heap, "n")?;
-    let made = SqlBuilder::select_from(heap, &table)?
+fn selects_texts_of_many_types(alloc: Global) -> Made {
+    let table = String::from_str(alloc, "t")?;
+    let name = String::from_str(alloc, "n")?;
+    SqlBuilder::select_from(alloc, &table)?
         .count_as(Id(1), name)?
         .and_where_gt("salary", 25_000)?
         .and_where(true)?
         .limit(3u8)?
         .offset(-1)?
-        .sql()?;
-    assert_eq!(rt;
-        made.as_str(),
-        "SELECT COUNT(id1) AS n FROM t WHERE (salary > 25000) AND (true) LIMIT 3 OFFSET -1;"
-    );
-    let made = SqlBuilder::update_table(heap, table)?
+        .sql()
+}
+
+fn sets_texts_of_many_types(alloc: Global) -> Made {
+    SqlBuilder::update_table(alloc, String::from_str(alloc, "t")?)?
         .set("a", true)?
         .set_str(&Id(2), Id(3))?
         .returning(Id(2))?
-        .sql()?;
-    assert_eq!(rt;
-        made.as_str(),
-        "UPDATE t SET a = true, id2 = 'id3' RETURNING id2;"
-    );
-    let made = SqlBuilder::insert_into(heap, Id(4))?
+        .sql()
+}
+
+fn inserts_texts_of_many_types(alloc: Global) -> Made {
+    SqlBuilder::insert_into(alloc, Id(4))?
         .fields(&[Id(5), Id(6)])?
         .values(&[7, 8])?
         .values(&[false, true])?
-        .sql()?;
-    assert_eq!(rt;
-        made.as_str(),
-        "INSERT INTO id4 (id5, id6) VALUES (7, 8), (false, true);"
-    );
-    Ok(())
+        .sql()
 }
 
-#[test]
-fn chains_conditions_of_many_types(rt: HostRuntime) -> Result<(), Fail> {
-    let heap = rt.alloc();
-    let title = quote(heap, "it's")?;
-    let made = SqlBuilder::select_from(heap, "books")?
+fn compares_with_many_types(alloc: Global) -> Made {
+    let title = quote(alloc, "it's")?;
+    SqlBuilder::select_from(alloc, "books")?
         .and_where("price < 2")?
         .or_where_eq("title", title)?
         .or_where_ne("price", 100)?
-        .query()?;
-    assert_eq!(rt;
-        made.as_str(),
-        "SELECT * FROM books WHERE price < 2 OR title = 'it''s' OR price <> 100"
-    );
-    Ok(())
+        .query()
 }
 
-#[test]
-fn chains_lists_and_bounds_of_many_types(rt: HostRuntime) -> Result<(), Fail> {
-    let heap = rt.alloc();
-    let made = SqlBuilder::delete_from(heap, "t")?
+fn bounds_by_many_types(alloc: Global) -> Made {
+    SqlBuilder::delete_from(alloc, "t")?
         .and_where_in(Id(1), &[1, -2])?
         .and_where_not_between("b", 3, "c")?
         .or_where_in_quoted("d", &[Id(4)])?
-        .sql()?;
-    assert_eq!(rt;
-        made.as_str(),
-        "DELETE FROM t WHERE (id1 IN (1, -2)) AND (b NOT BETWEEN 3 AND c OR d IN ('id4'));"
-    );
-    Ok(())
+        .sql()
 }
 
-#[test]
-fn puts_texts_of_one_builder_into_another(rt: HostRuntime) -> Result<(), Fail> {
-    let heap = rt.alloc();
-    let inner = SqlBuilder::select_from(heap, "books")?
+fn selects_from_a_subquery(alloc: Global) -> Made {
+    let inner = SqlBuilder::select_from(alloc, "books")?
         .field("CASE WHEN p < 9 THEN 'a' ELSE 'b' END AS c")?
         .subquery()?;
-    let made = SqlBuilder::select_from(heap, inner)?.field("c")?.sql()?;
-    assert_eq!(rt;
-        made.as_str(),
-        "SELECT c FROM (SELECT CASE WHEN p < 9 THEN 'a' ELSE 'b' END AS c FROM books);"
-    );
-    let added = SqlBuilder::select_values(heap, &["'Gatsby'", "124"])?.query_values()?;
-    let made = SqlBuilder::select_from(heap, "books")?
+    SqlBuilder::select_from(alloc, inner)?.field("c")?.sql()
+}
+
+fn adds_values_of_another(alloc: Global) -> Made {
+    let added = SqlBuilder::select_values(alloc, &["'Gatsby'", "124"])?.query_values()?;
+    SqlBuilder::select_from(alloc, "books")?
         .field("title")?
         .field("price")?
         .order_desc("price")?
         .union_all(added)?
-        .sql()?;
-    assert_eq!(rt;
-        made.as_str(),
-        "SELECT title, price FROM books UNION ALL SELECT 'Gatsby', 124;"
-    );
-    Ok(())
+        .sql()
 }
 
-#[test]
-fn chains_the_first_statements(rt: HostRuntime) -> Result<(), Fail> {
-    let made = SqlBuilder::select_from(rt.alloc(), "company")?
+fn first_statement(alloc: Global) -> Made {
+    SqlBuilder::select_from(alloc, "company")?
         .field("id")?
         .field("name")?
         .and_where_gt("salary", 25_000)?
-        .sql()?;
-    assert_eq!(rt;
-        made.as_str(),
-        "SELECT id, name FROM company WHERE salary > 25000;"
-    );
-    let made = SqlBuilder::select_from(rt.alloc(), "company")?
+        .sql()
+}
+
+fn first_statement_with_an_order(alloc: Global) -> Made {
+    SqlBuilder::select_from(alloc, "company")?
         .field("id")?
         .field("name")?
         .and_where_gt("salary", 25_000)?
         .or_where_like_left("name", "Sch")?
         .order_desc("salary")?
-        .sql()?;
-    assert_eq!(rt;
-        made.as_str(),
-        "SELECT id, name FROM company WHERE salary > 25000 OR name LIKE 'Sch%' \
-            ORDER BY salary DESC;"
-    );
-    Ok(())
+        .sql()
 }
 
-#[test]
-fn chains_calls(rt: HostRuntime) -> Result<(), Fail> {
-    let heap = rt.alloc();
-    let title = quote(heap, "Lost Time")?;
-    let made = SqlBuilder::insert_into(heap, "books")?
+fn inserts_rows(alloc: Global) -> Made {
+    let title = quote(alloc, "Lost Time")?;
+    SqlBuilder::insert_into(alloc, "books")?
         .field("title")?
         .field("price")?
         .values(&[title.as_str(), "150"])?
         .values(&["'Don Quixote', 200"])?
         .returning_id()?
-        .sql()?;
-    assert_eq!(rt;
-        made.as_str(),
-        "INSERT INTO books (title, price) VALUES ('Lost Time', 150), ('Don Quixote', 200) \
-            RETURNING id;"
-    );
-    let made = SqlBuilder::select_from(heap, "books AS b")?
+        .sql()
+}
+
+fn joins_tables(alloc: Global) -> Made {
+    SqlBuilder::select_from(alloc, "books AS b")?
         .field("b.title")?
         .left_outer()
         .join("shops AS s")?
         .on_eq("b.id", "s.book")?
-        .sql()?;
-    assert_eq!(rt;
-        made.as_str(),
-        "SELECT b.title FROM books AS b LEFT OUTER JOIN shops AS s ON b.id = s.book;"
-    );
-    let quoted = quote(heap, "100")?;
-    let made = SqlBuilder::select_values(heap, &["10", quoted.as_str()])?.sql()?;
-    assert_eq!(rt; made.as_str(), "SELECT 10, '100';");
+        .sql()
+}
+
+fn selects_values(alloc: Global) -> Made {
+    let quoted = quote(alloc, "100")?;
+    SqlBuilder::select_values(alloc, &["10", quoted.as_str()])?.sql()
+}
+
+fn rows_to_bind(alloc: Global) -> Made {
+    SqlBuilder::insert_into(alloc, "company")?
+        .field("name")?
+        .field("salary")?
+        .field("staff")?
+        .values(&["$1, ?, ?"])?
+        .values(&["$2, ?, ?"])?
+        .sql()
+}
+
+fn binds_rows_of_an_insert(alloc: Global) -> Made {
+    let mut names: Vec<Box<dyn SqlArg>> = Vec::new(alloc);
+    names.push(Box::new(alloc, String::from_str(alloc, "D&G")?)?)?;
+    names.push(Box::new(alloc, String::from_str(alloc, "G&D")?)?)?;
+    let mut numbers: Vec<Box<dyn SqlArg>> = Vec::new(alloc);
+    numbers.push(Box::new(alloc, 10_000)?)?;
+    numbers.push(Box::new(alloc, 100)?)?;
+    rows_to_bind(alloc)?
+        .bind_nums(alloc, names.as_slice())?
+        .binds(alloc, numbers.as_slice())
+}
+
+fn binds_names_of_a_condition(alloc: Global) -> Made {
+    let mut range: HashMap<&str, Box<dyn SqlArg>> = HashMap::new(alloc);
+    let _ = range.insert("min", Box::new(alloc, 1_000)?)?;
+    let _ = range.insert("max", Box::new(alloc, 25_000)?)?;
+    SqlBuilder::delete_from(alloc, "company")?
+        .and_where("salary >= :min:")?
+        .and_where("salary <= :max:")?
+        .sql()?
+        .bind_names(alloc, &range)
+}
+
+fn binds_numbers_beside_quoted_text(alloc: Global) -> Made {
+    let comment = quote(alloc, "up $1$$")?;
+    let mut rise: Vec<Box<dyn SqlArg>> = Vec::new(alloc);
+    rise.push(Box::new(alloc, 100)?)?;
+    SqlBuilder::update_table(alloc, "company")?
+        .set("salary", "salary + $1")?
+        .set("comment", comment.as_str())?
+        .sql()?
+        .bind_nums(alloc, rise.as_slice())
+}
+
+/// Chains of calls, and what each makes. A function for each, since the proof of several in one
+/// takes long.
+const CHAINS: [(fn(Global) -> Made, &str); 15] = [
+    (
+        first_statement,
+        "SELECT id, name FROM company WHERE salary > 25000;",
+    ),
+    (
+        first_statement_with_an_order,
+        "SELECT id, name FROM company WHERE salary > 25000 OR name LIKE 'Sch%' \
+            ORDER BY salary DESC;",
+    ),
+    (
+        selects_texts_of_many_types,
+        "SELECT COUNT(id1) AS n FROM t WHERE (salary > 25000) AND (true) LIMIT 3 OFFSET -1;",
+    ),
+    (
+        sets_texts_of_many_types,
+        "UPDATE t SET a = true, id2 = 'id3' RETURNING id2;",
+    ),
+    (
+        inserts_texts_of_many_types,
+        "INSERT INTO id4 (id5, id6) VALUES (7, 8), (false, true);",
+    ),
+    (
+        compares_with_many_types,
+        "SELECT * FROM books WHERE price < 2 OR title = 'it''s' OR price <> 100",
+    ),
+    (
+        bounds_by_many_types,
+        "DELETE FROM t WHERE (id1 IN (1, -2)) AND (b NOT BETWEEN 3 AND c OR d IN ('id4'));",
+    ),
+    (
+        selects_from_a_subquery,
+        "SELECT c FROM (SELECT CASE WHEN p < 9 THEN 'a' ELSE 'b' END AS c FROM books);",
+    ),
+    (
+        adds_values_of_another,
+        "SELECT title, price FROM books UNION ALL SELECT 'Gatsby', 124;",
+    ),
+    (
+        inserts_rows,
+        "INSERT INTO books (title, price) VALUES ('Lost Time', 150), ('Don Quixote', 200) \
+            RETURNING id;",
+    ),
+    (
+        joins_tables,
+        "SELECT b.title FROM books AS b LEFT OUTER JOIN shops AS s ON b.id = s.book;",
+    ),
+    (selects_values, "SELECT 10, '100';"),
+    (
+        binds_rows_of_an_insert,
+        "INSERT INTO company (name, salary, staff) VALUES ('D&G', 10000, 100), ('G&D', 10000, 100);",
+    ),
+    (
+        binds_names_of_a_condition,
+        "DELETE FROM company WHERE (salary >= 1000) AND (salary <= 25000);",
+    ),
+    (
+        binds_numbers_beside_quoted_text,
+        "UPDATE company SET salary = salary + 100, comment = 'up 100$';",
+    ),
+];
+
+#[test]
+fn chains_calls(rt: HostRuntime) -> Result<(), Fail> {
+    for (chain, wanted) in CHAINS.iter() {
+        assert_eq!(rt; chain(rt.alloc())?.as_str(), *wanted, "{wanted}");
+    }
     Ok(())
 }
 
@@ -1428,20 +1335,31 @@ fn a_clone_is_a_builder_of_its_own(rt: HostRuntime) -> Result<(), Fail> {
     assert_eq!(rt; made.as_str(), "SELECT * FROM a NATURAL LEFT JOIN b;");
     let made = first.sql()?;
     assert_eq!(rt; made.as_str(), "SELECT * FROM a;");
+    Ok(())
+}
+
+/// What a clone of this builder prints, and what the builder prints once the clone has changed.
+fn cloned(builder: &SqlBuilder, finish: &[&str]) -> Result<(String, String), SqlBuilderError> {
+    let mut other = builder.clone()?;
+    let made = print(&other, finish)?;
+    for call in EVERY_CALL {
+        tell(&mut other, call)?;
+    }
+    Ok((made, print(builder, finish)?))
+}
+
+#[test]
+fn a_clone_has_every_clause(rt: HostRuntime) -> Result<(), Fail> {
+    let heap = rt.alloc();
     for (start, finish, wanted) in EVERY_START_AND_FINISH.iter() {
         let mut first = begin(heap, start)?;
         for call in EVERY_CALL {
             tell(&mut first, call)?;
         }
-        let mut second = first.clone()?;
-        let made = print(&second, finish)?;
-        assert_eq!(rt; made.as_str(), *wanted, "clone of {start:?} .. {finish:?}");
-        for call in EVERY_CALL {
-            tell(&mut second, call)?;
-        }
-        let made = print(&first, finish)?;
+        let (clone, original) = cloned(&first, finish)?;
+        assert_eq!(rt; clone.as_str(), *wanted, "clone of {start:?} .. {finish:?}");
         assert_eq!(rt;
-            made.as_str(),
+            original.as_str(),
             *wanted,
             "original of {start:?} .. {finish:?}"
         );
@@ -1468,66 +1386,4 @@ fn states_its_laws() {
     laws::unmarked_is_unchanged();
     laws::fields_join();
     laws::only_last_counts();
-}
-
-#[test]
-fn binds_rows_of_an_insert(rt: HostRuntime) -> Result<(), Fail> {
-    let heap = rt.alloc();
-    let made = SqlBuilder::insert_into(heap, "company")?
-        .field("name")?
-        .field("salary")?
-        .field("staff")?
-        .values(&["$1, ?, ?"])?
-        .values(&["$2, ?, ?"])?
-        .sql()?;
-    let mut names: Vec<Box<dyn SqlArg>> = Vec::new(heap);
-    names.push(Box::new(heap, String::from_str(heap, "D&G")?)?)?;
-    names.push(Box::new(heap, String::from_str(heap, "G&D")?)?)?;
-    let mut numbers: Vec<Box<dyn SqlArg>> = Vec::new(heap);
-    numbers.push(Box::new(heap, 10_000)?)?;
-    numbers.push(Box::new(heap, 100)?)?;
-    let made = made
-        .bind_nums(heap, names.as_slice())?
-        .binds(heap, numbers.as_slice())?;
-    assert_eq!(rt;
-        made.as_str(),
-        "INSERT INTO company (name, salary, staff) VALUES ('D&G', 10000, 100), ('G&D', 10000, 100);"
-    );
-    Ok(())
-}
-
-#[test]
-fn binds_names_of_a_condition(rt: HostRuntime) -> Result<(), Fail> {
-    let heap = rt.alloc();
-    let mut range: HashMap<&str, Box<dyn SqlArg>> = HashMap::new(heap);
-    let _ = range.insert("min", Box::new(heap, 1_000)?)?;
-    let _ = range.insert("max", Box::new(heap, 25_000)?)?;
-    let made = SqlBuilder::delete_from(heap, "company")?
-        .and_where("salary >= :min:")?
-        .and_where("salary <= :max:")?
-        .sql()?
-        .bind_names(heap, &range)?;
-    assert_eq!(rt;
-        made.as_str(),
-        "DELETE FROM company WHERE (salary >= 1000) AND (salary <= 25000);"
-    );
-    Ok(())
-}
-
-#[test]
-fn binds_numbers_beside_quoted_text(rt: HostRuntime) -> Result<(), Fail> {
-    let heap = rt.alloc();
-    let comment = quote(heap, "up $1$$")?;
-    let mut rise: Vec<Box<dyn SqlArg>> = Vec::new(heap);
-    rise.push(Box::new(heap, 100)?)?;
-    let made = SqlBuilder::update_table(heap, "company")?
-        .set("salary", "salary + $1")?
-        .set("comment", comment.as_str())?
-        .sql()?
-        .bind_nums(heap, rise.as_slice())?;
-    assert_eq!(rt;
-        made.as_str(),
-        "UPDATE company SET salary = salary + 100, comment = 'up 100$';"
-    );
-    Ok(())
 }

@@ -213,32 +213,62 @@ fn binds_arguments(rt: HostRuntime) -> Result<(), Fail> {
     Ok(())
 }
 
+type Bound = Result<String, SqlBuilderError>;
+
+fn by_a_number(alloc: Global) -> Bound {
+    "a?".bind(alloc, &-1)
+}
+
+fn by_a_text(alloc: Global) -> Bound {
+    "a?".bind(alloc, &"it's")
+}
+
+fn by_a_string(alloc: Global) -> Bound {
+    "a$7".bind_num(alloc, 7, &String::from_str(alloc, "it's")?)
+}
+
+fn by_none(alloc: Global) -> Bound {
+    "fo?o".bind(alloc, &None::<u8>)
+}
+
+fn by_some(alloc: Global) -> Bound {
+    "fo?o".bind(alloc, &Some("foo"))
+}
+
+fn by_some_at_a_name(alloc: Global) -> Bound {
+    "a:b:".bind_name(alloc, &"b", &Some("x"))
+}
+
+fn by_a_box(alloc: Global) -> Bound {
+    let boxed: Box<dyn SqlArg> = Box::new(alloc, 5u8)?;
+    "a?".bind(alloc, &boxed)
+}
+
+fn at_the_name_of_a_string(alloc: Global) -> Bound {
+    ":it's:".bind_name(alloc, &String::from_str(alloc, "it's")?, &true)
+}
+
+fn at_the_name_of_a_number(alloc: Global) -> Bound {
+    String::from_str(alloc, "a:7:")?.bind_name(alloc, &7, &true)
+}
+
+/// Arguments and names of many types, and what they give.
+const BY_TYPES: [(fn(Global) -> Bound, &str); 9] = [
+    (by_a_number, "a-1"),
+    (by_a_text, "a'it''s'"),
+    (by_a_string, "a'it''s'"),
+    (by_none, "foNULLo"),
+    (by_some, "fo'foo'o"),
+    (by_some_at_a_name, "a'x'"),
+    (by_a_box, "a5"),
+    (at_the_name_of_a_string, "TRUE"),
+    (at_the_name_of_a_number, "aTRUE"),
+];
+
 #[test]
 fn binds_values_of_many_types(rt: HostRuntime) -> Result<(), Fail> {
-    let heap = rt.alloc();
-    let its = String::from_str(heap, "it's")?;
-    let boxed: Box<dyn SqlArg> = Box::new(heap, 5u8)?;
-    let rows = [
-        ("number", "a?".bind(heap, &-1)?, "a-1"),
-        ("&str", "a?".bind(heap, &"it's")?, "a'it''s'"),
-        ("String", "a$7".bind_num(heap, 7, &its)?, "a'it''s'"),
-        ("None", "fo?o".bind(heap, &None::<u8>)?, "foNULLo"),
-        ("Some", "fo?o".bind(heap, &Some("foo"))?, "fo'foo'o"),
-        (
-            "Some by name",
-            "a:b:".bind_name(heap, &"b", &Some("x"))?,
-            "a'x'",
-        ),
-        ("box", "a?".bind(heap, &boxed)?, "a5"),
-        (
-            "String's name",
-            ":it's:".bind_name(heap, &its, &true)?,
-            "TRUE",
-        ),
-        ("number's name", its.bind_name(heap, &7, &true)?, "it's"),
-    ];
-    for (name, made, wanted) in rows.iter() {
-        assert_eq!(rt; made.as_str(), *wanted, "binding by a {name}");
+    for (row, (made, wanted)) in BY_TYPES.iter().enumerate() {
+        assert_eq!(rt; made(rt.alloc())?.as_str(), *wanted, "row {row}");
     }
     Ok(())
 }
@@ -249,36 +279,38 @@ fn states_the_laws_of_binding() {
     unmarked_is_unchanged();
 }
 
-fn bound_names<N: BindNames>(
-    alloc: Global,
-    template: &str,
-    names: N,
-) -> Result<String, SqlBuilderError> {
+fn bound_names<N: BindNames>(alloc: Global, template: &str, names: N) -> Bound {
     template.bind_names(alloc, &names)
+}
+
+/// What `bind_names` gives by a map, a reference to one, a Vec of pairs and a slice of pairs.
+fn bound_by_each(
+    alloc: Global,
+    names: &[(&str, Given)],
+    template: &str,
+) -> Result<[String; 4], SqlBuilderError> {
+    let mut map: HashMap<&str, Box<dyn SqlArg>> = HashMap::new(alloc);
+    let mut pairs: Vec<(&str, Box<dyn SqlArg>)> = Vec::new(alloc);
+    for (name, given) in names.iter() {
+        let _ = map.insert(name, Box::new(alloc, literal(alloc, *given)?)?)?;
+        pairs.push((name, Box::new(alloc, literal(alloc, *given)?)?))?;
+    }
+    Ok([
+        template.bind_names(alloc, &map)?,
+        template.bind_names(alloc, &&map)?,
+        template.bind_names(alloc, &pairs)?,
+        bound_names(alloc, template, pairs.as_slice())?,
+    ])
 }
 
 #[test]
 fn binds_names(rt: HostRuntime) -> Result<(), Fail> {
-    let heap = rt.alloc();
+    let kinds = ["a map", "a reference to a map", "a Vec", "a slice"];
     for (names, template, wanted) in NAMED.iter() {
-        let mut map: HashMap<&str, Box<dyn SqlArg>> = HashMap::new(heap);
-        let mut pairs: Vec<(&str, Box<dyn SqlArg>)> = Vec::new(heap);
-        for (name, given) in names.iter() {
-            let _ = map.insert(name, Box::new(heap, literal(heap, *given)?)?)?;
-            pairs.push((name, Box::new(heap, literal(heap, *given)?)?))?;
+        let made = bound_by_each(rt.alloc(), names, template)?;
+        for (made, kind) in made.iter().zip(kinds.iter()) {
+            assert_eq!(rt; made.as_str(), *wanted, "{template} by {kind}");
         }
-        let text = template.bind_names(heap, &map)?;
-        assert_eq!(rt; text.as_str(), *wanted, "a map, at {template}");
-        let text = template.bind_names(heap, &&map)?;
-        assert_eq!(rt;
-            text.as_str(),
-            *wanted,
-            "a reference to a map, at {template}"
-        );
-        let text = template.bind_names(heap, &pairs)?;
-        assert_eq!(rt; text.as_str(), *wanted, "a Vec of pairs, at {template}");
-        let text = bound_names(heap, template, pairs.as_slice())?;
-        assert_eq!(rt; text.as_str(), *wanted, "a slice of pairs, at {template}");
     }
     Ok(())
 }

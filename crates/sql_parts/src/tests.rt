@@ -33,14 +33,6 @@ impl SqlArg for Id {
     }
 }
 
-fn text_of<T: ToText>(alloc: Global, value: T) -> Result<String, SqlBuilderError> {
-    value.to_text(alloc)
-}
-
-fn literal_of<A: SqlArg>(alloc: Global, value: A) -> Result<String, SqlBuilderError> {
-    value.sql_arg(alloc)
-}
-
 /// A text, and what `esc`, `quote`, `baquote`, `brquote` and `dquote` make of it.
 const QUOTED: [(&str, [&str; 5]); 7] = [
     ("a\"b", ["a\"b", "'a\"b'", "`a\"b`", "[a\"b]", "\"a\"\"b\""]),
@@ -82,23 +74,23 @@ const QUOTED: [(&str, [&str; 5]); 7] = [
     ),
 ];
 
+/// The text by `esc`, `quote`, `baquote`, `brquote` and `dquote`.
+fn quoted_by_each(alloc: Global, text: &str) -> Result<[String; 5], SqlBuilderError> {
+    Ok([
+        esc(alloc, text)?,
+        quote(alloc, text)?,
+        baquote(alloc, text)?,
+        brquote(alloc, text)?,
+        dquote(alloc, text)?,
+    ])
+}
+
 #[test]
 fn quotes_texts(rt: HostRuntime) -> Result<(), Fail> {
-    let heap = rt.alloc();
-    for (text, [escaped, quoted, baquoted, brquoted, dquoted]) in QUOTED.iter() {
-        assert_eq!(rt; esc(heap, text)?.as_str(), *escaped, "esc of {text}");
-        assert_eq!(rt; quote(heap, text)?.as_str(), *quoted, "quote of {text}");
-        assert_eq!(rt;
-            baquote(heap, text)?.as_str(),
-            *baquoted,
-            "baquote of {text}"
-        );
-        assert_eq!(rt;
-            brquote(heap, text)?.as_str(),
-            *brquoted,
-            "brquote of {text}"
-        );
-        assert_eq!(rt; dquote(heap, text)?.as_str(), *dquoted, "dquote of {text}");
+    for (text, wanted) in QUOTED.iter() {
+        for (made, wanted) in quoted_by_each(rt.alloc(), text)?.iter().zip(wanted.iter()) {
+            assert_eq!(rt; made.as_str(), *wanted, "{text}");
+        }
     }
     quoting_is_injective();
     Ok(())
@@ -120,157 +112,211 @@ fn quotes_a_long_text(rt: HostRuntime) -> Result<(), Fail> {
     Ok(())
 }
 
-fn pushed<T: ToText>(alloc: Global, value: T) -> Result<String, SqlBuilderError> {
-    let mut text = String::from_str(alloc, "a ")?;
-    value.push_to(alloc, &mut text)?;
-    Ok(text)
+// One check each, and few of them in a test: the proof of many values of many types in one function takes long.
+
+fn has_text<T: ToText>(alloc: Global, value: T, wanted: &str) -> Result<bool, SqlBuilderError> {
+    Ok(value.to_text(alloc)?.as_str() == wanted)
 }
 
-fn doubled<T: ToText>(alloc: Global, value: T) -> Result<String, SqlBuilderError> {
+fn appends<T: ToText>(alloc: Global, value: T, wanted: &str) -> Result<bool, SqlBuilderError> {
+    let mut text = String::from_str(alloc, "a ")?;
+    value.push_to(alloc, &mut text)?;
+    Ok(text.as_str() == wanted)
+}
+
+fn doubles<T: ToText>(alloc: Global, value: T, wanted: &str) -> Result<bool, SqlBuilderError> {
     let mut text = String::from_str(alloc, "a ")?;
     value.push_doubled_to(alloc, &mut text, Quotes::Single)?;
-    Ok(text)
+    Ok(text.as_str() == wanted)
+}
+
+fn has_literal<A: SqlArg>(alloc: Global, value: A, wanted: &str) -> Result<bool, SqlBuilderError> {
+    Ok(value.sql_arg(alloc)?.as_str() == wanted)
 }
 
 #[test]
 fn appends_the_text_of_a_value(rt: HostRuntime) -> Result<(), Fail> {
     let heap = rt.alloc();
     let foo = String::from_str(heap, "foo")?;
-    let rows = [
-        ("&str", pushed(heap, "foo")?, "a foo"),
-        ("&String", pushed(heap, &foo)?, "a foo"),
-        ("String", pushed(heap, foo)?, "a foo"),
-        (
-            "CowStr",
-            pushed(heap, CowStr::<Global>::Borrowed("foo"))?,
-            "a foo",
-        ),
-        ("number", pushed(heap, -5)?, "a -5"),
-        ("own type", pushed(heap, Id(7))?, "a it's 7"),
-    ];
-    for (name, text, wanted) in rows.iter() {
-        assert_eq!(rt; text.as_str(), *wanted, "push_to of {name}");
-    }
-    let quoted = String::from_str(heap, "o'o")?;
-    let rows = [
-        ("&str", doubled(heap, "o'o")?, "a o''o"),
-        ("&String", doubled(heap, &quoted)?, "a o''o"),
-        ("String", doubled(heap, quoted)?, "a o''o"),
-        (
-            "CowStr",
-            doubled(heap, CowStr::<Global>::Borrowed("'"))?,
-            "a ''",
-        ),
-        ("number", doubled(heap, -5)?, "a -5"),
-    ];
-    for (name, text, wanted) in rows.iter() {
-        assert_eq!(rt; text.as_str(), *wanted, "push_doubled_to of {name}");
-    }
+    assert!(rt; appends(heap, "foo", "a foo")?, "&str");
+    assert!(rt; appends(heap, &foo, "a foo")?, "&String");
+    assert!(rt; appends(heap, foo, "a foo")?, "String");
+    assert!(rt;
+        appends(heap, CowStr::<Global>::Borrowed("foo"), "a foo")?,
+        "CowStr"
+    );
+    assert!(rt; appends(heap, -5, "a -5")?, "number");
+    assert!(rt; appends(heap, Id(7), "a it's 7")?, "own type");
     Ok(())
 }
 
 #[test]
-fn gives_the_text_of_a_value(rt: HostRuntime) -> Result<(), Fail> {
+fn doubles_the_marks_in_a_value(rt: HostRuntime) -> Result<(), Fail> {
+    let heap = rt.alloc();
+    let quoted = String::from_str(heap, "o'o")?;
+    assert!(rt; doubles(heap, "o'o", "a o''o")?, "&str");
+    assert!(rt; doubles(heap, &quoted, "a o''o")?, "&String");
+    assert!(rt; doubles(heap, quoted, "a o''o")?, "String");
+    assert!(rt;
+        doubles(heap, CowStr::<Global>::Borrowed("'"), "a ''")?,
+        "CowStr"
+    );
+    assert!(rt; doubles(heap, -5, "a -5")?, "number");
+    Ok(())
+}
+
+#[test]
+fn gives_the_text_of_a_text(rt: HostRuntime) -> Result<(), Fail> {
     let heap = rt.alloc();
     let foo = String::from_str(heap, "foo")?;
     let borrowed = CowStr::<Global>::Borrowed("foo");
     let owned = CowStr::Owned(String::from_str(heap, "foo")?);
-    let rows = [
-        ("&str", text_of(heap, "foo")?, "foo"),
-        ("&String", text_of(heap, &foo)?, "foo"),
-        ("String", text_of(heap, foo)?, "foo"),
-        ("borrowed CowStr", text_of(heap, borrowed)?, "foo"),
-        ("owned CowStr", text_of(heap, owned)?, "foo"),
-        ("true", text_of(heap, true)?, "true"),
-        ("false", text_of(heap, false)?, "false"),
-        ("char", text_of(heap, '\'')?, "'"),
-        ("wide char", text_of(heap, '本')?, "本"),
-        ("u8", text_of(heap, u8::MAX)?, "255"),
-        ("u16", text_of(heap, u16::MAX)?, "65535"),
-        ("u32", text_of(heap, u32::MAX)?, "4294967295"),
-        ("u64", text_of(heap, u64::MAX)?, "18446744073709551615"),
-        ("usize", text_of(heap, usize::MAX)?, "18446744073709551615"),
-        (
-            "u128",
-            text_of(heap, u128::MAX)?,
-            "340282366920938463463374607431768211455",
-        ),
-        ("i8", text_of(heap, i8::MIN)?, "-128"),
-        ("i16", text_of(heap, i16::MIN)?, "-32768"),
-        ("i32", text_of(heap, i32::MIN)?, "-2147483648"),
-        ("i64", text_of(heap, i64::MIN)?, "-9223372036854775808"),
-        ("isize", text_of(heap, isize::MIN)?, "-9223372036854775808"),
-        (
-            "i128",
-            text_of(heap, i128::MIN)?,
-            "-170141183460469231731687303715884105728",
-        ),
-        ("zero", text_of(heap, 0i32)?, "0"),
-        ("lent", text_of(heap, &&&10i8)?, "10"),
-        ("own type", text_of(heap, &Id(7))?, "it's 7"),
-        ("quoted own type", quote(heap, Id(7))?, "'it''s 7'"),
-        ("quoted number", quote(heap, -5)?, "'-5'"),
-    ];
-    for (name, made, wanted) in rows.iter() {
-        assert_eq!(rt; made.as_str(), *wanted, "text of {name}");
-    }
+    assert!(rt; has_text(heap, "foo", "foo")?, "&str");
+    assert!(rt; has_text(heap, &foo, "foo")?, "&String");
+    assert!(rt; has_text(heap, foo, "foo")?, "String");
+    assert!(rt; has_text(heap, borrowed, "foo")?, "borrowed CowStr");
+    assert!(rt; has_text(heap, owned, "foo")?, "owned CowStr");
     Ok(())
 }
 
 #[test]
-fn gives_the_literal_of_a_value(rt: HostRuntime) -> Result<(), Fail> {
+fn gives_the_text_of_a_truth_value_and_a_char(rt: HostRuntime) -> Result<(), Fail> {
+    let heap = rt.alloc();
+    assert!(rt; has_text(heap, true, "true")?, "true");
+    assert!(rt; has_text(heap, false, "false")?, "false");
+    assert!(rt; has_text(heap, '\'', "'")?, "char");
+    assert!(rt; has_text(heap, '本', "本")?, "wide char");
+    Ok(())
+}
+
+#[test]
+fn gives_the_text_of_a_natural_number(rt: HostRuntime) -> Result<(), Fail> {
+    let heap = rt.alloc();
+    assert!(rt; has_text(heap, u8::MAX, "255")?, "u8");
+    assert!(rt; has_text(heap, u16::MAX, "65535")?, "u16");
+    assert!(rt; has_text(heap, u32::MAX, "4294967295")?, "u32");
+    assert!(rt; has_text(heap, u64::MAX, "18446744073709551615")?, "u64");
+    assert!(rt;
+        has_text(heap, usize::MAX, "18446744073709551615")?,
+        "usize"
+    );
+    assert!(rt;
+        has_text(heap, u128::MAX, "340282366920938463463374607431768211455")?,
+        "u128"
+    );
+    Ok(())
+}
+
+#[test]
+fn gives_the_text_of_a_whole_number(rt: HostRuntime) -> Result<(), Fail> {
+    let heap = rt.alloc();
+    assert!(rt; has_text(heap, i8::MIN, "-128")?, "i8");
+    assert!(rt; has_text(heap, i16::MIN, "-32768")?, "i16");
+    assert!(rt; has_text(heap, i32::MIN, "-2147483648")?, "i32");
+    assert!(rt; has_text(heap, i64::MIN, "-9223372036854775808")?, "i64");
+    assert!(rt;
+        has_text(heap, isize::MIN, "-9223372036854775808")?,
+        "isize"
+    );
+    assert!(rt;
+        has_text(heap, i128::MIN, "-170141183460469231731687303715884105728")?,
+        "i128"
+    );
+    assert!(rt; has_text(heap, 0i32, "0")?, "zero");
+    Ok(())
+}
+
+#[test]
+fn gives_the_text_of_a_lent_value_and_of_an_own_type(rt: HostRuntime) -> Result<(), Fail> {
+    let heap = rt.alloc();
+    assert!(rt; has_text(heap, &&&10i8, "10")?, "lent");
+    assert!(rt; has_text(heap, &Id(7), "it's 7")?, "own type");
+    assert!(rt;
+        has_text(heap, quote(heap, Id(7))?, "'it''s 7'")?,
+        "quoted own type"
+    );
+    assert!(rt; has_text(heap, quote(heap, -5)?, "'-5'")?, "quoted number");
+    Ok(())
+}
+
+#[test]
+fn gives_the_literal_of_a_text(rt: HostRuntime) -> Result<(), Fail> {
     let heap = rt.alloc();
     let its = String::from_str(heap, "it's")?;
     let borrowed = CowStr::<Global>::Borrowed("it's");
+    assert!(rt; has_literal(heap, "it's", "'it''s'")?, "&str");
+    assert!(rt; has_literal(heap, &its, "'it''s'")?, "&String");
+    assert!(rt; has_literal(heap, its, "'it''s'")?, "String");
+    assert!(rt; has_literal(heap, borrowed, "'it''s'")?, "CowStr");
+    Ok(())
+}
+
+#[test]
+fn gives_the_literal_of_a_truth_value_and_an_own_type(rt: HostRuntime) -> Result<(), Fail> {
+    let heap = rt.alloc();
+    assert!(rt; has_literal(heap, true, "TRUE")?, "true");
+    assert!(rt; has_literal(heap, &false, "FALSE")?, "false");
+    assert!(rt; has_literal(heap, Id(7), "7")?, "own type");
+    Ok(())
+}
+
+#[test]
+fn gives_the_literal_of_a_natural_number(rt: HostRuntime) -> Result<(), Fail> {
+    let heap = rt.alloc();
+    assert!(rt; has_literal(heap, u8::MAX, "255")?, "u8");
+    assert!(rt; has_literal(heap, u16::MAX, "65535")?, "u16");
+    assert!(rt; has_literal(heap, u32::MAX, "4294967295")?, "u32");
+    assert!(rt; has_literal(heap, u64::MAX, "18446744073709551615")?, "u64");
+    assert!(rt;
+        has_literal(heap, usize::MAX, "18446744073709551615")?,
+        "usize"
+    );
+    assert!(rt;
+        has_literal(heap, u128::MAX, "340282366920938463463374607431768211455")?,
+        "u128"
+    );
+    Ok(())
+}
+
+#[test]
+fn gives_the_literal_of_a_whole_number(rt: HostRuntime) -> Result<(), Fail> {
+    let heap = rt.alloc();
+    assert!(rt; has_literal(heap, i8::MIN, "-128")?, "i8");
+    assert!(rt; has_literal(heap, i16::MIN, "-32768")?, "i16");
+    assert!(rt; has_literal(heap, i32::MIN, "-2147483648")?, "i32");
+    assert!(rt; has_literal(heap, i64::MIN, "-9223372036854775808")?, "i64");
+    assert!(rt;
+        has_literal(heap, isize::MIN, "-9223372036854775808")?,
+        "isize"
+    );
+    assert!(rt;
+        has_literal(heap, i128::MIN, "-170141183460469231731687303715884105728")?,
+        "i128"
+    );
+    Ok(())
+}
+
+#[test]
+fn gives_the_literal_of_an_option(rt: HostRuntime) -> Result<(), Fail> {
+    let heap = rt.alloc();
+    assert!(rt; has_literal(heap, None::<u8>, "NULL")?, "None");
+    assert!(rt; has_literal(heap, Some("foo"), "'foo'")?, "Some");
+    assert!(rt; has_literal(heap, &Some("foo"), "'foo'")?, "&Some");
+    assert!(rt;
+        has_literal(heap, Some(None::<&str>), "NULL")?,
+        "Some(None)"
+    );
+    Ok(())
+}
+
+#[test]
+fn gives_the_literal_of_a_literal(rt: HostRuntime) -> Result<(), Fail> {
+    let heap = rt.alloc();
     let text = Literal::Text(String::from_str(heap, "it's")?);
-    let rows = [
-        ("&str", literal_of(heap, "it's")?, "'it''s'"),
-        ("&String", literal_of(heap, &its)?, "'it''s'"),
-        ("String", literal_of(heap, its)?, "'it''s'"),
-        ("CowStr", literal_of(heap, borrowed)?, "'it''s'"),
-        ("true", literal_of(heap, true)?, "TRUE"),
-        ("false", literal_of(heap, &false)?, "FALSE"),
-        ("u8", literal_of(heap, u8::MAX)?, "255"),
-        ("u16", literal_of(heap, u16::MAX)?, "65535"),
-        ("u32", literal_of(heap, u32::MAX)?, "4294967295"),
-        ("u64", literal_of(heap, u64::MAX)?, "18446744073709551615"),
-        (
-            "usize",
-            literal_of(heap, usize::MAX)?,
-            "18446744073709551615",
-        ),
-        (
-            "u128",
-            literal_of(heap, u128::MAX)?,
-            "340282366920938463463374607431768211455",
-        ),
-        ("i8", literal_of(heap, i8::MIN)?, "-128"),
-        ("i16", literal_of(heap, i16::MIN)?, "-32768"),
-        ("i32", literal_of(heap, i32::MIN)?, "-2147483648"),
-        ("i64", literal_of(heap, i64::MIN)?, "-9223372036854775808"),
-        (
-            "isize",
-            literal_of(heap, isize::MIN)?,
-            "-9223372036854775808",
-        ),
-        (
-            "i128",
-            literal_of(heap, i128::MIN)?,
-            "-170141183460469231731687303715884105728",
-        ),
-        ("None", literal_of(heap, None::<u8>)?, "NULL"),
-        ("Some", literal_of(heap, Some("foo"))?, "'foo'"),
-        ("&Some", literal_of(heap, &Some("foo"))?, "'foo'"),
-        ("Some(None)", literal_of(heap, Some(None::<&str>))?, "NULL"),
-        ("Null", literal_of(heap, Literal::Null)?, "NULL"),
-        ("Truth", literal_of(heap, Literal::Truth(true))?, "TRUE"),
-        ("Whole", literal_of(heap, Literal::Whole(-5))?, "-5"),
-        ("Text", literal_of(heap, &text)?, "'it''s'"),
-        ("own type", literal_of(heap, Id(7))?, "7"),
-    ];
-    for (name, made, wanted) in rows.iter() {
-        assert_eq!(rt; made.as_str(), *wanted, "literal of {name}");
-    }
+    assert!(rt; has_literal(heap, Literal::Null, "NULL")?, "Null");
+    assert!(rt; has_literal(heap, Literal::Truth(true), "TRUE")?, "Truth");
+    assert!(rt; has_literal(heap, Literal::Whole(-5), "-5")?, "Whole");
+    assert!(rt; has_literal(heap, &text, "'it''s'")?, "Text");
     Ok(())
 }
 
@@ -287,9 +333,8 @@ fn gives_the_literal_of_a_box(rt: HostRuntime) -> Result<(), Fail> {
     boxes.push(Box::new(heap, -3i64)?)?;
     let wanted = ["5", "'it''s'", "NULL", "'foo'", "TRUE", "FALSE", "-3"];
     assert_eq!(rt; boxes.len(), wanted.len());
-    for (at, (boxed, wanted)) in boxes.iter().zip(wanted).enumerate() {
-        assert_eq!(rt; boxed.sql_arg(heap)?.as_str(), wanted, "box {at}");
-        assert_eq!(rt; literal_of(heap, boxed)?.as_str(), wanted, "box {at}");
+    for (boxed, wanted) in boxes.iter().zip(wanted) {
+        assert!(rt; has_literal(heap, boxed, wanted)?, "box of {wanted}");
     }
     Ok(())
 }
