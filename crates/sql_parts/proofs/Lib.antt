@@ -3,6 +3,7 @@ pub mod Decimal
 pub mod Doubled
 pub mod Kept
 pub mod LastPairs
+pub mod Lexing
 pub mod Loans
 pub mod MarkerLemmas
 pub mod NameRows
@@ -11,5 +12,6 @@ pub mod Resolving
 pub mod Rows
 pub mod TemplateLaws
 pub mod TemplateRows
+pub mod TokenRows
 pub mod Variants
 pub mod Walking

@@ -8,6 +8,7 @@ mod bind_names;
 mod binding;
 pub mod error;
 pub mod laws;
+pub mod lex;
 pub mod name;
 mod places;
 mod quoting;

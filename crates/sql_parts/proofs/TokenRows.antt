@@ -1,0 +1,52 @@
+-- Worked rows of tokens: what the definitions give, by computing.
+use Prim.Native.Char.{code}
+use Rattle.std.specs.Prelude.{◌≡◌, true, false, [], ◌∷◌, codes, refl}
+use Rattle.sql_parts.specs.Tokens.{Word, Str, Name, Symbol, Open, tokens, closed, has_semicolon}
+
+closed-comment_without_end : closed (codes "a -- b") ≡ false
+closed-comment_without_end = refl
+
+closed-comment : closed (codes "a -- b\n") ≡ true
+closed-comment = refl
+
+closed-star_shared : closed (codes "/*/") ≡ false
+closed-star_shared = refl
+
+closed-quoted : closed (codes "'it''s'") ≡ true
+closed-quoted = refl
+
+closed-quote_without_end : closed (codes "'it''s") ≡ false
+closed-quote_without_end = refl
+
+closed-empty : closed [] ≡ true
+closed-empty = refl
+
+has_semicolon-bare : has_semicolon (codes "a;b") ≡ true
+has_semicolon-bare = refl
+
+has_semicolon-quoted : has_semicolon (codes "';'") ≡ false
+has_semicolon-quoted = refl
+
+tokens-comment_between : tokens (codes "a/**/b") ≡ Word (codes "a") ∷ Word (codes "b") ∷ []
+tokens-comment_between = refl
+
+tokens-number : tokens (codes "0.1") ≡ Word (codes "0") ∷ Symbol (code ".") ∷ Word (codes "1") ∷ []
+tokens-number = refl
+
+tokens-at_most : tokens (codes "<=") ≡ Symbol (code "<") ∷ Symbol (code "=") ∷ []
+tokens-at_most = refl
+
+tokens-bracket : tokens (codes "[]]]") ≡ Name (codes "]") ∷ []
+tokens-bracket = refl
+
+tokens-mask : tokens (codes "t LIKE '%50%''%'") ≡ Word (codes "t") ∷ Word (codes "LIKE") ∷ Str (codes "%50%'%") ∷ []
+tokens-mask = refl
+
+tokens-open : tokens (codes "a 'b") ≡ Word (codes "a") ∷ Open ∷ []
+tokens-open = refl
+
+tokens-statement : tokens (codes "select \"a\"\"b\", 'x' from t -- c\n where `q` = [w] and w <> -1 /* ** / */;")
+    ≡ Word (codes "select") ∷ Name (codes "a\"b") ∷ Symbol (code ",") ∷ Str (codes "x") ∷ Word (codes "from") ∷ Word (codes "t")
+    ∷ Word (codes "where") ∷ Name (codes "q") ∷ Symbol (code "=") ∷ Name (codes "w") ∷ Word (codes "and") ∷ Word (codes "w")
+    ∷ Symbol (code "<") ∷ Symbol (code ">") ∷ Symbol (code "-") ∷ Word (codes "1") ∷ Symbol (code ";") ∷ []
+tokens-statement = refl
