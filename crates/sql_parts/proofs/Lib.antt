@@ -8,10 +8,14 @@ pub mod Loans
 pub mod MarkerLemmas
 pub mod NameRows
 pub mod Names
+pub mod Reader
+pub mod Reading
 pub mod Resolving
 pub mod Rows
+pub mod Seams
 pub mod TemplateLaws
 pub mod TemplateRows
+pub mod TokenLaws
 pub mod TokenRows
 pub mod Variants
 pub mod Walking
