@@ -8,6 +8,7 @@ pub mod Loans
 pub mod MarkerLemmas
 pub mod NameRows
 pub mod Names
+pub mod Pieces
 pub mod Reader
 pub mod Reading
 pub mod Resolving

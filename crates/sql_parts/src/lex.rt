@@ -1,10 +1,21 @@
 //! Tests of fragments, which read a text as the tokens of SQL.
 ghost use Rattle.std.specs.Prelude.{◌≡◌, ◌≢◌, ◌<◌, ℕ, [], ◌∷◌, ◌++◌, IfSome, MatchOption, Some, drop, length, option_map, take};
+ghost use Rattle.std.specs.Prelude.{IfOk, true};
 ghost use Rattle.std.specs.List.{prefix_len};
+ghost use Rattle.sql_parts.specs.Apart.{apart, piece_apart, pieces_apart};
+ghost use Rattle.sql_parts.specs.Error.{FailsOnlyByMemory};
 ghost use Rattle.sql_parts.specs.Lexing.{IsRead, StandsFor, behind_bytes, closing_mark, seen_text};
+ghost use Rattle.sql_parts.specs.Places.{marks_of};
+ghost use Rattle.sql_parts.specs.Templates.{resolved_from};
 ghost use Rattle.sql_parts.specs.Tokens as tokens;
-ghost use Rattle.sql_parts.specs.Tokens.{closed, first, has_semicolon, inside, is_blank, is_word_byte, reach};
+ghost use Rattle.sql_parts.specs.Tokens.{begins_with, closed, ends_with, first, has_semicolon, inside, is_blank, is_separator, is_word_byte, reach};
 ghost use Rattle.sql_parts.specs.declared.lex.Token.TheVariants as seen;
+
+use crate::bind::Marks;
+use crate::binding::lacks_arguments;
+use crate::error::SqlBuilderError;
+use crate::places::{Place, first_place, opening};
+use std::alloc::Global;
 
 /// A token of a text. What stands between quotes isn't kept.
 #[derive(Clone, Copy)]
@@ -162,4 +173,88 @@ pub fn has_semicolon(text: &str) -> bool
         rest = behind;
     }
     false
+}
+
+fn is_separator(byte: u8) -> bool
+    ensures { result ≡ is_separator byte }
+{
+    matches!(
+        byte,
+        b' ' | b'\t' | b'\n' | b'\r' | b'(' | b')' | b',' | b';' | b'=' | b'<' | b'>'
+    )
+}
+
+fn begins_apart(piece: &str) -> bool
+    ensures { result ≡ begins_with is_separator piece.now }
+{
+    match piece.as_bytes().first() {
+        None => false,
+        Some(byte) => is_separator(*byte),
+    }
+}
+
+fn ends_apart(piece: &str) -> bool
+    ensures { result ≡ ends_with is_separator piece.now }
+{
+    match piece.as_bytes().last() {
+        None => false,
+        Some(byte) => is_separator(*byte),
+    }
+}
+
+fn piece_apart(first: bool, last: bool, piece: &str) -> bool
+    ensures { result ≡ piece_apart first last piece.now }
+{
+    is_closed(piece)
+        && (last || first && piece.is_empty() || ends_apart(piece))
+        && (first || last && piece.is_empty() || begins_apart(piece))
+}
+
+// Whether the pieces of a template stand apart, for a `?` without arguments too.
+fn pieces_apart(
+    alloc: Global,
+    template: &str,
+    marks: &Marks<'_>,
+) -> Result<bool, SqlBuilderError>
+    ensures apart { let resolved = resolved_from (marks_of marks.now) 0 0 template.now in
+        IfOk result (λ b. b ≡ pieces_apart true resolved.0 resolved.1) }
+    ensures memory { FailsOnlyByMemory result }
+{
+    let opening = opening(alloc, marks)?;
+    let mut piece = String::new(alloc);
+    let mut rest = template;
+    let mut seen = 0;
+    while let Some(found) = first_place(marks, opening.as_str(), seen, rest) {
+        piece.push_str(found.piece)?;
+        match found.place {
+            Place::Writes(text) => piece.push_str(text)?,
+            Place::Holds(_) => {
+                if !piece_apart(seen == 0, false, piece.as_str()) {
+                    return Ok(false);
+                }
+                piece.clear();
+                seen += 1;
+            }
+        }
+        rest = found.rest;
+    }
+    piece.push_str(rest)?;
+    Ok(piece_apart(seen == 0, true, piece.as_str()))
+}
+
+/// Whether the values that these marks bind stand apart in a template: each piece between them is
+/// closed, and nothing but a separator or an end of the text touches a value. A text that is bound
+/// there can't leave its literal. It is refused only for want of memory.
+pub fn stands_apart(
+    alloc: Global,
+    template: &str,
+    marks: &Marks<'_>,
+) -> Result<bool, SqlBuilderError>
+    ensures apart { IfOk result (λ b. b ≡ apart template.now (marks_of marks.now)) }
+    ensures memory { FailsOnlyByMemory result }
+{
+    match marks {
+        Marks::Cycle(count) if lacks_arguments(template, *count) => Ok(false),
+        _ => pieces_apart(alloc, template, marks),
+    }
 }
