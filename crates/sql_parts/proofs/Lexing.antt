@@ -134,7 +134,7 @@ read-finds byte text read front here =
 word-apart : (byte other : ℕ) → is_word_byte byte ≡ true → is_word_byte other ≡ false → byte ≢ other
 word-apart byte other is isnt same = false≢true (sym isnt ∙ ap is_word_byte (sym same) ∙ is)
 
-first-word : (byte : ℕ) (behind : List ℕ) → is_word_byte byte ≡ true → first byte behind ≡ word byte behind
+pub first-word : (byte : ℕ) (behind : List ℕ) → is_word_byte byte ≡ true → first byte behind ≡ word byte behind
 first-word byte behind is =
     let isnt : (other : ℕ) → is_word_byte other ≡ false → (byte == other) ≡ false = λ other o. ne_eqb byte other (word-apart byte other is o) in
     let begins : (other : ℕ) → is_word_byte other ≡ false → (other == byte) ≡ false = λ other o. ne_eqb other byte (λ same. word-apart byte other is o (sym same)) in

@@ -1,4 +1,5 @@
 pub mod ChainCalls
+pub mod Confined
 pub mod Decimal
 pub mod Doubled
 pub mod Kept
@@ -20,3 +21,4 @@ pub mod TokenLaws
 pub mod TokenRows
 pub mod Variants
 pub mod Walking
+pub mod WordTokens
