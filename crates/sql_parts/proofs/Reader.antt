@@ -3,7 +3,7 @@ use Prim.Native.Char.{code}
 use Rattle.std.proofs.Common.{ℕ, List, [], ◌∷◌, ◌++◌}
 use Rattle.std.specs.Prelude.{◌==◌, if◌then◌else◌}
 use Rattle.sql_parts.specs.Quoting.{closing}
-use Rattle.sql_parts.specs.Tokens.{Token, Word, Name, Str, Symbol, Open, is_blank, is_word_byte}
+use Rattle.sql_parts.specs.Tokens.{Token, Word, Symbol, Open, is_blank, is_word_byte, quoted_token}
 use Rattle.sql_parts.specs.declared.text.Quotes.{Quotes}
 use Rattle.sql_parts.specs.declared.text.Quotes.TheVariants.{Single, Back, Square, Double}
 
@@ -19,13 +19,6 @@ pub data Mode : Type 0 where
   InLine : Mode
   InBlock : Mode
   AtStar : Mode
-
--- the token that quotes make of a text
-abbrev pub quoted_token : Quotes → List ℕ → Token
-quoted_token Single text = Str text
-quoted_token Back text = Name text
-quoted_token Square text = Name text
-quoted_token Double text = Name text
 
 -- a byte that begins anew: the tokens that are whole with it, and where the reader is then
 abbrev pub start : ℕ → List Token × Mode

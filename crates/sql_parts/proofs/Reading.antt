@@ -6,11 +6,11 @@ use Rattle.std.specs.List.{prefix_len, starts_with}
 use Rattle.std.proofs.lemmas.Bool.{cases_Bool, cond-false, cond-true, eqb-false, eqb-true}
 use Rattle.std.proofs.Math.Seq.{drop-length}
 use Rattle.sql_parts.specs.Quoting.{closing}
-use Rattle.sql_parts.specs.Tokens.{Token, Word, Symbol, Open, comment, first, inside, is_blank, is_word_byte, reach, tokens, tokens_from, unquoted}
+use Rattle.sql_parts.specs.Tokens.{Token, Word, Symbol, Open, comment, first, inside, is_blank, is_word_byte, reach, tokens, tokens_from, unquoted, quoted_token}
 use Rattle.sql_parts.specs.declared.text.Quotes.{Quotes}
 use Rattle.sql_parts.specs.declared.text.Quotes.TheVariants.{Single, Back, Square, Double}
 use Rattle.sql_parts.proofs.Lexing.{tokens-rule, tokens_from-drop}
-use Rattle.sql_parts.proofs.Reader.{Mode, Between, InWord, InQuotes, InLine, InBlock, AtStar, behind_token, quoted_token, read, start}
+use Rattle.sql_parts.proofs.Reader.{Mode, Between, InWord, InQuotes, InLine, InBlock, AtStar, behind_token, read, start}
 
 -- a byte that doesn't go on with a token ends it, and begins anew
 ended : (more : Bool) (further : List Token × Mode) (token : Token) (byte : ℕ) (text : List ℕ) → more ≡ false

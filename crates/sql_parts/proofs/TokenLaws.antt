@@ -4,10 +4,9 @@ use Rattle.std.specs.List.{list_any}
 use Rattle.std.proofs.lemmas.Bool.{not-true, not_from_false, or_from}
 use Rattle.std.proofs.lemmas.List.Folds.{list_any-append}
 use Rattle.sql_parts.specs.Quoting.{between, opening}
-use Rattle.sql_parts.specs.Tokens.{Token, Str, Name, clean, closed, is_open, tokens}
+use Rattle.sql_parts.specs.Tokens.{Token, Str, Name, clean, closed, is_open, tokens, quoted_token}
 use Rattle.sql_parts.specs.declared.text.Quotes.{Quotes}
 use Rattle.sql_parts.specs.declared.text.Quotes.TheVariants.{Single, Back, Square, Double}
-use Rattle.sql_parts.proofs.Reader.{quoted_token}
 use Rattle.sql_parts.proofs.Reading.{tokens-read}
 use Rattle.sql_parts.proofs.Seams.{has_open, read-doubled, read-seam}
 
@@ -29,3 +28,15 @@ between-tokens Single text = tokens-read (between Single text) ∙ read-doubled 
 between-tokens Back text = tokens-read (between Back text) ∙ read-doubled Back [] text
 between-tokens Square text = tokens-read (between Square text) ∙ read-doubled Square [] text
 between-tokens Double text = tokens-read (between Double text) ∙ read-doubled Double [] text
+
+pub between_token : (quotes : Quotes) (text written : List ℕ) → written ≡ between quotes text → tokens written ≡ quoted_token quotes text ∷ []
+between_token quotes text written is = ap tokens is ∙ between-tokens quotes text
+
+quoted-shut : (quotes : Quotes) (text : List ℕ) → is_open (quoted_token quotes text) ≡ false
+quoted-shut Single text = refl
+quoted-shut Back text = refl
+quoted-shut Square text = refl
+quoted-shut Double text = refl
+
+pub between_closed : (quotes : Quotes) (text written : List ℕ) → written ≡ between quotes text → closed written ≡ true
+between_closed quotes text written is = ap (λ all. not (has_open all)) (between_token quotes text written is) ∙ ap (λ o. not (o || false)) (quoted-shut quotes text)

@@ -3,6 +3,8 @@ use Prim.Native.Char.{code}
 use Rattle.std.specs.Prelude.{ℕ, zero, suc, ◌==◌, ◌||◌, Bool, true, false, not, nat_eq, nat_le, List, [], ◌∷◌, ◌++◌, length, take, drop, if◌then◌else◌, codes, Option, Some, None, option_map}
 use Rattle.std.specs.Char.{is_ascii_alphanumeric}
 use Rattle.std.specs.List.{list_any, prefix_len, starts_with}
+use Rattle.sql_parts.specs.declared.text.Quotes.{Quotes}
+use Rattle.sql_parts.specs.declared.text.Quotes.TheVariants.{Single, Back, Square, Double}
 
 -- A word, a text or a name between quotes as it reads back, any other byte, or a quote or a comment that has no end.
 pub data Token : Type 0 where
@@ -80,6 +82,13 @@ tokens text = tokens_from 0 text
 abbrev pub is_open : Token → Bool
 is_open Open = true
 is_open _ = false
+
+-- the token of a text between these marks
+abbrev pub quoted_token : Quotes → List ℕ → Token
+quoted_token Single text = Str text
+quoted_token Back text = Name text
+quoted_token Square text = Name text
+quoted_token Double text = Name text
 
 -- no quote and no comment lacks its end
 abbrev pub closed : List ℕ → Bool
