@@ -2,12 +2,14 @@ pub mod ChainCalls
 pub mod Confined
 pub mod Decimal
 pub mod Doubled
+pub mod JoinedTokens
 pub mod Kept
 pub mod LastPairs
 pub mod Lexing
 pub mod Loans
 pub mod MarkerLemmas
 pub mod NameRows
+pub mod NameTokens
 pub mod Names
 pub mod Pieces
 pub mod Reader
