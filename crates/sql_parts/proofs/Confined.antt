@@ -4,9 +4,9 @@ use Rattle.std.specs.Prelude.{◌&&◌, ◌==◌, codes, flat_map}
 use Rattle.std.specs.List.{list_any}
 use Rattle.std.proofs.lemmas.Bool.{and_parts, false≢true, or_cases, or_from, or_left, or_right}
 use Rattle.std.proofs.lemmas.List.Folds.{list_any-append}
-use Rattle.sql_parts.specs.Apart.{apart, bound_tokens, literal_tokens, piece_apart, pieces_apart, resolved_apart}
+use Rattle.sql_parts.specs.Apart.{HasBoundTokens, IsClosedIfApart, IsSupplied, apart, bound_tokens, literal_tokens, piece_apart, pieces_apart, resolved_apart}
 use Rattle.sql_parts.specs.Literal.{LiteralValue, literal_text, words}
-use Rattle.sql_parts.specs.Templates.{Marks, Resolved, Value, bound, resolve, written}
+use Rattle.sql_parts.specs.Templates.{Marks, Resolved, Value, bound, resolve, resolved_from, written}
 use Rattle.sql_parts.specs.Tokens.{Token, begins_with, clean, closed, ends_with, is_edge, is_empty, is_open, is_separator, tokens}
 use Rattle.sql_parts.proofs.TokenLaws.{closed-shut, seam}
 use Rattle.sql_parts.proofs.WordTokens.{literal-closed, literal-is, literal-shut}
@@ -146,3 +146,16 @@ bound-count template marks one other is =
     ap (option_map length) (bound-is template marks (λ value. words (one value)) is)
     ∙ resolved-count one other (resolve template marks)
     ∙ sym (ap (option_map length) (bound-is template marks (λ value. words (other value)) is))
+
+-- what is known of a text that is a resolved template with literals in it
+is-bound : (template text : List ℕ) (marks : Marks) (literals : Value → LiteralValue) → text ≡ written literals (resolved_from marks 0 0 template) → IsSupplied template marks
+    → bound template marks literals ≡ Some text
+is-bound template text marks literals is supplied = ap (option_map (written literals)) supplied ∙ ap Some (sym is)
+
+pub has_bound_tokens : (template text : List ℕ) (marks : Marks) (literals : Value → LiteralValue) → text ≡ written literals (resolved_from marks 0 0 template)
+    → IsSupplied template marks → HasBoundTokens template marks literals text
+has_bound_tokens template text marks literals is supplied = λ stands. ap (option_map tokens) (sym (is-bound template text marks literals is supplied)) ∙ bound-is template marks literals stands
+
+pub is_closed_if_apart : (template text : List ℕ) (marks : Marks) (literals : Value → LiteralValue) → text ≡ written literals (resolved_from marks 0 0 template)
+    → IsSupplied template marks → IsClosedIfApart template marks text
+is_closed_if_apart template text marks literals is supplied = λ stands. bound-closed template text marks literals stands (is-bound template text marks literals is supplied)

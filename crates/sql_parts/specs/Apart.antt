@@ -1,8 +1,8 @@
 -- Templates whose values stand apart, and the tokens of the texts that are bound to them.
 use Prim.Native.Char.{code}
-use Rattle.std.specs.Prelude.{ℕ, pos, negsuc, suc, ◌&&◌, ◌||◌, Bool, true, false, List, [], ◌∷◌, ◌++◌, codes, flat_map, if◌then◌else◌, Option, Some, None}
+use Rattle.std.specs.Prelude.{◌≡◌, ℕ, IsTrue, pos, negsuc, suc, ◌&&◌, ◌||◌, Bool, true, false, List, [], ◌∷◌, ◌++◌, codes, flat_map, if◌then◌else◌, Option, Some, None, option_map}
 use Rattle.sql_parts.specs.Literal.{LiteralValue, null, truth, whole, words}
-use Rattle.sql_parts.specs.Templates.{Marks, Resolved, Value, resolve}
+use Rattle.sql_parts.specs.Templates.{Marks, Resolved, Value, resolve, resolved_from}
 use Rattle.sql_parts.specs.Text.{decimal_text}
 use Rattle.sql_parts.specs.Tokens.{Token, Word, Str, Symbol, begins_with, closed, ends_with, is_empty, is_separator, tokens}
 
@@ -38,3 +38,16 @@ literal_tokens (words text) = Str text ∷ []
 -- the tokens of the pieces, with those of the literals between them
 abbrev pub bound_tokens : (Value → LiteralValue) → Resolved → List Token
 bound_tokens literals resolved = tokens resolved.0 ++ flat_map (λ part. literal_tokens (literals part.0) ++ tokens part.1) resolved.1
+
+-- there is a resolved template: no `?` lacks an argument
+abbrev pub IsSupplied : List ℕ → Marks → Type 0
+IsSupplied template marks = resolve template marks ≡ Some (resolved_from marks 0 0 template)
+
+-- Where the values of a template stand apart, a text has the tokens of the template with these literals in it.
+abbrev pub HasBoundTokens : List ℕ → Marks → (Value → LiteralValue) → List ℕ → Type 0
+HasBoundTokens template marks literals text =
+    IsTrue (apart template marks) → Some (tokens text) ≡ option_map (bound_tokens literals) (resolve template marks)
+
+-- there it is closed
+abbrev pub IsClosedIfApart : List ℕ → Marks → List ℕ → Type 0
+IsClosedIfApart template marks text = IsTrue (apart template marks) → IsTrue (closed text)
