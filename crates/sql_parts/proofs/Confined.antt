@@ -5,6 +5,7 @@ use Rattle.std.specs.List.{list_any}
 use Rattle.std.proofs.lemmas.Bool.{and_parts, false≢true, or_cases, or_from, or_left, or_right}
 use Rattle.std.proofs.lemmas.List.Folds.{list_any-append}
 use Rattle.sql_parts.specs.Apart.{HasBoundTokens, IsClosedIfApart, IsSupplied, apart, bound_tokens, literal_tokens, piece_apart, pieces_apart, resolved_apart}
+use Rattle.sql_parts.specs.Laws.{token_count}
 use Rattle.sql_parts.specs.Literal.{LiteralValue, literal_text, words}
 use Rattle.sql_parts.specs.Templates.{Marks, Resolved, Value, bound, resolve, resolved_from, written}
 use Rattle.sql_parts.specs.Tokens.{Token, begins_with, clean, closed, ends_with, is_edge, is_empty, is_open, is_separator, tokens}
@@ -140,12 +141,18 @@ resolved-count one other (Some resolved) =
     let of : (Value → List ℕ) → List Token = λ texts. part_tokens (λ value. words (texts value)) resolved.1 in
     ap Some (length-append (tokens resolved.0) (of one) ∙ ap (λ n. length (tokens resolved.0) + n) (part-count one other resolved.1) ∙ sym (length-append (tokens resolved.0) (of other)))
 
+count : (text : Option (List ℕ)) → token_count text ≡ option_map length (option_map tokens text)
+count None = refl
+count (Some text) = refl
+
 pub bound-count : (template : List ℕ) (marks : Marks) (one other : Value → List ℕ) → apart template marks ≡ true
-    → option_map length (option_map tokens (bound template marks (λ value. words (one value)))) ≡ option_map length (option_map tokens (bound template marks (λ value. words (other value))))
+    → token_count (bound template marks (λ value. words (one value))) ≡ token_count (bound template marks (λ value. words (other value)))
 bound-count template marks one other is =
-    ap (option_map length) (bound-is template marks (λ value. words (one value)) is)
+    count (bound template marks (λ value. words (one value)))
+    ∙ ap (option_map length) (bound-is template marks (λ value. words (one value)) is)
     ∙ resolved-count one other (resolve template marks)
     ∙ sym (ap (option_map length) (bound-is template marks (λ value. words (other value)) is))
+    ∙ sym (count (bound template marks (λ value. words (other value))))
 
 -- what is known of a text that is a resolved template with literals in it
 is-bound : (template text : List ℕ) (marks : Marks) (literals : Value → LiteralValue) → text ≡ written literals (resolved_from marks 0 0 template) → IsSupplied template marks
