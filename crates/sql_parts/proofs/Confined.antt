@@ -69,7 +69,7 @@ behind-value literals before piece [] is =
     value-clean before piece [] (λ empty. refl) (elim ((fits false true piece is).before refl) [ inl last ↦ inl last.1 | inr begins ↦ inr begins ])
 behind-value literals before piece (part ∷ parts) is =
     let begins : begins_with is_separator piece ≡ true =
-        elim ((fits false false piece (and_parts (piece_apart false false piece) _ is).0).before refl) [ inl last ↦ absurd (false≢true last.0) | inr begins ↦ begins ] in
+    elim ((fits false false piece (and_parts (piece_apart false false piece) _ is).0).before refl) [ inl last ↦ absurd (false≢true last.0) | inr begins ↦ begins ] in
     value-clean before piece (part_texts literals (part ∷ parts)) (λ empty. absurd (some piece empty begins)) (inr begins)
   where
     some : (text : List ℕ) → is_empty text ≡ true → begins_with is_separator text ≡ true → ⊥
@@ -87,10 +87,10 @@ pieces-tokens literals first piece (part ∷ parts) is =
     ap (λ more. tokens (piece ++ more)) (append_assoc text part.1 (part_texts literals parts))
     ∙ seam piece (text ++ rest) here.is_closed (piece-clean piece (text ++ rest) (here.behind refl))
     ∙ ap (λ more. tokens piece ++ more)
-        (seam text rest (literal-closed (literals part.0)) (behind-value literals text part.1 parts both.1)
-        ∙ ap (λ value. value ++ tokens rest) (literal-is (literals part.0))
-        ∙ ap (λ more. literal_tokens (literals part.0) ++ more) (pieces-tokens literals false part.1 parts both.1)
-        ∙ sym (append_assoc (literal_tokens (literals part.0)) (tokens part.1) (part_tokens literals parts)))
+    (seam text rest (literal-closed (literals part.0)) (behind-value literals text part.1 parts both.1)
+    ∙ ap (λ value. value ++ tokens rest) (literal-is (literals part.0))
+    ∙ ap (λ more. literal_tokens (literals part.0) ++ more) (pieces-tokens literals false part.1 parts both.1)
+    ∙ sym (append_assoc (literal_tokens (literals part.0)) (tokens part.1) (part_tokens literals parts)))
 
 resolved-tokens : (literals : Value → LiteralValue) (resolved : Option Resolved) → resolved_apart resolved ≡ true
     → option_map tokens (option_map (written literals) resolved) ≡ option_map (bound_tokens literals) resolved
@@ -112,8 +112,8 @@ pieces-shut literals first piece (part ∷ parts) is =
     let more = part_tokens literals parts in
     list_any-append is_open (tokens piece) ((value ++ tokens part.1) ++ more)
     ∙ or_from _ _ (closed-shut piece (fits first false piece both.0).is_closed)
-        (ap (list_any is_open) (append_assoc value (tokens part.1) more) ∙ list_any-append is_open value (tokens part.1 ++ more)
-        ∙ or_from _ _ (literal-shut (literals part.0)) (pieces-shut literals false part.1 parts both.1))
+    (ap (list_any is_open) (append_assoc value (tokens part.1) more) ∙ list_any-append is_open value (tokens part.1 ++ more)
+    ∙ or_from _ _ (literal-shut (literals part.0)) (pieces-shut literals false part.1 parts both.1))
 
 resolved-closed : (literals : Value → LiteralValue) (text : List ℕ) (resolved : Option Resolved) → resolved_apart resolved ≡ true → option_map (written literals) resolved ≡ Some text → closed text ≡ true
 resolved-closed literals text None is written_is = absurd (false≢true is)

@@ -34,9 +34,9 @@ joined-tokens between text (next ∷ texts) separates each =
     ap (λ t. tokens (text ++ t)) (append_assoc between next more)
     ∙ seam text (between ++ rest) each.0 (clean-before text between rest separates.begins)
     ∙ ap (λ ts. tokens text ++ ts)
-        (seam between rest separates.is_closed (clean-behind between rest separates.ends)
-        ∙ ap (λ ts. tokens between ++ ts) (joined-tokens between next texts separates each.1)
-        ∙ sym (append_assoc (tokens between) (tokens next) more_tokens))
+    (seam between rest separates.is_closed (clean-behind between rest separates.ends)
+    ∙ ap (λ ts. tokens between ++ ts) (joined-tokens between next texts separates each.1)
+    ∙ sym (append_assoc (tokens between) (tokens next) more_tokens))
 
 pub joined-closed : (between text : List ℕ) (texts : List (List ℕ)) → Separates between → AllByRecursion (λ t. closed t ≡ true) (text ∷ texts)
     → closed (join_with between (text ∷ texts)) ≡ true
@@ -46,5 +46,5 @@ joined-closed between text (next ∷ texts) separates each =
     let more = flat_map (λ (t : List ℕ). between ++ t) texts in
     ap (λ t. closed (text ++ t)) (append_assoc between next more)
     ∙ closed-seam text (between ++ rest) each.0
-        (closed-seam between rest separates.is_closed (joined-closed between next texts separates each.1) (clean-behind between rest separates.ends))
-        (clean-before text between rest separates.begins)
+    (closed-seam between rest separates.is_closed (joined-closed between next texts separates each.1) (clean-behind between rest separates.ends))
+    (clean-before text between rest separates.begins)

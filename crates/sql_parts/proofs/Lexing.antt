@@ -159,8 +159,8 @@ Opens byte mark behind = (first byte behind ≡ unquoted Str behind (inside mark
 opens : (byte mark : ℕ) (behind : List ℕ) → closing_mark byte ≡ Some mark → Opens byte mark behind
 opens byte mark behind =
     let at : (other closing : ℕ) → (byte == other) ≡ true → closing_mark other ≡ Some closing → Opens other closing behind → closing_mark byte ≡ Some mark → Opens byte mark behind =
-        λ other closing same closes is. subst (λ b. closing_mark b ≡ Some mark → Opens b mark behind) (sym (eqb-true byte other same))
-        (λ marked. let equal : closing ≡ mark = cc (closes, marked) in subst (λ m. Opens other m behind) equal is) in
+    λ other closing same closes is. subst (λ b. closing_mark b ≡ Some mark → Opens b mark behind) (sym (eqb-true byte other same))
+    (λ marked. let equal : closing ≡ mark = cc (closes, marked) in subst (λ m. Opens other m behind) equal is) in
     elim (cases_Bool (byte == 39)) [
       | inl same ↦ at 39 39 same refl (inl refl)
       | inr no_single ↦ elim (cases_Bool (byte == 34)) [

@@ -101,8 +101,8 @@ name-closed form first rest (Some alias) fits =
     let name : Name = record { first = first; rest = rest; alias = Some alias } in
     let text = join_with (codes ".") (map (written_in form) (name_parts name)) in
     closed-seam text (alias_text (Some alias)) (parts-closed form name fits)
-        (closed-seam (codes " AS ") (alias_written alias) refl (alias-closed alias) (clean-behind (codes " AS ") (alias_written alias) refl))
-        (clean-before text (codes " AS ") (alias_written alias) refl)
+    (closed-seam (codes " AS ") (alias_written alias) refl (alias-closed alias) (clean-behind (codes " AS ") (alias_written alias) refl))
+    (clean-before text (codes " AS ") (alias_written alias) refl)
 
 -- a text that is a name in a form that fits it
 pub name_is : (form : Form) (name : Name) (text : List ℕ) → text ≡ name_text (written_in form) name → fits_form form (name_parts name) ≡ true → tokens text ≡ name_tokens (tokens_in form) name

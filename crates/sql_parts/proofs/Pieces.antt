@@ -23,7 +23,7 @@ pub text-more : (marks : Marks) (seen : ℕ) (kept before text now from rest : L
 text-more marks seen kept before text now from rest place found is kept_now =
     let left = resolved_from marks seen 0 rest in
     let whole : resolved_from marks seen 0 from ≡ followed_by (Writes before) (followed_by (Writes text) left) =
-        found ∙ ap (λ p. followed_by (Writes before) (followed_by p (resolved_from marks (counted p seen) 0 rest))) is in
+    found ∙ ap (λ p. followed_by (Writes before) (followed_by p (resolved_from marks (counted p seen) 0 rest))) is in
     let joined : now ++ left.0 ≡ kept ++ (before ++ (text ++ left.0)) = ap (λ x. x ++ left.0) kept_now ∙ append_assoc (kept ++ before) text left.0 ∙ append_assoc kept before (text ++ left.0) in
     ap (λ x. pieces_apart (seen == 0) x left.1) joined ∙ sym (ap (λ (r : Resolved). pieces_apart (seen == 0) (kept ++ r.0) r.1) whole)
 
@@ -34,7 +34,7 @@ pub value-more : (marks : Marks) (seen : ℕ) (kept before now from rest : List 
 value-more marks seen kept before now from rest value place found is fits none =
     let left = resolved_from marks (suc seen) 0 rest in
     let whole : resolved_from marks seen 0 from ≡ (before ++ [], (value, left.0) ∷ left.1) =
-        found ∙ ap (λ p. followed_by (Writes before) (followed_by p (resolved_from marks (counted p seen) 0 rest))) is in
+    found ∙ ap (λ p. followed_by (Writes before) (followed_by p (resolved_from marks (counted p seen) 0 rest))) is in
     ap (λ first. pieces_apart first (now ++ left.0) left.1) (ne_eqb (suc seen) 0 (λ e. omega arith))
     ∙ ap (λ x. pieces_apart false (x ++ left.0) left.1) none
     ∙ ap (λ x. x && pieces_apart false left.0 left.1) (sym fits)
@@ -48,7 +48,7 @@ pub value-touches : (marks : Marks) (seen : ℕ) (kept before from rest : List �
 value-touches marks seen kept before from rest value place found is touches =
     let left = resolved_from marks (suc seen) 0 rest in
     let whole : resolved_from marks seen 0 from ≡ (before ++ [], (value, left.0) ∷ left.1) =
-        found ∙ ap (λ p. followed_by (Writes before) (followed_by p (resolved_from marks (counted p seen) 0 rest))) is in
+    found ∙ ap (λ p. followed_by (Writes before) (followed_by p (resolved_from marks (counted p seen) 0 rest))) is in
     ap (λ (r : Resolved). pieces_apart (seen == 0) (kept ++ r.0) r.1) whole
     ∙ ap (λ x. piece_apart (seen == 0) false (kept ++ x) && pieces_apart false left.0 left.1) (append-nil before)
     ∙ ap (λ x. x && pieces_apart false left.0 left.1) touches

@@ -151,7 +151,7 @@ at-other byte text no_blank no_dash no_slash no_single no_double no_back no_squa
 pub first-fits : (byte : ℕ) (text : List ℕ) → Fits byte text (first byte text)
 first-fits byte text =
     let at : (other : ℕ) → (byte == other) ≡ true → Fits other text (first other text) → Fits byte text (first byte text) =
-        λ other is fits. subst (λ b. Fits b text (first b text)) (sym (eqb-true byte other is)) fits in
+    λ other is fits. subst (λ b. Fits b text (first b text)) (sym (eqb-true byte other is)) fits in
     elim (cases_Bool (is_blank byte)) [
       | inl is ↦ rw is
       | inr no_blank ↦ elim (cases_Bool (byte == 45)) [

@@ -123,7 +123,7 @@ read-doubled quotes kept [] = rw (eq-eqb (closing quotes) (closing quotes) refl)
 read-doubled quotes kept (byte ∷ text) =
     let same : (closing quotes == closing quotes) ≡ true = eq-eqb (closing quotes) (closing quotes) refl in
     let more : (next : ℕ) → read (InQuotes quotes (kept ++ next ∷ [])) (doubled (closing quotes) text ++ closing quotes ∷ []) ≡ quoted_token quotes (kept ++ next ∷ text) ∷ [] =
-        λ next. read-doubled quotes (kept ++ next ∷ []) text ∙ ap (λ t. quoted_token quotes t ∷ []) (append_assoc kept (next ∷ []) text) in
+    λ next. read-doubled quotes (kept ++ next ∷ []) text ∙ ap (λ t. quoted_token quotes t ∷ []) (append_assoc kept (next ∷ []) text) in
     elim (cases_Bool (byte == closing quotes)) [
       | inl is ↦
           subst (λ b. read (InQuotes quotes kept) (doubled (closing quotes) (b ∷ text) ++ closing quotes ∷ []) ≡ quoted_token quotes (kept ++ b ∷ text) ∷ []) (sym (eqb-true byte (closing quotes) is))

@@ -1,6 +1,8 @@
 -- Worked rows of tokens: what the definitions give, by computing.
 use Prim.Native.Char.{code}
 use Rattle.std.specs.Prelude.{◌≡◌, true, false, [], ◌∷◌, codes, refl}
+use Rattle.sql_parts.specs.Apart.{apart}
+use Rattle.sql_parts.specs.Templates as marks
 use Rattle.sql_parts.specs.Tokens.{Word, Str, Name, Symbol, Open, tokens, closed, has_semicolon}
 
 closed-comment_without_end : closed (codes "a -- b") ≡ false
@@ -50,3 +52,57 @@ tokens-statement : tokens (codes "select \"a\"\"b\", 'x' from t -- c\n where `q`
     ∷ Word (codes "where") ∷ Name (codes "q") ∷ Symbol (code "=") ∷ Name (codes "w") ∷ Word (codes "and") ∷ Word (codes "w")
     ∷ Symbol (code "<") ∷ Symbol (code ">") ∷ Symbol (code "-") ∷ Word (codes "1") ∷ Symbol (code ";") ∷ []
 tokens-statement = refl
+
+apart-cycle : apart (codes "x = ? AND y = ?") (marks.Cycle 2) ≡ true
+apart-cycle = refl
+
+apart-in_quotes : apart (codes "'?'") (marks.First) ≡ false
+apart-in_quotes = refl
+
+apart-behind_a_word : apart (codes "a$1") (marks.Nums 1) ≡ false
+apart-behind_a_word = refl
+
+apart-past_the_list : apart (codes "a$1") (marks.Nums 0) ≡ true
+apart-past_the_list = refl
+
+apart-no_arguments : apart (codes "?") (marks.Cycle 0) ≡ false
+apart-no_arguments = refl
+
+apart-name : apart (codes "(:n:)") (marks.Names) ≡ true
+apart-name = refl
+
+apart-side_by_side : apart (codes "??") (marks.Cycle 2) ≡ false
+apart-side_by_side = refl
+
+apart-behind_a_sign : apart (codes "-?") (marks.First) ≡ false
+apart-behind_a_sign = refl
+
+apart-last : apart (codes "x=?") (marks.First) ≡ true
+apart-last = refl
+
+apart-in_brackets : apart (codes "f(?)") (marks.First) ≡ true
+apart-in_brackets = refl
+
+apart-first : apart (codes "?;") (marks.First) ≡ true
+apart-first = refl
+
+apart-alone : apart (codes "?") (marks.First) ≡ true
+apart-alone = refl
+
+apart-one_name : apart (codes ":a:") (marks.Name (codes "a")) ≡ true
+apart-one_name = refl
+
+apart-behind_a_comment : apart (codes "/* x */ ?") (marks.First) ≡ true
+apart-behind_a_comment = refl
+
+apart-behind_a_dot : apart (codes "a.?") (marks.First) ≡ false
+apart-behind_a_dot = refl
+
+apart-before_a_word : apart (codes "$1a") (marks.Nums 1) ≡ false
+apart-before_a_word = refl
+
+apart-in_a_comment : apart (codes "a -- ?\n") (marks.First) ≡ false
+apart-in_a_comment = refl
+
+apart-before_a_digit : apart (codes "a = $12 AND b = $1") (marks.Num 1) ≡ false
+apart-before_a_digit = refl

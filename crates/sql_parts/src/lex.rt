@@ -211,11 +211,7 @@ fn piece_apart(first: bool, last: bool, piece: &str) -> bool
 }
 
 // Whether the pieces of a template stand apart, for a `?` without arguments too.
-fn pieces_apart(
-    alloc: Global,
-    template: &str,
-    marks: &Marks<'_>,
-) -> Result<bool, SqlBuilderError>
+fn pieces_apart(alloc: Global, template: &str, marks: &Marks<'_>) -> Result<bool, SqlBuilderError>
     ensures apart { let resolved = resolved_from (marks_of marks.now) 0 0 template.now in
         IfOk result (λ b. b ≡ pieces_apart true resolved.0 resolved.1) }
     ensures memory { FailsOnlyByMemory result }

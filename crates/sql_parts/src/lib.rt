@@ -26,6 +26,8 @@ mod bind_sample;
 #[cfg(test)]
 mod bind_tests;
 #[cfg(test)]
+mod lex_tests;
+#[cfg(test)]
 mod name_tests;
 #[cfg(test)]
 mod tests;
