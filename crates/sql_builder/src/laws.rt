@@ -2,7 +2,10 @@
 ghost use Rattle.sql_builder.specs.Calls.{having_in, limit_in, offset_in, returning_in};
 ghost use Rattle.sql_builder.specs.Laws.{FieldsJoin, OnlyLastCounts};
 
-pub use sql_parts::laws::{doubling_is_undone, quoting_is_injective, unmarked_is_unchanged};
+pub use sql_parts::laws::{
+    bound_texts_keep_the_count, doubling_is_undone, quoting_is_injective, tokens_join_at_edges,
+    unmarked_is_unchanged,
+};
 
 /// `fields` of a list and then of another is `fields` of the two joined.
 #[tactic(auto, using(crate::proofs::LaterCalls::fields_join))]
