@@ -167,7 +167,7 @@ one_more_call start calls i c l e =
 
 -- the statement
 
-text_of_layout : (f : FinishText) (r : Clauses Pieces)
+pub text_of_layout : (f : FinishText) (r : Clauses Pieces)
     → pieces_text (layout_at fixed_piece raw_piece f r) ≡ text_at f (map_clauses pieces_text r)
 text_of_layout f r =
     layout_in_form fixed_piece byte_atoms pieces_text refl pieces_text-append append-nil
