@@ -1,23 +1,26 @@
 -- The pieces of each clause of a list of calls keep their tokens.
-use Rattle.std.proofs.Common.{◌≡◌, ℕ, Bool, true, false, List, [], ◌∷◌, ◌++◌, Option, None, Some, map, codes, refl, flat_map}
+use Rattle.std.proofs.Common.{◌≡◌, ℕ, Bool, true, false, List, [], ◌∷◌, ◌++◌, Option, None, Some, map, codes, refl, flat_map, subst, Result, Ok, Err, IfOk, String, string_bytes}
 use Rattle.std.specs.Prelude.{IfSome, filter_map}
 use Rattle.std.specs.List.{cons_option, last_or, AllByRecursion}
 use Rattle.sql_parts.specs.Text.{join_with}
-use Rattle.sql_parts.specs.Tokens.{closed, ends_with, is_edge}
+use Rattle.sql_parts.specs.Tokens.{closed, ends_with, is_edge, tokens}
+use Rattle.sql_parts.specs.declared.error.SqlBuilderError.{SqlBuilderError}
 use Rattle.sql_builder.specs.Calls.{StartText, CallText, FinishText, clauses, condition_pieces, constraint_in, fields_in, group_fields_in, group_pieces, having_in, is_join, join_after, join_in, limit_in, offset_in, order_fields_in, query_in, returning_in, rows_in, sets_in, start_table, table_in, unions_in, condition_in, opens_group, drops_fields, is_select, is_values, start_fields, natural_of, operator_of}
 use Rattle.sql_builder.specs.Calls as call
 use Rattle.sql_builder.specs.Conditions.{ConditionText, Raw, Compare, Like, IsNull, IsNotNull, InList, InQuoted, InQuery, Between, mask_text, not_text, relation_text}
 use Rattle.sql_builder.specs.Filters.{Group, cut, in_place, last_said, since, until}
 use Rattle.sql_builder.specs.Phrases.{comma_list, constraint, count, count_as, equation, join_words, order, row}
-use Rattle.sql_builder.specs.Statement.{layout_at}
-use Rattle.sql_builder.specs.Text.{Pieces, fixed_piece, quoted_piece, raw_piece}
+use Rattle.sql_builder.specs.Clauses.{map_clauses}
+use Rattle.sql_builder.specs.Shape.{HasShape, IsClosedAs, shape}
+use Rattle.sql_builder.specs.Statement.{layout_at, pieces, refusal_at, statement, text_unless_refused, unless_refused}
+use Rattle.sql_builder.specs.Text.{Pieces, fixed_piece, pieces_text, quoted_piece, raw_piece}
 use Rattle.sql_builder.specs.declared.calls.Family.{Family}
 use Rattle.sql_builder.specs.declared.calls.Relation.{Relation}
 use Rattle.sql_builder.specs.declared.calls.Relation.TheVariants.{Eq, Ne, Gt, Ge, Lt, Le}
 use Rattle.sql_builder.specs.declared.clauses.JoinOperator.{JoinOperator}
 use Rattle.sql_builder.specs.declared.clauses.JoinOperator.TheVariants as operator
 use Rattle.sql_builder.proofs.Layouts.{Parts, items-inside, layout-inside, raw-all}
-use Rattle.sql_builder.proofs.Shapes.{AllInside, Behind, Edged, Inside, all-flat, brackets-inside, ended-inside, inside-inside, joined-inside, none-behind, none-inside, quoted-inside, raw-inside, words-behind, words-ended, words-inside}
+use Rattle.sql_builder.proofs.Shapes.{AllInside, Behind, Edged, Inside, all-flat, brackets-inside, ended-inside, inside-inside, joined-inside, none-behind, none-inside, quoted-inside, raw-inside, shape_closed, shape_is, words-behind, words-ended, words-inside}
 
 -- lists of such pieces
 append-all : {X : Type 0} (P : X → Type 0) (one other : List X) → AllByRecursion P one → AllByRecursion P other → AllByRecursion P (one ++ other)
@@ -256,5 +259,28 @@ clauses-parts start calls =
     }
 
 -- what a list of calls prints
-pub printed-inside : (start : StartText) (calls : List CallText) (finish : FinishText) → Inside (layout_at fixed_piece raw_piece finish (clauses start calls))
+printed-inside : (start : StartText) (calls : List CallText) (finish : FinishText) → Inside (layout_at fixed_piece raw_piece finish (clauses start calls))
 printed-inside start calls finish = layout-inside finish (clauses start calls) (clauses-parts start calls)
+
+-- what is known of a text that is a statement, where the statement's pieces keep their tokens
+module _ (layout : Pieces) (inside : Inside layout) where
+  printed-shape : (refusal : Option SqlBuilderError) (text : List ℕ) → text_unless_refused (unless_refused refusal layout) ≡ Ok text
+      → IfOk (unless_refused refusal layout) (λ printed. HasShape printed text)
+  printed-shape None text is = let same : pieces_text layout ≡ text = cc is in λ all. subst (λ t. tokens t ≡ shape layout) same (shape_is layout inside all)
+  printed-shape (Some refusal) text is = tt
+
+  printed-closed : (refusal : Option SqlBuilderError) (text : List ℕ) → text_unless_refused (unless_refused refusal layout) ≡ Ok text
+      → IfOk (unless_refused refusal layout) (λ printed. IsClosedAs printed text)
+  printed-closed None text is = let same : pieces_text layout ≡ text = cc is in λ all. subst (λ t. closed t ≡ true) same (shape_closed layout inside all)
+  printed-closed (Some refusal) text is = tt
+
+module _ {Z : Type 0} (start : StartText) (calls : List CallText) (finish : FinishText) where
+  pub statement_shape : (result : Result (String Z) SqlBuilderError) → IfOk result (λ s. statement start calls finish ≡ Ok (string_bytes s))
+      → IfOk result (λ s. IfOk (pieces start calls finish) (λ printed. HasShape printed (string_bytes s)))
+  statement_shape (Err e) is = tt
+  statement_shape (Ok s) is = printed-shape _ (printed-inside start calls finish) (refusal_at finish (map_clauses pieces_text (clauses start calls))) (string_bytes s) is
+
+  pub statement_closed : (result : Result (String Z) SqlBuilderError) → IfOk result (λ s. statement start calls finish ≡ Ok (string_bytes s))
+      → IfOk result (λ s. IfOk (pieces start calls finish) (λ printed. IsClosedAs printed (string_bytes s)))
+  statement_closed (Err e) is = tt
+  statement_closed (Ok s) is = printed-closed _ (printed-inside start calls finish) (refusal_at finish (map_clauses pieces_text (clauses start calls))) (string_bytes s) is
