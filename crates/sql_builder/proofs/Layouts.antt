@@ -13,7 +13,8 @@ use Rattle.sql_builder.specs.Statement.{layout_at, text_at}
 use Rattle.sql_builder.specs.Text.{Piece, Pieces, fixed_piece, pieces_text, raw_piece}
 use Rattle.sql_builder.specs.declared.clauses.Kind.{Kind}
 use Rattle.sql_builder.specs.declared.clauses.Kind.TheVariants.{SelectFrom, SelectValues, InsertInto, UpdateTable, DeleteFrom}
-use Rattle.sql_builder.proofs.Shapes.{AllInside, Behind, Edged, Ended, Inside, all-flat, before-each, behind-append, brackets-inside, comma, ended-inside, inside-inside, joined-inside, none-behind, none-inside, raw-inside, shape_closed, shape_is, words-behind, words-ended, words-inside, words-item}
+use Rattle.sql_parts.proofs.JoinedTokens.{Edged}
+use Rattle.sql_builder.proofs.Shapes.{AllInside, Behind, Inside, before-each, behind-append, brackets-inside, comma, ended-inside, inside-inside, joined-inside, none-behind, none-inside, raw-inside, shape_closed, shape_is, words-behind, words-ended, words-inside, words-item}
 use Rattle.sql_builder.proofs.Runs.{text_of_layout}
 
 -- each clause is made of such pieces
@@ -78,17 +79,20 @@ brackets-all (item ∷ items) all = (brackets-inside item all.0, brackets-all it
 where-good : (groups : List Pieces) → AllInside groups → AllGood (where_sections fixed_piece groups)
 where-good [] all = tt
 where-good (group ∷ []) all = (record { words = record { is_closed = refl; begins = refl; ends = refl }; body = all.0 }, tt)
-where-good (group ∷ next ∷ groups) all =
-    (record {
-      words = record { is_closed = refl; begins = refl; ends = refl };
-      body = joined-inside (codes " AND ") (record { is_closed = refl; begins = refl; ends = refl }) (map (in_brackets fixed_piece) (group ∷ next ∷ groups)) (brackets-all (group ∷ next ∷ groups) all);
-    }, tt)
+where-good (group ∷ next ∷ groups) all = (
+  record {
+    words = record { is_closed = refl; begins = refl; ends = refl };
+    body = joined-inside (codes " AND ") (record { is_closed = refl; begins = refl; ends = refl }) (map (in_brackets fixed_piece) (group ∷ next ∷ groups)) (brackets-all (group ∷ next ∷ groups) all);
+  },
+  tt,
+)
 
 group_by-good : (fields : List Pieces) (having : Option Pieces) → AllInside fields → IfSome having Inside → AllGood (group_by_sections fixed_piece fields having)
 group_by-good [] having all inside = tt
-group_by-good (field ∷ fields) having all inside =
-    (record { words = record { is_closed = refl; begins = refl; ends = refl }; body = items-inside (field ∷ fields) all },
-    optional-good (codes " HAVING ") having (record { is_closed = refl; begins = refl; ends = refl }) inside)
+group_by-good (field ∷ fields) having all inside = (
+  record { words = record { is_closed = refl; begins = refl; ends = refl }; body = items-inside (field ∷ fields) all },
+  optional-good (codes " HAVING ") having (record { is_closed = refl; begins = refl; ends = refl }) inside,
+)
 
 union-edged : (all : Bool) → Edged (union_opening all)
 union-edged true = record { is_closed = refl; begins = refl; ends = refl }
@@ -164,9 +168,10 @@ insert-inside (Some rows) r parts inside =
 
 update-inside : (r : Clauses Pieces) → Parts r → Inside (concat_sections fixed_piece (update_sections fixed_piece r))
 update-inside r parts =
-    first-section (codes "UPDATE ") r.table (section (codes " SET ") (comma_list fixed_piece r.sets) ∷ (where_sections fixed_piece r.groups ++ returning_sections r)) refl refl parts.table
-    (record { words = record { is_closed = refl; begins = refl; ends = refl }; body = items-inside r.sets parts.sets },
-    all-append _ _ (where-good r.groups parts.groups) (returning-good r parts))
+    first-section (codes "UPDATE ") r.table (section (codes " SET ") (comma_list fixed_piece r.sets) ∷ (where_sections fixed_piece r.groups ++ returning_sections r)) refl refl parts.table (
+      record { words = record { is_closed = refl; begins = refl; ends = refl }; body = items-inside r.sets parts.sets },
+      all-append _ _ (where-good r.groups parts.groups) (returning-good r parts),
+    )
 
 delete-inside : (r : Clauses Pieces) → Parts r → Inside (concat_sections fixed_piece (delete_sections fixed_piece r))
 delete-inside r parts = first-section (codes "DELETE FROM ") r.table (where_sections fixed_piece r.groups) refl refl parts.table (where-good r.groups parts.groups)

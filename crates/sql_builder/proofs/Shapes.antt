@@ -1,15 +1,16 @@
 -- Pieces of a statement keep their tokens side by side, since the product's words between them end and begin with edges.
-use Rattle.std.proofs.Common.{◌≡◌, ℕ, Bool, true, false, not, List, [], ◌∷◌, ◌++◌, Option, None, Some, map, codes, refl, sym, ap, ◌∙◌, subst, inl, inr, ◌⊎◌, append_assoc}
+use Rattle.std.proofs.Common.{◌≡◌, ℕ, Bool, true, false, not, List, [], ◌∷◌, ◌++◌, codes, refl, sym, ap, ◌∙◌, subst, inl, inr, ◌⊎◌, append_assoc}
 use Rattle.std.proofs.lemmas.List.{append-nil}
 use Rattle.std.proofs.lemmas.Grind.{flat_map-append}
-use Rattle.std.proofs.lemmas.Bool.{and_parts, false≢true, or_from, or_left, or_right}
+use Rattle.std.proofs.lemmas.Bool.{and_parts, or_from, or_left, or_right}
 use Rattle.std.proofs.lemmas.List.Folds.{list_all-append, list_any-append}
-use Rattle.std.specs.Prelude.{IfSome, ◌||◌, flat_map}
+use Rattle.std.specs.Prelude.{flat_map}
 use Rattle.std.specs.List.{list_any, AllByRecursion}
 use Rattle.sql_parts.specs.Quoting.{quoted}
 use Rattle.sql_parts.specs.Text.{join_with}
-use Rattle.sql_parts.specs.Tokens.{Token, Str, begins_with, clean, closed, ends_with, is_edge, is_empty, is_open, tokens}
+use Rattle.sql_parts.specs.Tokens.{Token, begins_with, clean, closed, ends_with, is_edge, is_empty, is_open, tokens}
 use Rattle.sql_parts.specs.declared.text.Quotes.TheVariants.{Single}
+use Rattle.sql_parts.proofs.JoinedTokens.{Edged, begins-append, clean-behind}
 use Rattle.sql_parts.proofs.TokenLaws.{between-tokens, between_closed, closed-shut, seam}
 use Rattle.sql_builder.specs.Phrases.{in_brackets}
 use Rattle.sql_builder.specs.Shape.{has_closed_fragments, is_closed_piece, piece_tokens, shape}
@@ -74,11 +75,6 @@ inside-inside x y one behind other = record {
 }
 
 -- the product's words
-pub record Edged (words : List ℕ) : Type 0 where
-  pub is_closed : closed words ≡ true
-  pub begins : begins_with is_edge words ≡ true
-  pub ends : ends_with is_edge words ≡ true
-
 word-shut : (words : List ℕ) → closed words ≡ true → has_open (shape (fixed_piece words)) ≡ false
 word-shut words is = ap has_open (append-nil (tokens words)) ∙ closed-shut words is
 
@@ -92,7 +88,7 @@ follows-clean one text (inr begins) = or_right _ _ begins
 
 pub words-ended : (words : List ℕ) → closed words ≡ true → ends_with is_edge words ≡ true → Ended (fixed_piece words)
 words-ended words is ends = record {
-  reads = λ all text. alone (Fixed words) text (seam words text is (or_left _ _ (or_right (is_empty words || is_empty text) _ ends)));
+  reads = λ all text. alone (Fixed words) text (seam words text is (clean-behind words text ends));
   shut = λ all. word-shut words is;
 }
 
@@ -102,12 +98,8 @@ words-inside words is = record {
   shut = λ all. word-shut words is;
 }
 
-begins-append : (one other : List ℕ) → begins_with is_edge one ≡ true → begins_with is_edge (one ++ other) ≡ true
-begins-append [] other is = absurd (false≢true is)
-begins-append (byte ∷ one) other is = is
-
 pub words-behind : (words : List ℕ) (ps : Pieces) → begins_with is_edge words ≡ true → Behind (fixed_piece words ++ ps)
-words-behind words ps begins = record { follows = λ text follows. inr (begins-append (words ++ pieces_text ps) text (begins-append words (pieces_text ps) begins)) }
+words-behind words ps begins = record { follows = λ text follows. inr (begins-append is_edge (words ++ pieces_text ps) text (begins-append is_edge words (pieces_text ps) begins)) }
 
 -- a fragment and a quoted text
 pub raw-inside : (text : List ℕ) → Inside (raw_piece text)
@@ -138,7 +130,7 @@ inside-words x words one edged =
     record {
       reads = λ is text. let both = both-closed x (fixed_piece words) is in
           reads-both x (fixed_piece words) text
-          (one.reads both.0 (pieces_text (fixed_piece words) ++ text) (inr (begins-append (pieces_text (fixed_piece words)) text (begins-append words [] edged.begins))))
+          (one.reads both.0 (pieces_text (fixed_piece words) ++ text) (inr (begins-append is_edge (pieces_text (fixed_piece words)) text (begins-append is_edge words [] edged.begins))))
           (end.reads both.1 text);
       shut = λ is. let both = both-closed x (fixed_piece words) is in both-shut x (fixed_piece words) (one.shut both.0) (end.shut both.1);
     }

@@ -367,11 +367,7 @@ impl SqlBuilder {
         out.push_str(")")
     }
 
-    fn push_subquery_as<S: ToText>(
-        &self,
-        out: &mut String,
-        name: S,
-    ) -> Result<(), SqlBuilderError>
+    fn push_subquery_as<S: ToText>(&self, out: &mut String, name: S) -> Result<(), SqlBuilderError>
         ensures text { Adds result out.old out.new
             (subquery_as byte_atoms (S.text name) self.now) }
         ensures memory { FailsOnlyByMemory result }

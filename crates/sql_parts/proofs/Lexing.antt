@@ -1,13 +1,13 @@
 -- What the methods of a text tell of the tokens at its front.
-use Rattle.std.proofs.Common.{◌≡◌, ◌≢◌, ℕ, zero, suc, ◌+◌, ◌<◌, ◌≤◌, Bool, true, false, List, [], ◌∷◌, ◌++◌, length, get_or, take, drop, Option, Some, None, refl, sym, ap, ◌∙◌, arith, ne_eqb, eq-eqb, length-append, length-drop, subst, ◌⊎◌, inl, inr, Bor}
-use Rattle.std.specs.Prelude.{◌==◌, codes, option_map, nat_eq}
+use Rattle.std.proofs.Common.{◌≡◌, ◌≢◌, ℕ, zero, suc, ◌+◌, ◌<◌, ◌≤◌, true, false, List, [], ◌∷◌, ◌++◌, length, get_or, take, drop, Option, Some, None, refl, sym, ap, ◌∙◌, arith, ne_eqb, eq-eqb, length-append, length-drop, subst, ◌⊎◌, inl, inr, Bor}
+use Rattle.std.specs.Prelude.{◌==◌, codes, option_map}
 use Rattle.std.specs.List.{prefix_len}
 use Rattle.std.specs.Str.Pattern.{LacksTextAt}
 use Rattle.std.specs.Str.{IsCharBoundary, IsUtf8}
 use Rattle.std.proofs.Math.Seq.{drop-append_seam, drop-length}
 use Rattle.std.proofs.lemmas.Bool.Decides.{nat_tests}
 use Rattle.std.proofs.lemmas.Str.{IsCharBoundary-after_ascii}
-use Rattle.std.proofs.lemmas.Bool.{cases_Bool, eqb-true, false≢true, or_parts, or_cases}
+use Rattle.std.proofs.lemmas.Bool.{cases_Bool, eqb-true, false≢true}
 use Rattle.std.specs.Prelude.{MatchOption}
 use Rattle.sql_parts.specs.Lexing.{IsRead, StandsFor, behind_bytes, closing_mark, seen_text}
 use Rattle.sql_parts.specs.Tokens.{Token, Word, Str, Name, Symbol, Open, first, inside, is_blank, is_word_byte, reach, tokens, tokens_from, unquoted, word}

@@ -1,10 +1,10 @@
 -- The tokens of a name.
-use Rattle.std.proofs.Common.{◌≡◌, ℕ, Bool, true, false, ◌||◌, List, [], ◌∷◌, ◌++◌, Option, Some, None, map, refl, sym, ap, ◌∙◌, subst, inl, inr, append_assoc, append-nil, arith, not}
+use Rattle.std.proofs.Common.{◌≡◌, ℕ, true, List, [], ◌∷◌, ◌++◌, Option, Some, None, map, refl, sym, ap, ◌∙◌, inl, inr, append-nil, arith, not}
 use Rattle.std.specs.Prelude.{codes, if◌then◌else◌}
 use Rattle.std.specs.List.{list_all, list_any, AllByRecursion}
 use Rattle.std.proofs.lemmas.Bool.{and_from, and_parts, cases_Bool}
 use Rattle.std.proofs.lemmas.Bool.Decides.{nat_tests}
-use Rattle.sql_parts.specs.Name.{Name, alias_text, alias_tokens, bare, fits_form, is_plain, is_plain_byte, name_parts, name_text, name_tokens, safe_form, tokens_in, word_tokens, written_in}
+use Rattle.sql_parts.specs.Name.{Name, alias_text, fits_form, is_plain, is_plain_byte, name_parts, name_text, name_tokens, safe_form, tokens_in, word_tokens, written_in}
 use Rattle.sql_parts.specs.Quoting.{baquoted}
 use Rattle.sql_parts.specs.Text.{join_with}
 use Rattle.sql_parts.specs.Tokens as tokens
@@ -12,7 +12,7 @@ use Rattle.sql_parts.specs.Tokens.{Token, Word, Symbol, closed, is_open, is_word
 use Rattle.sql_parts.specs.declared.name.Form.{Form}
 use Rattle.sql_parts.specs.declared.name.Form.TheVariants.{Bare, Between}
 use Rattle.sql_parts.specs.declared.text.Quotes.TheVariants.{Back}
-use Rattle.sql_parts.proofs.JoinedTokens.{Separates, clean-before, clean-behind, joined-closed, joined-tokens}
+use Rattle.sql_parts.proofs.JoinedTokens.{Edged, clean-before, clean-behind, joined-closed, joined-tokens}
 use Rattle.sql_parts.proofs.TokenLaws.{between-tokens, between_closed, closed-seam, seam}
 use Rattle.sql_parts.proofs.WordTokens.{is_word, word-tokens}
 
@@ -49,7 +49,7 @@ written (Between quotes) (part ∷ parts) fits =
     record { each = (between_closed quotes part _ refl, more.each); are = (λ i. between-tokens quotes part i ∷ more.are i) }
 
 -- a dot, and what stands before an alias
-dot : Separates (codes ".")
+dot : Edged (codes ".")
 dot = record { is_closed = refl; begins = refl; ends = refl }
 
 parts-tokens : (form : Form) (name : Name) → fits_form form (name_parts name) ≡ true

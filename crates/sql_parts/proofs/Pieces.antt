@@ -1,5 +1,5 @@
 -- Whether the pieces of a template stand apart, from place to place.
-use Rattle.std.proofs.Common.{◌≡◌, ℕ, zero, suc, ◌<◌, ◌-◌, Bool, true, false, List, [], ◌∷◌, ◌++◌, length, get_or, sym, ap, ◌∙◌, arith, append_assoc, append-nil, ne_eqb}
+use Rattle.std.proofs.Common.{◌≡◌, ℕ, suc, ◌<◌, ◌-◌, Bool, true, false, List, [], ◌∷◌, ◌++◌, length, get_or, sym, ap, ◌∙◌, arith, append_assoc, append-nil, ne_eqb}
 use Rattle.std.specs.Prelude.{◌&&◌, ◌==◌}
 use Rattle.sql_parts.specs.Apart.{piece_apart, pieces_apart}
 use Rattle.sql_parts.specs.Templates.{Marks, Place, Writes, Holds, Resolved, Value, counted, followed_by, resolved_from}

@@ -1,6 +1,6 @@
 -- The tokens by the first rule that fits are those that are read byte by byte.
 use Prim.Native.Char.{code}
-use Rattle.std.proofs.Common.{◌≡◌, ℕ, suc, Bool, true, false, cond, List, [], ◌∷◌, ◌++◌, length, take, drop, Option, Some, None, sym, refl, ap, ◌∙◌, subst, inl, inr, append_assoc, append-nil, arith, zero, ne_eqb}
+use Rattle.std.proofs.Common.{◌≡◌, ℕ, suc, Bool, true, false, cond, List, [], ◌∷◌, ◌++◌, take, drop, Option, Some, None, sym, refl, ap, ◌∙◌, subst, inl, inr, append_assoc, append-nil, arith, zero, ne_eqb}
 use Rattle.std.specs.Prelude.{◌==◌, codes, nat_eq, option_map}
 use Rattle.std.specs.List.{prefix_len, starts_with}
 use Rattle.std.proofs.lemmas.Bool.{cases_Bool, cond-false, cond-true, eqb-false, eqb-true}
@@ -9,7 +9,6 @@ use Rattle.sql_parts.specs.Quoting.{closing}
 use Rattle.sql_parts.specs.Tokens.{Token, Word, Symbol, Open, comment, first, inside, is_blank, is_word_byte, reach, tokens, tokens_from, unquoted, quoted_token}
 use Rattle.sql_parts.specs.declared.text.Quotes.{Quotes}
 use Rattle.sql_parts.specs.declared.text.Quotes.TheVariants.{Single, Back, Square, Double}
-use Rattle.sql_parts.proofs.Lexing.{tokens-rule, tokens_from-drop}
 use Rattle.sql_parts.proofs.Reader.{Mode, Between, InWord, InQuotes, InLine, InBlock, AtStar, behind_token, read, start}
 
 -- a byte that doesn't go on with a token ends it, and begins anew

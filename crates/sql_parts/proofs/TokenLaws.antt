@@ -1,10 +1,9 @@
 -- Laws of tokens.
-use Rattle.std.proofs.Common.{◌≡◌, ℕ, Bool, true, false, not, ◌||◌, List, [], ◌∷◌, ◌++◌, sym, refl, ap, ◌∙◌, append_assoc, append-nil}
-use Rattle.std.specs.List.{list_any}
+use Rattle.std.proofs.Common.{◌≡◌, ℕ, true, false, not, ◌||◌, List, [], ◌∷◌, ◌++◌, sym, refl, ap, ◌∙◌}
 use Rattle.std.proofs.lemmas.Bool.{not-true, not_from_false, or_from}
 use Rattle.std.proofs.lemmas.List.Folds.{list_any-append}
-use Rattle.sql_parts.specs.Quoting.{between, opening}
-use Rattle.sql_parts.specs.Tokens.{Token, Str, Name, clean, closed, is_open, tokens, quoted_token}
+use Rattle.sql_parts.specs.Quoting.{between}
+use Rattle.sql_parts.specs.Tokens.{clean, closed, is_open, tokens, quoted_token}
 use Rattle.sql_parts.specs.declared.text.Quotes.{Quotes}
 use Rattle.sql_parts.specs.declared.text.Quotes.TheVariants.{Single, Back, Square, Double}
 use Rattle.sql_parts.proofs.Reading.{tokens-read}

@@ -1,6 +1,5 @@
 //! Tests of fragments, which read a text as the tokens of SQL.
-ghost use Rattle.std.specs.Prelude.{◌≡◌, ◌≢◌, ◌<◌, ℕ, [], ◌∷◌, ◌++◌, IfSome, MatchOption, Some, drop, length, option_map, take};
-ghost use Rattle.std.specs.Prelude.{IfOk, true};
+ghost use Rattle.std.specs.Prelude.{◌≡◌, ◌<◌, [], ◌∷◌, IfOk, IfSome, MatchOption, Some, drop, length, option_map, take, true};
 ghost use Rattle.std.specs.List.{prefix_len};
 ghost use Rattle.sql_parts.specs.Apart.{apart, piece_apart, pieces_apart};
 ghost use Rattle.sql_parts.specs.Error.{FailsOnlyByMemory};
@@ -8,7 +7,7 @@ ghost use Rattle.sql_parts.specs.Lexing.{IsRead, StandsFor, behind_bytes, closin
 ghost use Rattle.sql_parts.specs.Places.{marks_of};
 ghost use Rattle.sql_parts.specs.Templates.{resolved_from};
 ghost use Rattle.sql_parts.specs.Tokens as tokens;
-ghost use Rattle.sql_parts.specs.Tokens.{begins_with, closed, ends_with, first, has_semicolon, inside, is_blank, is_separator, is_word_byte, reach};
+ghost use Rattle.sql_parts.specs.Tokens.{begins_with, closed, ends_with, has_semicolon, inside, is_blank, is_separator, is_word_byte, reach};
 ghost use Rattle.sql_parts.specs.declared.lex.Token.TheVariants as seen;
 
 use crate::bind::Marks;

@@ -1,6 +1,4 @@
-use Rattle.std.proofs.Common.{◌≡◌, ◌∷◌, ◌∙◌, drop, sym, ap, arith, rules, Some, None, subst}
-use Rattle.std.specs.Prelude.{MatchOption}
-use Rattle.sql_parts.specs.Tokens.{first, tokens}
+use Rattle.std.proofs.Common.{◌≡◌, ◌∷◌, ◌∙◌, drop, sym, arith, rules}
 use Rattle.sql_parts.proofs.Lexing.{found-none, found-token, read-finds}
 use Rattle.sql_parts.proofs.lex.first_token.Goals as goal
 
