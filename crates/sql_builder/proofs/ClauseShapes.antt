@@ -1,18 +1,25 @@
 -- The pieces of each clause of a list of calls keep their tokens.
-use Rattle.std.proofs.Common.{◌≡◌, ℕ, Bool, true, false, List, [], ◌∷◌, ◌++◌, Option, None, Some, map, codes, refl, flat_map, subst, Result, Ok, Err, IfOk, String, string_bytes}
+use Rattle.std.proofs.Common.{◌≡◌, ℕ, Bool, true, false, List, [], ◌∷◌, ◌++◌, Option, None, Some, map, codes, refl, flat_map, subst, Result, Ok, Err, IfOk, String, string_bytes, ap, sym, ◌∙◌}
 use Rattle.std.specs.Prelude.{IfSome, filter_map}
 use Rattle.std.specs.List.{cons_option, last_or, AllByRecursion}
 use Rattle.sql_parts.specs.Tokens.{closed, ends_with, is_edge, tokens}
 use Rattle.sql_parts.specs.declared.error.SqlBuilderError.{SqlBuilderError}
+use Rattle.sql_parts.specs.Quoting.{quoted}
+use Rattle.sql_builder.specs.Layout.{byte_atoms}
 use Rattle.sql_builder.specs.Calls.{StartText, CallText, FinishText, clauses, condition_pieces, constraint_in, fields_in, group_fields_in, group_pieces, having_in, is_join, join_after, join_in, limit_in, offset_in, order_fields_in, query_in, returning_in, rows_in, sets_in, start_table, table_in, unions_in, condition_in, opens_group, drops_fields, is_select, is_values, start_fields, natural_of, operator_of}
 use Rattle.sql_builder.specs.Calls as call
 use Rattle.sql_builder.specs.Conditions.{ConditionText, Raw, Compare, Like, IsNull, IsNotNull, InList, InQuoted, InQuery, Between, mask_text, not_text, relation_text}
 use Rattle.sql_builder.specs.Filters.{Group, cut, in_place, last_said, since, until}
 use Rattle.sql_builder.specs.Phrases.{comma_list, count, count_as, equation, join_words, order}
 use Rattle.sql_builder.specs.Clauses.{map_clauses}
-use Rattle.sql_builder.specs.Shape.{HasShape, IsClosedAs, shape}
+use Rattle.sql_builder.specs.Shape.{HasConditionShape, HasShape, IsClosedAs, shape}
 use Rattle.sql_builder.specs.Statement.{layout_at, pieces, refusal_at, statement, text_unless_refused, unless_refused}
 use Rattle.sql_builder.specs.Text.{Pieces, fixed_piece, pieces_text, quoted_piece, raw_piece}
+use Rattle.sql_builder.specs.Steps.{HasPairShape}
+use Rattle.sql_builder.specs.declared.steps.PairClause.{PairClause}
+use Rattle.sql_builder.specs.declared.steps.PairClause.TheVariants as pair
+use Rattle.std.proofs.lemmas.List.{append-nil}
+use Rattle.sql_builder.proofs.Runs.{condition_printed}
 use Rattle.sql_builder.specs.declared.calls.Family.{Family}
 use Rattle.sql_builder.specs.declared.calls.Relation.{Relation}
 use Rattle.sql_builder.specs.declared.calls.Relation.TheVariants.{Eq, Ne, Gt, Ge, Lt, Le}
@@ -284,3 +291,23 @@ module _ {Z : Type 0} (start : StartText) (calls : List CallText) (finish : Fini
       → IfOk result (λ s. IfOk (pieces start calls finish) (λ printed. IsClosedAs printed (string_bytes s)))
   statement_closed (Err e) is = tt
   statement_closed (Ok s) is = printed-closed _ (printed-inside start calls finish) (refusal_at finish (map_clauses pieces_text (clauses start calls))) (string_bytes s) is
+
+-- what a condition and a call with two texts print
+pub condition_shape : (condition : ConditionText) → HasConditionShape condition
+condition_shape condition = λ all. ap tokens (sym (condition_printed condition)) ∙ shape_is (condition_pieces condition) (condition-inside condition) all
+
+shape-of : (printed : Pieces) (text : List ℕ) → Inside printed → pieces_text printed ≡ text → HasShape printed text
+shape-of printed text inside is = λ all. ap tokens (sym is) ∙ shape_is printed inside all
+
+pub pair_shape : (clause : PairClause) (one other : List ℕ) → HasPairShape clause one other
+pair_shape pair.OnEq left right =
+    shape-of (equation fixed_piece (raw_piece left) (raw_piece right)) (equation byte_atoms left right)
+    (equation-inside (raw_piece left) (raw_piece right) (raw-inside left) (raw-inside right)) (simp append-nil)
+pair_shape pair.CountAs field name =
+    shape-of (count_as fixed_piece (raw_piece field) (raw_piece name)) (count_as byte_atoms field name) (count_as-inside field name) (simp append-nil)
+pair_shape pair.SetTo field value =
+    shape-of (equation fixed_piece (raw_piece field) (raw_piece value)) (equation byte_atoms field value)
+    (equation-inside (raw_piece field) (raw_piece value) (raw-inside field) (raw-inside value)) (simp append-nil)
+pair_shape pair.SetStr field value =
+    shape-of (equation fixed_piece (raw_piece field) (quoted_piece value)) (equation byte_atoms field (quoted value))
+    (equation-inside (raw_piece field) (quoted_piece value) (raw-inside field) (quoted-inside value)) (simp append-nil)

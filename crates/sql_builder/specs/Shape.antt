@@ -2,8 +2,10 @@
 use Rattle.std.specs.Prelude.{◌≡◌, ℕ, List, [], ◌∷◌, Bool, true, IsTrue, flat_map}
 use Rattle.std.specs.List.{list_all}
 use Rattle.sql_parts.specs.Tokens.{Token, Str, closed, tokens}
-use Rattle.sql_builder.specs.Builder.{ClauseTexts}
+use Rattle.sql_builder.specs.Builder.{ClauseTexts, condition_bytes}
+use Rattle.sql_builder.specs.Calls.{condition_pieces}
 use Rattle.sql_builder.specs.Clauses.{Clauses, map_clauses}
+use Rattle.sql_builder.specs.Conditions.{ConditionText}
 use Rattle.sql_builder.specs.Text.{Piece, Pieces, Fixed, Quoted, Raw, raw_piece}
 
 -- the tokens of a piece: a text between single quotes is one, which reads back as the text
@@ -37,3 +39,7 @@ HasShape pieces text = IsTrue (has_closed_fragments pieces) → tokens text ≡ 
 -- where each fragment is closed, so is a text
 abbrev pub IsClosedAs : Pieces → List ℕ → Type 0
 IsClosedAs pieces text = IsTrue (has_closed_fragments pieces) → IsTrue (closed text)
+
+-- where its fragments are closed, what a condition prints has the tokens of its pieces
+abbrev pub HasConditionShape : ConditionText → Type 0
+HasConditionShape condition = HasShape (condition_pieces condition) (condition_bytes condition)
