@@ -8,13 +8,13 @@ use Rattle.sql_builder.specs.Calls.{FinishText, Sql, Query, QueryValues, Subquer
 use Rattle.sql_builder.specs.Clauses.{Clauses, map_clauses}
 use Rattle.sql_builder.specs.Layout.{Section, byte_atoms, concat_sections, delete_sections, fields_or_star, group_by_sections, insert_sections, insert_target, list_sections, optional_section, order_by_sections, query, query_sections, query_values, range_sections, returning_sections, section, select_opening, sql, statement_sections, subquery, subquery_as, table_and_joins, union_opening, union_sections, update_sections, values_sections, where_sections}
 use Rattle.sql_builder.specs.Phrases.{comma_list, in_brackets}
-use Rattle.sql_builder.specs.Shape.{HasShape, IsClosedAs, as_fragments}
+use Rattle.sql_builder.specs.Shape.{EndsInOneSemicolon, has_closed_fragments, has_no_semicolons, HasShape, IsClosedAs, as_fragments}
 use Rattle.sql_builder.specs.Statement.{layout_at, text_at}
 use Rattle.sql_builder.specs.Text.{Piece, Pieces, fixed_piece, pieces_text, raw_piece}
 use Rattle.sql_builder.specs.declared.clauses.Kind.{Kind}
 use Rattle.sql_builder.specs.declared.clauses.Kind.TheVariants.{SelectFrom, SelectValues, InsertInto, UpdateTable, DeleteFrom}
 use Rattle.sql_parts.proofs.JoinedTokens.{Edged}
-use Rattle.sql_builder.proofs.Shapes.{AllInside, Behind, Inside, before-each, behind-append, brackets-inside, comma, ended-inside, inside-inside, joined-inside, none-behind, none-inside, raw-inside, shape_closed, shape_is, words-behind, words-ended, words-inside, words-item}
+use Rattle.sql_builder.proofs.Shapes.{AllInside, Behind, Inside, Shaped, Whole, before-each, behind-append, brackets-inside, comma, ended-inside, ends_in_semicolon, inside-inside, joined-inside, none-behind, none-inside, raw-inside, shape_closed, shaped, statement-shaped, words-behind, words-ended, words-inside, words-item}
 use Rattle.sql_builder.proofs.Runs.{text_of_layout}
 
 -- each clause is made of such pieces
@@ -55,7 +55,7 @@ good-sections (s ∷ sections) good =
     (inside-inside here more (words-item s.opening s.body good.0.words good.0.body) rest.1 rest.0, behind-append here more (words-behind s.opening s.body good.0.words.begins) rest.1)
 
 -- the first section's words need no edge before them
-first-section : (words : List ℕ) (body : Pieces) (sections : List (Section Piece)) → closed words ≡ true → ends_with is_edge words ≡ true → Inside body → AllGood sections
+first-section : (words : List ℕ) (body : Pieces) (sections : List (Section Piece)) → Whole words → ends_with is_edge words ≡ true → Inside body → AllGood sections
     → Inside (concat_sections fixed_piece (section words body ∷ sections))
 first-section words body sections is ends inside good =
     let rest = good-sections sections good in
@@ -78,11 +78,11 @@ brackets-all (item ∷ items) all = (brackets-inside item all.0, brackets-all it
 
 where-good : (groups : List Pieces) → AllInside groups → AllGood (where_sections fixed_piece groups)
 where-good [] all = tt
-where-good (group ∷ []) all = (record { words = record { is_closed = refl; begins = refl; ends = refl }; body = all.0 }, tt)
+where-good (group ∷ []) all = (record { words = record { is_closed = refl; plain = refl; begins = refl; ends = refl }; body = all.0 }, tt)
 where-good (group ∷ next ∷ groups) all = (
   record {
-    words = record { is_closed = refl; begins = refl; ends = refl };
-    body = joined-inside (codes " AND ") (record { is_closed = refl; begins = refl; ends = refl }) (map (in_brackets fixed_piece) (group ∷ next ∷ groups)) (brackets-all (group ∷ next ∷ groups) all);
+    words = record { is_closed = refl; plain = refl; begins = refl; ends = refl };
+    body = joined-inside (codes " AND ") (record { is_closed = refl; plain = refl; begins = refl; ends = refl }) (map (in_brackets fixed_piece) (group ∷ next ∷ groups)) (brackets-all (group ∷ next ∷ groups) all);
   },
   tt,
 )
@@ -90,38 +90,38 @@ where-good (group ∷ next ∷ groups) all = (
 group_by-good : (fields : List Pieces) (having : Option Pieces) → AllInside fields → IfSome having Inside → AllGood (group_by_sections fixed_piece fields having)
 group_by-good [] having all inside = tt
 group_by-good (field ∷ fields) having all inside = (
-  record { words = record { is_closed = refl; begins = refl; ends = refl }; body = items-inside (field ∷ fields) all },
-  optional-good (codes " HAVING ") having (record { is_closed = refl; begins = refl; ends = refl }) inside,
+  record { words = record { is_closed = refl; plain = refl; begins = refl; ends = refl }; body = items-inside (field ∷ fields) all },
+  optional-good (codes " HAVING ") having (record { is_closed = refl; plain = refl; begins = refl; ends = refl }) inside,
 )
 
 union-edged : (all : Bool) → Edged (union_opening all)
-union-edged true = record { is_closed = refl; begins = refl; ends = refl }
-union-edged false = record { is_closed = refl; begins = refl; ends = refl }
+union-edged true = record { is_closed = refl; plain = refl; begins = refl; ends = refl }
+union-edged false = record { is_closed = refl; plain = refl; begins = refl; ends = refl }
 
 unions-good : (unions : List (Bool × Pieces)) → AllByRecursion (λ union. Inside union.1) unions → AllGood (union_sections unions)
 unions-good [] all = tt
 unions-good (union ∷ unions) all = (record { words = union-edged union.0; body = all.0 }, unions-good unions all.1)
 
 order_by-good : (unions : List (Bool × Pieces)) (fields : List Pieces) → AllInside fields → AllGood (order_by_sections fixed_piece unions fields)
-order_by-good [] fields all = list-good (codes " ORDER BY ") fields (record { is_closed = refl; begins = refl; ends = refl }) all
+order_by-good [] fields all = list-good (codes " ORDER BY ") fields (record { is_closed = refl; plain = refl; begins = refl; ends = refl }) all
 order_by-good (union ∷ unions) fields all = tt
 
 range-good : (r : Clauses Pieces) → Parts r → AllGood (range_sections r)
 range-good r parts =
     all-append (optional_section (codes " LIMIT ") r.limit) (optional_section (codes " OFFSET ") r.offset)
-    (optional-good (codes " LIMIT ") r.limit (record { is_closed = refl; begins = refl; ends = refl }) parts.limit)
-    (optional-good (codes " OFFSET ") r.offset (record { is_closed = refl; begins = refl; ends = refl }) parts.offset)
+    (optional-good (codes " LIMIT ") r.limit (record { is_closed = refl; plain = refl; begins = refl; ends = refl }) parts.limit)
+    (optional-good (codes " OFFSET ") r.offset (record { is_closed = refl; plain = refl; begins = refl; ends = refl }) parts.offset)
 
 returning-good : (r : Clauses Pieces) → Parts r → AllGood (returning_sections r)
-returning-good r parts = optional-good (codes " RETURNING ") r.returning (record { is_closed = refl; begins = refl; ends = refl }) parts.returning
+returning-good r parts = optional-good (codes " RETURNING ") r.returning (record { is_closed = refl; plain = refl; begins = refl; ends = refl }) parts.returning
 
 fields-inside : (fields : List Pieces) → AllInside fields → Inside (fields_or_star fixed_piece fields)
-fields-inside [] all = words-inside (codes "*") refl
+fields-inside [] all = words-inside (codes "*") (record { is_closed = refl; plain = refl })
 fields-inside (field ∷ fields) all = items-inside (field ∷ fields) all
 
 table-inside : (r : Clauses Pieces) → Parts r → Inside (table_and_joins fixed_piece r.table r.joins)
 table-inside r parts =
-    let joins = before-each (codes " ") (record { is_closed = refl; begins = refl; ends = refl }) r.joins parts.joins in
+    let joins = before-each (codes " ") (record { is_closed = refl; plain = refl; begins = refl; ends = refl }) r.joins parts.joins in
     inside-inside r.table (flat_map (λ (join : Pieces). fixed_piece (codes " ") ++ join) r.joins) parts.table joins.1 joins.0
 
 query-inside : (r : Clauses Pieces) → Parts r → Inside (concat_sections fixed_piece (query_sections fixed_piece r))
@@ -140,41 +140,41 @@ query-inside r parts = by r.distinct
         (all-append _ _ (order_by-good r.unions r.order_fields parts.order_fields) (range-good r parts))))
 
     from-good : AllGood (section (codes " FROM ") (table_and_joins fixed_piece r.table r.joins) ∷ more)
-    from-good = (record { words = record { is_closed = refl; begins = refl; ends = refl }; body = table-inside r parts }, more-good)
+    from-good = (record { words = record { is_closed = refl; plain = refl; begins = refl; ends = refl }; body = table-inside r parts }, more-good)
 
     by : (distinct : Bool) → Inside (concat_sections fixed_piece (section (select_opening distinct) (fields_or_star fixed_piece r.fields) ∷ section (codes " FROM ") (table_and_joins fixed_piece r.table r.joins) ∷ more))
-    by true = first-section (codes "SELECT DISTINCT ") (fields_or_star fixed_piece r.fields) (section (codes " FROM ") (table_and_joins fixed_piece r.table r.joins) ∷ more) refl refl (fields-inside r.fields parts.fields) from-good
-    by false = first-section (codes "SELECT ") (fields_or_star fixed_piece r.fields) (section (codes " FROM ") (table_and_joins fixed_piece r.table r.joins) ∷ more) refl refl (fields-inside r.fields parts.fields) from-good
+    by true = first-section (codes "SELECT DISTINCT ") (fields_or_star fixed_piece r.fields) (section (codes " FROM ") (table_and_joins fixed_piece r.table r.joins) ∷ more) (record { is_closed = refl; plain = refl }) refl (fields-inside r.fields parts.fields) from-good
+    by false = first-section (codes "SELECT ") (fields_or_star fixed_piece r.fields) (section (codes " FROM ") (table_and_joins fixed_piece r.table r.joins) ∷ more) (record { is_closed = refl; plain = refl }) refl (fields-inside r.fields parts.fields) from-good
 
 values-inside : (r : Clauses Pieces) → Parts r → Inside (concat_sections fixed_piece (values_sections fixed_piece r))
-values-inside r parts = first-section (codes "SELECT ") (comma_list fixed_piece r.fields) [] refl refl (items-inside r.fields parts.fields) tt
+values-inside r parts = first-section (codes "SELECT ") (comma_list fixed_piece r.fields) [] (record { is_closed = refl; plain = refl }) refl (items-inside r.fields parts.fields) tt
 
 target-inside : (r : Clauses Pieces) → Parts r → Inside (insert_target fixed_piece r)
 target-inside r parts =
     let fields = comma_list fixed_piece r.fields ++ fixed_piece (codes ")") in
     inside-inside r.table (fixed_piece (codes " (") ++ fields) parts.table (words-behind (codes " (") fields refl)
-    (ended-inside (fixed_piece (codes " (")) fields (words-ended (codes " (") refl refl)
-    (inside-inside (comma_list fixed_piece r.fields) (fixed_piece (codes ")")) (items-inside r.fields parts.fields) (words-behind (codes ")") [] refl) (words-inside (codes ")") refl)))
+    (ended-inside (fixed_piece (codes " (")) fields (words-ended (codes " (") (record { is_closed = refl; plain = refl }) refl)
+    (inside-inside (comma_list fixed_piece r.fields) (fixed_piece (codes ")")) (items-inside r.fields parts.fields) (words-behind (codes ")") [] refl) (words-inside (codes ")") (record { is_closed = refl; plain = refl }))))
 
 insert-inside : (query : Option Pieces) (r : Clauses Pieces) → Parts r → IfSome query Inside → Inside (concat_sections fixed_piece (insert_sections fixed_piece query r))
 insert-inside None r parts inside =
-    first-section (codes "INSERT INTO ") (insert_target fixed_piece r) (section (codes " VALUES ") (comma_list fixed_piece r.rows) ∷ returning_sections r) refl refl (target-inside r parts)
-    (record { words = record { is_closed = refl; begins = refl; ends = refl }; body = items-inside r.rows parts.rows }, returning-good r parts)
+    first-section (codes "INSERT INTO ") (insert_target fixed_piece r) (section (codes " VALUES ") (comma_list fixed_piece r.rows) ∷ returning_sections r) (record { is_closed = refl; plain = refl }) refl (target-inside r parts)
+    (record { words = record { is_closed = refl; plain = refl; begins = refl; ends = refl }; body = items-inside r.rows parts.rows }, returning-good r parts)
 insert-inside (Some rows) r parts inside =
-    first-section (codes "INSERT INTO ") (insert_target fixed_piece r ++ (fixed_piece (codes " ") ++ rows)) [] refl refl
+    first-section (codes "INSERT INTO ") (insert_target fixed_piece r ++ (fixed_piece (codes " ") ++ rows)) [] (record { is_closed = refl; plain = refl }) refl
     (inside-inside (insert_target fixed_piece r) (fixed_piece (codes " ") ++ rows) (target-inside r parts) (words-behind (codes " ") rows refl)
-    (ended-inside (fixed_piece (codes " ")) rows (words-ended (codes " ") refl refl) inside))
+    (ended-inside (fixed_piece (codes " ")) rows (words-ended (codes " ") (record { is_closed = refl; plain = refl }) refl) inside))
     tt
 
 update-inside : (r : Clauses Pieces) → Parts r → Inside (concat_sections fixed_piece (update_sections fixed_piece r))
 update-inside r parts =
-    first-section (codes "UPDATE ") r.table (section (codes " SET ") (comma_list fixed_piece r.sets) ∷ (where_sections fixed_piece r.groups ++ returning_sections r)) refl refl parts.table (
-      record { words = record { is_closed = refl; begins = refl; ends = refl }; body = items-inside r.sets parts.sets },
+    first-section (codes "UPDATE ") r.table (section (codes " SET ") (comma_list fixed_piece r.sets) ∷ (where_sections fixed_piece r.groups ++ returning_sections r)) (record { is_closed = refl; plain = refl }) refl parts.table (
+      record { words = record { is_closed = refl; plain = refl; begins = refl; ends = refl }; body = items-inside r.sets parts.sets },
       all-append _ _ (where-good r.groups parts.groups) (returning-good r parts),
     )
 
 delete-inside : (r : Clauses Pieces) → Parts r → Inside (concat_sections fixed_piece (delete_sections fixed_piece r))
-delete-inside r parts = first-section (codes "DELETE FROM ") r.table (where_sections fixed_piece r.groups) refl refl parts.table (where-good r.groups parts.groups)
+delete-inside r parts = first-section (codes "DELETE FROM ") r.table (where_sections fixed_piece r.groups) (record { is_closed = refl; plain = refl }) refl parts.table (where-good r.groups parts.groups)
 
 statement-inside : (kind : Kind) (r : Clauses Pieces) → Parts r → Inside (concat_sections fixed_piece (statement_sections fixed_piece kind r))
 statement-inside SelectFrom r parts = query-inside r parts
@@ -184,18 +184,22 @@ statement-inside UpdateTable r parts = update-inside r parts
 statement-inside DeleteFrom r parts = delete-inside r parts
 
 -- what each finish prints
-pub layout-inside : (finish : FinishText) (r : Clauses Pieces) → Parts r → Inside (layout_at fixed_piece raw_piece finish r)
-layout-inside Sql r parts =
-    inside-inside (concat_sections fixed_piece (statement_sections fixed_piece r.kind r)) (fixed_piece (codes ";")) (statement-inside r.kind r parts)
-    (words-behind (codes ";") [] refl) (words-inside (codes ";") refl)
-layout-inside Query r parts = query-inside r parts
-layout-inside QueryValues r parts = values-inside r parts
-layout-inside Subquery r parts = brackets-inside (query fixed_piece r) (query-inside r parts)
-layout-inside (SubqueryAs name) r parts =
+pub layout-shaped : (finish : FinishText) (r : Clauses Pieces) → Parts r → Shaped (layout_at fixed_piece raw_piece finish r)
+layout-shaped Sql r parts = statement-shaped (concat_sections fixed_piece (statement_sections fixed_piece r.kind r)) (statement-inside r.kind r parts)
+layout-shaped Query r parts = shaped (query fixed_piece r) (query-inside r parts)
+layout-shaped QueryValues r parts = shaped (query_values fixed_piece r) (values-inside r parts)
+layout-shaped Subquery r parts = shaped (subquery fixed_piece r) (brackets-inside (query fixed_piece r) (query-inside r parts))
+layout-shaped (SubqueryAs name) r parts =
     let behind = fixed_piece (codes ") AS ") ++ raw_piece name in
-    ended-inside (fixed_piece (codes "(")) (query fixed_piece r ++ behind) (words-ended (codes "(") refl refl)
+    shaped (subquery_as fixed_piece (raw_piece name) r)
+    (ended-inside (fixed_piece (codes "(")) (query fixed_piece r ++ behind) (words-ended (codes "(") (record { is_closed = refl; plain = refl }) refl)
     (inside-inside (query fixed_piece r) behind (query-inside r parts) (words-behind (codes ") AS ") (raw_piece name) refl)
-    (ended-inside (fixed_piece (codes ") AS ")) (raw_piece name) (words-ended (codes ") AS ") refl refl) (raw-inside name)))
+    (ended-inside (fixed_piece (codes ") AS ")) (raw_piece name) (words-ended (codes ") AS ") (record { is_closed = refl; plain = refl }) refl) (raw-inside name))))
+
+-- a statement without further semicolons
+pub sql-semicolon : (r : Clauses Pieces) → Parts r → has_closed_fragments (sql fixed_piece r) ≡ true → has_no_semicolons (sql fixed_piece r) ≡ true
+    → EndsInOneSemicolon (tokens (pieces_text (sql fixed_piece r)))
+sql-semicolon r parts is plain = ends_in_semicolon (concat_sections fixed_piece (statement_sections fixed_piece r.kind r)) (statement-inside r.kind r parts) is plain
 
 -- clauses whose texts are fragments
 pub raw-all : (texts : List (List ℕ)) → AllInside (map raw_piece texts)
@@ -271,12 +275,12 @@ fragments-printed finish r = text_of_layout finish (as_fragments r) ∙ ap (text
 builder-shape : (finish : FinishText) (r : Clauses (List ℕ)) (text : List ℕ) → text ≡ text_at finish r
     → HasShape (layout_at fixed_piece raw_piece finish (as_fragments r)) text
 builder-shape finish r text is = λ all.
-    ap tokens (is ∙ sym (fragments-printed finish r)) ∙ shape_is (layout_at fixed_piece raw_piece finish (as_fragments r)) (layout-inside finish (as_fragments r) (raw-parts r)) all
+    ap tokens (is ∙ sym (fragments-printed finish r)) ∙ (layout-shaped finish (as_fragments r) (raw-parts r)).shape_is all
 
 builder-closed : (finish : FinishText) (r : Clauses (List ℕ)) (text : List ℕ) → text ≡ text_at finish r
     → IsClosedAs (layout_at fixed_piece raw_piece finish (as_fragments r)) text
 builder-closed finish r text is = λ all.
-    ap closed (is ∙ sym (fragments-printed finish r)) ∙ shape_closed (layout_at fixed_piece raw_piece finish (as_fragments r)) (layout-inside finish (as_fragments r) (raw-parts r)) all
+    ap closed (is ∙ sym (fragments-printed finish r)) ∙ shape_closed (layout_at fixed_piece raw_piece finish (as_fragments r)) (layout-shaped finish (as_fragments r) (raw-parts r)) all
 
 module _ (r : Clauses (List ℕ)) (text : List ℕ) where
   pub sql_shape : text ≡ sql byte_atoms r → HasShape (sql fixed_piece (as_fragments r)) text

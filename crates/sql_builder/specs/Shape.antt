@@ -1,7 +1,8 @@
 -- The tokens of what is printed, piece by piece.
-use Rattle.std.specs.Prelude.{◌≡◌, ℕ, List, [], ◌∷◌, Bool, true, IsTrue, flat_map}
-use Rattle.std.specs.List.{list_all}
-use Rattle.sql_parts.specs.Tokens.{Token, Str, closed, tokens}
+use Prim.Native.Char.{code}
+use Rattle.std.specs.Prelude.{◌≡◌, ℕ, List, [], ◌∷◌, ◌++◌, Bool, true, false, not, IsTrue, flat_map}
+use Rattle.std.specs.List.{list_all, list_any}
+use Rattle.sql_parts.specs.Tokens.{Token, Str, Symbol, closed, has_semicolon, is_semicolon, tokens}
 use Rattle.sql_builder.specs.Builder.{ClauseTexts, condition_bytes}
 use Rattle.sql_builder.specs.Calls.{condition_pieces}
 use Rattle.sql_builder.specs.Clauses.{Clauses, map_clauses}
@@ -27,6 +28,21 @@ is_closed_piece (Raw text) = closed text
 -- each fragment among the pieces is closed
 abbrev pub has_closed_fragments : Pieces → Bool
 has_closed_fragments pieces = list_all is_closed_piece pieces
+
+-- a fragment has no `;` among its tokens
+abbrev pub is_without_semicolon : Piece → Bool
+is_without_semicolon (Fixed text) = true
+is_without_semicolon (Quoted text) = true
+is_without_semicolon (Raw text) = not (has_semicolon text)
+
+-- no fragment among the pieces has one
+abbrev pub has_no_semicolons : Pieces → Bool
+has_no_semicolons pieces = list_all is_without_semicolon pieces
+
+-- the last of the tokens is a `;`, and no other is
+abbrev pub EndsInOneSemicolon : List Token → Type 0
+EndsInOneSemicolon all =
+    (front : List Token) × (all ≡ front ++ Symbol (code ";") ∷ []) × (list_any is_semicolon front ≡ false)
 
 -- the clauses of a builder, each text a fragment
 abbrev pub as_fragments : ClauseTexts → Clauses Pieces

@@ -1,15 +1,16 @@
 -- The tokens of closed texts with edges between them.
-use Rattle.std.proofs.Common.{◌≡◌, ℕ, Bool, true, ◌||◌, List, [], ◌∷◌, ◌++◌, map, sym, ap, ◌∙◌, append_assoc, append-nil}
+use Rattle.std.proofs.Common.{◌≡◌, false, ℕ, Bool, true, ◌||◌, List, [], ◌∷◌, ◌++◌, map, sym, ap, ◌∙◌, append_assoc, append-nil}
 use Rattle.std.specs.Prelude.{flat_map}
 use Rattle.std.specs.List.{AllByRecursion}
 use Rattle.std.proofs.lemmas.Bool.{false≢true, or_left, or_right}
 use Rattle.sql_parts.specs.Text.{join_with}
-use Rattle.sql_parts.specs.Tokens.{Token, begins_with, clean, closed, ends_with, is_edge, is_empty, tokens}
+use Rattle.sql_parts.specs.Tokens.{Token, begins_with, clean, closed, ends_with, has_semicolon, is_edge, is_empty, tokens}
 use Rattle.sql_parts.proofs.TokenLaws.{closed-seam, seam}
 
 -- a text that is closed and stands between edges of its own
 pub record Edged (between : List ℕ) : Type 0 where
   pub is_closed : closed between ≡ true
+  pub plain : has_semicolon between ≡ false
   pub begins : begins_with is_edge between ≡ true
   pub ends : ends_with is_edge between ≡ true
 

@@ -50,7 +50,7 @@ written (Between quotes) (part ∷ parts) fits =
 
 -- a dot, and what stands before an alias
 dot : Edged (codes ".")
-dot = record { is_closed = refl; begins = refl; ends = refl }
+dot = record { is_closed = refl; plain = refl; begins = refl; ends = refl }
 
 parts-tokens : (form : Form) (name : Name) → fits_form form (name_parts name) ≡ true
     → tokens (join_with (codes ".") (map (written_in form) (name_parts name))) ≡ join_with (Symbol 46 ∷ []) (map (tokens_in form) (name_parts name))
