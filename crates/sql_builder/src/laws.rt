@@ -27,8 +27,8 @@ pub fn only_last_counts()
     ensures returning { OnlyLastCounts returning_in }
 {}
 
-/// Where each fragment that `sql` prints is closed and has no `;` among its tokens, the tokens of the
-/// statement have one `;`, and it is the last.
+/// Where each fragment that `sql` prints is closed and has no `;` among its tokens, the tokens of
+/// the statement have one `;`, and it is the last.
 #[tactic(auto, using(crate::proofs::ClauseShapes::last_semicolon))]
 pub fn only_the_end_is_a_semicolon()
     ensures last { (start : StartText) (calls : List CallText) → IfOk (pieces start calls Sql)

@@ -6,8 +6,8 @@ use Rattle.sql_parts.specs.Templates.{Marks, Resolved, Value, resolve, resolved_
 use Rattle.sql_parts.specs.Text.{decimal_text}
 use Rattle.sql_parts.specs.Tokens.{Token, Word, Str, Symbol, begins_with, closed, ends_with, is_empty, is_separator, tokens}
 
--- A piece with no value before it, or none behind it, or neither: it is closed; where a value is behind it, it is empty and the
--- first, or ends in a separator; where a value is before it, it is empty and the last, or begins with a separator.
+-- A piece, and whether it is the first and the last of its template: it is closed; where a value is behind it, it is empty and
+-- the first, or ends in a separator; where a value is before it, it is empty and the last, or begins with a separator.
 abbrev pub piece_apart : Bool → Bool → List ℕ → Bool
 piece_apart first last piece =
     closed piece

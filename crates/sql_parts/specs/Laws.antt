@@ -1,7 +1,7 @@
 -- What the laws state.
 use Rattle.std.specs.Prelude.{◌≡◌, ◌≢◌, ℕ, List, Option, Some, length, option_map}
 use Rattle.std.specs.List.{All}
-use Rattle.sql_parts.specs.Literal.{LiteralValue}
+use Rattle.sql_parts.specs.Literal.{LiteralValue, words}
 use Rattle.sql_parts.specs.Quoting.{doubled}
 use Rattle.sql_parts.specs.Templates.{Marks, Value, bound}
 use Rattle.sql_parts.specs.Tokens.{tokens}
@@ -20,4 +20,13 @@ LeavesWithout byte marks = (text : List ℕ) (literals : Value → LiteralValue)
 
 -- how many tokens a text has, where there is one
 abbrev pub token_count : Option (List ℕ) → Option ℕ
-token_count text = option_map (λ t. length (tokens t)) text
+token_count text = option_map (λ bytes. length (tokens bytes)) text
+
+-- two literals are equal, or both are texts
+abbrev pub DifferInText : LiteralValue → LiteralValue → Type 0
+DifferInText (words one) (words other) = Unit {0}
+DifferInText one other = one ≡ other
+
+-- the literals of each value are
+abbrev pub DifferInTexts : (Value → LiteralValue) → (Value → LiteralValue) → Type 0
+DifferInTexts one other = (value : Value) → DifferInText (one value) (other value)

@@ -23,11 +23,11 @@ IsRead behind read given = ⊥
 
 -- the text behind so many bytes, where they are given
 abbrev pub behind_bytes : List ℕ → Option ℕ → Option (List ℕ)
-behind_bytes text bytes = option_map (λ n. drop n text) bytes
+behind_bytes text bytes = option_map (λ count. drop count text) bytes
 
 -- the bytes of a text that may be there
 abbrev pub seen_text : Option (Bor (List ℕ)) → Option (List ℕ)
-seen_text text = option_map (λ t. t.now) text
+seen_text text = option_map (λ lent. lent.now) text
 
 -- the mark that closes a quote which a byte opens
 abbrev pub closing_mark : ℕ → Option ℕ

@@ -237,9 +237,9 @@ fn pieces_apart(alloc: Global, template: &str, marks: &Marks<'_>) -> Result<bool
     Ok(piece_apart(seen == 0, true, piece.as_str()))
 }
 
-/// Whether the values that these marks bind stand apart in a template: each piece between them is
-/// closed, and nothing but a separator or an end of the text touches a value. A text that is bound
-/// there can't leave its literal. It is refused only for want of memory.
+/// Whether the values that these marks bind stand apart in a template: no `?` lacks an argument,
+/// each piece of it is closed, and nothing but a separator or an end of the text touches a value.
+/// A text that is bound there can't leave its literal. It is refused only for want of memory.
 pub fn stands_apart(
     alloc: Global,
     template: &str,
