@@ -19,6 +19,7 @@ abbrev pub pieces_apart : Bool → List ℕ → List (Value × List ℕ) → Boo
 pieces_apart first piece [] = piece_apart first true piece
 pieces_apart first piece (next ∷ parts) = piece_apart first false piece && pieces_apart false next.1 parts
 
+-- the pieces of a resolved template, where there is one
 abbrev pub resolved_apart : Option Resolved → Bool
 resolved_apart None = false
 resolved_apart (Some resolved) = pieces_apart true resolved.0 resolved.1

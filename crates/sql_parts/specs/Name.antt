@@ -74,10 +74,11 @@ alias_tokens (Some alias) = Word (codes "AS") ∷ (if is_plain alias then word_t
 abbrev pub name_tokens : (List ℕ → List Token) → Name → List Token
 name_tokens part_tokens name = join_with (Symbol (code ".") ∷ []) (map part_tokens (name_parts name)) ++ alias_tokens name.alias
 
--- each part one text or one name that reads back as the part
+-- one text that reads back as the part
 abbrev pub str_token : List ℕ → List Token
 str_token part = Str part ∷ []
 
+-- one name that reads back as the part
 abbrev pub name_token : List ℕ → List Token
 name_token part = tokens.Name part ∷ []
 
@@ -95,9 +96,11 @@ tokens_in (Between quotes) part = quoted_token quotes part ∷ []
 abbrev pub safe_form : Name → Form
 safe_form name = if list_all is_plain (name_parts name) then Bare else Between Back
 
+-- a name in its safe form
 abbrev pub safe_text : Name → List ℕ
 safe_text name = name_text (written_in (safe_form name)) name
 
+-- the tokens of a name in its safe form
 abbrev pub safe_tokens : Name → List Token
 safe_tokens name = name_tokens (tokens_in (safe_form name)) name
 

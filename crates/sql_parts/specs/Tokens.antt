@@ -79,6 +79,7 @@ tokens_from (suc skipped) (byte ∷ behind) = tokens_from skipped behind
 abbrev pub tokens : List ℕ → List Token
 tokens text = tokens_from 0 text
 
+-- a quote or a comment without an end
 abbrev pub is_open : Token → Bool
 is_open Open = true
 is_open _ = false
@@ -94,6 +95,7 @@ quoted_token Double text = Name text
 abbrev pub closed : List ℕ → Bool
 closed text = not (list_any is_open (tokens text))
 
+-- a `;` that stands in no quotes
 abbrev pub is_semicolon : Token → Bool
 is_semicolon (Symbol byte) = byte == code ";"
 is_semicolon _ = false
@@ -110,15 +112,18 @@ is_separator byte = is_one_of (codes " \t\n\r(),;=<>") byte
 abbrev pub is_edge : ℕ → Bool
 is_edge byte = is_one_of (codes " \t\n\r(),;=<>.") byte
 
+-- the first byte passes
 abbrev pub begins_with : (ℕ → Bool) → List ℕ → Bool
 begins_with test [] = false
 begins_with test (byte ∷ behind) = test byte
 
+-- the last byte passes
 abbrev pub ends_with : (ℕ → Bool) → List ℕ → Bool
 ends_with test [] = false
 ends_with test (byte ∷ []) = test byte
 ends_with test (byte ∷ next ∷ behind) = ends_with test (next ∷ behind)
 
+-- there is no byte
 abbrev pub is_empty : List ℕ → Bool
 is_empty [] = true
 is_empty (byte ∷ behind) = false
