@@ -10,7 +10,6 @@ use sql_parts::{SqlBuilderError, ToText};
 
 impl SqlBuilder {
     ghost use Rattle.std.specs.Borrow.{sem};
-    ghost use Rattle.sql_builder.specs.Shape.{HasConditionShape};
     ghost use Rattle.sql_builder.specs.Builder.{with_condition};
     ghost use Rattle.sql_builder.specs.Chaining.{IsUnchangedIfErr};
     ghost use Rattle.sql_parts.specs.Lending.{IsChangedTo};
@@ -25,7 +24,6 @@ impl SqlBuilder {
         ensures changed { IsChangedTo self.entry
             (with_condition And (Raw (S.text condition)) self.old) result }
         ensures memory { FailsOnlyByMemory result }
-        ensures shape { HasConditionShape (Raw (S.text condition)) }
     {
         release(self.hold_unary(Family::And, UnaryCondition::Bare, condition))
     }
@@ -36,7 +34,6 @@ impl SqlBuilder {
         ensures changed { IsChangedTo self.entry
             (with_condition And (IsNull (S.text field)) self.old) result }
         ensures memory { FailsOnlyByMemory result }
-        ensures shape { HasConditionShape (IsNull (S.text field)) }
     {
         release(self.hold_unary(Family::And, UnaryCondition::IsNull, field))
     }
@@ -50,7 +47,6 @@ impl SqlBuilder {
         ensures changed { IsChangedTo self.entry
             (with_condition And (IsNotNull (S.text field)) self.old) result }
         ensures memory { FailsOnlyByMemory result }
-        ensures shape { HasConditionShape (IsNotNull (S.text field)) }
     {
         release(self.hold_unary(Family::And, UnaryCondition::IsNotNull, field))
     }
@@ -65,7 +61,6 @@ impl SqlBuilder {
         ensures changed { IsChangedTo self.entry
             (with_condition And (Compare Eq (S.text field) (T.text value)) self.old) result }
         ensures memory { FailsOnlyByMemory result }
-        ensures shape { HasConditionShape (Compare Eq (S.text field) (T.text value)) }
     {
         release(self.hold_binary(Family::And, BinaryCondition::Eq, field, value))
     }
@@ -80,7 +75,6 @@ impl SqlBuilder {
         ensures changed { IsChangedTo self.entry
             (with_condition And (Compare Ne (S.text field) (T.text value)) self.old) result }
         ensures memory { FailsOnlyByMemory result }
-        ensures shape { HasConditionShape (Compare Ne (S.text field) (T.text value)) }
     {
         release(self.hold_binary(Family::And, BinaryCondition::Ne, field, value))
     }
@@ -95,7 +89,6 @@ impl SqlBuilder {
         ensures changed { IsChangedTo self.entry
             (with_condition And (Compare Gt (S.text field) (T.text value)) self.old) result }
         ensures memory { FailsOnlyByMemory result }
-        ensures shape { HasConditionShape (Compare Gt (S.text field) (T.text value)) }
     {
         release(self.hold_binary(Family::And, BinaryCondition::Gt, field, value))
     }
@@ -110,7 +103,6 @@ impl SqlBuilder {
         ensures changed { IsChangedTo self.entry
             (with_condition And (Compare Ge (S.text field) (T.text value)) self.old) result }
         ensures memory { FailsOnlyByMemory result }
-        ensures shape { HasConditionShape (Compare Ge (S.text field) (T.text value)) }
     {
         release(self.hold_binary(Family::And, BinaryCondition::Ge, field, value))
     }
@@ -125,7 +117,6 @@ impl SqlBuilder {
         ensures changed { IsChangedTo self.entry
             (with_condition And (Compare Lt (S.text field) (T.text value)) self.old) result }
         ensures memory { FailsOnlyByMemory result }
-        ensures shape { HasConditionShape (Compare Lt (S.text field) (T.text value)) }
     {
         release(self.hold_binary(Family::And, BinaryCondition::Lt, field, value))
     }
@@ -140,7 +131,6 @@ impl SqlBuilder {
         ensures changed { IsChangedTo self.entry
             (with_condition And (Compare Le (S.text field) (T.text value)) self.old) result }
         ensures memory { FailsOnlyByMemory result }
-        ensures shape { HasConditionShape (Compare Le (S.text field) (T.text value)) }
     {
         release(self.hold_binary(Family::And, BinaryCondition::Le, field, value))
     }
@@ -155,7 +145,6 @@ impl SqlBuilder {
         ensures changed { IsChangedTo self.entry
             (with_condition And (Like false Plain (S.text field) (T.text mask)) self.old) result }
         ensures memory { FailsOnlyByMemory result }
-        ensures shape { HasConditionShape (Like false Plain (S.text field) (T.text mask)) }
     {
         release(self.hold_binary(Family::And, BinaryCondition::Like, field, mask))
     }
@@ -171,7 +160,6 @@ impl SqlBuilder {
         ensures changed { IsChangedTo self.entry
             (with_condition And (Like false Right (S.text field) (T.text mask)) self.old) result }
         ensures memory { FailsOnlyByMemory result }
-        ensures shape { HasConditionShape (Like false Right (S.text field) (T.text mask)) }
     {
         release(self.hold_binary(Family::And, BinaryCondition::LikeRight, field, mask))
     }
@@ -187,7 +175,6 @@ impl SqlBuilder {
         ensures changed { IsChangedTo self.entry
             (with_condition And (Like false Left (S.text field) (T.text mask)) self.old) result }
         ensures memory { FailsOnlyByMemory result }
-        ensures shape { HasConditionShape (Like false Left (S.text field) (T.text mask)) }
     {
         release(self.hold_binary(Family::And, BinaryCondition::LikeLeft, field, mask))
     }
@@ -203,7 +190,6 @@ impl SqlBuilder {
         ensures changed { IsChangedTo self.entry
             (with_condition And (Like false Any (S.text field) (T.text mask)) self.old) result }
         ensures memory { FailsOnlyByMemory result }
-        ensures shape { HasConditionShape (Like false Any (S.text field) (T.text mask)) }
     {
         release(self.hold_binary(Family::And, BinaryCondition::LikeAny, field, mask))
     }
@@ -218,7 +204,6 @@ impl SqlBuilder {
         ensures changed { IsChangedTo self.entry
             (with_condition And (Like true Plain (S.text field) (T.text mask)) self.old) result }
         ensures memory { FailsOnlyByMemory result }
-        ensures shape { HasConditionShape (Like true Plain (S.text field) (T.text mask)) }
     {
         release(self.hold_binary(Family::And, BinaryCondition::NotLike, field, mask))
     }
@@ -234,7 +219,6 @@ impl SqlBuilder {
         ensures changed { IsChangedTo self.entry
             (with_condition And (Like true Right (S.text field) (T.text mask)) self.old) result }
         ensures memory { FailsOnlyByMemory result }
-        ensures shape { HasConditionShape (Like true Right (S.text field) (T.text mask)) }
     {
         release(self.hold_binary(Family::And, BinaryCondition::NotLikeRight, field, mask))
     }
@@ -250,7 +234,6 @@ impl SqlBuilder {
         ensures changed { IsChangedTo self.entry
             (with_condition And (Like true Left (S.text field) (T.text mask)) self.old) result }
         ensures memory { FailsOnlyByMemory result }
-        ensures shape { HasConditionShape (Like true Left (S.text field) (T.text mask)) }
     {
         release(self.hold_binary(Family::And, BinaryCondition::NotLikeLeft, field, mask))
     }
@@ -266,7 +249,6 @@ impl SqlBuilder {
         ensures changed { IsChangedTo self.entry
             (with_condition And (Like true Any (S.text field) (T.text mask)) self.old) result }
         ensures memory { FailsOnlyByMemory result }
-        ensures shape { HasConditionShape (Like true Any (S.text field) (T.text mask)) }
     {
         release(self.hold_binary(Family::And, BinaryCondition::NotLikeAny, field, mask))
     }
@@ -282,7 +264,6 @@ impl SqlBuilder {
             (with_condition And
             (InList false (S.text field) (map T.text values.now)) self.old) result }
         ensures memory { FailsOnlyByMemory result }
-        ensures shape { HasConditionShape (InList false (S.text field) (map T.text values.now)) }
     {
         release(self.hold_among(Family::And, ListCondition::In, field, values))
     }
@@ -298,7 +279,6 @@ impl SqlBuilder {
             (with_condition And
             (InQuoted false (S.text field) (map T.text values.now)) self.old) result }
         ensures memory { FailsOnlyByMemory result }
-        ensures shape { HasConditionShape (InQuoted false (S.text field) (map T.text values.now)) }
     {
         release(self.hold_among(Family::And, ListCondition::InQuoted, field, values))
     }
@@ -313,7 +293,6 @@ impl SqlBuilder {
         ensures changed { IsChangedTo self.entry
             (with_condition And (InQuery false (S.text field) (T.text query)) self.old) result }
         ensures memory { FailsOnlyByMemory result }
-        ensures shape { HasConditionShape (InQuery false (S.text field) (T.text query)) }
     {
         release(self.hold_binary(Family::And, BinaryCondition::InQuery, field, query))
     }
@@ -330,7 +309,6 @@ impl SqlBuilder {
             (with_condition And
             (Between false (S.text field) (T.text least) (U.text greatest)) self.old) result }
         ensures memory { FailsOnlyByMemory result }
-        ensures shape { HasConditionShape (Between false (S.text field) (T.text least) (U.text greatest)) }
     {
         release(self.hold_range(Family::And, RangeCondition::Between, field, least, greatest))
     }
@@ -346,7 +324,6 @@ impl SqlBuilder {
             (with_condition And
             (InList true (S.text field) (map T.text values.now)) self.old) result }
         ensures memory { FailsOnlyByMemory result }
-        ensures shape { HasConditionShape (InList true (S.text field) (map T.text values.now)) }
     {
         release(self.hold_among(Family::And, ListCondition::NotIn, field, values))
     }
@@ -363,7 +340,6 @@ impl SqlBuilder {
             (with_condition And
             (InQuoted true (S.text field) (map T.text values.now)) self.old) result }
         ensures memory { FailsOnlyByMemory result }
-        ensures shape { HasConditionShape (InQuoted true (S.text field) (map T.text values.now)) }
     {
         release(self.hold_among(Family::And, ListCondition::NotInQuoted, field, values))
     }
@@ -378,7 +354,6 @@ impl SqlBuilder {
         ensures changed { IsChangedTo self.entry
             (with_condition And (InQuery true (S.text field) (T.text query)) self.old) result }
         ensures memory { FailsOnlyByMemory result }
-        ensures shape { HasConditionShape (InQuery true (S.text field) (T.text query)) }
     {
         release(self.hold_binary(Family::And, BinaryCondition::NotInQuery, field, query))
     }
@@ -395,7 +370,6 @@ impl SqlBuilder {
             (with_condition And
             (Between true (S.text field) (T.text least) (U.text greatest)) self.old) result }
         ensures memory { FailsOnlyByMemory result }
-        ensures shape { HasConditionShape (Between true (S.text field) (T.text least) (U.text greatest)) }
     {
         release(self.hold_range(
             Family::And,
@@ -413,7 +387,6 @@ impl SqlBuilder {
         ensures changed { IsChangedTo self.entry
             (with_condition Or (Raw (S.text condition)) self.old) result }
         ensures memory { FailsOnlyByMemory result }
-        ensures shape { HasConditionShape (Raw (S.text condition)) }
     {
         release(self.hold_unary(Family::Or, UnaryCondition::Bare, condition))
     }
@@ -424,7 +397,6 @@ impl SqlBuilder {
         ensures changed { IsChangedTo self.entry
             (with_condition Or (IsNull (S.text field)) self.old) result }
         ensures memory { FailsOnlyByMemory result }
-        ensures shape { HasConditionShape (IsNull (S.text field)) }
     {
         release(self.hold_unary(Family::Or, UnaryCondition::IsNull, field))
     }
@@ -438,7 +410,6 @@ impl SqlBuilder {
         ensures changed { IsChangedTo self.entry
             (with_condition Or (IsNotNull (S.text field)) self.old) result }
         ensures memory { FailsOnlyByMemory result }
-        ensures shape { HasConditionShape (IsNotNull (S.text field)) }
     {
         release(self.hold_unary(Family::Or, UnaryCondition::IsNotNull, field))
     }
@@ -453,7 +424,6 @@ impl SqlBuilder {
         ensures changed { IsChangedTo self.entry
             (with_condition Or (Compare Eq (S.text field) (T.text value)) self.old) result }
         ensures memory { FailsOnlyByMemory result }
-        ensures shape { HasConditionShape (Compare Eq (S.text field) (T.text value)) }
     {
         release(self.hold_binary(Family::Or, BinaryCondition::Eq, field, value))
     }
@@ -468,7 +438,6 @@ impl SqlBuilder {
         ensures changed { IsChangedTo self.entry
             (with_condition Or (Compare Ne (S.text field) (T.text value)) self.old) result }
         ensures memory { FailsOnlyByMemory result }
-        ensures shape { HasConditionShape (Compare Ne (S.text field) (T.text value)) }
     {
         release(self.hold_binary(Family::Or, BinaryCondition::Ne, field, value))
     }
@@ -483,7 +452,6 @@ impl SqlBuilder {
         ensures changed { IsChangedTo self.entry
             (with_condition Or (Compare Gt (S.text field) (T.text value)) self.old) result }
         ensures memory { FailsOnlyByMemory result }
-        ensures shape { HasConditionShape (Compare Gt (S.text field) (T.text value)) }
     {
         release(self.hold_binary(Family::Or, BinaryCondition::Gt, field, value))
     }
@@ -498,7 +466,6 @@ impl SqlBuilder {
         ensures changed { IsChangedTo self.entry
             (with_condition Or (Compare Ge (S.text field) (T.text value)) self.old) result }
         ensures memory { FailsOnlyByMemory result }
-        ensures shape { HasConditionShape (Compare Ge (S.text field) (T.text value)) }
     {
         release(self.hold_binary(Family::Or, BinaryCondition::Ge, field, value))
     }
@@ -513,7 +480,6 @@ impl SqlBuilder {
         ensures changed { IsChangedTo self.entry
             (with_condition Or (Compare Lt (S.text field) (T.text value)) self.old) result }
         ensures memory { FailsOnlyByMemory result }
-        ensures shape { HasConditionShape (Compare Lt (S.text field) (T.text value)) }
     {
         release(self.hold_binary(Family::Or, BinaryCondition::Lt, field, value))
     }
@@ -528,7 +494,6 @@ impl SqlBuilder {
         ensures changed { IsChangedTo self.entry
             (with_condition Or (Compare Le (S.text field) (T.text value)) self.old) result }
         ensures memory { FailsOnlyByMemory result }
-        ensures shape { HasConditionShape (Compare Le (S.text field) (T.text value)) }
     {
         release(self.hold_binary(Family::Or, BinaryCondition::Le, field, value))
     }
@@ -544,7 +509,6 @@ impl SqlBuilder {
         ensures changed { IsChangedTo self.entry
             (with_condition Or (Like false Plain (S.text field) (T.text mask)) self.old) result }
         ensures memory { FailsOnlyByMemory result }
-        ensures shape { HasConditionShape (Like false Plain (S.text field) (T.text mask)) }
     {
         release(self.hold_binary(Family::Or, BinaryCondition::Like, field, mask))
     }
@@ -560,7 +524,6 @@ impl SqlBuilder {
         ensures changed { IsChangedTo self.entry
             (with_condition Or (Like false Right (S.text field) (T.text mask)) self.old) result }
         ensures memory { FailsOnlyByMemory result }
-        ensures shape { HasConditionShape (Like false Right (S.text field) (T.text mask)) }
     {
         release(self.hold_binary(Family::Or, BinaryCondition::LikeRight, field, mask))
     }
@@ -576,7 +539,6 @@ impl SqlBuilder {
         ensures changed { IsChangedTo self.entry
             (with_condition Or (Like false Left (S.text field) (T.text mask)) self.old) result }
         ensures memory { FailsOnlyByMemory result }
-        ensures shape { HasConditionShape (Like false Left (S.text field) (T.text mask)) }
     {
         release(self.hold_binary(Family::Or, BinaryCondition::LikeLeft, field, mask))
     }
@@ -592,7 +554,6 @@ impl SqlBuilder {
         ensures changed { IsChangedTo self.entry
             (with_condition Or (Like false Any (S.text field) (T.text mask)) self.old) result }
         ensures memory { FailsOnlyByMemory result }
-        ensures shape { HasConditionShape (Like false Any (S.text field) (T.text mask)) }
     {
         release(self.hold_binary(Family::Or, BinaryCondition::LikeAny, field, mask))
     }
@@ -608,7 +569,6 @@ impl SqlBuilder {
         ensures changed { IsChangedTo self.entry
             (with_condition Or (Like true Plain (S.text field) (T.text mask)) self.old) result }
         ensures memory { FailsOnlyByMemory result }
-        ensures shape { HasConditionShape (Like true Plain (S.text field) (T.text mask)) }
     {
         release(self.hold_binary(Family::Or, BinaryCondition::NotLike, field, mask))
     }
@@ -624,7 +584,6 @@ impl SqlBuilder {
         ensures changed { IsChangedTo self.entry
             (with_condition Or (Like true Right (S.text field) (T.text mask)) self.old) result }
         ensures memory { FailsOnlyByMemory result }
-        ensures shape { HasConditionShape (Like true Right (S.text field) (T.text mask)) }
     {
         release(self.hold_binary(Family::Or, BinaryCondition::NotLikeRight, field, mask))
     }
@@ -640,7 +599,6 @@ impl SqlBuilder {
         ensures changed { IsChangedTo self.entry
             (with_condition Or (Like true Left (S.text field) (T.text mask)) self.old) result }
         ensures memory { FailsOnlyByMemory result }
-        ensures shape { HasConditionShape (Like true Left (S.text field) (T.text mask)) }
     {
         release(self.hold_binary(Family::Or, BinaryCondition::NotLikeLeft, field, mask))
     }
@@ -656,7 +614,6 @@ impl SqlBuilder {
         ensures changed { IsChangedTo self.entry
             (with_condition Or (Like true Any (S.text field) (T.text mask)) self.old) result }
         ensures memory { FailsOnlyByMemory result }
-        ensures shape { HasConditionShape (Like true Any (S.text field) (T.text mask)) }
     {
         release(self.hold_binary(Family::Or, BinaryCondition::NotLikeAny, field, mask))
     }
@@ -673,7 +630,6 @@ impl SqlBuilder {
             (with_condition Or
             (InList false (S.text field) (map T.text values.now)) self.old) result }
         ensures memory { FailsOnlyByMemory result }
-        ensures shape { HasConditionShape (InList false (S.text field) (map T.text values.now)) }
     {
         release(self.hold_among(Family::Or, ListCondition::In, field, values))
     }
@@ -690,7 +646,6 @@ impl SqlBuilder {
             (with_condition Or
             (InQuoted false (S.text field) (map T.text values.now)) self.old) result }
         ensures memory { FailsOnlyByMemory result }
-        ensures shape { HasConditionShape (InQuoted false (S.text field) (map T.text values.now)) }
     {
         release(self.hold_among(Family::Or, ListCondition::InQuoted, field, values))
     }
@@ -705,7 +660,6 @@ impl SqlBuilder {
         ensures changed { IsChangedTo self.entry
             (with_condition Or (InQuery false (S.text field) (T.text query)) self.old) result }
         ensures memory { FailsOnlyByMemory result }
-        ensures shape { HasConditionShape (InQuery false (S.text field) (T.text query)) }
     {
         release(self.hold_binary(Family::Or, BinaryCondition::InQuery, field, query))
     }
@@ -723,7 +677,6 @@ impl SqlBuilder {
             (with_condition Or
             (Between false (S.text field) (T.text least) (U.text greatest)) self.old) result }
         ensures memory { FailsOnlyByMemory result }
-        ensures shape { HasConditionShape (Between false (S.text field) (T.text least) (U.text greatest)) }
     {
         release(self.hold_range(Family::Or, RangeCondition::Between, field, least, greatest))
     }
@@ -740,7 +693,6 @@ impl SqlBuilder {
             (with_condition Or
             (InList true (S.text field) (map T.text values.now)) self.old) result }
         ensures memory { FailsOnlyByMemory result }
-        ensures shape { HasConditionShape (InList true (S.text field) (map T.text values.now)) }
     {
         release(self.hold_among(Family::Or, ListCondition::NotIn, field, values))
     }
@@ -757,7 +709,6 @@ impl SqlBuilder {
             (with_condition Or
             (InQuoted true (S.text field) (map T.text values.now)) self.old) result }
         ensures memory { FailsOnlyByMemory result }
-        ensures shape { HasConditionShape (InQuoted true (S.text field) (map T.text values.now)) }
     {
         release(self.hold_among(Family::Or, ListCondition::NotInQuoted, field, values))
     }
@@ -773,7 +724,6 @@ impl SqlBuilder {
         ensures changed { IsChangedTo self.entry
             (with_condition Or (InQuery true (S.text field) (T.text query)) self.old) result }
         ensures memory { FailsOnlyByMemory result }
-        ensures shape { HasConditionShape (InQuery true (S.text field) (T.text query)) }
     {
         release(self.hold_binary(Family::Or, BinaryCondition::NotInQuery, field, query))
     }
@@ -791,7 +741,6 @@ impl SqlBuilder {
             (with_condition Or
             (Between true (S.text field) (T.text least) (U.text greatest)) self.old) result }
         ensures memory { FailsOnlyByMemory result }
-        ensures shape { HasConditionShape (Between true (S.text field) (T.text least) (U.text greatest)) }
     {
         release(self.hold_range(
             Family::Or,
