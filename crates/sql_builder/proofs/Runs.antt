@@ -51,7 +51,7 @@ listed field words printed =
     ∙ ap (λ (list : List ℕ). list ++ codes ")")
     (joined_in_form fixed_piece byte_atoms pieces_text refl pieces_text-append append-nil (codes ", ") printed))
 
-condition_printed : (c : ConditionText) → pieces_text (condition_pieces c) ≡ condition_bytes c
+pub condition_printed : (c : ConditionText) → pieces_text (condition_pieces c) ≡ condition_bytes c
 condition_printed (Raw condition) = append-nil condition
 condition_printed (Compare relation field value) = simp append-nil
 condition_printed (Like negated percent field mask) = simp append-nil
@@ -167,7 +167,7 @@ one_more_call start calls i c l e =
 
 -- the statement
 
-text_of_layout : (f : FinishText) (r : Clauses Pieces)
+pub text_of_layout : (f : FinishText) (r : Clauses Pieces)
     → pieces_text (layout_at fixed_piece raw_piece f r) ≡ text_at f (map_clauses pieces_text r)
 text_of_layout f r =
     layout_in_form fixed_piece byte_atoms pieces_text refl pieces_text-append append-nil

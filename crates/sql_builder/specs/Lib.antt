@@ -8,6 +8,7 @@ pub mod Filters
 pub mod Laws
 pub mod Layout
 pub mod Phrases
+pub mod Shape
 pub mod Statement
 pub mod Steps
 pub mod Text

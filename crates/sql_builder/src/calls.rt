@@ -6,7 +6,8 @@ ghost use Rattle.sql_builder.specs.Builder.{condition_bytes, with_condition};
 ghost use Rattle.sql_builder.specs.Steps.{with_call};
 ghost use Rattle.sql_builder.specs.Calls.{clauses, operator_in};
 ghost use Rattle.sql_builder.specs.Clauses.{map_clauses};
-ghost use Rattle.sql_builder.specs.Statement.{refusal_at, statement, text_at};
+ghost use Rattle.sql_builder.specs.Shape.{HasShape, IsClosedAs};
+ghost use Rattle.sql_builder.specs.Statement.{pieces, refusal_at, statement, text_at};
 ghost use Rattle.sql_builder.specs.Text.{pieces_text};
 
 use crate::builder::SqlBuilder;
@@ -333,6 +334,12 @@ pub fn run(
         (finish_text finish.now) ≡ Ok (string_bytes s)) }
     ensures refused { IfErr result (λ e. IsMemory e ⊎ (statement (start_text start.now)
         (map call_text calls.now) (finish_text finish.now) ≡ Err e)) }
+    ensures shape { IfOk result (λ s. IfOk (pieces (start_text start.now)
+        (map call_text calls.now) (finish_text finish.now))
+        (λ printed. HasShape printed (string_bytes s))) }
+    ensures closed { IfOk result (λ s. IfOk (pieces (start_text start.now)
+        (map call_text calls.now) (finish_text finish.now))
+        (λ printed. IsClosedAs printed (string_bytes s))) }
 {
     let builder = build(alloc, start, calls)?;
     print(&builder, finish)

@@ -4,6 +4,8 @@
 ghost use Rattle.std.specs.Prelude.{◌≡◌, [], ◌∷◌, codes, false, map, true, IfErr};
 ghost use Rattle.sql_parts.specs.Error.{FailsOnlyByMemory};
 ghost use Rattle.sql_parts.specs.Quoting.{quoted};
+ghost use Rattle.sql_builder.specs.Shape.{HasShape};
+ghost use Rattle.sql_builder.specs.Text.{fixed_piece, quoted_piece, raw_piece};
 ghost use Rattle.sql_builder.specs.Layout.{byte_atoms};
 ghost use Rattle.sql_builder.specs.Phrases.{count, count_as, equation};
 
@@ -57,6 +59,9 @@ impl SqlBuilder {
         ensures changed { IsChangedTo self.entry
             (with_on (equation byte_atoms (S.text left) (T.text right)) self.old) result }
         ensures memory { IfErr result (RefusesConstraint self.old) }
+        ensures shape { HasShape
+            (equation fixed_piece (raw_piece (S.text left)) (raw_piece (T.text right)))
+            (equation byte_atoms (S.text left) (T.text right)) }
     {
         release(self.hold_pair(PairClause::OnEq, left, right))
     }
@@ -122,6 +127,9 @@ impl SqlBuilder {
             (with_fields (count_as byte_atoms (S.text field) (T.text name) ∷ []) self.old)
             result }
         ensures memory { FailsOnlyByMemory result }
+        ensures shape { HasShape
+            (count_as fixed_piece (raw_piece (S.text field)) (raw_piece (T.text name)))
+            (count_as byte_atoms (S.text field) (T.text name)) }
     {
         release(self.hold_pair(PairClause::CountAs, field, name))
     }
@@ -136,6 +144,9 @@ impl SqlBuilder {
         ensures changed { IsChangedTo self.entry
             (with_set (equation byte_atoms (S.text field) (T.text value)) self.old) result }
         ensures memory { FailsOnlyByMemory result }
+        ensures shape { HasShape
+            (equation fixed_piece (raw_piece (S.text field)) (raw_piece (T.text value)))
+            (equation byte_atoms (S.text field) (T.text value)) }
     {
         release(self.hold_pair(PairClause::SetTo, field, value))
     }
@@ -152,6 +163,9 @@ impl SqlBuilder {
             (with_set (equation byte_atoms (S.text field) (quoted (T.text value))) self.old)
             result }
         ensures memory { FailsOnlyByMemory result }
+        ensures shape { HasShape
+            (equation fixed_piece (raw_piece (S.text field)) (quoted_piece (T.text value)))
+            (equation byte_atoms (S.text field) (quoted (T.text value))) }
     {
         release(self.hold_pair(PairClause::SetStr, field, value))
     }

@@ -10,6 +10,7 @@ use sql_parts::{SqlBuilderError, ToText};
 
 impl SqlBuilder {
     ghost use Rattle.std.specs.Borrow.{sem};
+    ghost use Rattle.sql_builder.specs.Shape.{HasConditionShape};
     ghost use Rattle.sql_builder.specs.Builder.{with_condition};
     ghost use Rattle.sql_builder.specs.Chaining.{IsUnchangedIfErr};
     ghost use Rattle.sql_parts.specs.Lending.{IsChangedTo};
@@ -24,6 +25,7 @@ impl SqlBuilder {
         ensures changed { IsChangedTo self.entry
             (with_condition And (Raw (S.text condition)) self.old) result }
         ensures memory { FailsOnlyByMemory result }
+        ensures shape { HasConditionShape (Raw (S.text condition)) }
     {
         release(self.hold_unary(Family::And, UnaryCondition::Bare, condition))
     }
@@ -34,6 +36,7 @@ impl SqlBuilder {
         ensures changed { IsChangedTo self.entry
             (with_condition And (IsNull (S.text field)) self.old) result }
         ensures memory { FailsOnlyByMemory result }
+        ensures shape { HasConditionShape (IsNull (S.text field)) }
     {
         release(self.hold_unary(Family::And, UnaryCondition::IsNull, field))
     }
@@ -47,6 +50,7 @@ impl SqlBuilder {
         ensures changed { IsChangedTo self.entry
             (with_condition And (IsNotNull (S.text field)) self.old) result }
         ensures memory { FailsOnlyByMemory result }
+        ensures shape { HasConditionShape (IsNotNull (S.text field)) }
     {
         release(self.hold_unary(Family::And, UnaryCondition::IsNotNull, field))
     }
@@ -61,6 +65,7 @@ impl SqlBuilder {
         ensures changed { IsChangedTo self.entry
             (with_condition And (Compare Eq (S.text field) (T.text value)) self.old) result }
         ensures memory { FailsOnlyByMemory result }
+        ensures shape { HasConditionShape (Compare Eq (S.text field) (T.text value)) }
     {
         release(self.hold_binary(Family::And, BinaryCondition::Eq, field, value))
     }
@@ -75,6 +80,7 @@ impl SqlBuilder {
         ensures changed { IsChangedTo self.entry
             (with_condition And (Compare Ne (S.text field) (T.text value)) self.old) result }
         ensures memory { FailsOnlyByMemory result }
+        ensures shape { HasConditionShape (Compare Ne (S.text field) (T.text value)) }
     {
         release(self.hold_binary(Family::And, BinaryCondition::Ne, field, value))
     }
@@ -89,6 +95,7 @@ impl SqlBuilder {
         ensures changed { IsChangedTo self.entry
             (with_condition And (Compare Gt (S.text field) (T.text value)) self.old) result }
         ensures memory { FailsOnlyByMemory result }
+        ensures shape { HasConditionShape (Compare Gt (S.text field) (T.text value)) }
     {
         release(self.hold_binary(Family::And, BinaryCondition::Gt, field, value))
     }
@@ -103,6 +110,7 @@ impl SqlBuilder {
         ensures changed { IsChangedTo self.entry
             (with_condition And (Compare Ge (S.text field) (T.text value)) self.old) result }
         ensures memory { FailsOnlyByMemory result }
+        ensures shape { HasConditionShape (Compare Ge (S.text field) (T.text value)) }
     {
         release(self.hold_binary(Family::And, BinaryCondition::Ge, field, value))
     }
@@ -117,6 +125,7 @@ impl SqlBuilder {
         ensures changed { IsChangedTo self.entry
             (with_condition And (Compare Lt (S.text field) (T.text value)) self.old) result }
         ensures memory { FailsOnlyByMemory result }
+        ensures shape { HasConditionShape (Compare Lt (S.text field) (T.text value)) }
     {
         release(self.hold_binary(Family::And, BinaryCondition::Lt, field, value))
     }
@@ -131,6 +140,7 @@ impl SqlBuilder {
         ensures changed { IsChangedTo self.entry
             (with_condition And (Compare Le (S.text field) (T.text value)) self.old) result }
         ensures memory { FailsOnlyByMemory result }
+        ensures shape { HasConditionShape (Compare Le (S.text field) (T.text value)) }
     {
         release(self.hold_binary(Family::And, BinaryCondition::Le, field, value))
     }
@@ -145,6 +155,7 @@ impl SqlBuilder {
         ensures changed { IsChangedTo self.entry
             (with_condition And (Like false Plain (S.text field) (T.text mask)) self.old) result }
         ensures memory { FailsOnlyByMemory result }
+        ensures shape { HasConditionShape (Like false Plain (S.text field) (T.text mask)) }
     {
         release(self.hold_binary(Family::And, BinaryCondition::Like, field, mask))
     }
@@ -160,6 +171,7 @@ impl SqlBuilder {
         ensures changed { IsChangedTo self.entry
             (with_condition And (Like false Right (S.text field) (T.text mask)) self.old) result }
         ensures memory { FailsOnlyByMemory result }
+        ensures shape { HasConditionShape (Like false Right (S.text field) (T.text mask)) }
     {
         release(self.hold_binary(Family::And, BinaryCondition::LikeRight, field, mask))
     }
@@ -175,6 +187,7 @@ impl SqlBuilder {
         ensures changed { IsChangedTo self.entry
             (with_condition And (Like false Left (S.text field) (T.text mask)) self.old) result }
         ensures memory { FailsOnlyByMemory result }
+        ensures shape { HasConditionShape (Like false Left (S.text field) (T.text mask)) }
     {
         release(self.hold_binary(Family::And, BinaryCondition::LikeLeft, field, mask))
     }
@@ -190,6 +203,7 @@ impl SqlBuilder {
         ensures changed { IsChangedTo self.entry
             (with_condition And (Like false Any (S.text field) (T.text mask)) self.old) result }
         ensures memory { FailsOnlyByMemory result }
+        ensures shape { HasConditionShape (Like false Any (S.text field) (T.text mask)) }
     {
         release(self.hold_binary(Family::And, BinaryCondition::LikeAny, field, mask))
     }
@@ -204,6 +218,7 @@ impl SqlBuilder {
         ensures changed { IsChangedTo self.entry
             (with_condition And (Like true Plain (S.text field) (T.text mask)) self.old) result }
         ensures memory { FailsOnlyByMemory result }
+        ensures shape { HasConditionShape (Like true Plain (S.text field) (T.text mask)) }
     {
         release(self.hold_binary(Family::And, BinaryCondition::NotLike, field, mask))
     }
@@ -219,6 +234,7 @@ impl SqlBuilder {
         ensures changed { IsChangedTo self.entry
             (with_condition And (Like true Right (S.text field) (T.text mask)) self.old) result }
         ensures memory { FailsOnlyByMemory result }
+        ensures shape { HasConditionShape (Like true Right (S.text field) (T.text mask)) }
     {
         release(self.hold_binary(Family::And, BinaryCondition::NotLikeRight, field, mask))
     }
@@ -234,6 +250,7 @@ impl SqlBuilder {
         ensures changed { IsChangedTo self.entry
             (with_condition And (Like true Left (S.text field) (T.text mask)) self.old) result }
         ensures memory { FailsOnlyByMemory result }
+        ensures shape { HasConditionShape (Like true Left (S.text field) (T.text mask)) }
     {
         release(self.hold_binary(Family::And, BinaryCondition::NotLikeLeft, field, mask))
     }
@@ -249,6 +266,7 @@ impl SqlBuilder {
         ensures changed { IsChangedTo self.entry
             (with_condition And (Like true Any (S.text field) (T.text mask)) self.old) result }
         ensures memory { FailsOnlyByMemory result }
+        ensures shape { HasConditionShape (Like true Any (S.text field) (T.text mask)) }
     {
         release(self.hold_binary(Family::And, BinaryCondition::NotLikeAny, field, mask))
     }
@@ -264,6 +282,7 @@ impl SqlBuilder {
             (with_condition And
             (InList false (S.text field) (map T.text values.now)) self.old) result }
         ensures memory { FailsOnlyByMemory result }
+        ensures shape { HasConditionShape (InList false (S.text field) (map T.text values.now)) }
     {
         release(self.hold_among(Family::And, ListCondition::In, field, values))
     }
@@ -279,6 +298,7 @@ impl SqlBuilder {
             (with_condition And
             (InQuoted false (S.text field) (map T.text values.now)) self.old) result }
         ensures memory { FailsOnlyByMemory result }
+        ensures shape { HasConditionShape (InQuoted false (S.text field) (map T.text values.now)) }
     {
         release(self.hold_among(Family::And, ListCondition::InQuoted, field, values))
     }
@@ -293,6 +313,7 @@ impl SqlBuilder {
         ensures changed { IsChangedTo self.entry
             (with_condition And (InQuery false (S.text field) (T.text query)) self.old) result }
         ensures memory { FailsOnlyByMemory result }
+        ensures shape { HasConditionShape (InQuery false (S.text field) (T.text query)) }
     {
         release(self.hold_binary(Family::And, BinaryCondition::InQuery, field, query))
     }
@@ -309,6 +330,7 @@ impl SqlBuilder {
             (with_condition And
             (Between false (S.text field) (T.text least) (U.text greatest)) self.old) result }
         ensures memory { FailsOnlyByMemory result }
+        ensures shape { HasConditionShape (Between false (S.text field) (T.text least) (U.text greatest)) }
     {
         release(self.hold_range(Family::And, RangeCondition::Between, field, least, greatest))
     }
@@ -324,6 +346,7 @@ impl SqlBuilder {
             (with_condition And
             (InList true (S.text field) (map T.text values.now)) self.old) result }
         ensures memory { FailsOnlyByMemory result }
+        ensures shape { HasConditionShape (InList true (S.text field) (map T.text values.now)) }
     {
         release(self.hold_among(Family::And, ListCondition::NotIn, field, values))
     }
@@ -340,6 +363,7 @@ impl SqlBuilder {
             (with_condition And
             (InQuoted true (S.text field) (map T.text values.now)) self.old) result }
         ensures memory { FailsOnlyByMemory result }
+        ensures shape { HasConditionShape (InQuoted true (S.text field) (map T.text values.now)) }
     {
         release(self.hold_among(Family::And, ListCondition::NotInQuoted, field, values))
     }
@@ -354,6 +378,7 @@ impl SqlBuilder {
         ensures changed { IsChangedTo self.entry
             (with_condition And (InQuery true (S.text field) (T.text query)) self.old) result }
         ensures memory { FailsOnlyByMemory result }
+        ensures shape { HasConditionShape (InQuery true (S.text field) (T.text query)) }
     {
         release(self.hold_binary(Family::And, BinaryCondition::NotInQuery, field, query))
     }
@@ -370,6 +395,7 @@ impl SqlBuilder {
             (with_condition And
             (Between true (S.text field) (T.text least) (U.text greatest)) self.old) result }
         ensures memory { FailsOnlyByMemory result }
+        ensures shape { HasConditionShape (Between true (S.text field) (T.text least) (U.text greatest)) }
     {
         release(self.hold_range(
             Family::And,
@@ -387,6 +413,7 @@ impl SqlBuilder {
         ensures changed { IsChangedTo self.entry
             (with_condition Or (Raw (S.text condition)) self.old) result }
         ensures memory { FailsOnlyByMemory result }
+        ensures shape { HasConditionShape (Raw (S.text condition)) }
     {
         release(self.hold_unary(Family::Or, UnaryCondition::Bare, condition))
     }
@@ -397,6 +424,7 @@ impl SqlBuilder {
         ensures changed { IsChangedTo self.entry
             (with_condition Or (IsNull (S.text field)) self.old) result }
         ensures memory { FailsOnlyByMemory result }
+        ensures shape { HasConditionShape (IsNull (S.text field)) }
     {
         release(self.hold_unary(Family::Or, UnaryCondition::IsNull, field))
     }
@@ -410,6 +438,7 @@ impl SqlBuilder {
         ensures changed { IsChangedTo self.entry
             (with_condition Or (IsNotNull (S.text field)) self.old) result }
         ensures memory { FailsOnlyByMemory result }
+        ensures shape { HasConditionShape (IsNotNull (S.text field)) }
     {
         release(self.hold_unary(Family::Or, UnaryCondition::IsNotNull, field))
     }
@@ -424,6 +453,7 @@ impl SqlBuilder {
         ensures changed { IsChangedTo self.entry
             (with_condition Or (Compare Eq (S.text field) (T.text value)) self.old) result }
         ensures memory { FailsOnlyByMemory result }
+        ensures shape { HasConditionShape (Compare Eq (S.text field) (T.text value)) }
     {
         release(self.hold_binary(Family::Or, BinaryCondition::Eq, field, value))
     }
@@ -438,6 +468,7 @@ impl SqlBuilder {
         ensures changed { IsChangedTo self.entry
             (with_condition Or (Compare Ne (S.text field) (T.text value)) self.old) result }
         ensures memory { FailsOnlyByMemory result }
+        ensures shape { HasConditionShape (Compare Ne (S.text field) (T.text value)) }
     {
         release(self.hold_binary(Family::Or, BinaryCondition::Ne, field, value))
     }
@@ -452,6 +483,7 @@ impl SqlBuilder {
         ensures changed { IsChangedTo self.entry
             (with_condition Or (Compare Gt (S.text field) (T.text value)) self.old) result }
         ensures memory { FailsOnlyByMemory result }
+        ensures shape { HasConditionShape (Compare Gt (S.text field) (T.text value)) }
     {
         release(self.hold_binary(Family::Or, BinaryCondition::Gt, field, value))
     }
@@ -466,6 +498,7 @@ impl SqlBuilder {
         ensures changed { IsChangedTo self.entry
             (with_condition Or (Compare Ge (S.text field) (T.text value)) self.old) result }
         ensures memory { FailsOnlyByMemory result }
+        ensures shape { HasConditionShape (Compare Ge (S.text field) (T.text value)) }
     {
         release(self.hold_binary(Family::Or, BinaryCondition::Ge, field, value))
     }
@@ -480,6 +513,7 @@ impl SqlBuilder {
         ensures changed { IsChangedTo self.entry
             (with_condition Or (Compare Lt (S.text field) (T.text value)) self.old) result }
         ensures memory { FailsOnlyByMemory result }
+        ensures shape { HasConditionShape (Compare Lt (S.text field) (T.text value)) }
     {
         release(self.hold_binary(Family::Or, BinaryCondition::Lt, field, value))
     }
@@ -494,6 +528,7 @@ impl SqlBuilder {
         ensures changed { IsChangedTo self.entry
             (with_condition Or (Compare Le (S.text field) (T.text value)) self.old) result }
         ensures memory { FailsOnlyByMemory result }
+        ensures shape { HasConditionShape (Compare Le (S.text field) (T.text value)) }
     {
         release(self.hold_binary(Family::Or, BinaryCondition::Le, field, value))
     }
@@ -509,6 +544,7 @@ impl SqlBuilder {
         ensures changed { IsChangedTo self.entry
             (with_condition Or (Like false Plain (S.text field) (T.text mask)) self.old) result }
         ensures memory { FailsOnlyByMemory result }
+        ensures shape { HasConditionShape (Like false Plain (S.text field) (T.text mask)) }
     {
         release(self.hold_binary(Family::Or, BinaryCondition::Like, field, mask))
     }
@@ -524,6 +560,7 @@ impl SqlBuilder {
         ensures changed { IsChangedTo self.entry
             (with_condition Or (Like false Right (S.text field) (T.text mask)) self.old) result }
         ensures memory { FailsOnlyByMemory result }
+        ensures shape { HasConditionShape (Like false Right (S.text field) (T.text mask)) }
     {
         release(self.hold_binary(Family::Or, BinaryCondition::LikeRight, field, mask))
     }
@@ -539,6 +576,7 @@ impl SqlBuilder {
         ensures changed { IsChangedTo self.entry
             (with_condition Or (Like false Left (S.text field) (T.text mask)) self.old) result }
         ensures memory { FailsOnlyByMemory result }
+        ensures shape { HasConditionShape (Like false Left (S.text field) (T.text mask)) }
     {
         release(self.hold_binary(Family::Or, BinaryCondition::LikeLeft, field, mask))
     }
@@ -554,6 +592,7 @@ impl SqlBuilder {
         ensures changed { IsChangedTo self.entry
             (with_condition Or (Like false Any (S.text field) (T.text mask)) self.old) result }
         ensures memory { FailsOnlyByMemory result }
+        ensures shape { HasConditionShape (Like false Any (S.text field) (T.text mask)) }
     {
         release(self.hold_binary(Family::Or, BinaryCondition::LikeAny, field, mask))
     }
@@ -569,6 +608,7 @@ impl SqlBuilder {
         ensures changed { IsChangedTo self.entry
             (with_condition Or (Like true Plain (S.text field) (T.text mask)) self.old) result }
         ensures memory { FailsOnlyByMemory result }
+        ensures shape { HasConditionShape (Like true Plain (S.text field) (T.text mask)) }
     {
         release(self.hold_binary(Family::Or, BinaryCondition::NotLike, field, mask))
     }
@@ -584,6 +624,7 @@ impl SqlBuilder {
         ensures changed { IsChangedTo self.entry
             (with_condition Or (Like true Right (S.text field) (T.text mask)) self.old) result }
         ensures memory { FailsOnlyByMemory result }
+        ensures shape { HasConditionShape (Like true Right (S.text field) (T.text mask)) }
     {
         release(self.hold_binary(Family::Or, BinaryCondition::NotLikeRight, field, mask))
     }
@@ -599,6 +640,7 @@ impl SqlBuilder {
         ensures changed { IsChangedTo self.entry
             (with_condition Or (Like true Left (S.text field) (T.text mask)) self.old) result }
         ensures memory { FailsOnlyByMemory result }
+        ensures shape { HasConditionShape (Like true Left (S.text field) (T.text mask)) }
     {
         release(self.hold_binary(Family::Or, BinaryCondition::NotLikeLeft, field, mask))
     }
@@ -614,6 +656,7 @@ impl SqlBuilder {
         ensures changed { IsChangedTo self.entry
             (with_condition Or (Like true Any (S.text field) (T.text mask)) self.old) result }
         ensures memory { FailsOnlyByMemory result }
+        ensures shape { HasConditionShape (Like true Any (S.text field) (T.text mask)) }
     {
         release(self.hold_binary(Family::Or, BinaryCondition::NotLikeAny, field, mask))
     }
@@ -630,6 +673,7 @@ impl SqlBuilder {
             (with_condition Or
             (InList false (S.text field) (map T.text values.now)) self.old) result }
         ensures memory { FailsOnlyByMemory result }
+        ensures shape { HasConditionShape (InList false (S.text field) (map T.text values.now)) }
     {
         release(self.hold_among(Family::Or, ListCondition::In, field, values))
     }
@@ -646,6 +690,7 @@ impl SqlBuilder {
             (with_condition Or
             (InQuoted false (S.text field) (map T.text values.now)) self.old) result }
         ensures memory { FailsOnlyByMemory result }
+        ensures shape { HasConditionShape (InQuoted false (S.text field) (map T.text values.now)) }
     {
         release(self.hold_among(Family::Or, ListCondition::InQuoted, field, values))
     }
@@ -660,6 +705,7 @@ impl SqlBuilder {
         ensures changed { IsChangedTo self.entry
             (with_condition Or (InQuery false (S.text field) (T.text query)) self.old) result }
         ensures memory { FailsOnlyByMemory result }
+        ensures shape { HasConditionShape (InQuery false (S.text field) (T.text query)) }
     {
         release(self.hold_binary(Family::Or, BinaryCondition::InQuery, field, query))
     }
@@ -677,6 +723,7 @@ impl SqlBuilder {
             (with_condition Or
             (Between false (S.text field) (T.text least) (U.text greatest)) self.old) result }
         ensures memory { FailsOnlyByMemory result }
+        ensures shape { HasConditionShape (Between false (S.text field) (T.text least) (U.text greatest)) }
     {
         release(self.hold_range(Family::Or, RangeCondition::Between, field, least, greatest))
     }
@@ -693,6 +740,7 @@ impl SqlBuilder {
             (with_condition Or
             (InList true (S.text field) (map T.text values.now)) self.old) result }
         ensures memory { FailsOnlyByMemory result }
+        ensures shape { HasConditionShape (InList true (S.text field) (map T.text values.now)) }
     {
         release(self.hold_among(Family::Or, ListCondition::NotIn, field, values))
     }
@@ -709,6 +757,7 @@ impl SqlBuilder {
             (with_condition Or
             (InQuoted true (S.text field) (map T.text values.now)) self.old) result }
         ensures memory { FailsOnlyByMemory result }
+        ensures shape { HasConditionShape (InQuoted true (S.text field) (map T.text values.now)) }
     {
         release(self.hold_among(Family::Or, ListCondition::NotInQuoted, field, values))
     }
@@ -724,6 +773,7 @@ impl SqlBuilder {
         ensures changed { IsChangedTo self.entry
             (with_condition Or (InQuery true (S.text field) (T.text query)) self.old) result }
         ensures memory { FailsOnlyByMemory result }
+        ensures shape { HasConditionShape (InQuery true (S.text field) (T.text query)) }
     {
         release(self.hold_binary(Family::Or, BinaryCondition::NotInQuery, field, query))
     }
@@ -741,6 +791,7 @@ impl SqlBuilder {
             (with_condition Or
             (Between true (S.text field) (T.text least) (U.text greatest)) self.old) result }
         ensures memory { FailsOnlyByMemory result }
+        ensures shape { HasConditionShape (Between true (S.text field) (T.text least) (U.text greatest)) }
     {
         release(self.hold_range(
             Family::Or,

@@ -1,8 +1,16 @@
 //! Laws of lists of calls, each the contract of a function that does nothing.
-ghost use Rattle.sql_builder.specs.Calls.{having_in, limit_in, offset_in, returning_in};
+ghost use Rattle.std.specs.Prelude.{IfOk, IsTrue, List};
+ghost use Rattle.sql_builder.specs.Calls.{CallText, Sql, StartText, having_in, limit_in, offset_in, returning_in};
 ghost use Rattle.sql_builder.specs.Laws.{FieldsJoin, OnlyLastCounts};
+ghost use Rattle.sql_builder.specs.Shape.{EndsInOneSemicolon, has_closed_fragments, has_no_semicolons};
+ghost use Rattle.sql_builder.specs.Statement.{pieces};
+ghost use Rattle.sql_builder.specs.Text.{pieces_text};
+ghost use Rattle.sql_parts.specs.Tokens.{tokens};
 
-pub use sql_parts::laws::{doubling_is_undone, quoting_is_injective, unmarked_is_unchanged};
+pub use sql_parts::laws::{
+    bound_texts_keep_the_count, doubling_is_undone, quoting_is_injective, tokens_join_at_edges,
+    unmarked_is_unchanged,
+};
 
 /// `fields` of a list and then of another is `fields` of the two joined.
 #[tactic(auto, using(crate::proofs::LaterCalls::fields_join))]
@@ -17,4 +25,13 @@ pub fn only_last_counts()
     ensures offset { OnlyLastCounts offset_in }
     ensures having { OnlyLastCounts having_in }
     ensures returning { OnlyLastCounts returning_in }
+{}
+
+/// Where each fragment that `sql` prints is closed and has no `;` among its tokens, the tokens of
+/// the statement have one `;`, and it is the last.
+#[tactic(auto, using(crate::proofs::ClauseShapes::last_semicolon))]
+pub fn only_the_end_is_a_semicolon()
+    ensures last { (start : StartText) (calls : List CallText) → IfOk (pieces start calls Sql)
+        (λ printed. IsTrue (has_closed_fragments printed) → IsTrue (has_no_semicolons printed)
+        → EndsInOneSemicolon (tokens (pieces_text printed))) }
 {}

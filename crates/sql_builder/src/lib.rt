@@ -20,5 +20,5 @@ mod tests;
 pub use builder::SqlBuilder;
 pub use sql_parts::{
     SqlBuilderError, SqlName, arg, baname, baquote, bind, brname, brquote, dname, dquote, error,
-    esc, name, qname, quote, text,
+    esc, lex, name, qname, quote, text,
 };

@@ -6,7 +6,9 @@ ghost use Rattle.sql_builder.specs.Steps.{Adds};
 ghost use Rattle.sql_parts.specs.Text.{optional_text, texts};
 ghost use Rattle.sql_builder.specs.Layout.{byte_atoms, concat_sections, delete_sections, fields_or_star, group_by_sections, insert_sections, is_no_text, optional_section, order_by_sections, query, query_values, refusal, select_opening, sql, statement_sections, subquery, subquery_as, union_opening, update_sections, where_sections};
 ghost use Rattle.sql_builder.specs.Phrases.{comma_list, further_table, operator_text};
+ghost use Rattle.sql_builder.specs.Shape.{HasShape, IsClosedAs, as_fragments};
 ghost use Rattle.sql_builder.specs.Statement.{unless_refused};
+ghost use Rattle.sql_builder.specs.Text.{fixed_piece, raw_piece};
 ghost use Rattle.sql_parts.specs.Text.{join_with};
 
 use crate::builder::SqlBuilder;
@@ -350,26 +352,61 @@ impl SqlBuilder {
         }
     }
 
+    fn push_sql(&self, out: &mut String) -> Result<(), AllocError>
+        ensures { Adds result out.old out.new (sql byte_atoms self.now) }
+    {
+        self.push_statement(out)?;
+        out.push_str(";")
+    }
+
+    fn push_subquery(&self, out: &mut String) -> Result<(), AllocError>
+        ensures { Adds result out.old out.new (subquery byte_atoms self.now) }
+    {
+        out.push_str("(")?;
+        self.push_query(out)?;
+        out.push_str(")")
+    }
+
+    fn push_subquery_as<S: ToText>(&self, out: &mut String, name: S) -> Result<(), SqlBuilderError>
+        ensures text { Adds result out.old out.new
+            (subquery_as byte_atoms (S.text name) self.now) }
+        ensures memory { FailsOnlyByMemory result }
+    {
+        out.push_str("(")?;
+        self.push_query(out)?;
+        out.push_str(") AS ")?;
+        name.push_to(self.alloc, out)
+    }
+
     /// The statement, ended by `;`. It is refused with `NoTableName` where the table text is empty
     /// and the statement is no SELECT of values; then with `NoValues` where an INSERT has neither
     /// rows nor a query, or a SELECT of values no value, and with `NoSetFields` where an UPDATE
     /// sets nothing; each before it asks for memory, and else only for want of memory.
+    #[tactic(auto, using(crate::proofs::Layouts::sql_shape, crate::proofs::Layouts::sql_closed))]
     pub fn sql(&self) -> Result<String, SqlBuilderError>
         ensures text { IfOk result (λ s. string_bytes s ≡ sql byte_atoms self.now) }
+        ensures shape { IfOk result (λ s.
+            HasShape (sql fixed_piece (as_fragments self.now)) (string_bytes s)) }
+        ensures closed { IfOk result (λ s.
+            IsClosedAs (sql fixed_piece (as_fragments self.now)) (string_bytes s)) }
         ensures refused { IfSome (refusal self.now) (λ refusal. result ≡ Err refusal) }
         ensures memory { IsNone (refusal self.now) → FailsOnlyByMemory result }
     {
         self.check()?;
         let mut out = String::new(self.alloc);
-        self.push_statement(&mut out)?;
-        out.push_str(";")?;
+        self.push_sql(&mut out)?;
         Ok(out)
     }
 
     /// The query, on a builder of any kind. It is refused only for want of memory, as is each call
     /// below.
+    #[tactic(auto, using(crate::proofs::Layouts::query_shape, crate::proofs::Layouts::query_closed))]
     pub fn query(&self) -> Result<String, SqlBuilderError>
         ensures text { IfOk result (λ s. string_bytes s ≡ query byte_atoms self.now) }
+        ensures shape { IfOk result (λ s.
+            HasShape (query fixed_piece (as_fragments self.now)) (string_bytes s)) }
+        ensures closed { IfOk result (λ s.
+            IsClosedAs (query fixed_piece (as_fragments self.now)) (string_bytes s)) }
         ensures memory { FailsOnlyByMemory result }
     {
         let mut query = String::new(self.alloc);
@@ -378,8 +415,13 @@ impl SqlBuilder {
     }
 
     /// `SELECT` and the fields, nothing else, on a builder of any kind.
+    #[tactic(auto, using(crate::proofs::Layouts::query_values_shape, crate::proofs::Layouts::query_values_closed))]
     pub fn query_values(&self) -> Result<String, SqlBuilderError>
         ensures text { IfOk result (λ s. string_bytes s ≡ query_values byte_atoms self.now) }
+        ensures shape { IfOk result (λ s.
+            HasShape (query_values fixed_piece (as_fragments self.now)) (string_bytes s)) }
+        ensures closed { IfOk result (λ s.
+            IsClosedAs (query_values fixed_piece (as_fragments self.now)) (string_bytes s)) }
         ensures memory { FailsOnlyByMemory result }
     {
         let mut out = String::new(self.alloc);
@@ -388,26 +430,33 @@ impl SqlBuilder {
     }
 
     /// The query in brackets.
+    #[tactic(auto, using(crate::proofs::Layouts::subquery_shape, crate::proofs::Layouts::subquery_closed))]
     pub fn subquery(&self) -> Result<String, SqlBuilderError>
         ensures text { IfOk result (λ s. string_bytes s ≡ subquery byte_atoms self.now) }
+        ensures shape { IfOk result (λ s.
+            HasShape (subquery fixed_piece (as_fragments self.now)) (string_bytes s)) }
+        ensures closed { IfOk result (λ s.
+            IsClosedAs (subquery fixed_piece (as_fragments self.now)) (string_bytes s)) }
         ensures memory { FailsOnlyByMemory result }
     {
-        let mut subquery = String::from_str(self.alloc, "(")?;
-        self.push_query(&mut subquery)?;
-        subquery.push_str(")")?;
+        let mut subquery = String::new(self.alloc);
+        self.push_subquery(&mut subquery)?;
         Ok(subquery)
     }
 
     /// The query in brackets, `AS` and the name.
+    #[tactic(auto, using(crate::proofs::Layouts::subquery_as_shape, crate::proofs::Layouts::subquery_as_closed))]
     pub fn subquery_as<S: ToText>(&self, name: S) -> Result<String, SqlBuilderError>
         ensures text { IfOk result (λ s. string_bytes s
             ≡ subquery_as byte_atoms (S.text name) self.now) }
+        ensures shape { IfOk result (λ s. HasShape (subquery_as fixed_piece
+            (raw_piece (S.text name)) (as_fragments self.now)) (string_bytes s)) }
+        ensures closed { IfOk result (λ s. IsClosedAs (subquery_as fixed_piece
+            (raw_piece (S.text name)) (as_fragments self.now)) (string_bytes s)) }
         ensures memory { FailsOnlyByMemory result }
     {
-        let mut out = String::from_str(self.alloc, "(")?;
-        self.push_query(&mut out)?;
-        out.push_str(") AS ")?;
-        name.push_to(self.alloc, &mut out)?;
+        let mut out = String::new(self.alloc);
+        self.push_subquery_as(&mut out, name)?;
         Ok(out)
     }
 }

@@ -3,7 +3,8 @@
 ghost use Rattle.std.specs.Prelude.{◌≡◌, [], ◌∷◌, ◌++◌, map, codes, string_bytes, IfErr, OnOk, OnErr};
 ghost use Rattle.sql_parts.specs.Error.{FailsOnlyByMemory};
 ghost use Rattle.sql_builder.specs.Builder.{extend_last, with_condition, with_condition_text, with_order, with_returning};
-ghost use Rattle.sql_builder.specs.Steps.{binary_condition, list_condition, range_condition, unary_condition, with_pair, with_text, with_texts, RefusesPair, RefusesText, Tells};
+ghost use Rattle.sql_builder.specs.Shape.{HasConditionShape};
+ghost use Rattle.sql_builder.specs.Steps.{HasPairShape, binary_condition, list_condition, range_condition, unary_condition, with_pair, with_text, with_texts, RefusesPair, RefusesText, Tells};
 ghost use Rattle.sql_parts.specs.Text.{texts};
 ghost use Rattle.std.specs.Result.{result_map_both};
 
@@ -379,6 +380,7 @@ impl SqlBuilder {
         Ok(Held(self))
     }
 
+    #[tactic(auto, using(crate::proofs::ClauseShapes::pair_shape))]
     pub(crate) fn hold_pair<S: ToText, T: ToText>(
         &mut self,
         clause: PairClause,
@@ -389,6 +391,7 @@ impl SqlBuilder {
         ensures changed { IsHeldChangedTo self.entry
             (with_pair clause (S.text first) (T.text second) self.old) result }
         ensures memory { IfErr result (RefusesPair clause self.old) }
+        ensures shape { HasPairShape clause (S.text first) (T.text second) }
     {
         self.push_pair(clause, first, second)?;
         Ok(Held(self))
@@ -422,6 +425,7 @@ impl SqlBuilder {
         Ok(Held(self))
     }
 
+    #[tactic(auto, using(crate::proofs::ClauseShapes::condition_shape))]
     pub(crate) fn hold_unary<S: ToText>(
         &mut self,
         family: Family,
@@ -432,12 +436,14 @@ impl SqlBuilder {
         ensures changed { IsHeldChangedTo self.entry
             (with_condition family (unary_condition condition (S.text text)) self.old) result }
         ensures memory { FailsOnlyByMemory result }
+        ensures shape { HasConditionShape (unary_condition condition (S.text text)) }
     {
         let text = unary(self.alloc, condition, text)?;
         self.push_condition(family, text)?;
         Ok(Held(self))
     }
 
+    #[tactic(auto, using(crate::proofs::ClauseShapes::condition_shape))]
     pub(crate) fn hold_binary<S: ToText, T: ToText>(
         &mut self,
         family: Family,
@@ -449,12 +455,15 @@ impl SqlBuilder {
         ensures changed { IsHeldChangedTo self.entry (with_condition family
             (binary_condition condition (S.text field) (T.text value)) self.old) result }
         ensures memory { FailsOnlyByMemory result }
+        ensures shape { HasConditionShape
+            (binary_condition condition (S.text field) (T.text value)) }
     {
         let text = binary(self.alloc, condition, field, value)?;
         self.push_condition(family, text)?;
         Ok(Held(self))
     }
 
+    #[tactic(auto, using(crate::proofs::ClauseShapes::condition_shape))]
     pub(crate) fn hold_among<S: ToText, T: ToText>(
         &mut self,
         family: Family,
@@ -466,12 +475,15 @@ impl SqlBuilder {
         ensures changed { IsHeldChangedTo self.entry (with_condition family
             (list_condition condition (S.text field) (map T.text values.now)) self.old) result }
         ensures memory { FailsOnlyByMemory result }
+        ensures shape { HasConditionShape
+            (list_condition condition (S.text field) (map T.text values.now)) }
     {
         let text = among(self.alloc, condition, field, values)?;
         self.push_condition(family, text)?;
         Ok(Held(self))
     }
 
+    #[tactic(auto, using(crate::proofs::ClauseShapes::condition_shape))]
     pub(crate) fn hold_range<S: ToText, T: ToText, U: ToText>(
         &mut self,
         family: Family,
@@ -485,6 +497,8 @@ impl SqlBuilder {
             (range_condition condition (S.text field) (T.text least) (U.text greatest))
             self.old) result }
         ensures memory { FailsOnlyByMemory result }
+        ensures shape { HasConditionShape (range_condition condition
+            (S.text field) (T.text least) (U.text greatest)) }
     {
         let text = range(self.alloc, condition, field, least, greatest)?;
         self.push_condition(family, text)?;

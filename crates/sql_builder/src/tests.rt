@@ -3,6 +3,7 @@ ghost use Rattle.std.specs.Prelude.{codes, ◌++◌};
 ghost use Rattle.sql_parts.specs.Text.{decimal_text};
 
 use crate::calls::{Call, Condition, Family, Finish, Percent, Relation, Start, run};
+use crate::lex::{has_semicolon, is_closed};
 use crate::prelude::{Bind, SqlArg, SqlBuilder, ToText, quote};
 use crate::{SqlBuilderError, laws};
 use std::alloc::Global;
@@ -1389,12 +1390,25 @@ fn a_constraint_without_a_join_is_dropped(rt: HostRuntime) -> Result<(), Fail> {
     Ok(())
 }
 
+#[test]
+fn a_quoted_text_stays_in_its_quotes(rt: HostRuntime) -> Result<(), Fail> {
+    let mut builder = SqlBuilder::select_from(rt.alloc(), "t")?;
+    let made = builder.and_where_like_any("t", "50%'; --")?.query()?;
+    assert_eq!(rt; made.as_str(), "SELECT * FROM t WHERE t LIKE '%50%''; --%'");
+    assert!(rt; is_closed(made.as_str()));
+    assert!(rt; !has_semicolon(made.as_str()));
+    Ok(())
+}
+
 // The contracts of these say all: here each is only called once.
 #[test]
 fn states_its_laws() {
     laws::quoting_is_injective();
     laws::doubling_is_undone();
     laws::unmarked_is_unchanged();
+    laws::tokens_join_at_edges();
+    laws::bound_texts_keep_the_count();
     laws::fields_join();
     laws::only_last_counts();
+    laws::only_the_end_is_a_semicolon();
 }

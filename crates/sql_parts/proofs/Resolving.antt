@@ -11,10 +11,10 @@ use Rattle.std.proofs.lemmas.Slice.Eq.{starts_is}
 use Rattle.sql_parts.specs.Templates.{Marks, First, Cycle, Num, Nums, Name, Names, Place, Writes, counted, followed_by, opening, resolve, resolved_from, stands, supplied}
 
 -- a text that begins with another, and one that doesn't
-starts_with-yes : (text front rest : List ℕ) → text ≡ front ++ rest → starts_with nat_eq text front ≡ true
+pub starts_with-yes : (text front rest : List ℕ) → text ≡ front ++ rest → starts_with nat_eq text front ≡ true
 starts_with-yes text front rest is = (starts_is Decides-eqb text front _ refl).1 rest is
 
-starts_with-no : (text front : List ℕ) → LacksTextAt front text 0 → starts_with nat_eq text front ≡ false
+pub starts_with-no : (text front : List ℕ) → LacksTextAt front text 0 → starts_with nat_eq text front ≡ false
 starts_with-no text front lacks =
     elim (cases_Bool (starts_with nat_eq text front)) [
       | inl begins ↦ absurd (lacks _ ((starts_is Decides-eqb text front _ refl).0 begins))

@@ -1,9 +1,10 @@
 -- What the laws state.
-use Rattle.std.specs.Prelude.{◌≡◌, ◌≢◌, ℕ, List, Some}
+use Rattle.std.specs.Prelude.{◌≡◌, ◌≢◌, ℕ, List, Option, Some, length, option_map}
 use Rattle.std.specs.List.{All}
-use Rattle.sql_parts.specs.Literal.{LiteralValue}
+use Rattle.sql_parts.specs.Literal.{LiteralValue, words}
 use Rattle.sql_parts.specs.Quoting.{doubled}
 use Rattle.sql_parts.specs.Templates.{Marks, Value, bound}
+use Rattle.sql_parts.specs.Tokens.{tokens}
 
 -- texts that are written alike are the same text
 abbrev pub WritesApart : (List ℕ → List ℕ) → Type 0
@@ -16,3 +17,16 @@ UndoesDoubling byte marks = (text : List ℕ) (literals : Value → LiteralValue
 -- binding a text without such a byte gives the text, whatever is bound
 abbrev pub LeavesWithout : ℕ → Marks → Type 0
 LeavesWithout byte marks = (text : List ℕ) (literals : Value → LiteralValue) → All (λ other. other ≢ byte) text → bound text marks literals ≡ Some text
+
+-- how many tokens a text has, where there is one
+abbrev pub token_count : Option (List ℕ) → Option ℕ
+token_count text = option_map (λ bytes. length (tokens bytes)) text
+
+-- two literals are equal, or both are texts
+abbrev pub DifferInText : LiteralValue → LiteralValue → Type 0
+DifferInText (words one) (words other) = Unit {0}
+DifferInText one other = one ≡ other
+
+-- the literals of each value are
+abbrev pub DifferInTexts : (Value → LiteralValue) → (Value → LiteralValue) → Type 0
+DifferInTexts one other = (value : Value) → DifferInText (one value) (other value)

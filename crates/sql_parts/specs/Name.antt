@@ -1,10 +1,14 @@
 -- Names of SQL, and how each form writes them.
-use Rattle.std.specs.Prelude.{ℕ, List, [], ◌∷◌, ◌++◌, Bool, ◌&&◌, ◌||◌, ◌==◌, nat_le, Option, Some, None, codes, map, if◌then◌else◌}
+use Prim.Native.Char.{code}
+use Rattle.std.specs.Prelude.{ℕ, List, [], ◌∷◌, ◌++◌, Bool, true, ◌&&◌, ◌||◌, ◌==◌, nat_le, Option, Some, None, codes, map, if◌then◌else◌}
 use Rattle.std.specs.List.{list_all}
 use Rattle.sql_parts.specs.Quoting.{baquoted, between}
 use Rattle.sql_parts.specs.Text.{join_with}
+use Rattle.sql_parts.specs.Tokens as tokens
+use Rattle.sql_parts.specs.Tokens.{Token, Word, Str, Symbol, quoted_token}
 use Rattle.sql_parts.specs.declared.name.Form.{Form}
 use Rattle.sql_parts.specs.declared.name.Form.TheVariants.{Bare, Between}
+use Rattle.sql_parts.specs.declared.text.Quotes.TheVariants.{Back}
 use Rattle.sql_parts.specs.declared.name.Told.{Told}
 use Rattle.sql_parts.specs.declared.name.Told.TheVariants.{Part, Alias}
 
@@ -56,11 +60,51 @@ name_text written name = join_with (codes ".") (map written (name_parts name)) +
 abbrev pub bare : List ℕ → List ℕ
 bare text = text
 
--- all parts bare if all are plain, else all between backquotes
-abbrev pub safe_text : Name → List ℕ
-safe_text name = name_text (if list_all is_plain (name_parts name) then bare else baquoted) name
+-- the tokens of a plain text: one word, and none of an empty text
+abbrev pub word_tokens : List ℕ → List Token
+word_tokens [] = []
+word_tokens (byte ∷ text) = Word (byte ∷ text) ∷ []
+
+-- the tokens of an alias: AS, and those of the alias
+abbrev pub alias_tokens : Option (List ℕ) → List Token
+alias_tokens None = []
+alias_tokens (Some alias) = Word (codes "AS") ∷ (if is_plain alias then word_tokens alias else tokens.Name alias ∷ [])
+
+-- the tokens of a name: those of its parts, with dots between them, and then those of the alias
+abbrev pub name_tokens : (List ℕ → List Token) → Name → List Token
+name_tokens part_tokens name = join_with (Symbol (code ".") ∷ []) (map part_tokens (name_parts name)) ++ alias_tokens name.alias
+
+-- one text that reads back as the part
+abbrev pub str_token : List ℕ → List Token
+str_token part = Str part ∷ []
+
+-- one name that reads back as the part
+abbrev pub name_token : List ℕ → List Token
+name_token part = tokens.Name part ∷ []
 
 -- a part as the form writes it
 abbrev pub written_in : Form → List ℕ → List ℕ
 written_in Bare = bare
 written_in (Between quotes) = between quotes
+
+-- the tokens of a part as the form writes it
+abbrev pub tokens_in : Form → List ℕ → List Token
+tokens_in Bare part = word_tokens part
+tokens_in (Between quotes) part = quoted_token quotes part ∷ []
+
+-- the safe form: all parts bare if all are plain, else all between backquotes
+abbrev pub safe_form : Name → Form
+safe_form name = if list_all is_plain (name_parts name) then Bare else Between Back
+
+-- a name in its safe form
+abbrev pub safe_text : Name → List ℕ
+safe_text name = name_text (written_in (safe_form name)) name
+
+-- the tokens of a name in its safe form
+abbrev pub safe_tokens : Name → List Token
+safe_tokens name = name_tokens (tokens_in (safe_form name)) name
+
+-- the bare form fits plain parts alone
+abbrev pub fits_form : Form → List (List ℕ) → Bool
+fits_form Bare parts = list_all is_plain parts
+fits_form (Between quotes) parts = true

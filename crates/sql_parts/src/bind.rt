@@ -1,5 +1,6 @@
 //! Values in place of the markers of a text.
 ghost use Rattle.std.specs.Prelude.{◌≡◌, Err, IfOk, IsSome, List, None, Some, length, map, string_bytes, ℕ};
+ghost use Rattle.sql_parts.specs.Apart.{HasBoundTokens, IsClosedIfApart};
 ghost use Rattle.sql_parts.specs.Error.{FailsOnlyByMemory};
 ghost use Rattle.sql_parts.specs.Templates as templates;
 ghost use Rattle.sql_parts.specs.Templates.{alone, bound, listed, looked_up, resolve};
@@ -41,6 +42,10 @@ pub trait Bind: Drop {
     fn bind<A: SqlArg>(&self, alloc: Global, arg: &A) -> Result<String, SqlBuilderError>
         ensures text { IfOk result (λ s. Some (string_bytes s)
             ≡ bound (template self.now) templates.First (alone (A.literal arg.now))) }
+        ensures tokens { IfOk result (λ s. HasBoundTokens (template self.now)
+            templates.First (alone (A.literal arg.now)) (string_bytes s)) }
+        ensures closed { IfOk result (λ s. IsClosedIfApart (template self.now)
+            templates.First (string_bytes s)) }
         ensures memory { FailsOnlyByMemory result };
 
     /// The text with the arguments in place of each `?` in turn, the first again after the last.
@@ -50,6 +55,10 @@ pub trait Bind: Drop {
         ensures text { IfOk result (λ s. Some (string_bytes s)
             ≡ bound (template self.now) (templates.Cycle (length args.now))
             (listed (map (λ b. literal b) args.now))) }
+        ensures tokens { IfOk result (λ s. HasBoundTokens (template self.now)
+            (templates.Cycle (length args.now)) (listed (map (λ b. literal b) args.now)) (string_bytes s)) }
+        ensures closed { IfOk result (λ s. IsClosedIfApart (template self.now)
+            (templates.Cycle (length args.now)) (string_bytes s)) }
         ensures refused { resolve (template self.now) (templates.Cycle (length args.now)) ≡ None
             → result ≡ Err NoArguments }
         ensures memory { IsSome (resolve (template self.now) (templates.Cycle (length args.now)))
@@ -65,6 +74,10 @@ pub trait Bind: Drop {
     ) -> Result<String, SqlBuilderError>
         ensures text { IfOk result (λ s. Some (string_bytes s)
             ≡ bound (template self.now) (templates.Num num) (alone (A.literal arg.now))) }
+        ensures tokens { IfOk result (λ s. HasBoundTokens (template self.now)
+            (templates.Num num) (alone (A.literal arg.now)) (string_bytes s)) }
+        ensures closed { IfOk result (λ s. IsClosedIfApart (template self.now)
+            (templates.Num num) (string_bytes s)) }
         ensures memory { FailsOnlyByMemory result };
 
     /// The text with the arguments in place of `$1`, `$2` and so on. `$$` gives `$`, also with
@@ -74,6 +87,10 @@ pub trait Bind: Drop {
         ensures text { IfOk result (λ s. Some (string_bytes s)
             ≡ bound (template self.now) (templates.Nums (length args.now))
             (listed (map (λ b. literal b) args.now))) }
+        ensures tokens { IfOk result (λ s. HasBoundTokens (template self.now)
+            (templates.Nums (length args.now)) (listed (map (λ b. literal b) args.now)) (string_bytes s)) }
+        ensures closed { IfOk result (λ s. IsClosedIfApart (template self.now)
+            (templates.Nums (length args.now)) (string_bytes s)) }
         ensures memory { FailsOnlyByMemory result };
 
     /// The text with the argument in place of each `:name:`, from the left and without overlap; the
@@ -87,6 +104,10 @@ pub trait Bind: Drop {
         ensures text { IfOk result (λ s. Some (string_bytes s)
             ≡ bound (template self.now) (templates.Name (K.text name.now))
             (alone (A.literal arg.now))) }
+        ensures tokens { IfOk result (λ s. HasBoundTokens (template self.now)
+            (templates.Name (K.text name.now)) (alone (A.literal arg.now)) (string_bytes s)) }
+        ensures closed { IfOk result (λ s. IsClosedIfApart (template self.now)
+            (templates.Name (K.text name.now)) (string_bytes s)) }
         ensures memory { FailsOnlyByMemory result };
 
     /// The text with what the names are bound to in place of each `:name:`, and NULL where a name
@@ -95,6 +116,10 @@ pub trait Bind: Drop {
     fn bind_names<N: BindNames>(&self, alloc: Global, names: &N) -> Result<String, SqlBuilderError>
         ensures text { IfOk result (λ s. Some (string_bytes s)
             ≡ bound (template self.now) templates.Names (looked_up (N.literals names.now))) }
+        ensures tokens { IfOk result (λ s. HasBoundTokens (template self.now)
+            templates.Names (looked_up (N.literals names.now)) (string_bytes s)) }
+        ensures closed { IfOk result (λ s. IsClosedIfApart (template self.now)
+            templates.Names (string_bytes s)) }
         ensures memory { FailsOnlyByMemory result };
 }
 

@@ -1,5 +1,6 @@
 //! One pass over a template, which puts literals in place of its markers.
 ghost use Rattle.std.specs.Prelude.{◌≡◌, ◌++◌, IfOk, None, OnOk, Some, if◌then◌else◌, map, string_bytes};
+ghost use Rattle.sql_parts.specs.Apart.{HasBoundTokens, IsClosedIfApart, IsSupplied};
 ghost use Rattle.sql_parts.specs.Error.{FailsOnlyByMemory};
 ghost use Rattle.sql_parts.specs.Literal.{LiteralValue, literal_text};
 ghost use Rattle.sql_parts.specs.Places.{marks_of, value_of};
@@ -107,7 +108,37 @@ pub(crate) fn lacks_arguments(template: &str, count: usize) -> bool
     count == 0 && template.contains("?")
 }
 
+// Appends the template with literals in place of its markers.
+fn push_bound<L: Literals>(
+    alloc: Global,
+    out: &mut String,
+    template: &str,
+    marks: &Marks<'_>,
+    literals: &L,
+) -> Result<(), SqlBuilderError>
+    ensures text { OnOk result (string_bytes out.new ≡ string_bytes out.old
+        ++ written (L.literals literals.now) (resolved_from (marks_of marks.now) 0 0 template.now)) }
+    ensures memory { FailsOnlyByMemory result }
+{
+    let opening = opening(alloc, marks)?;
+    let mut rest = template;
+    let mut seen = 0;
+    while let Some(found) = first_place(marks, opening.as_str(), seen, rest) {
+        out.push_str(found.piece)?;
+        match found.place {
+            Place::Writes(text) => out.push_str(text)?,
+            Place::Holds(value) => {
+                literals.push_literal(alloc, &value, out)?;
+                seen += 1;
+            }
+        }
+        rest = found.rest;
+    }
+    Ok(out.push_str(rest)?)
+}
+
 /// The template with literals in place of its markers. It is refused only for want of memory.
+#[tactic(auto, using(crate::proofs::Confined::has_bound_tokens, crate::proofs::Confined::is_closed_if_apart))]
 pub(crate) fn bound_text<L: Literals>(
     alloc: Global,
     template: &str,
@@ -116,23 +147,14 @@ pub(crate) fn bound_text<L: Literals>(
 ) -> Result<String, SqlBuilderError>
     ensures text { IfOk result (λ s. string_bytes s
         ≡ written (L.literals literals.now) (resolved_from (marks_of marks.now) 0 0 template.now)) }
+    ensures tokens { IfOk result (λ s. IsSupplied template.now (marks_of marks.now)
+        → HasBoundTokens template.now (marks_of marks.now) (L.literals literals.now)
+        (string_bytes s)) }
+    ensures closed { IfOk result (λ s. IsSupplied template.now (marks_of marks.now)
+        → IsClosedIfApart template.now (marks_of marks.now) (string_bytes s)) }
     ensures memory { FailsOnlyByMemory result }
 {
-    let opening = opening(alloc, marks)?;
     let mut out = String::new(alloc);
-    let mut rest = template;
-    let mut seen = 0;
-    while let Some(found) = first_place(marks, opening.as_str(), seen, rest) {
-        out.push_str(found.piece)?;
-        match found.place {
-            Place::Writes(text) => out.push_str(text)?,
-            Place::Holds(value) => {
-                literals.push_literal(alloc, &value, &mut out)?;
-                seen += 1;
-            }
-        }
-        rest = found.rest;
-    }
-    out.push_str(rest)?;
+    push_bound(alloc, &mut out, template, marks, literals)?;
     Ok(out)
 }

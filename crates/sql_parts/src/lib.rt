@@ -8,6 +8,7 @@ mod bind_names;
 mod binding;
 pub mod error;
 pub mod laws;
+pub mod lex;
 pub mod name;
 mod places;
 mod quoting;
@@ -24,6 +25,8 @@ pub use text::ToText;
 mod bind_sample;
 #[cfg(test)]
 mod bind_tests;
+#[cfg(test)]
+mod lex_tests;
 #[cfg(test)]
 mod name_tests;
 #[cfg(test)]

@@ -1,11 +1,13 @@
 //! Names of tables and columns, as parts with dots between them and perhaps an alias.
-ghost use Rattle.std.specs.Prelude.{◌≡◌, ◌++◌, Some, codes, flat_map, map, string_bytes, IfOk, OnOk};
+ghost use Rattle.std.specs.Prelude.{◌≡◌, ◌++◌, Some, codes, flat_map, map, string_bytes, IfOk, IsTrue, OnOk};
 ghost use Rattle.std.specs.List.{list_all};
 ghost use Rattle.std.specs.Result.{result_map_both};
 ghost use Rattle.sql_parts.specs.Error.{FailsOnlyByMemory};
-ghost use Rattle.sql_parts.specs.Name.{alias_text, is_plain, name_of, name_text, safe_text, with_alias, with_part, with_told, written_in};
+ghost use Rattle.sql_parts.specs.Name.{alias_text, fits_form, is_plain, name_of, name_parts, name_text, name_token, name_tokens, safe_form, safe_text, safe_tokens};
+ghost use Rattle.sql_parts.specs.Name.{str_token, tokens_in, with_alias, with_part, with_told, written_in};
 ghost use Rattle.sql_parts.specs.Quoting.{baquoted, brquoted, dquoted, quoted};
 ghost use Rattle.sql_parts.specs.Text.{texts};
+ghost use Rattle.sql_parts.specs.Tokens.{closed, tokens};
 
 use crate::error::SqlBuilderError;
 use crate::quoting::push_enclosed;
@@ -181,21 +183,22 @@ impl SqlName {
 
     /// The name with all parts bare if all are plain, else with each part between backquotes. It is
     /// refused only for want of memory.
+    #[tactic(auto, using(crate::proofs::NameTokens::safe_fits))]
     pub fn safe(&self) -> Result<String, SqlBuilderError>
         ensures text { IfOk result (λ s. string_bytes s ≡ safe_text self.now) }
+        ensures tokens { IfOk result (λ s. tokens (string_bytes s) ≡ safe_tokens self.now) }
+        ensures closed { IfOk result (λ s. IsTrue (closed (string_bytes s))) }
         ensures memory { FailsOnlyByMemory result }
     {
-        let is_plain = is_plain(self.first.as_str()) && are_plain(&self.rest);
-        self.print(if is_plain {
-            Form::Bare
-        } else {
-            Form::Between(Quotes::Back)
-        })
+        self.print(self.safe_form())
     }
 
     /// The name with each part between single quotes. It is refused only for want of memory.
     pub fn quoted(&self) -> Result<String, SqlBuilderError>
         ensures text { IfOk result (λ s. string_bytes s ≡ name_text quoted self.now) }
+        ensures tokens { IfOk result (λ s. tokens (string_bytes s)
+            ≡ name_tokens str_token self.now) }
+        ensures closed { IfOk result (λ s. IsTrue (closed (string_bytes s))) }
         ensures memory { FailsOnlyByMemory result }
     {
         self.print(Form::Between(Quotes::Single))
@@ -204,6 +207,9 @@ impl SqlName {
     /// The name with each part between backquotes. It is refused only for want of memory.
     pub fn baquoted(&self) -> Result<String, SqlBuilderError>
         ensures text { IfOk result (λ s. string_bytes s ≡ name_text baquoted self.now) }
+        ensures tokens { IfOk result (λ s. tokens (string_bytes s)
+            ≡ name_tokens name_token self.now) }
+        ensures closed { IfOk result (λ s. IsTrue (closed (string_bytes s))) }
         ensures memory { FailsOnlyByMemory result }
     {
         self.print(Form::Between(Quotes::Back))
@@ -212,6 +218,9 @@ impl SqlName {
     /// The name with each part between square brackets. It is refused only for want of memory.
     pub fn brquoted(&self) -> Result<String, SqlBuilderError>
         ensures text { IfOk result (λ s. string_bytes s ≡ name_text brquoted self.now) }
+        ensures tokens { IfOk result (λ s. tokens (string_bytes s)
+            ≡ name_tokens name_token self.now) }
+        ensures closed { IfOk result (λ s. IsTrue (closed (string_bytes s))) }
         ensures memory { FailsOnlyByMemory result }
     {
         self.print(Form::Between(Quotes::Square))
@@ -220,21 +229,48 @@ impl SqlName {
     /// The name with each part between double quotes. It is refused only for want of memory.
     pub fn dquoted(&self) -> Result<String, SqlBuilderError>
         ensures text { IfOk result (λ s. string_bytes s ≡ name_text dquoted self.now) }
+        ensures tokens { IfOk result (λ s. tokens (string_bytes s)
+            ≡ name_tokens name_token self.now) }
+        ensures closed { IfOk result (λ s. IsTrue (closed (string_bytes s))) }
         ensures memory { FailsOnlyByMemory result }
     {
         self.print(Form::Between(Quotes::Double))
     }
 
+    fn safe_form(&self) -> Form
+        ensures { result ≡ safe_form self.now }
+    {
+        if is_plain(self.first.as_str()) && are_plain(&self.rest) {
+            Form::Bare
+        } else {
+            Form::Between(Quotes::Back)
+        }
+    }
+
+    fn push_in(&self, out: &mut String, form: Form) -> Result<(), SqlBuilderError>
+        ensures text { OnOk result (string_bytes out.new
+            ≡ string_bytes out.old ++ name_text (written_in form) self.now) }
+        ensures memory { FailsOnlyByMemory result }
+    {
+        form.push_part(self.alloc, out, self.first.as_str())?;
+        form.push_rest(self.alloc, out, &self.rest)?;
+        match &self.alias {
+            Some(alias) => push_alias(self.alloc, out, alias.as_str()),
+            None => Ok(()),
+        }
+    }
+
+    #[tactic(auto, using(crate::proofs::NameTokens::name_is, crate::proofs::NameTokens::name_closed))]
     fn print(&self, form: Form) -> Result<String, SqlBuilderError>
         ensures text { IfOk result (λ s. string_bytes s ≡ name_text (written_in form) self.now) }
+        ensures tokens { IfOk result (λ s. IsTrue (fits_form form (name_parts self.now))
+            → tokens (string_bytes s) ≡ name_tokens (tokens_in form) self.now) }
+        ensures closed { IfOk result (λ s. IsTrue (fits_form form (name_parts self.now))
+            → IsTrue (closed (string_bytes s))) }
         ensures memory { FailsOnlyByMemory result }
     {
         let mut out = String::new(self.alloc);
-        form.push_part(self.alloc, &mut out, self.first.as_str())?;
-        form.push_rest(self.alloc, &mut out, &self.rest)?;
-        if let Some(alias) = &self.alias {
-            push_alias(self.alloc, &mut out, alias.as_str())?;
-        }
+        self.push_in(&mut out, form)?;
         Ok(out)
     }
 }

@@ -1,9 +1,10 @@
 //! Texts between quotes.
-ghost use Rattle.std.specs.Prelude.{◌≡◌, ◌<◌, ◌++◌, string_bytes, IfOk, OnErr, OnOk};
+ghost use Rattle.std.specs.Prelude.{◌≡◌, ◌<◌, [], ◌∷◌, ◌++◌, string_bytes, IfOk, IsTrue, OnErr, OnOk};
 ghost use Rattle.std.specs.Io.{StartsWith};
 ghost use Rattle.sql_parts.specs.Error.{FailsOnlyByMemory};
 ghost use Rattle.sql_parts.specs.Quoting.{baquoted, brquoted, dquoted, escaped, quoted};
 ghost use Rattle.sql_parts.specs.Quoting.{between, doubled};
+ghost use Rattle.sql_parts.specs.Tokens.{Name, Str, closed, quoted_token, tokens};
 
 use crate::error::SqlBuilderError;
 use crate::text::{Quotes, ToText};
@@ -44,8 +45,12 @@ pub(crate) fn push_enclosed<S: ToText>(
     Ok(out.push(quotes.closing())?)
 }
 
+#[tactic(auto, using(crate::proofs::TokenLaws::between_token, crate::proofs::TokenLaws::between_closed))]
 fn enclose<S: ToText>(alloc: Global, quotes: Quotes, text: S) -> Result<String, SqlBuilderError>
     ensures text { IfOk result (λ s. string_bytes s ≡ between quotes (S.text text)) }
+    ensures token { IfOk result (λ s. tokens (string_bytes s)
+        ≡ quoted_token quotes (S.text text) ∷ []) }
+    ensures closed { IfOk result (λ s. IsTrue (closed (string_bytes s))) }
     ensures memory { FailsOnlyByMemory result }
 {
     let mut out = String::new(alloc);
@@ -67,6 +72,8 @@ pub fn esc<S: ToText>(alloc: Global, text: S) -> Result<String, SqlBuilderError>
 /// for want of memory.
 pub fn quote<S: ToText>(alloc: Global, text: S) -> Result<String, SqlBuilderError>
     ensures text { IfOk result (λ s. string_bytes s ≡ quoted (S.text text)) }
+    ensures token { IfOk result (λ s. tokens (string_bytes s) ≡ Str (S.text text) ∷ []) }
+    ensures closed { IfOk result (λ s. IsTrue (closed (string_bytes s))) }
     ensures memory { FailsOnlyByMemory result }
 {
     enclose(alloc, Quotes::Single, text)
@@ -76,6 +83,8 @@ pub fn quote<S: ToText>(alloc: Global, text: S) -> Result<String, SqlBuilderErro
 /// only for want of memory.
 pub fn baquote<S: ToText>(alloc: Global, text: S) -> Result<String, SqlBuilderError>
     ensures text { IfOk result (λ s. string_bytes s ≡ baquoted (S.text text)) }
+    ensures token { IfOk result (λ s. tokens (string_bytes s) ≡ Name (S.text text) ∷ []) }
+    ensures closed { IfOk result (λ s. IsTrue (closed (string_bytes s))) }
     ensures memory { FailsOnlyByMemory result }
 {
     enclose(alloc, Quotes::Back, text)
@@ -85,6 +94,8 @@ pub fn baquote<S: ToText>(alloc: Global, text: S) -> Result<String, SqlBuilderEr
 /// only for want of memory.
 pub fn brquote<S: ToText>(alloc: Global, text: S) -> Result<String, SqlBuilderError>
     ensures text { IfOk result (λ s. string_bytes s ≡ brquoted (S.text text)) }
+    ensures token { IfOk result (λ s. tokens (string_bytes s) ≡ Name (S.text text) ∷ []) }
+    ensures closed { IfOk result (λ s. IsTrue (closed (string_bytes s))) }
     ensures memory { FailsOnlyByMemory result }
 {
     enclose(alloc, Quotes::Square, text)
@@ -94,6 +105,8 @@ pub fn brquote<S: ToText>(alloc: Global, text: S) -> Result<String, SqlBuilderEr
 /// for want of memory.
 pub fn dquote<S: ToText>(alloc: Global, text: S) -> Result<String, SqlBuilderError>
     ensures text { IfOk result (λ s. string_bytes s ≡ dquoted (S.text text)) }
+    ensures token { IfOk result (λ s. tokens (string_bytes s) ≡ Name (S.text text) ∷ []) }
+    ensures closed { IfOk result (λ s. IsTrue (closed (string_bytes s))) }
     ensures memory { FailsOnlyByMemory result }
 {
     enclose(alloc, Quotes::Double, text)

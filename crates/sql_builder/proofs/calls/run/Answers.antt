@@ -1,6 +1,7 @@
 use Rattle.std.proofs.Common.{map}
 use Rattle.sql_builder.specs.Answers.{call_text, finish_text, start_text}
 use Rattle.sql_builder.specs.Calls.{clauses}
+use Rattle.sql_builder.proofs.ClauseShapes.{statement_closed, statement_shape}
 use Rattle.sql_builder.proofs.Runs.{statement_printed, statement_refused}
 use Rattle.sql_builder.proofs.calls.run.Goals as goal
 
@@ -15,3 +16,11 @@ returns-clause-refused c =
     let made = c.in_ok-builder.ensures.made in
     statement_refused (finish_text c.args.finish.now) (clauses (start_text c.args.start.now) (map call_text c.args.calls.now)) c.print.result
     (rw made at c.print.ensures.refused) (rw made at c.print.ensures.memory)
+
+pub returns-clause-shape : goal.returns-clause-shape
+returns-clause-shape c =
+    statement_shape (start_text c.args.start.now) (map call_text c.args.calls.now) (finish_text c.args.finish.now) c.print.result (returns-clause-text c)
+
+pub returns-clause-closed : goal.returns-clause-closed
+returns-clause-closed c =
+    statement_closed (start_text c.args.start.now) (map call_text c.args.calls.now) (finish_text c.args.finish.now) c.print.result (returns-clause-text c)

@@ -1,0 +1,324 @@
+-- The pieces of each clause of a list of calls keep their tokens.
+use Rattle.std.proofs.Common.{◌≡◌, ℕ, Bool, true, false, List, [], ◌∷◌, ◌++◌, Option, None, Some, map, codes, refl, flat_map, subst, Result, Ok, Err, IfOk, String, string_bytes, ap, sym, ◌∙◌}
+use Rattle.std.specs.Prelude.{IfSome, IsTrue, filter_map}
+use Rattle.std.specs.List.{cons_option, last_or, AllByRecursion}
+use Rattle.sql_parts.specs.Tokens.{closed, ends_with, is_edge, tokens}
+use Rattle.sql_parts.specs.declared.error.SqlBuilderError.{SqlBuilderError}
+use Rattle.sql_parts.specs.Quoting.{quoted}
+use Rattle.sql_builder.specs.Layout.{byte_atoms, sql}
+use Rattle.sql_builder.specs.Calls.{StartText, CallText, FinishText, clauses, condition_pieces, constraint_in, fields_in, group_fields_in, group_pieces, having_in, is_join, join_after, join_in, limit_in, offset_in, order_fields_in, query_in, returning_in, rows_in, sets_in, start_table, table_in, unions_in, condition_in, opens_group, drops_fields, is_select, is_values, start_fields, natural_of, operator_of}
+use Rattle.sql_builder.specs.Calls as call
+use Rattle.sql_builder.specs.Conditions.{ConditionText, Raw, Compare, Like, IsNull, IsNotNull, InList, InQuoted, InQuery, Between, mask_text, not_text, relation_text}
+use Rattle.sql_builder.specs.Filters.{Group, cut, in_place, last_said, since, until}
+use Rattle.sql_builder.specs.Phrases.{comma_list, count, count_as, equation, join_words, order}
+use Rattle.sql_builder.specs.Clauses.{map_clauses}
+use Rattle.sql_builder.specs.Shape.{EndsInOneSemicolon, has_closed_fragments, has_no_semicolons, HasConditionShape, HasShape, IsClosedAs, shape}
+use Rattle.sql_builder.specs.Statement.{layout_at, pieces, refusal_at, statement, text_unless_refused, unless_refused}
+use Rattle.sql_builder.specs.Text.{Pieces, fixed_piece, pieces_text, quoted_piece, raw_piece}
+use Rattle.sql_builder.specs.Steps.{HasPairShape}
+use Rattle.sql_builder.specs.declared.steps.PairClause.{PairClause}
+use Rattle.sql_builder.specs.declared.steps.PairClause.TheVariants as pair
+use Rattle.std.proofs.lemmas.List.{append-nil}
+use Rattle.sql_builder.proofs.Runs.{condition_printed}
+use Rattle.sql_builder.specs.declared.calls.Family.{Family}
+use Rattle.sql_builder.specs.declared.calls.Relation.{Relation}
+use Rattle.sql_builder.specs.declared.calls.Relation.TheVariants.{Eq, Ne, Gt, Ge, Lt, Le}
+use Rattle.sql_builder.specs.declared.clauses.JoinOperator.{JoinOperator}
+use Rattle.sql_builder.specs.declared.clauses.JoinOperator.TheVariants as operator
+use Rattle.sql_builder.proofs.Layouts.{sql-semicolon, Parts, items-inside, layout-shaped, raw-all}
+use Rattle.sql_parts.proofs.JoinedTokens.{Edged}
+use Rattle.sql_builder.proofs.Shapes.{AllInside, Behind, Inside, Shaped, Whole, all-flat, brackets-inside, ended-inside, inside-inside, joined-inside, none-behind, none-inside, quoted-inside, raw-inside, shape_closed, shaped, whole, words-behind, words-ended, words-inside}
+
+-- lists of such pieces
+append-all : {X : Type 0} (P : X → Type 0) (one other : List X) → AllByRecursion P one → AllByRecursion P other → AllByRecursion P (one ++ other)
+append-all P [] other all too = too
+append-all P (x ∷ one) other all too = (all.0, append-all P one other all.1 too)
+
+flat-all : {X Y : Type 0} (P : Y → Type 0) (f : X → List Y) → ((x : X) → AllByRecursion P (f x)) → (xs : List X) → AllByRecursion P (flat_map f xs)
+flat-all P f each [] = tt
+flat-all P f each (x ∷ xs) = append-all P (f x) (flat_map f xs) (each x) (flat-all P f each xs)
+
+map-all : {X Y : Type 0} (P : Y → Type 0) (f : X → Y) → ((x : X) → P (f x)) → (xs : List X) → AllByRecursion P (map f xs)
+map-all P f each [] = tt
+map-all P f each (x ∷ xs) = (each x, map-all P f each xs)
+
+last-some : {X Y : Type 0} (P : Y → Type 0) (f : X → Option Y) → ((x : X) → IfSome (f x) P) → (xs : List X) (before : Option Y) → IfSome before P → IfSome (last_or before (filter_map f xs)) P
+last-some P f each [] before holds = holds
+last-some {Y = Y} P f each (x ∷ xs) before holds = by (f x) (each x) (λ said keeps. last-some P f each xs said keeps)
+  where
+    by : (said : Option Y) → IfSome said P → ((next : Option Y) → IfSome next P → IfSome (last_or next (filter_map f xs)) P) → IfSome (last_or before (cons_option said (filter_map f xs))) P
+    by None keeps rest = rest before holds
+    by (Some y) keeps rest = rest (Some y) keeps
+
+said-last : (f : CallText → Option Pieces) → ((c : CallText) → IfSome (f c) Inside) → (calls : List CallText) → IfSome (last_said f calls) Inside
+said-last f each calls = last-some Inside f each calls None tt
+
+-- phrases
+words-between : (words : List ℕ) (one other : Pieces) → Edged words → Inside one → Inside other → Inside (one ++ (fixed_piece words ++ other))
+words-between words one other edged first last =
+    inside-inside one (fixed_piece words ++ other) first (words-behind words other edged.begins)
+    (ended-inside (fixed_piece words) other (words-ended words (whole edged) edged.ends) last)
+
+words-last : (words : List ℕ) (one : Pieces) → Whole words → Behind (fixed_piece words ++ []) → Inside one → Inside (one ++ fixed_piece words)
+words-last words one is behind first = inside-inside one (fixed_piece words) first behind (words-inside words is)
+
+closing-last : (one : Pieces) → Inside one → Inside (one ++ fixed_piece (codes ")"))
+closing-last one first = words-last (codes ")") one (record { is_closed = refl; plain = refl }) (words-behind (codes ")") [] refl) first
+
+words-first : (words : List ℕ) (one : Pieces) → Whole words → ends_with is_edge words ≡ true → Inside one → Inside (fixed_piece words ++ one)
+words-first words one is ends last = ended-inside (fixed_piece words) one (words-ended words is ends) last
+
+equation-inside : (left right : Pieces) → Inside left → Inside right → Inside (equation fixed_piece left right)
+equation-inside left right one other = words-between (codes " = ") left right (record { is_closed = refl; plain = refl; begins = refl; ends = refl }) one other
+
+order-inside : (descending : Bool) (field : Pieces) → Inside field → Inside (order fixed_piece descending field)
+order-inside true field inside = words-last (codes " DESC") field (record { is_closed = refl; plain = refl }) (words-behind (codes " DESC") [] refl) inside
+order-inside false field inside = inside
+
+-- conditions
+not-edged : (negated : Bool) (words : List ℕ) → Edged words → Edged (codes " NOT" ++ words) → Edged (not_text negated ++ words)
+not-edged true words bare with_not = with_not
+not-edged false words bare with_not = bare
+
+relation-edged : (relation : Relation) → Edged (relation_text relation)
+relation-edged Eq = record { is_closed = refl; plain = refl; begins = refl; ends = refl }
+relation-edged Ne = record { is_closed = refl; plain = refl; begins = refl; ends = refl }
+relation-edged Gt = record { is_closed = refl; plain = refl; begins = refl; ends = refl }
+relation-edged Ge = record { is_closed = refl; plain = refl; begins = refl; ends = refl }
+relation-edged Lt = record { is_closed = refl; plain = refl; begins = refl; ends = refl }
+relation-edged Le = record { is_closed = refl; plain = refl; begins = refl; ends = refl }
+
+in-edged : (negated : Bool) → Edged (not_text negated ++ codes " IN (")
+in-edged negated = not-edged negated (codes " IN (") (record { is_closed = refl; plain = refl; begins = refl; ends = refl }) (record { is_closed = refl; plain = refl; begins = refl; ends = refl })
+
+list-inside : (negated : Bool) (field : List ℕ) (items : List Pieces) → AllInside items
+    → Inside (raw_piece field ++ (fixed_piece (not_text negated ++ codes " IN (") ++ (comma_list fixed_piece items ++ fixed_piece (codes ")"))))
+list-inside negated field items all =
+    words-between (not_text negated ++ codes " IN (") (raw_piece field) (comma_list fixed_piece items ++ fixed_piece (codes ")")) (in-edged negated) (raw-inside field)
+    (closing-last (comma_list fixed_piece items) (items-inside items all))
+
+pub condition-inside : (condition : ConditionText) → Inside (condition_pieces condition)
+condition-inside (Raw condition) = raw-inside condition
+condition-inside (Compare relation field value) = words-between (relation_text relation) (raw_piece field) (raw_piece value) (relation-edged relation) (raw-inside field) (raw-inside value)
+condition-inside (Like negated percent field mask) =
+    words-between (not_text negated ++ codes " LIKE ") (raw_piece field) (quoted_piece (mask_text percent mask))
+    (not-edged negated (codes " LIKE ") (record { is_closed = refl; plain = refl; begins = refl; ends = refl }) (record { is_closed = refl; plain = refl; begins = refl; ends = refl })) (raw-inside field) (quoted-inside (mask_text percent mask))
+condition-inside (IsNull field) = words-last (codes " IS NULL") (raw_piece field) (record { is_closed = refl; plain = refl }) (words-behind (codes " IS NULL") [] refl) (raw-inside field)
+condition-inside (IsNotNull field) = words-last (codes " IS NOT NULL") (raw_piece field) (record { is_closed = refl; plain = refl }) (words-behind (codes " IS NOT NULL") [] refl) (raw-inside field)
+condition-inside (InList negated field values) = list-inside negated field (map raw_piece values) (raw-all values)
+condition-inside (InQuoted negated field values) = list-inside negated field (map quoted_piece values) (map-all Inside quoted_piece quoted-inside values)
+condition-inside (InQuery negated field query) =
+    words-between (not_text negated ++ codes " IN (") (raw_piece field) (raw_piece query ++ fixed_piece (codes ")")) (in-edged negated) (raw-inside field) (closing-last (raw_piece query) (raw-inside query))
+condition-inside (Between negated field least greatest) =
+    words-between (not_text negated ++ codes " BETWEEN ") (raw_piece field) (raw_piece least ++ (fixed_piece (codes " AND ") ++ raw_piece greatest))
+    (not-edged negated (codes " BETWEEN ") (record { is_closed = refl; plain = refl; begins = refl; ends = refl }) (record { is_closed = refl; plain = refl; begins = refl; ends = refl })) (raw-inside field)
+    (words-between (codes " AND ") (raw_piece least) (raw_piece greatest) (record { is_closed = refl; plain = refl; begins = refl; ends = refl }) (raw-inside least) (raw-inside greatest))
+
+group-inside : (group : Group (Family × ConditionText)) → Inside (group_pieces group)
+group-inside group =
+    joined-inside (codes " OR ") (record { is_closed = refl; plain = refl; begins = refl; ends = refl }) (map (λ (c : Family × ConditionText). condition_pieces c.1) (group.0 ∷ group.1))
+    (map-all Inside (λ (c : Family × ConditionText). condition_pieces c.1) (λ c. condition-inside c.1) (group.0 ∷ group.1))
+
+-- tables and joins
+start_table-inside : (start : StartText) → Inside (start_table start)
+start_table-inside (call.SelectFrom table) = raw-inside table
+start_table-inside (call.SelectValues values) = none-inside
+start_table-inside (call.InsertInto table) = raw-inside table
+start_table-inside (call.UpdateTable table) = raw-inside table
+start_table-inside (call.DeleteFrom table) = raw-inside table
+
+table_in-inside : (c : CallText) → Inside (table_in c)
+table_in-inside (call.AndTable table) = words-first (codes ", ") (raw_piece table) (record { is_closed = refl; plain = refl }) refl (raw-inside table)
+table_in-inside _ = none-inside
+
+table_in-behind : (c : CallText) → Behind (table_in c)
+table_in-behind (call.AndTable table) = words-behind (codes ", ") (raw_piece table) refl
+table_in-behind _ = none-behind
+
+constraint_in-inside : (c : CallText) → Inside (constraint_in c)
+constraint_in-inside (call.On condition) = words-first (codes " ON ") (raw_piece condition) (record { is_closed = refl; plain = refl }) refl (raw-inside condition)
+constraint_in-inside (call.OnEq left right) =
+    words-first (codes " ON ") (equation fixed_piece (raw_piece left) (raw_piece right)) (record { is_closed = refl; plain = refl }) refl (equation-inside (raw_piece left) (raw_piece right) (raw-inside left) (raw-inside right))
+constraint_in-inside _ = none-inside
+
+constraint_in-behind : (c : CallText) → Behind (constraint_in c)
+constraint_in-behind (call.On condition) = words-behind (codes " ON ") (raw_piece condition) refl
+constraint_in-behind (call.OnEq left right) = words-behind (codes " ON ") (equation fixed_piece (raw_piece left) (raw_piece right)) refl
+constraint_in-behind _ = none-behind
+
+record Ends (words : List ℕ) : Type 0 where
+  is_whole : Whole words
+  ends : ends_with is_edge words ≡ true
+
+join-ends : (natural : Bool) (chosen : Option JoinOperator) → Ends (join_words natural chosen)
+join-ends true None = record { is_whole = record { is_closed = refl; plain = refl }; ends = refl }
+join-ends true (Some operator.Left) = record { is_whole = record { is_closed = refl; plain = refl }; ends = refl }
+join-ends true (Some operator.LeftOuter) = record { is_whole = record { is_closed = refl; plain = refl }; ends = refl }
+join-ends true (Some operator.Right) = record { is_whole = record { is_closed = refl; plain = refl }; ends = refl }
+join-ends true (Some operator.RightOuter) = record { is_whole = record { is_closed = refl; plain = refl }; ends = refl }
+join-ends true (Some operator.Inner) = record { is_whole = record { is_closed = refl; plain = refl }; ends = refl }
+join-ends true (Some operator.Cross) = record { is_whole = record { is_closed = refl; plain = refl }; ends = refl }
+join-ends false None = record { is_whole = record { is_closed = refl; plain = refl }; ends = refl }
+join-ends false (Some operator.Left) = record { is_whole = record { is_closed = refl; plain = refl }; ends = refl }
+join-ends false (Some operator.LeftOuter) = record { is_whole = record { is_closed = refl; plain = refl }; ends = refl }
+join-ends false (Some operator.Right) = record { is_whole = record { is_closed = refl; plain = refl }; ends = refl }
+join-ends false (Some operator.RightOuter) = record { is_whole = record { is_closed = refl; plain = refl }; ends = refl }
+join-ends false (Some operator.Inner) = record { is_whole = record { is_closed = refl; plain = refl }; ends = refl }
+join-ends false (Some operator.Cross) = record { is_whole = record { is_closed = refl; plain = refl }; ends = refl }
+
+join_after-inside : (before : List CallText) (table : List ℕ) → Inside (join_after before table)
+join_after-inside before table =
+    let words = join-ends (natural_of before) (operator_of before) in
+    words-first (join_words (natural_of before) (operator_of before)) (raw_piece table) words.is_whole words.ends (raw-inside table)
+
+join_in-all : (before : List CallText) (c : CallText) (after : List CallText) → AllInside (join_in before c after)
+join_in-all before (call.Join table) after =
+    let constraints = all-flat constraint_in constraint_in-inside constraint_in-behind (until is_join after) in
+    (inside-inside (join_after before table) (flat_map constraint_in (until is_join after)) (join_after-inside before table) constraints.1 constraints.0, tt)
+join_in-all before _ after = tt
+
+joins-all : (before calls : List CallText) → AllInside (in_place join_in before calls)
+joins-all before [] = tt
+joins-all before (c ∷ calls) = append-all Inside (join_in before c calls) (in_place join_in (before ++ c ∷ []) calls) (join_in-all before c calls) (joins-all (before ++ c ∷ []) calls)
+
+-- lists of items
+count-inside : (field : List ℕ) → Inside (count fixed_piece (raw_piece field))
+count-inside field = words-first (codes "COUNT(") (raw_piece field ++ fixed_piece (codes ")")) (record { is_closed = refl; plain = refl }) refl (closing-last (raw_piece field) (raw-inside field))
+
+count_as-inside : (field name : List ℕ) → Inside (count_as fixed_piece (raw_piece field) (raw_piece name))
+count_as-inside field name =
+    words-first (codes "COUNT(") (raw_piece field ++ (fixed_piece (codes ") AS ") ++ raw_piece name)) (record { is_closed = refl; plain = refl }) refl
+    (words-between (codes ") AS ") (raw_piece field) (raw_piece name) (record { is_closed = refl; plain = refl; begins = refl; ends = refl }) (raw-inside field) (raw-inside name))
+
+fields_in-all : (c : CallText) → AllInside (fields_in c)
+fields_in-all (call.Fields fields) = raw-all fields
+fields_in-all (call.SetFields fields) = raw-all fields
+fields_in-all (call.Field field) = (raw-inside field, tt)
+fields_in-all (call.SetField field) = (raw-inside field, tt)
+fields_in-all (call.Count field) = (count-inside field, tt)
+fields_in-all (call.CountAs field name) = (count_as-inside field name, tt)
+fields_in-all _ = tt
+
+sets_in-all : (c : CallText) → AllInside (sets_in c)
+sets_in-all (call.SetTo field value) = (equation-inside (raw_piece field) (raw_piece value) (raw-inside field) (raw-inside value), tt)
+sets_in-all (call.SetStr field value) = (equation-inside (raw_piece field) (quoted_piece value) (raw-inside field) (quoted-inside value), tt)
+sets_in-all _ = tt
+
+rows_in-all : (c : CallText) → AllInside (rows_in c)
+rows_in-all (call.Values values) = (brackets-inside (comma_list fixed_piece (map raw_piece values)) (items-inside (map raw_piece values) (raw-all values)), tt)
+rows_in-all _ = tt
+
+group_fields_in-all : (c : CallText) → AllInside (group_fields_in c)
+group_fields_in-all (call.GroupBy field) = (raw-inside field, tt)
+group_fields_in-all _ = tt
+
+order_fields_in-all : (c : CallText) → AllInside (order_fields_in c)
+order_fields_in-all (call.OrderBy field descending) = (order-inside descending (raw_piece field) (raw-inside field), tt)
+order_fields_in-all (call.OrderAsc field) = (raw-inside field, tt)
+order_fields_in-all (call.OrderDesc field) = (order-inside true (raw_piece field) (raw-inside field), tt)
+order_fields_in-all _ = tt
+
+unions_in-all : (c : CallText) → AllByRecursion (λ (union : Bool × Pieces). Inside union.1) (unions_in c)
+unions_in-all (call.Union query) = (raw-inside query, tt)
+unions_in-all (call.UnionAll query) = (raw-inside query, tt)
+unions_in-all _ = tt
+
+-- what is said last
+query_in-some : (c : CallText) → IfSome (query_in c) Inside
+query_in-some (call.Select query) = raw-inside query
+query_in-some _ = tt
+
+returning_in-some : (c : CallText) → IfSome (returning_in c) Inside
+returning_in-some (call.Returning fields) = raw-inside fields
+returning_in-some call.ReturningId = words-inside (codes "id") (record { is_closed = refl; plain = refl })
+returning_in-some _ = tt
+
+having_in-some : (c : CallText) → IfSome (having_in c) Inside
+having_in-some (call.Having condition) = raw-inside condition
+having_in-some _ = tt
+
+limit_in-some : (c : CallText) → IfSome (limit_in c) Inside
+limit_in-some (call.Limit limit) = raw-inside limit
+limit_in-some _ = tt
+
+offset_in-some : (c : CallText) → IfSome (offset_in c) Inside
+offset_in-some (call.Offset offset) = raw-inside offset
+offset_in-some _ = tt
+
+clauses-parts : (start : StartText) (calls : List CallText) → Parts (clauses start calls)
+clauses-parts start calls =
+    let tables = all-flat table_in table_in-inside table_in-behind calls in
+    record {
+      table = inside-inside (start_table start) (flat_map table_in calls) (start_table-inside start) tables.1 tables.0;
+      joins = joins-all [] calls;
+      fields = flat-all Inside fields_in fields_in-all (since drops_fields (call.SetFields (start_fields start) ∷ calls));
+      sets = flat-all Inside sets_in sets_in-all calls;
+      rows = flat-all Inside rows_in rows_in-all (since is_select calls);
+      query = said-last query_in query_in-some (since is_values calls);
+      returning = said-last returning_in returning_in-some calls;
+      group_fields = flat-all Inside group_fields_in group_fields_in-all calls;
+      having = said-last having_in having_in-some calls;
+      groups = map-all Inside group_pieces group-inside (cut opens_group (filter_map condition_in calls));
+      unions = flat-all (λ (union : Bool × Pieces). Inside union.1) unions_in unions_in-all calls;
+      order_fields = flat-all Inside order_fields_in order_fields_in-all calls;
+      limit = said-last limit_in limit_in-some calls;
+      offset = said-last offset_in offset_in-some calls;
+    }
+
+-- what a list of calls prints
+printed-shaped : (start : StartText) (calls : List CallText) (finish : FinishText) → Shaped (layout_at fixed_piece raw_piece finish (clauses start calls))
+printed-shaped start calls finish = layout-shaped finish (clauses start calls) (clauses-parts start calls)
+
+-- what is known of a text that is a statement, where the statement's pieces keep their tokens
+module _ (layout : Pieces) (inside : Shaped layout) where
+  printed-shape : (refusal : Option SqlBuilderError) (text : List ℕ) → text_unless_refused (unless_refused refusal layout) ≡ Ok text
+      → IfOk (unless_refused refusal layout) (λ printed. HasShape printed text)
+  printed-shape None text is = let same : pieces_text layout ≡ text = cc is in λ all. subst (λ t. tokens t ≡ shape layout) same (inside.shape_is all)
+  printed-shape (Some refusal) text is = tt
+
+  printed-closed : (refusal : Option SqlBuilderError) (text : List ℕ) → text_unless_refused (unless_refused refusal layout) ≡ Ok text
+      → IfOk (unless_refused refusal layout) (λ printed. IsClosedAs printed text)
+  printed-closed None text is = let same : pieces_text layout ≡ text = cc is in λ all. subst (λ t. closed t ≡ true) same (shape_closed layout inside all)
+  printed-closed (Some refusal) text is = tt
+
+module _ {Z : Type 0} (start : StartText) (calls : List CallText) (finish : FinishText) where
+  pub statement_shape : (result : Result (String Z) SqlBuilderError) → IfOk result (λ s. statement start calls finish ≡ Ok (string_bytes s))
+      → IfOk result (λ s. IfOk (pieces start calls finish) (λ printed. HasShape printed (string_bytes s)))
+  statement_shape (Err e) is = tt
+  statement_shape (Ok s) is = printed-shape _ (printed-shaped start calls finish) (refusal_at finish (map_clauses pieces_text (clauses start calls))) (string_bytes s) is
+
+  pub statement_closed : (result : Result (String Z) SqlBuilderError) → IfOk result (λ s. statement start calls finish ≡ Ok (string_bytes s))
+      → IfOk result (λ s. IfOk (pieces start calls finish) (λ printed. IsClosedAs printed (string_bytes s)))
+  statement_closed (Err e) is = tt
+  statement_closed (Ok s) is = printed-closed _ (printed-shaped start calls finish) (refusal_at finish (map_clauses pieces_text (clauses start calls))) (string_bytes s) is
+
+-- what a condition and a call with two texts print
+pub condition_shape : (condition : ConditionText) → HasConditionShape condition
+condition_shape condition = λ all. ap tokens (sym (condition_printed condition)) ∙ (shaped (condition_pieces condition) (condition-inside condition)).shape_is all
+
+shape-of : (printed : Pieces) (text : List ℕ) → Inside printed → pieces_text printed ≡ text → HasShape printed text
+shape-of printed text inside is = λ all. ap tokens (sym is) ∙ (shaped printed inside).shape_is all
+
+pub pair_shape : (clause : PairClause) (one other : List ℕ) → HasPairShape clause one other
+pair_shape pair.OnEq left right =
+    shape-of (equation fixed_piece (raw_piece left) (raw_piece right)) (equation byte_atoms left right)
+    (equation-inside (raw_piece left) (raw_piece right) (raw-inside left) (raw-inside right)) (simp append-nil)
+pair_shape pair.CountAs field name =
+    shape-of (count_as fixed_piece (raw_piece field) (raw_piece name)) (count_as byte_atoms field name) (count_as-inside field name) (simp append-nil)
+pair_shape pair.SetTo field value =
+    shape-of (equation fixed_piece (raw_piece field) (raw_piece value)) (equation byte_atoms field value)
+    (equation-inside (raw_piece field) (raw_piece value) (raw-inside field) (raw-inside value)) (simp append-nil)
+pair_shape pair.SetStr field value =
+    shape-of (equation fixed_piece (raw_piece field) (quoted_piece value)) (equation byte_atoms field (quoted value))
+    (equation-inside (raw_piece field) (quoted_piece value) (raw-inside field) (quoted-inside value)) (simp append-nil)
+
+-- the `;` of a statement
+module _ (start : StartText) (calls : List CallText) where
+  by-refusal : (refusal : Option SqlBuilderError) → IfOk (unless_refused refusal (sql fixed_piece (clauses start calls)))
+      (λ printed. IsTrue (has_closed_fragments printed) → IsTrue (has_no_semicolons printed) → EndsInOneSemicolon (tokens (pieces_text printed)))
+  by-refusal None = sql-semicolon (clauses start calls) (clauses-parts start calls)
+  by-refusal (Some refusal) = tt
+
+  pub last_semicolon : IfOk (pieces start calls call.Sql)
+      (λ printed. IsTrue (has_closed_fragments printed) → IsTrue (has_no_semicolons printed) → EndsInOneSemicolon (tokens (pieces_text printed)))
+  last_semicolon = by-refusal (refusal_at call.Sql (map_clauses pieces_text (clauses start calls)))

@@ -1,0 +1,175 @@
+-- Values that stand apart are tokens of their own.
+use Rattle.std.proofs.Common.{◌≡◌, ℕ, ◌+◌, Bool, true, false, not, ◌||◌, ◌⊎◌, List, [], ◌∷◌, ◌++◌, length, Option, Some, None, option_map, refl, sym, ap, ◌∙◌, subst, inl, inr, append_assoc, append-nil, length-append}
+use Rattle.std.specs.Prelude.{◌&&◌, ◌==◌, codes, flat_map}
+use Rattle.std.specs.List.{list_any}
+use Rattle.std.proofs.lemmas.Bool.{and_parts, false≢true, or_cases, or_from, or_left, or_right}
+use Rattle.std.proofs.lemmas.List.Folds.{list_any-append}
+use Rattle.sql_parts.specs.Apart.{HasBoundTokens, IsClosedIfApart, IsSupplied, apart, bound_tokens, literal_tokens, piece_apart, pieces_apart, resolved_apart}
+use Rattle.sql_parts.specs.Laws.{DifferInText, DifferInTexts, token_count}
+use Rattle.sql_parts.specs.Literal.{LiteralValue, null, truth, whole, words, literal_text}
+use Rattle.sql_parts.specs.Templates.{Marks, Resolved, Value, bound, resolve, resolved_from, written}
+use Rattle.sql_parts.specs.Tokens.{Token, begins_with, clean, closed, ends_with, is_edge, is_empty, is_open, is_separator, tokens}
+use Rattle.sql_parts.proofs.TokenLaws.{closed-shut, seam}
+use Rattle.sql_parts.proofs.WordTokens.{literal-closed, literal-is, literal-shut}
+
+-- separators are edges
+separator-edge : (byte : ℕ) → is_separator byte ≡ true → is_edge byte ≡ true
+separator-edge byte is = list_any-append (λ other. byte == other) (codes " \t\n\r(),;=<>") (46 ∷ []) ∙ or_left _ _ is
+
+ends-edge : (text : List ℕ) → ends_with is_separator text ≡ true → ends_with is_edge text ≡ true
+ends-edge [] is = is
+ends-edge (byte ∷ []) is = separator-edge byte is
+ends-edge (byte ∷ next ∷ text) is = ends-edge (next ∷ text) is
+
+-- what a piece that stands apart keeps
+record Fits (first last : Bool) (piece : List ℕ) : Type 0 where
+  is_closed : closed piece ≡ true
+  behind : last ≡ false → (is_empty piece ≡ true) ⊎ (ends_with is_separator piece ≡ true)
+  before : first ≡ false → ((last ≡ true) × (is_empty piece ≡ true)) ⊎ (begins_with is_separator piece ≡ true)
+
+one_of : (free one other : Bool) → (free || one || other) ≡ true → free ≡ false → (one ≡ true) ⊎ (other ≡ true)
+one_of true one other is isnt = absurd (false≢true (sym isnt))
+one_of false one other is isnt = or_cases one other is
+
+fits : (first last : Bool) (piece : List ℕ) → piece_apart first last piece ≡ true → Fits first last piece
+fits first last piece is =
+    let outer = and_parts (closed piece && (last || first && is_empty piece || ends_with is_separator piece)) _ is in
+    let inner = and_parts (closed piece) _ outer.0 in
+    record {
+      is_closed = inner.0;
+      behind = λ some. elim (one_of last (first && is_empty piece) (ends_with is_separator piece) inner.1 some) [ inl empty ↦ inl (and_parts first _ empty).1 | inr ends ↦ inr ends ];
+      before = λ some. elim (one_of first (last && is_empty piece) (begins_with is_separator piece) outer.1 some) [ inl empty ↦ inl (and_parts last _ empty) | inr begins ↦ inr begins ];
+    }
+
+-- what stands behind a value is nothing, or begins at an edge
+value-clean : (before piece rest : List ℕ) → (is_empty piece ≡ true → rest ≡ []) → (is_empty piece ≡ true) ⊎ (begins_with is_separator piece ≡ true) → clean before (piece ++ rest) ≡ true
+value-clean before [] rest none (inl empty) = rw (none refl) (or_left _ _ (or_left _ _ (or_right (is_empty before) true refl)))
+value-clean before [] rest none (inr begins) = absurd (false≢true begins)
+value-clean before (byte ∷ piece) rest none (inl empty) = absurd (false≢true empty)
+value-clean before (byte ∷ piece) rest none (inr begins) = or_right _ _ (separator-edge byte begins)
+
+-- a piece that a value is behind ends the tokens before it
+piece-clean : (piece rest : List ℕ) → (is_empty piece ≡ true) ⊎ (ends_with is_separator piece ≡ true) → clean piece rest ≡ true
+piece-clean piece rest (inl empty) = or_left _ _ (or_left _ _ (or_left _ _ empty))
+piece-clean piece rest (inr ends) = or_left _ _ (or_right (is_empty piece || is_empty rest) _ (ends-edge piece ends))
+
+-- the values and the pieces behind them
+abbrev Parts : Type 0
+Parts = List (Value × List ℕ)
+
+abbrev part_texts : (Value → LiteralValue) → Parts → List ℕ
+part_texts literals parts = flat_map (λ part. literal_text (literals part.0) ++ part.1) parts
+
+abbrev part_tokens : (Value → LiteralValue) → Parts → List Token
+part_tokens literals parts = flat_map (λ part. literal_tokens (literals part.0) ++ tokens part.1) parts
+
+-- what stands behind a value
+behind-value : (literals : Value → LiteralValue) (before piece : List ℕ) (parts : Parts) → pieces_apart false piece parts ≡ true → clean before (piece ++ part_texts literals parts) ≡ true
+behind-value literals before piece [] is =
+    value-clean before piece [] (λ empty. refl) (elim ((fits false true piece is).before refl) [ inl last ↦ inl last.1 | inr begins ↦ inr begins ])
+behind-value literals before piece (part ∷ parts) is =
+    let begins : begins_with is_separator piece ≡ true =
+    elim ((fits false false piece (and_parts (piece_apart false false piece) _ is).0).before refl) [ inl last ↦ absurd (false≢true last.0) | inr begins ↦ begins ] in
+    value-clean before piece (part_texts literals (part ∷ parts)) (λ empty. absurd (some piece empty begins)) (inr begins)
+  where
+    some : (text : List ℕ) → is_empty text ≡ true → begins_with is_separator text ≡ true → ⊥
+    some [] empty begins = false≢true begins
+    some (byte ∷ text) empty begins = false≢true empty
+
+pieces-tokens : (literals : Value → LiteralValue) (first : Bool) (piece : List ℕ) (parts : Parts) → pieces_apart first piece parts ≡ true
+    → tokens (piece ++ part_texts literals parts) ≡ tokens piece ++ part_tokens literals parts
+pieces-tokens literals first piece [] is = ap tokens (append-nil piece) ∙ sym (append-nil (tokens piece))
+pieces-tokens literals first piece (part ∷ parts) is =
+    let both = and_parts (piece_apart first false piece) _ is in
+    let here = fits first false piece both.0 in
+    let text = literal_text (literals part.0) in
+    let rest = part.1 ++ part_texts literals parts in
+    ap (λ more. tokens (piece ++ more)) (append_assoc text part.1 (part_texts literals parts))
+    ∙ seam piece (text ++ rest) here.is_closed (piece-clean piece (text ++ rest) (here.behind refl))
+    ∙ ap (λ more. tokens piece ++ more)
+    (seam text rest (literal-closed (literals part.0)) (behind-value literals text part.1 parts both.1)
+    ∙ ap (λ value. value ++ tokens rest) (literal-is (literals part.0))
+    ∙ ap (λ more. literal_tokens (literals part.0) ++ more) (pieces-tokens literals false part.1 parts both.1)
+    ∙ sym (append_assoc (literal_tokens (literals part.0)) (tokens part.1) (part_tokens literals parts)))
+
+resolved-tokens : (literals : Value → LiteralValue) (resolved : Option Resolved) → resolved_apart resolved ≡ true
+    → option_map tokens (option_map (written literals) resolved) ≡ option_map (bound_tokens literals) resolved
+resolved-tokens literals None is = refl
+resolved-tokens literals (Some resolved) is = ap Some (pieces-tokens literals true resolved.0 resolved.1 is)
+
+-- the tokens of a bound text
+pub bound-is : (template : List ℕ) (marks : Marks) (literals : Value → LiteralValue) → apart template marks ≡ true
+    → option_map tokens (bound template marks literals) ≡ option_map (bound_tokens literals) (resolve template marks)
+bound-is template marks literals is = resolved-tokens literals (resolve template marks) is
+
+-- none of them is open
+pieces-shut : (literals : Value → LiteralValue) (first : Bool) (piece : List ℕ) (parts : Parts) → pieces_apart first piece parts ≡ true
+    → list_any is_open (tokens piece ++ part_tokens literals parts) ≡ false
+pieces-shut literals first piece [] is = ap (list_any is_open) (append-nil (tokens piece)) ∙ closed-shut piece (fits first true piece is).is_closed
+pieces-shut literals first piece (part ∷ parts) is =
+    let both = and_parts (piece_apart first false piece) _ is in
+    let value = literal_tokens (literals part.0) in
+    let more = part_tokens literals parts in
+    list_any-append is_open (tokens piece) ((value ++ tokens part.1) ++ more)
+    ∙ or_from _ _ (closed-shut piece (fits first false piece both.0).is_closed)
+    (ap (list_any is_open) (append_assoc value (tokens part.1) more) ∙ list_any-append is_open value (tokens part.1 ++ more)
+    ∙ or_from _ _ (literal-shut (literals part.0)) (pieces-shut literals false part.1 parts both.1))
+
+resolved-closed : (literals : Value → LiteralValue) (text : List ℕ) (resolved : Option Resolved) → resolved_apart resolved ≡ true → option_map (written literals) resolved ≡ Some text → closed text ≡ true
+resolved-closed literals text None is written_is = absurd (false≢true is)
+resolved-closed literals text (Some resolved) is written_is =
+    let same : written literals resolved ≡ text = cc written_is in
+    subst (λ t. closed t ≡ true) same
+    (ap (λ all. not (list_any is_open all)) (pieces-tokens literals true resolved.0 resolved.1 is) ∙ ap not (pieces-shut literals true resolved.0 resolved.1 is))
+
+-- a bound text is closed
+pub bound-closed : (template text : List ℕ) (marks : Marks) (literals : Value → LiteralValue) → apart template marks ≡ true → bound template marks literals ≡ Some text → closed text ≡ true
+bound-closed template text marks literals is bound_is = resolved-closed literals text (resolve template marks) is bound_is
+
+-- texts in place of other texts are as many tokens
+literal-count : (one other : LiteralValue) → DifferInText one other → length (literal_tokens one) ≡ length (literal_tokens other)
+literal-count null other same = ap (λ literal. length (literal_tokens literal)) same
+literal-count (truth value) other same = ap (λ literal. length (literal_tokens literal)) same
+literal-count (whole number) other same = ap (λ literal. length (literal_tokens literal)) same
+literal-count (words text) null same = ap (λ literal. length (literal_tokens literal)) same
+literal-count (words text) (truth value) same = ap (λ literal. length (literal_tokens literal)) same
+literal-count (words text) (whole number) same = ap (λ literal. length (literal_tokens literal)) same
+literal-count (words text) (words other) same = refl
+
+part-count : (one other : Value → LiteralValue) → DifferInTexts one other → (parts : Parts) → length (part_tokens one parts) ≡ length (part_tokens other parts)
+part-count one other differ [] = refl
+part-count one other differ (part ∷ parts) =
+    let sum : (literals : Value → LiteralValue) → length (part_tokens literals (part ∷ parts)) ≡ (length (literal_tokens (literals part.0)) + length (tokens part.1)) + length (part_tokens literals parts) =
+    λ literals. length-append (literal_tokens (literals part.0) ++ tokens part.1) (part_tokens literals parts) ∙ ap (λ n. n + length (part_tokens literals parts)) (length-append (literal_tokens (literals part.0)) (tokens part.1)) in
+    sum one ∙ (λ i. (literal-count (one part.0) (other part.0) (differ part.0) i + length (tokens part.1)) + part-count one other differ parts i) ∙ sym (sum other)
+
+resolved-count : (one other : Value → LiteralValue) → DifferInTexts one other → (resolved : Option Resolved)
+    → option_map length (option_map (bound_tokens one) resolved) ≡ option_map length (option_map (bound_tokens other) resolved)
+resolved-count one other differ None = refl
+resolved-count one other differ (Some resolved) =
+    ap Some (length-append (tokens resolved.0) (part_tokens one resolved.1) ∙ ap (λ n. length (tokens resolved.0) + n) (part-count one other differ resolved.1)
+    ∙ sym (length-append (tokens resolved.0) (part_tokens other resolved.1)))
+
+count : (text : Option (List ℕ)) → token_count text ≡ option_map length (option_map tokens text)
+count None = refl
+count (Some text) = refl
+
+pub bound-count : (template : List ℕ) (marks : Marks) (one other : Value → LiteralValue) → apart template marks ≡ true → DifferInTexts one other
+    → token_count (bound template marks one) ≡ token_count (bound template marks other)
+bound-count template marks one other is differ =
+    count (bound template marks one) ∙ ap (option_map length) (bound-is template marks one is)
+    ∙ resolved-count one other differ (resolve template marks)
+    ∙ sym (ap (option_map length) (bound-is template marks other is)) ∙ sym (count (bound template marks other))
+
+-- what is known of a text that is a resolved template with literals in it
+is-bound : (template text : List ℕ) (marks : Marks) (literals : Value → LiteralValue) → text ≡ written literals (resolved_from marks 0 0 template) → IsSupplied template marks
+    → bound template marks literals ≡ Some text
+is-bound template text marks literals is supplied = ap (option_map (written literals)) supplied ∙ ap Some (sym is)
+
+pub has_bound_tokens : (template text : List ℕ) (marks : Marks) (literals : Value → LiteralValue) → text ≡ written literals (resolved_from marks 0 0 template)
+    → IsSupplied template marks → HasBoundTokens template marks literals text
+has_bound_tokens template text marks literals is supplied = λ stands. ap (option_map tokens) (sym (is-bound template text marks literals is supplied)) ∙ bound-is template marks literals stands
+
+pub is_closed_if_apart : (template text : List ℕ) (marks : Marks) (literals : Value → LiteralValue) → text ≡ written literals (resolved_from marks 0 0 template)
+    → IsSupplied template marks → IsClosedIfApart template marks text
+is_closed_if_apart template text marks literals is supplied = λ stands. bound-closed template text marks literals stands (is-bound template text marks literals is supplied)

@@ -1,0 +1,5 @@
+use Rattle.sql_parts.proofs.TokenLaws.{closed-seam, seam}
+use Rattle.sql_parts.proofs.laws.tokens_join_at_edges.Goals as goal
+
+pub returns : goal.returns
+returns c = record { tokens = seam; closed = closed-seam }
