@@ -1,21 +1,23 @@
 -- The pieces of each clause of a list of calls keep their tokens.
 use Rattle.std.proofs.Common.{◌≡◌, ℕ, Bool, true, false, List, [], ◌∷◌, ◌++◌, Option, None, Some, map, codes, refl, flat_map, subst, Result, Ok, Err, IfOk, String, string_bytes, ap, sym, ◌∙◌}
 use Rattle.std.specs.Prelude.{IfSome, IsTrue, filter_map}
+use Rattle.std.specs.Result.{result_map_both}
+use Rattle.sql_builder.specs.Builder.{ClauseTexts, condition_bytes, with_condition, with_condition_text, with_fields, with_on, with_set}
 use Rattle.std.specs.List.{cons_option, last_or, AllByRecursion}
 use Rattle.sql_parts.specs.Tokens.{closed, ends_with, is_edge, tokens}
 use Rattle.sql_parts.specs.declared.error.SqlBuilderError.{SqlBuilderError}
 use Rattle.sql_parts.specs.Quoting.{quoted}
 use Rattle.sql_builder.specs.Layout.{byte_atoms, sql}
-use Rattle.sql_builder.specs.Calls.{StartText, CallText, FinishText, clauses, condition_pieces, constraint_in, fields_in, group_fields_in, group_pieces, having_in, is_join, join_after, join_in, limit_in, offset_in, order_fields_in, query_in, returning_in, rows_in, sets_in, start_table, table_in, unions_in, condition_in, opens_group, drops_fields, is_select, is_values, start_fields, natural_of, operator_of}
+use Rattle.sql_builder.specs.Calls.{StartText, CallText, FinishText, clauses, condition_pieces, constraint_in, fields_in, group_fields_in, group_pieces, groups, having_in, is_join, join_after, join_in, limit_in, offset_in, order_fields_in, query_in, returning_in, rows_in, sets_in, start_table, table_in, unions_in, drops_fields, is_select, is_values, start_fields, natural_of, operator_of}
 use Rattle.sql_builder.specs.Calls as call
 use Rattle.sql_builder.specs.Conditions.{ConditionText, Raw, Compare, Like, IsNull, IsNotNull, InList, InQuoted, InQuery, Between, mask_text, not_text, relation_text}
-use Rattle.sql_builder.specs.Filters.{Group, cut, in_place, last_said, since, until}
+use Rattle.sql_builder.specs.Filters.{Group, in_place, last_said, since, until}
 use Rattle.sql_builder.specs.Phrases.{comma_list, count, count_as, equation, join_words, order}
 use Rattle.sql_builder.specs.Clauses.{map_clauses}
-use Rattle.sql_builder.specs.Shape.{EndsInOneSemicolon, has_closed_fragments, has_no_semicolons, HasConditionShape, HasShape, IsClosedAs, shape}
+use Rattle.sql_builder.specs.Shape.{EndsInOneSemicolon, has_closed_fragments, has_no_semicolons, AddsCondition, AddsText, HasClosedFragments, HasShape, pieces_tokens, shape}
 use Rattle.sql_builder.specs.Statement.{layout_at, pieces, refusal_at, statement, text_unless_refused, unless_refused}
 use Rattle.sql_builder.specs.Text.{Pieces, fixed_piece, pieces_text, quoted_piece, raw_piece}
-use Rattle.sql_builder.specs.Steps.{HasPairShape}
+use Rattle.sql_builder.specs.Steps.{AddsPair, with_pair}
 use Rattle.sql_builder.specs.declared.steps.PairClause.{PairClause}
 use Rattle.sql_builder.specs.declared.steps.PairClause.TheVariants as pair
 use Rattle.std.proofs.lemmas.List.{append-nil}
@@ -114,10 +116,10 @@ condition-inside (Between negated field least greatest) =
     (not-edged negated (codes " BETWEEN ") (record { is_closed = refl; plain = refl; begins = refl; ends = refl }) (record { is_closed = refl; plain = refl; begins = refl; ends = refl })) (raw-inside field)
     (words-between (codes " AND ") (raw_piece least) (raw_piece greatest) (record { is_closed = refl; plain = refl; begins = refl; ends = refl }) (raw-inside least) (raw-inside greatest))
 
-group-inside : (group : Group (Family × ConditionText)) → Inside (group_pieces group)
+group-inside : (group : Group ConditionText) → Inside (group_pieces group)
 group-inside group =
-    joined-inside (codes " OR ") (record { is_closed = refl; plain = refl; begins = refl; ends = refl }) (map (λ (c : Family × ConditionText). condition_pieces c.1) (group.0 ∷ group.1))
-    (map-all Inside (λ (c : Family × ConditionText). condition_pieces c.1) (λ c. condition-inside c.1) (group.0 ∷ group.1))
+    joined-inside (codes " OR ") (record { is_closed = refl; plain = refl; begins = refl; ends = refl }) (map condition_pieces (group.0 ∷ group.1))
+    (map-all Inside condition_pieces condition-inside (group.0 ∷ group.1))
 
 -- tables and joins
 start_table-inside : (start : StartText) → Inside (start_table start)
@@ -258,7 +260,7 @@ clauses-parts start calls =
       returning = said-last returning_in returning_in-some calls;
       group_fields = flat-all Inside group_fields_in group_fields_in-all calls;
       having = said-last having_in having_in-some calls;
-      groups = map-all Inside group_pieces group-inside (cut opens_group (filter_map condition_in calls));
+      groups = map-all Inside group_pieces group-inside (groups calls);
       unions = flat-all (λ (union : Bool × Pieces). Inside union.1) unions_in unions_in-all calls;
       order_fields = flat-all Inside order_fields_in order_fields_in-all calls;
       limit = said-last limit_in limit_in-some calls;
@@ -272,45 +274,63 @@ printed-shaped start calls finish = layout-shaped finish (clauses start calls) (
 -- what is known of a text that is a statement, where the statement's pieces keep their tokens
 module _ (layout : Pieces) (inside : Shaped layout) where
   printed-shape : (refusal : Option SqlBuilderError) (text : List ℕ) → text_unless_refused (unless_refused refusal layout) ≡ Ok text
-      → IfOk (unless_refused refusal layout) (λ printed. HasShape printed text)
-  printed-shape None text is = let same : pieces_text layout ≡ text = cc is in λ all. subst (λ t. tokens t ≡ shape layout) same (inside.shape_is all)
-  printed-shape (Some refusal) text is = tt
+      → IfOk (unless_refused refusal layout) (λ printed. IsTrue (has_closed_fragments printed))
+      → result_map_both pieces_tokens (λ e. e) (unless_refused refusal layout) ≡ Ok (tokens text)
+  printed-shape None text is all = let same : pieces_text layout ≡ text = cc is in ap Ok (sym (inside.shape_is all) ∙ ap tokens same)
+  printed-shape (Some refusal) text is all = cc is
 
   printed-closed : (refusal : Option SqlBuilderError) (text : List ℕ) → text_unless_refused (unless_refused refusal layout) ≡ Ok text
-      → IfOk (unless_refused refusal layout) (λ printed. IsClosedAs printed text)
-  printed-closed None text is = let same : pieces_text layout ≡ text = cc is in λ all. subst (λ t. closed t ≡ true) same (shape_closed layout inside all)
-  printed-closed (Some refusal) text is = tt
+      → IfOk (unless_refused refusal layout) (λ printed. IsTrue (has_closed_fragments printed)) → IsTrue (closed text)
+  printed-closed None text is all = let same : pieces_text layout ≡ text = cc is in subst (λ t. closed t ≡ true) same (shape_closed layout inside all)
+  printed-closed (Some refusal) text is all = cc is
 
 module _ {Z : Type 0} (start : StartText) (calls : List CallText) (finish : FinishText) where
   pub statement_shape : (result : Result (String Z) SqlBuilderError) → IfOk result (λ s. statement start calls finish ≡ Ok (string_bytes s))
-      → IfOk result (λ s. IfOk (pieces start calls finish) (λ printed. HasShape printed (string_bytes s)))
-  statement_shape (Err e) is = tt
-  statement_shape (Ok s) is = printed-shape _ (printed-shaped start calls finish) (refusal_at finish (map_clauses pieces_text (clauses start calls))) (string_bytes s) is
+      → HasClosedFragments start calls finish → IfOk result (λ s. shape start calls finish ≡ Ok (tokens (string_bytes s)))
+  statement_shape (Err e) is all = tt
+  statement_shape (Ok s) is all = printed-shape _ (printed-shaped start calls finish) (refusal_at finish (map_clauses pieces_text (clauses start calls))) (string_bytes s) is all
 
   pub statement_closed : (result : Result (String Z) SqlBuilderError) → IfOk result (λ s. statement start calls finish ≡ Ok (string_bytes s))
-      → IfOk result (λ s. IfOk (pieces start calls finish) (λ printed. IsClosedAs printed (string_bytes s)))
-  statement_closed (Err e) is = tt
-  statement_closed (Ok s) is = printed-closed _ (printed-shaped start calls finish) (refusal_at finish (map_clauses pieces_text (clauses start calls))) (string_bytes s) is
+      → HasClosedFragments start calls finish → IfOk result (λ s. IsTrue (closed (string_bytes s)))
+  statement_closed (Err e) is all = tt
+  statement_closed (Ok s) is all = printed-closed _ (printed-shaped start calls finish) (refusal_at finish (map_clauses pieces_text (clauses start calls))) (string_bytes s) is all
 
 -- what a condition and a call with two texts print
-pub condition_shape : (condition : ConditionText) → HasConditionShape condition
-condition_shape condition = λ all. ap tokens (sym (condition_printed condition)) ∙ (shaped (condition_pieces condition) (condition-inside condition)).shape_is all
-
 shape-of : (printed : Pieces) (text : List ℕ) → Inside printed → pieces_text printed ≡ text → HasShape printed text
 shape-of printed text inside is = λ all. ap tokens (sym is) ∙ (shaped printed inside).shape_is all
 
-pub pair_shape : (clause : PairClause) (one other : List ℕ) → HasPairShape clause one other
-pair_shape pair.OnEq left right =
-    shape-of (equation fixed_piece (raw_piece left) (raw_piece right)) (equation byte_atoms left right)
+pub condition_shape : (condition : ConditionText) → HasShape (condition_pieces condition) (condition_bytes condition)
+condition_shape condition = shape-of (condition_pieces condition) (condition_bytes condition) (condition-inside condition) (condition_printed condition)
+
+pub equation_shape : (left right : List ℕ) → HasShape (equation fixed_piece (raw_piece left) (raw_piece right)) (equation byte_atoms left right)
+equation_shape left right = shape-of (equation fixed_piece (raw_piece left) (raw_piece right)) (equation byte_atoms left right)
     (equation-inside (raw_piece left) (raw_piece right) (raw-inside left) (raw-inside right)) (simp append-nil)
-pair_shape pair.CountAs field name =
-    shape-of (count_as fixed_piece (raw_piece field) (raw_piece name)) (count_as byte_atoms field name) (count_as-inside field name) (simp append-nil)
-pair_shape pair.SetTo field value =
-    shape-of (equation fixed_piece (raw_piece field) (raw_piece value)) (equation byte_atoms field value)
-    (equation-inside (raw_piece field) (raw_piece value) (raw-inside field) (raw-inside value)) (simp append-nil)
-pair_shape pair.SetStr field value =
-    shape-of (equation fixed_piece (raw_piece field) (quoted_piece value)) (equation byte_atoms field (quoted value))
+
+pub quoted_equation_shape : (field value : List ℕ)
+    → HasShape (equation fixed_piece (raw_piece field) (quoted_piece value)) (equation byte_atoms field (quoted value))
+quoted_equation_shape field value = shape-of (equation fixed_piece (raw_piece field) (quoted_piece value)) (equation byte_atoms field (quoted value))
     (equation-inside (raw_piece field) (quoted_piece value) (raw-inside field) (quoted-inside value)) (simp append-nil)
+
+pub count_as_shape : (field name : List ℕ) → HasShape (count_as fixed_piece (raw_piece field) (raw_piece name)) (count_as byte_atoms field name)
+count_as_shape field name = shape-of (count_as fixed_piece (raw_piece field) (raw_piece name)) (count_as byte_atoms field name) (count_as-inside field name) (simp append-nil)
+
+-- a record that has a text added has its tokens added
+adds : (adding : List ℕ → ClauseTexts) (text : List ℕ) (printed : Pieces) (new : ClauseTexts) → HasShape printed text → new ≡ adding text → AddsText adding text printed new
+adds adding text printed new keeps is = (is, (text, is, keeps))
+
+pub adds_condition : (family : Family) (condition : ConditionText) (old new : ClauseTexts) → new ≡ with_condition family condition old → AddsCondition family condition old new
+adds_condition family condition old new is =
+    adds (λ added. with_condition_text family added old) (condition_bytes condition) (condition_pieces condition) new (condition_shape condition) is
+
+pub adds_pair : (clause : PairClause) (one other : List ℕ) (old new : ClauseTexts) → new ≡ with_pair clause one other old → AddsPair clause one other old new
+adds_pair pair.OnEq left right old new is =
+    adds (λ added. with_on added old) (equation byte_atoms left right) (equation fixed_piece (raw_piece left) (raw_piece right)) new (equation_shape left right) is
+adds_pair pair.CountAs field name old new is =
+    adds (λ added. with_fields (added ∷ []) old) (count_as byte_atoms field name) (count_as fixed_piece (raw_piece field) (raw_piece name)) new (count_as_shape field name) is
+adds_pair pair.SetTo field value old new is =
+    adds (λ added. with_set added old) (equation byte_atoms field value) (equation fixed_piece (raw_piece field) (raw_piece value)) new (equation_shape field value) is
+adds_pair pair.SetStr field value old new is =
+    adds (λ added. with_set added old) (equation byte_atoms field (quoted value)) (equation fixed_piece (raw_piece field) (quoted_piece value)) new (quoted_equation_shape field value) is
 
 -- the `;` of a statement
 module _ (start : StartText) (calls : List CallText) where

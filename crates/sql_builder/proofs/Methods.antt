@@ -1,6 +1,6 @@
 -- The chain calls of each step. A chain call's proof is one use of these.
-use Rattle.sql_parts.proofs.Walking.{[], ◌∷◌, a_type, dcons, dnil, bounded, inst_fn, Ura, Logic, RattleType, SProp}
-use Rattle.sql_parts.proofs.Loans.{Effect, Fact, Lent, Nothing, Variant, boolean, constant, generic, slice}
+use Rattle.sql_parts.proofs.Walking.{◌≡◌, [], ◌∷◌, a_type, dcons, dnil, bounded, inst_fn, Ura, Logic, RattleType, SProp}
+use Rattle.sql_parts.proofs.Loans.{Effect, Lent, Variant, boolean, constant, generic, slice}
 use Rattle.sql_parts.proofs.ChainCalls as calls
 use mir.Syntax.{Args, Callee, Dict, Fn}
 use contract.Lifetimes.{Lfts}
@@ -15,9 +15,9 @@ use Rattle.std.specs.Prelude.{codes, map}
 use Rattle.sql_parts.specs.Error.{IsMemory}
 use Rattle.sql_parts.specs.declared.text.ToText.{Ghosts}
 use Rattle.sql_parts.specs.contracts.text.ToText.TheBound.{Met}
-use Rattle.sql_builder.specs.Builder.{ClauseTexts, with_condition, with_order, with_returning}
-use Rattle.sql_builder.specs.Shape.{HasConditionShape}
-use Rattle.sql_builder.specs.Steps.{HasPairShape, RefusesPair, RefusesText, binary_condition, list_condition, range_condition, unary_condition, with_pair, with_text, with_texts}
+use Rattle.sql_builder.specs.Builder.{ClauseTexts, with_order, with_returning}
+use Rattle.sql_builder.specs.Shape.{AddsCondition}
+use Rattle.sql_builder.specs.Steps.{AddsPair, RefusesPair, RefusesText, binary_condition, list_condition, range_condition, unary_condition, with_text, with_texts}
 use Rattle.sql_builder.specs.contracts.builder.SqlBuilder.{the_row}
 use Rattle.sql_builder.proofs.builder.SqlBuilder.TheLaws as builder_laws
 use Rattle.sql_builder.specs.contracts.steps.Held as held
@@ -90,7 +90,7 @@ module _ {M : Type 1} (𝓤 : Ura M) (𝓛 : Logic 𝓤) (𝓜 : Model 𝓤 𝓛
     asked-text κs a = (text_step.clauses S s d d' 𝓛 𝓜.mem 𝓡.returns κs a).requires tt
 
     abbrev told-text : (κs : Lfts 2) → Denots (types_at (text_step.signature S).params κs) → Effect ClauseTexts
-    told-text κs a = record { told = with_text a.1.0 (s.text a.1.1.0) a.0.now; refuses = RefusesText a.1.0 a.0.now; known = Nothing }
+    told-text κs a = record { leaves = λ builder. builder ≡ with_text a.1.0 (s.text a.1.1.0) a.0.now; refuses = RefusesText a.1.0 a.0.now }
 
     pub by_text : calls.Code-text builder 𝓛 𝓜 𝓡 1 [] (constant 𝓛 text_clause.the_type text_clause_laws.the_plain X) (generic 𝓛 2 0 S LS)
         asked-text told-text (inst_fn types-text fn) (text_code.name types-text) release_code.name (name types-text)
@@ -109,7 +109,7 @@ module _ {M : Type 1} (𝓤 : Ura M) (𝓛 : Logic 𝓤) (𝓜 : Model 𝓤 𝓛
     asked-returning_id κs a = (returning_id_step.clauses 𝓛 𝓜.mem 𝓡.returns κs a).requires tt
 
     abbrev told-returning_id : (κs : Lfts 1) → Denots (types_at returning_id_step.signature.params κs) → Effect ClauseTexts
-    told-returning_id κs a = record { told = with_returning (codes "id") a.0.now; refuses = IsMemory; known = Nothing }
+    told-returning_id κs a = record { leaves = λ builder. builder ≡ with_returning (codes "id") a.0.now; refuses = IsMemory }
 
     pub by_returning_id : calls.Code-bare builder 𝓛 𝓜 𝓡 0 []
         asked-returning_id told-returning_id fn returning_id_code.name release_code.name name
@@ -133,7 +133,7 @@ module _ {M : Type 1} (𝓤 : Ura M) (𝓛 : Logic 𝓤) (𝓜 : Model 𝓤 𝓛
     asked-pair κs a = (pair_step.clauses S T s d t e d' e' 𝓛 𝓜.mem 𝓡.returns κs a).requires tt
 
     abbrev told-pair : (κs : Lfts 3) → Denots (types_at (pair_step.signature S T).params κs) → Effect ClauseTexts
-    told-pair κs a = record { told = with_pair a.1.0 (s.text a.1.1.0) (t.text a.1.1.1.0) a.0.now; refuses = RefusesPair a.1.0 a.0.now; known = Fact (HasPairShape a.1.0 (s.text a.1.1.0) (t.text a.1.1.1.0)) }
+    told-pair κs a = record { leaves = AddsPair a.1.0 (s.text a.1.1.0) (t.text a.1.1.1.0) a.0.now; refuses = RefusesPair a.1.0 a.0.now }
 
     pub by_pair : calls.Code-pair builder 𝓛 𝓜 𝓡 2 [] (constant 𝓛 pair_clause.the_type pair_clause_laws.the_plain X) (generic 𝓛 3 0 S LS) (generic 𝓛 3 1 T LT)
         asked-pair told-pair (inst_fn types-pair fn) (pair_code.name types-pair) release_code.name (name types-pair)
@@ -157,7 +157,7 @@ module _ {M : Type 1} (𝓤 : Ura M) (𝓛 : Logic 𝓤) (𝓜 : Model 𝓤 𝓛
     asked-texts κs a = (texts_step.clauses S s d d' 𝓛 𝓜.mem 𝓡.returns κs a).requires tt
 
     abbrev told-texts : (κs : Lfts 3) → Denots (types_at (texts_step.signature S).params κs) → Effect ClauseTexts
-    told-texts κs a = record { told = with_texts a.1.0 (map s.text a.1.1.0.now) a.0.now; refuses = IsMemory; known = Nothing }
+    told-texts κs a = record { leaves = λ builder. builder ≡ with_texts a.1.0 (map s.text a.1.1.0.now) a.0.now; refuses = IsMemory }
 
     pub by_texts : calls.Code-list builder 𝓛 𝓜 𝓡 2 ((texts_step.signature S).outlives) (constant 𝓛 list_clause.the_type list_clause_laws.the_plain X) (slice 𝓛 3 1 tt 0 S)
         asked-texts told-texts (inst_fn types-texts fn) (texts_code.name types-texts) release_code.name (name types-texts)
@@ -181,7 +181,7 @@ module _ {M : Type 1} (𝓤 : Ura M) (𝓛 : Logic 𝓤) (𝓜 : Model 𝓤 𝓛
     asked-order κs a = (order_step.clauses S s d d' 𝓛 𝓜.mem 𝓡.returns κs a).requires tt
 
     abbrev told-order : (κs : Lfts 2) → Denots (types_at (order_step.signature S).params κs) → Effect ClauseTexts
-    told-order κs a = record { told = with_order a.1.1.0 (s.text a.1.0) a.0.now; refuses = IsMemory; known = Nothing }
+    told-order κs a = record { leaves = λ builder. builder ≡ with_order a.1.1.0 (s.text a.1.0) a.0.now; refuses = IsMemory }
 
     pub by_order : calls.Code-flagged builder 𝓛 𝓜 𝓡 1 [] (generic 𝓛 2 0 S LS) (boolean 𝓛 2)
         asked-order told-order (inst_fn types-order fn) (order_code.name types-order) release_code.name (name types-order)
@@ -205,7 +205,7 @@ module _ {M : Type 1} (𝓤 : Ura M) (𝓛 : Logic 𝓤) (𝓜 : Model 𝓤 𝓛
     asked-unary κs a = (unary_step.clauses S s d d' 𝓛 𝓜.mem 𝓡.returns κs a).requires tt
 
     abbrev told-unary : (κs : Lfts 2) → Denots (types_at (unary_step.signature S).params κs) → Effect ClauseTexts
-    told-unary κs a = record { told = with_condition a.1.0 (unary_condition a.1.1.0 (s.text a.1.1.1.0)) a.0.now; refuses = IsMemory; known = Fact (HasConditionShape (unary_condition a.1.1.0 (s.text a.1.1.1.0))) }
+    told-unary κs a = record { leaves = AddsCondition a.1.0 (unary_condition a.1.1.0 (s.text a.1.1.1.0)) a.0.now; refuses = IsMemory }
 
     pub by_unary : calls.Code-condition builder 𝓛 𝓜 𝓡 1 [] (constant 𝓛 family.the_type family_laws.the_plain X) (constant 𝓛 unary.the_type unary_laws.the_plain Y) (generic 𝓛 2 0 S LS)
         asked-unary told-unary (inst_fn types-unary fn) (unary_code.name types-unary) release_code.name (name types-unary)
@@ -229,7 +229,7 @@ module _ {M : Type 1} (𝓤 : Ura M) (𝓛 : Logic 𝓤) (𝓜 : Model 𝓤 𝓛
     asked-binary κs a = (binary_step.clauses S T s d t e d' e' 𝓛 𝓜.mem 𝓡.returns κs a).requires tt
 
     abbrev told-binary : (κs : Lfts 3) → Denots (types_at (binary_step.signature S T).params κs) → Effect ClauseTexts
-    told-binary κs a = record { told = with_condition a.1.0 (binary_condition a.1.1.0 (s.text a.1.1.1.0) (t.text a.1.1.1.1.0)) a.0.now; refuses = IsMemory; known = Fact (HasConditionShape (binary_condition a.1.1.0 (s.text a.1.1.1.0) (t.text a.1.1.1.1.0))) }
+    told-binary κs a = record { leaves = AddsCondition a.1.0 (binary_condition a.1.1.0 (s.text a.1.1.1.0) (t.text a.1.1.1.1.0)) a.0.now; refuses = IsMemory }
 
     pub by_binary : calls.Code-comparison builder 𝓛 𝓜 𝓡 2 [] (constant 𝓛 family.the_type family_laws.the_plain X) (constant 𝓛 binary.the_type binary_laws.the_plain Y) (generic 𝓛 3 0 S LS) (generic 𝓛 3 1 T LT)
         asked-binary told-binary (inst_fn types-binary fn) (binary_code.name types-binary) release_code.name (name types-binary)
@@ -253,7 +253,7 @@ module _ {M : Type 1} (𝓤 : Ura M) (𝓛 : Logic 𝓤) (𝓜 : Model 𝓤 𝓛
     asked-among κs a = (among_step.clauses S T s d t e d' e' 𝓛 𝓜.mem 𝓡.returns κs a).requires tt
 
     abbrev told-among : (κs : Lfts 4) → Denots (types_at (among_step.signature S T).params κs) → Effect ClauseTexts
-    told-among κs a = record { told = with_condition a.1.0 (list_condition a.1.1.0 (s.text a.1.1.1.0) (map t.text a.1.1.1.1.0.now)) a.0.now; refuses = IsMemory; known = Fact (HasConditionShape (list_condition a.1.1.0 (s.text a.1.1.1.0) (map t.text a.1.1.1.1.0.now))) }
+    told-among κs a = record { leaves = AddsCondition a.1.0 (list_condition a.1.1.0 (s.text a.1.1.1.0) (map t.text a.1.1.1.1.0.now)) a.0.now; refuses = IsMemory }
 
     pub by_among : calls.Code-membership builder 𝓛 𝓜 𝓡 3 ((among_step.signature S T).outlives) (constant 𝓛 family.the_type family_laws.the_plain X) (constant 𝓛 list.the_type list_laws.the_plain Y) (generic 𝓛 4 0 S LS) (slice 𝓛 4 1 tt 1 T)
         asked-among told-among (inst_fn types-among fn) (among_code.name types-among) release_code.name (name types-among)
@@ -277,7 +277,7 @@ module _ {M : Type 1} (𝓤 : Ura M) (𝓛 : Logic 𝓤) (𝓜 : Model 𝓤 𝓛
     asked-range κs a = (range_step.clauses S T U s d t e u f d' e' f' 𝓛 𝓜.mem 𝓡.returns κs a).requires tt
 
     abbrev told-range : (κs : Lfts 4) → Denots (types_at (range_step.signature S T U).params κs) → Effect ClauseTexts
-    told-range κs a = record { told = with_condition a.1.0 (range_condition a.1.1.0 (s.text a.1.1.1.0) (t.text a.1.1.1.1.0) (u.text a.1.1.1.1.1.0)) a.0.now; refuses = IsMemory; known = Fact (HasConditionShape (range_condition a.1.1.0 (s.text a.1.1.1.0) (t.text a.1.1.1.1.0) (u.text a.1.1.1.1.1.0))) }
+    told-range κs a = record { leaves = AddsCondition a.1.0 (range_condition a.1.1.0 (s.text a.1.1.1.0) (t.text a.1.1.1.1.0) (u.text a.1.1.1.1.1.0)) a.0.now; refuses = IsMemory }
 
     pub by_range : calls.Code-between builder 𝓛 𝓜 𝓡 3 [] (constant 𝓛 family.the_type family_laws.the_plain X) (constant 𝓛 range.the_type range_laws.the_plain Y) (generic 𝓛 4 0 S LS) (generic 𝓛 4 1 T LT) (generic 𝓛 4 2 U LU)
         asked-range told-range (inst_fn types-range fn) (range_code.name types-range) release_code.name (name types-range)

@@ -1,13 +1,14 @@
 -- One more call, and the clauses of a list of calls.
 use Rattle.std.proofs.Common.{◌≡◌, List, [], ◌∷◌, ◌++◌, Option, None, Some, ◌||◌, ◌&&◌, not, if◌then◌else◌, codes, map, filter_map, flat_map, refl, ap, sym, ◌∙◌, append_assoc}
 use Rattle.std.proofs.lemmas.List.{map-append, append-nil}
+use Rattle.std.proofs.lemmas.Simd.{map-map}
 use Rattle.std.proofs.lemmas.Grind.{flat_map-append}
 use Rattle.std.proofs.lemmas.List.Elements.{filter_map-append}
 use Rattle.std.specs.List.{cons_option}
 use Rattle.std.specs.Option.{option_or}
 use Rattle.sql_builder.specs.Builder.{extend_last, join_last}
 use Rattle.sql_builder.specs.Calls as call
-use Rattle.sql_builder.specs.Calls.{StartText, CallText, clauses, condition_in, condition_pieces, fields_in, group_fields_in, group_pieces, groups_of, having_in, is_distinct, is_join, is_natural, is_select, is_values, limit_in, offset_in, opens_group, operator_in, order_fields_in, query_in, returning_in, rows_in, drops_fields, sets_in, start_fields, table_in, table_of, start_table, unions_in}
+use Rattle.sql_builder.specs.Calls.{StartText, CallText, clauses, condition_in, condition_pieces, conditions_of, fields_in, group_fields_in, group_pieces, groups, having_in, is_distinct, is_join, is_natural, is_select, is_values, limit_in, offset_in, opens_group, operator_in, order_fields_in, query_in, returning_in, rows_in, drops_fields, sets_in, start_fields, table_in, table_of, start_table, unions_in}
 use Rattle.sql_builder.specs.Clauses.{Clauses}
 use Rattle.sql_builder.specs.Conditions.{ConditionText}
 use Rattle.sql_builder.specs.Filters.{Group, cut}
@@ -27,35 +28,43 @@ with_condition_in None groups = groups
 with_condition_in (Some (And, condition)) groups = groups ++ condition_pieces condition ∷ []
 with_condition_in (Some (Or, condition)) groups = join_last or_pieces (condition_pieces condition) groups
 
+-- the pieces of a group whose conditions still have their families
+abbrev told_pieces : Group (Family × ConditionText) → Pieces
+told_pieces group = group_pieces (conditions_of group)
+
 -- a condition that joins the last of some groups
 alternative : (k : ConditionText) (g : Group (Family × ConditionText)) (gs : List (Group (Family × ConditionText)))
-    → map group_pieces (into_last (Or, k) g gs)
-    ≡ extend_last (or_pieces ++ condition_pieces k) (map group_pieces (g ∷ gs))
+    → map told_pieces (into_last (Or, k) g gs)
+    ≡ extend_last (or_pieces ++ condition_pieces k) (map told_pieces (g ∷ gs))
 alternative k g [] =
     ap (λ (t : Pieces). t ∷ [])
-    (rw (map-append (λ c. condition_pieces c.1) g.1 ((Or, k) ∷ []))
-    (simp (flat_map-append, append-nil, append_assoc)))
-alternative k g (h ∷ gs) = ap (λ (ts : List Pieces). group_pieces g ∷ ts) (alternative k h gs)
+    (rw (map-append (λ (c : Family × ConditionText). c.1) g.1 ((Or, k) ∷ []))
+    (rw (map-append condition_pieces (map (λ (c : Family × ConditionText). c.1) g.1) (k ∷ []))
+    (simp (flat_map-append, append-nil, append_assoc))))
+alternative k g (h ∷ gs) = ap (λ (ts : List Pieces). told_pieces g ∷ ts) (alternative k h gs)
 
 groups-snoc : (calls : List CallText) (c : CallText)
-    → groups_of (calls ++ c ∷ []) ≡ with_condition_in (condition_in c) (groups_of calls)
-groups-snoc calls c = rw (filter_map-append condition_in calls (c ∷ [])) (by (condition_in c))
+    → map group_pieces (groups (calls ++ c ∷ [])) ≡ with_condition_in (condition_in c) (map group_pieces (groups calls))
+groups-snoc calls c =
+    rw (map-map group_pieces conditions_of (cut opens_group (filter_map condition_in (calls ++ c ∷ []))))
+    (rw (map-map group_pieces conditions_of (cut opens_group (filter_map condition_in calls)))
+    (rw (filter_map-append condition_in calls (c ∷ [])) (by (condition_in c))))
   where
-    alone : (k : Family × ConditionText) → group_pieces (k, []) ≡ condition_pieces k.1
+    alone : (k : Family × ConditionText) → told_pieces (k, []) ≡ condition_pieces k.1
     alone k = append-nil (condition_pieces k.1)
 
     put : (k : Family × ConditionText) (gs : List (Group (Family × ConditionText)))
-        → map group_pieces (put_in (opens_group k) k gs) ≡ with_condition_in (Some k) (map group_pieces gs)
+        → map told_pieces (put_in (opens_group k) k gs) ≡ with_condition_in (Some k) (map told_pieces gs)
     put (And, k) [] = ap (λ (t : Pieces). t ∷ []) (alone (And, k))
     put (And, k) (g ∷ gs) =
-        map-append group_pieces (g ∷ gs) (((And, k), []) ∷ [])
-        ∙ ap (λ (t : Pieces). map group_pieces (g ∷ gs) ++ t ∷ []) (alone (And, k))
+        map-append told_pieces (g ∷ gs) (((And, k), []) ∷ [])
+        ∙ ap (λ (t : Pieces). map told_pieces (g ∷ gs) ++ t ∷ []) (alone (And, k))
     put (Or, k) [] = ap (λ (t : Pieces). t ∷ []) (alone (Or, k))
     put (Or, k) (g ∷ gs) = alternative k g gs
 
     by : (o : Option (Family × ConditionText))
-        → map group_pieces (cut opens_group (filter_map condition_in calls ++ cons_option o []))
-        ≡ with_condition_in o (groups_of calls)
+        → map told_pieces (cut opens_group (filter_map condition_in calls ++ cons_option o []))
+        ≡ with_condition_in o (map told_pieces (cut opens_group (filter_map condition_in calls)))
     by None = rw (append-nil (filter_map condition_in calls)) refl
     by (Some k) =
         rw (cut-snoc opens_group (filter_map condition_in calls) k)

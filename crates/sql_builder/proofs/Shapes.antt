@@ -13,7 +13,7 @@ use Rattle.sql_parts.specs.declared.text.Quotes.TheVariants.{Single}
 use Rattle.sql_parts.proofs.JoinedTokens.{Edged, begins-append, clean-behind}
 use Rattle.sql_parts.proofs.TokenLaws.{between-tokens, between_closed, closed-shut, seam}
 use Rattle.sql_builder.specs.Phrases.{in_brackets}
-use Rattle.sql_builder.specs.Shape.{EndsInOneSemicolon, has_closed_fragments, has_no_semicolons, is_closed_piece, is_without_semicolon, piece_tokens, shape}
+use Rattle.sql_builder.specs.Shape.{EndsInOneSemicolon, has_closed_fragments, has_no_semicolons, is_closed_piece, is_without_semicolon, piece_tokens, pieces_tokens}
 use Rattle.sql_builder.specs.Text.{Piece, Pieces, Fixed, Quoted, Raw, fixed_piece, piece_text, pieces_text, quoted_piece, raw_piece}
 
 abbrev pub has_open : List Token → Bool
@@ -25,7 +25,7 @@ Follows text = (text ≡ []) ⊎ (begins_with is_edge text ≡ true)
 
 -- where each piece passes, no token of the pieces is of a kind
 pub record Free (passes : Piece → Bool) (kind : Token → Bool) (ps : Pieces) : Type 0 where
-  pub none : list_all passes ps ≡ true → list_any kind (shape ps) ≡ false
+  pub none : list_all passes ps ≡ true → list_any kind (pieces_tokens ps) ≡ false
 
 abbrev pub Shut : Pieces → Type 0
 Shut ps = Free is_closed_piece is_open ps
@@ -35,13 +35,13 @@ Plain ps = Free is_without_semicolon is_semicolon ps
 
 -- pieces whose tokens are theirs before whatever may stand behind a fragment
 pub record Inside (ps : Pieces) : Type 0 where
-  pub reads : has_closed_fragments ps ≡ true → (text : List ℕ) → Follows text → tokens (pieces_text ps ++ text) ≡ shape ps ++ tokens text
+  pub reads : has_closed_fragments ps ≡ true → (text : List ℕ) → Follows text → tokens (pieces_text ps ++ text) ≡ pieces_tokens ps ++ tokens text
   pub shut : Shut ps
   pub plain : Plain ps
 
 -- pieces whose tokens are theirs before any text
 pub record Ended (ps : Pieces) : Type 0 where
-  pub reads : has_closed_fragments ps ≡ true → (text : List ℕ) → tokens (pieces_text ps ++ text) ≡ shape ps ++ tokens text
+  pub reads : has_closed_fragments ps ≡ true → (text : List ℕ) → tokens (pieces_text ps ++ text) ≡ pieces_tokens ps ++ tokens text
   pub shut : Shut ps
   pub plain : Plain ps
 
@@ -52,8 +52,8 @@ pub record Behind (ps : Pieces) : Type 0 where
 text-append : (x y : Pieces) → pieces_text (x ++ y) ≡ pieces_text x ++ pieces_text y
 text-append x y = flat_map-append piece_text x y
 
-shape-append : (x y : Pieces) → shape (x ++ y) ≡ shape x ++ shape y
-shape-append x y = flat_map-append piece_tokens x y
+pieces_tokens-append : (x y : Pieces) → pieces_tokens (x ++ y) ≡ pieces_tokens x ++ pieces_tokens y
+pieces_tokens-append x y = flat_map-append piece_tokens x y
 
 both-closed : (x y : Pieces) → has_closed_fragments (x ++ y) ≡ true → (has_closed_fragments x ≡ true) × (has_closed_fragments y ≡ true)
 both-closed x y is = and_parts _ _ (sym (list_all-append is_closed_piece x y) ∙ is)
@@ -61,15 +61,15 @@ both-closed x y is = and_parts _ _ (sym (list_all-append is_closed_piece x y) �
 both-free : {passes : Piece → Bool} {kind : Token → Bool} (x y : Pieces) → Free passes kind x → Free passes kind y → Free passes kind (x ++ y)
 both-free {passes = passes} {kind = kind} x y one other = record {
   none = λ is. let both = and_parts _ _ (sym (list_all-append passes x y) ∙ is) in
-      ap (list_any kind) (shape-append x y) ∙ list_any-append kind (shape x) (shape y) ∙ or_from _ _ (one.none both.0) (other.none both.1);
+      ap (list_any kind) (pieces_tokens-append x y) ∙ list_any-append kind (pieces_tokens x) (pieces_tokens y) ∙ or_from _ _ (one.none both.0) (other.none both.1);
 }
 
 -- pieces before others
-reads-both : (x y : Pieces) (text : List ℕ) → tokens (pieces_text x ++ (pieces_text y ++ text)) ≡ shape x ++ tokens (pieces_text y ++ text)
-    → tokens (pieces_text y ++ text) ≡ shape y ++ tokens text → tokens (pieces_text (x ++ y) ++ text) ≡ shape (x ++ y) ++ tokens text
+reads-both : (x y : Pieces) (text : List ℕ) → tokens (pieces_text x ++ (pieces_text y ++ text)) ≡ pieces_tokens x ++ tokens (pieces_text y ++ text)
+    → tokens (pieces_text y ++ text) ≡ pieces_tokens y ++ tokens text → tokens (pieces_text (x ++ y) ++ text) ≡ pieces_tokens (x ++ y) ++ tokens text
 reads-both x y text one other =
     ap (λ t. tokens (t ++ text)) (text-append x y) ∙ ap tokens (append_assoc (pieces_text x) (pieces_text y) text)
-    ∙ one ∙ ap (λ ts. shape x ++ ts) other ∙ sym (append_assoc (shape x) (shape y) (tokens text)) ∙ ap (λ ts. ts ++ tokens text) (sym (shape-append x y))
+    ∙ one ∙ ap (λ ts. pieces_tokens x ++ ts) other ∙ sym (append_assoc (pieces_tokens x) (pieces_tokens y) (tokens text)) ∙ ap (λ ts. ts ++ tokens text) (sym (pieces_tokens-append x y))
 
 pub ended-inside : (x y : Pieces) → Ended x → Inside y → Inside (x ++ y)
 ended-inside x y one other = record {
@@ -104,7 +104,7 @@ word-free : {passes : Piece → Bool} {kind : Token → Bool} (words : List ℕ)
 word-free {kind = kind} words none = record { none = λ is. ap (list_any kind) (append-nil (tokens words)) ∙ none }
 
 alone : (piece : Piece) (text : List ℕ) → tokens (piece_text piece ++ text) ≡ piece_tokens piece ++ tokens text
-    → tokens (pieces_text (piece ∷ []) ++ text) ≡ shape (piece ∷ []) ++ tokens text
+    → tokens (pieces_text (piece ∷ []) ++ text) ≡ pieces_tokens (piece ∷ []) ++ tokens text
 alone piece text is = ap (λ t. tokens (t ++ text)) (append-nil (piece_text piece)) ∙ is ∙ ap (λ ts. ts ++ tokens text) (sym (append-nil (piece_tokens piece)))
 
 follows-clean : (one text : List ℕ) → Follows text → clean one text ≡ true
@@ -214,12 +214,12 @@ brackets-inside x one = ended-is_inside (in_brackets fixed_piece x) (brackets-en
 
 -- what is said of pieces by themselves
 pub record Shaped (ps : Pieces) : Type 0 where
-  pub shape_is : has_closed_fragments ps ≡ true → tokens (pieces_text ps) ≡ shape ps
+  pub shape_is : has_closed_fragments ps ≡ true → tokens (pieces_text ps) ≡ pieces_tokens ps
   pub shut : Shut ps
 
 pub shaped : (ps : Pieces) → Inside ps → Shaped ps
 shaped ps inside = record {
-  shape_is = λ is. ap tokens (sym (append-nil (pieces_text ps))) ∙ inside.reads is [] (inl refl) ∙ append-nil (shape ps);
+  shape_is = λ is. ap tokens (sym (append-nil (pieces_text ps))) ∙ inside.reads is [] (inl refl) ∙ append-nil (pieces_tokens ps);
   shut = inside.shut;
 }
 
@@ -230,8 +230,8 @@ shape_closed ps inside is = ap (λ all. not (has_open all)) (inside.shape_is is)
 abbrev with_semicolon : Pieces → Pieces
 with_semicolon ps = ps ++ fixed_piece (codes ";")
 
-shape-semicolon : (ps : Pieces) → shape (with_semicolon ps) ≡ shape ps ++ Symbol 59 ∷ []
-shape-semicolon ps = shape-append ps (fixed_piece (codes ";"))
+shape-semicolon : (ps : Pieces) → pieces_tokens (with_semicolon ps) ≡ pieces_tokens ps ++ Symbol 59 ∷ []
+shape-semicolon ps = pieces_tokens-append ps (fixed_piece (codes ";"))
 
 pub statement-shaped : (ps : Pieces) → Inside ps → Shaped (with_semicolon ps)
 statement-shaped ps inside = record {
@@ -245,4 +245,4 @@ pub ends_in_semicolon : (ps : Pieces) → Inside ps → has_closed_fragments (wi
     → EndsInOneSemicolon (tokens (pieces_text (with_semicolon ps)))
 ends_in_semicolon ps inside is plain =
     let both = and_parts _ _ (sym (list_all-append is_without_semicolon ps (fixed_piece (codes ";"))) ∙ plain) in
-    (shape ps, (statement-shaped ps inside).shape_is is ∙ shape-semicolon ps, inside.plain.none both.0)
+    (pieces_tokens ps, (statement-shaped ps inside).shape_is is ∙ shape-semicolon ps, inside.plain.none both.0)

@@ -235,14 +235,17 @@ abbrev pub opens_group : Family × ConditionText → Bool
 opens_group (And, condition) = true
 opens_group (Or, condition) = false
 
--- the conditions of a group joined by OR
-abbrev pub group_pieces : Group (Family × ConditionText) → Pieces
-group_pieces group =
-    join_with (fixed_piece (codes " OR ")) (map (λ c. condition_pieces c.1) (group.0 ∷ group.1))
+-- the conditions of a group without their families
+abbrev pub conditions_of : Group (Family × ConditionText) → Group ConditionText
+conditions_of group = (group.0.1, map (λ c. c.1) group.1)
 
 -- the conditions of all calls in order, cut before each that opens a group
-abbrev pub groups_of : List CallText → List Pieces
-groups_of calls = map group_pieces (cut opens_group (filter_map condition_in calls))
+abbrev pub groups : List CallText → List (Group ConditionText)
+groups calls = map conditions_of (cut opens_group (filter_map condition_in calls))
+
+-- the conditions of a group joined by OR
+abbrev pub group_pieces : Group ConditionText → Pieces
+group_pieces group = join_with (fixed_piece (codes " OR ")) (map condition_pieces (group.0 ∷ group.1))
 
 -- the union that a call adds, and whether it is of all rows
 abbrev pub unions_in : CallText → List (Bool × Pieces)
@@ -283,7 +286,7 @@ clauses start calls = record {
   returning = last_said returning_in calls;
   group_fields = flat_map group_fields_in calls;
   having = last_said having_in calls;
-  groups = groups_of calls;
+  groups = map group_pieces (groups calls);
   unions = flat_map unions_in calls;
   order_fields = flat_map order_fields_in calls;
   limit = last_said limit_in calls;

@@ -15,7 +15,11 @@ abbrev pub IsUnchangedIfHeldErr : {E : Type 0} → MutBor ClauseTexts → Result
 IsUnchangedIfHeldErr builder result =
     RestsIfErr the_row builder (λ h. h.0.ghost_name) result (λ after. after ≡ builder.now)
 
+-- else the same builder is held, and this holds of it
+abbrev pub IsHeldChangedSoThat : {E : Type 0} → MutBor ClauseTexts → (ClauseTexts → Type 0) → Result Held E → Type 0
+IsHeldChangedSoThat builder Holds result =
+    IfOk result (λ h. (h.0.ghost_name ≡ builder.ghost_name) × Holds h.0.now)
+
 -- else the same builder is held, and it has been changed to this
 abbrev pub IsHeldChangedTo : {E : Type 0} → MutBor ClauseTexts → ClauseTexts → Result Held E → Type 0
-IsHeldChangedTo builder told result =
-    IfOk result (λ h. (h.0.ghost_name ≡ builder.ghost_name) × (h.0.now ≡ told))
+IsHeldChangedTo builder told result = IsHeldChangedSoThat builder (λ now. now ≡ told) result

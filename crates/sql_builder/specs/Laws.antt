@@ -1,7 +1,13 @@
 -- Laws of lists of calls.
 use Rattle.std.specs.Prelude.{◌≡◌, ℕ, List, ◌∷◌, ◌++◌, Option, is_some, true}
-use Rattle.sql_builder.specs.Calls.{CallText, Fields, StartText, clauses}
-use Rattle.sql_builder.specs.Text.{Pieces}
+use Rattle.sql_parts.specs.Quoting.{quoted}
+use Rattle.sql_builder.specs.Builder.{condition_bytes}
+use Rattle.sql_builder.specs.Calls.{CallText, Fields, StartText, clauses, condition_pieces}
+use Rattle.sql_builder.specs.Conditions.{ConditionText}
+use Rattle.sql_builder.specs.Layout.{byte_atoms}
+use Rattle.sql_builder.specs.Phrases.{count_as, equation}
+use Rattle.sql_builder.specs.Shape.{HasShape}
+use Rattle.sql_builder.specs.Text.{Pieces, fixed_piece, quoted_piece, raw_piece}
 
 -- `fields` of a list and then of another is `fields` of the two joined
 abbrev pub FieldsJoin : Type 0
@@ -15,3 +21,22 @@ OnlyLastCounts given = (start : StartText) (before between after : List CallText
     → is_some (given early) ≡ true → is_some (given late) ≡ true
     → clauses start (before ++ early ∷ (between ++ late ∷ after))
     ≡ clauses start (before ++ (between ++ late ∷ after))
+
+-- where its fragments are closed, what each condition prints has the condition's tokens
+abbrev pub ConditionsKeepTokens : Type 0
+ConditionsKeepTokens = (condition : ConditionText) → HasShape (condition_pieces condition) (condition_bytes condition)
+
+-- the same of `left = right`
+abbrev pub EquationsKeepTokens : Type 0
+EquationsKeepTokens = (left right : List ℕ)
+    → HasShape (equation fixed_piece (raw_piece left) (raw_piece right)) (equation byte_atoms left right)
+
+-- the same of `field = 'value'`
+abbrev pub QuotedEquationsKeepTokens : Type 0
+QuotedEquationsKeepTokens = (field value : List ℕ)
+    → HasShape (equation fixed_piece (raw_piece field) (quoted_piece value)) (equation byte_atoms field (quoted value))
+
+-- the same of `COUNT(field) AS name`
+abbrev pub CountsKeepTokens : Type 0
+CountsKeepTokens = (field name : List ℕ)
+    → HasShape (count_as fixed_piece (raw_piece field) (raw_piece name)) (count_as byte_atoms field name)

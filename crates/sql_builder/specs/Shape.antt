@@ -1,12 +1,16 @@
 -- The tokens of what is printed, piece by piece.
 use Prim.Native.Char.{code}
-use Rattle.std.specs.Prelude.{◌≡◌, ℕ, List, [], ◌∷◌, ◌++◌, Bool, true, false, not, IsTrue, flat_map}
+use Rattle.std.specs.Prelude.{◌≡◌, ℕ, List, [], ◌∷◌, ◌++◌, Bool, true, false, not, IfOk, IsTrue, Result, flat_map}
 use Rattle.std.specs.List.{list_all, list_any}
+use Rattle.std.specs.Result.{result_map_both}
+use Rattle.sql_parts.specs.declared.error.SqlBuilderError.{SqlBuilderError}
 use Rattle.sql_parts.specs.Tokens.{Token, Str, Symbol, closed, has_semicolon, is_semicolon, tokens}
-use Rattle.sql_builder.specs.Builder.{ClauseTexts, condition_bytes}
-use Rattle.sql_builder.specs.Calls.{condition_pieces}
+use Rattle.sql_builder.specs.Builder.{ClauseTexts, condition_bytes, with_condition_text}
+use Rattle.sql_builder.specs.Calls.{CallText, FinishText, StartText, condition_pieces}
 use Rattle.sql_builder.specs.Clauses.{Clauses, map_clauses}
 use Rattle.sql_builder.specs.Conditions.{ConditionText}
+use Rattle.sql_builder.specs.declared.calls.Family.{Family}
+use Rattle.sql_builder.specs.Statement.{pieces}
 use Rattle.sql_builder.specs.Text.{Piece, Pieces, Fixed, Quoted, Raw, raw_piece}
 
 -- the tokens of a piece: a text between single quotes is one, which reads back as the text
@@ -16,8 +20,8 @@ piece_tokens (Quoted text) = Str text ∷ []
 piece_tokens (Raw text) = tokens text
 
 -- the tokens of pieces, one piece after another
-abbrev pub shape : Pieces → List Token
-shape pieces = flat_map piece_tokens pieces
+abbrev pub pieces_tokens : Pieces → List Token
+pieces_tokens printed = flat_map piece_tokens printed
 
 -- a fragment, a text as it was handed in, is closed; the other pieces are no fragments
 abbrev pub is_closed_piece : Piece → Bool
@@ -25,9 +29,17 @@ is_closed_piece (Fixed text) = true
 is_closed_piece (Quoted text) = true
 is_closed_piece (Raw text) = closed text
 
+-- the tokens of a condition
+abbrev pub cond_tokens : ConditionText → List Token
+cond_tokens condition = pieces_tokens (condition_pieces condition)
+
+-- the tokens of the pieces that are printed, or the refusal
+abbrev pub shape : StartText → List CallText → FinishText → Result (List Token) SqlBuilderError
+shape start calls finish = result_map_both pieces_tokens (λ refusal. refusal) (pieces start calls finish)
+
 -- each fragment among the pieces is closed
 abbrev pub has_closed_fragments : Pieces → Bool
-has_closed_fragments pieces = list_all is_closed_piece pieces
+has_closed_fragments printed = list_all is_closed_piece printed
 
 -- a fragment has no `;` among its tokens
 abbrev pub is_without_semicolon : Piece → Bool
@@ -37,7 +49,7 @@ is_without_semicolon (Raw text) = not (has_semicolon text)
 
 -- no fragment among the pieces has one
 abbrev pub has_no_semicolons : Pieces → Bool
-has_no_semicolons pieces = list_all is_without_semicolon pieces
+has_no_semicolons printed = list_all is_without_semicolon printed
 
 -- the last of the tokens is a `;`, and no other is
 abbrev pub EndsInOneSemicolon : List Token → Type 0
@@ -50,12 +62,25 @@ as_fragments r = map_clauses raw_piece r
 
 -- where each fragment is closed, a text has the tokens of the pieces
 abbrev pub HasShape : Pieces → List ℕ → Type 0
-HasShape pieces text = IsTrue (has_closed_fragments pieces) → tokens text ≡ shape pieces
+HasShape printed text = IsTrue (has_closed_fragments printed) → tokens text ≡ pieces_tokens printed
+
+-- each fragment that is printed is closed
+abbrev pub HasClosedFragments : StartText → List CallText → FinishText → Type 0
+HasClosedFragments start calls finish = IfOk (pieces start calls finish) (λ printed. IsTrue (has_closed_fragments printed))
 
 -- where each fragment is closed, so is a text
 abbrev pub IsClosedAs : Pieces → List ℕ → Type 0
-IsClosedAs pieces text = IsTrue (has_closed_fragments pieces) → IsTrue (closed text)
+IsClosedAs printed text = IsTrue (has_closed_fragments printed) → IsTrue (closed text)
 
--- where its fragments are closed, what a condition prints has the tokens of its pieces
-abbrev pub HasConditionShape : ConditionText → Type 0
-HasConditionShape condition = HasShape (condition_pieces condition) (condition_bytes condition)
+-- the new record has a text added, which has the tokens of these pieces, where their fragments are closed
+abbrev pub HasTokensAdded : (List ℕ → ClauseTexts) → Pieces → ClauseTexts → Type 0
+HasTokensAdded adding printed new = (added : List ℕ) × (new ≡ adding added) × HasShape printed added
+
+-- the new record has this text added, with the tokens of these pieces
+abbrev pub AddsText : (List ℕ → ClauseTexts) → List ℕ → Pieces → ClauseTexts → Type 0
+AddsText adding text printed new = (new ≡ adding text) × HasTokensAdded adding printed new
+
+-- the new record has this condition added, with the condition's tokens
+abbrev pub AddsCondition : Family → ConditionText → ClauseTexts → ClauseTexts → Type 0
+AddsCondition family condition old new =
+    AddsText (λ added. with_condition_text family added old) (condition_bytes condition) (condition_pieces condition) new

@@ -8,7 +8,7 @@ use Rattle.sql_builder.specs.Calls.{CallText}
 use Rattle.sql_builder.specs.Layout.{byte_atoms}
 use Rattle.sql_builder.specs.Phrases.{count, count_as, equation}
 use Rattle.sql_parts.specs.Quoting.{quoted}
-use Rattle.sql_builder.specs.Shape.{HasShape}
+use Rattle.sql_builder.specs.Shape.{AddsText}
 use Rattle.sql_builder.specs.Text.{fixed_piece, quoted_piece, raw_piece}
 use Rattle.sql_builder.specs.declared.steps.UnaryCondition.{UnaryCondition}
 use Rattle.sql_builder.specs.declared.steps.UnaryCondition.TheVariants as unary
@@ -93,16 +93,20 @@ with_pair pair.CountAs field name r = with_fields (count_as byte_atoms field nam
 with_pair pair.SetTo field value r = with_set (equation byte_atoms field value) r
 with_pair pair.SetStr field value r = with_set (equation byte_atoms field (quoted value)) r
 
--- what a call with two texts adds has the tokens of its pieces, where its fragments are closed
-abbrev pub HasPairShape : PairClause → List ℕ → List ℕ → Type 0
-HasPairShape pair.OnEq left right =
-    HasShape (equation fixed_piece (raw_piece left) (raw_piece right)) (equation byte_atoms left right)
-HasPairShape pair.CountAs field name =
-    HasShape (count_as fixed_piece (raw_piece field) (raw_piece name)) (count_as byte_atoms field name)
-HasPairShape pair.SetTo field value =
-    HasShape (equation fixed_piece (raw_piece field) (raw_piece value)) (equation byte_atoms field value)
-HasPairShape pair.SetStr field value =
-    HasShape (equation fixed_piece (raw_piece field) (quoted_piece value)) (equation byte_atoms field (quoted value))
+-- a call with two texts adds this text, with its tokens
+abbrev pub AddsPair : PairClause → List ℕ → List ℕ → ClauseTexts → ClauseTexts → Type 0
+AddsPair pair.OnEq left right old =
+    AddsText (λ added. with_on added old) (equation byte_atoms left right)
+    (equation fixed_piece (raw_piece left) (raw_piece right))
+AddsPair pair.CountAs field name old =
+    AddsText (λ added. with_fields (added ∷ []) old) (count_as byte_atoms field name)
+    (count_as fixed_piece (raw_piece field) (raw_piece name))
+AddsPair pair.SetTo field value old =
+    AddsText (λ added. with_set added old) (equation byte_atoms field value)
+    (equation fixed_piece (raw_piece field) (raw_piece value))
+AddsPair pair.SetStr field value old =
+    AddsText (λ added. with_set added old) (equation byte_atoms field (quoted value))
+    (equation fixed_piece (raw_piece field) (quoted_piece value))
 
 -- a call with a list of texts
 abbrev pub with_texts : ListClause → List (List ℕ) → ClauseTexts → ClauseTexts

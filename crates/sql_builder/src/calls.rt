@@ -1,14 +1,15 @@
 //! Lists of calls, as values, and the statement that a list makes.
-ghost use Rattle.std.specs.Prelude.{◌≡◌, ◌⊎◌, [], map, IfErr, IfOk, IfSome, IsNone, OnOk, string_bytes};
+ghost use Rattle.std.specs.Prelude.{◌≡◌, ◌⊎◌, [], map, IfErr, IfOk, IfSome, IsNone, IsTrue, Ok, OnOk, string_bytes};
 ghost use Rattle.sql_parts.specs.Error.{FailsOnlyByMemory, IsMemory};
 ghost use Rattle.sql_builder.specs.Answers.{call_text, condition_text, finish_text, start_text};
 ghost use Rattle.sql_builder.specs.Builder.{condition_bytes, with_condition};
 ghost use Rattle.sql_builder.specs.Steps.{with_call};
 ghost use Rattle.sql_builder.specs.Calls.{clauses, operator_in};
 ghost use Rattle.sql_builder.specs.Clauses.{map_clauses};
-ghost use Rattle.sql_builder.specs.Shape.{HasShape, IsClosedAs};
-ghost use Rattle.sql_builder.specs.Statement.{pieces, refusal_at, statement, text_at};
+ghost use Rattle.sql_builder.specs.Shape.{HasClosedFragments, shape};
+ghost use Rattle.sql_builder.specs.Statement.{refusal_at, statement, text_at};
 ghost use Rattle.sql_builder.specs.Text.{pieces_text};
+ghost use Rattle.sql_parts.specs.Tokens.{closed, tokens};
 
 use crate::builder::SqlBuilder;
 use crate::clauses::JoinOperator;
@@ -334,12 +335,11 @@ pub fn run(
         (finish_text finish.now) ≡ Ok (string_bytes s)) }
     ensures refused { IfErr result (λ e. IsMemory e ⊎ (statement (start_text start.now)
         (map call_text calls.now) (finish_text finish.now) ≡ Err e)) }
-    ensures shape { IfOk result (λ s. IfOk (pieces (start_text start.now)
-        (map call_text calls.now) (finish_text finish.now))
-        (λ printed. HasShape printed (string_bytes s))) }
-    ensures closed { IfOk result (λ s. IfOk (pieces (start_text start.now)
-        (map call_text calls.now) (finish_text finish.now))
-        (λ printed. IsClosedAs printed (string_bytes s))) }
+    ensures shape { HasClosedFragments (start_text start.now) (map call_text calls.now)
+        (finish_text finish.now) → IfOk result (λ s. shape (start_text start.now)
+        (map call_text calls.now) (finish_text finish.now) ≡ Ok (tokens (string_bytes s))) }
+    ensures closed { HasClosedFragments (start_text start.now) (map call_text calls.now)
+        (finish_text finish.now) → IfOk result (λ s. IsTrue (closed (string_bytes s))) }
 {
     let builder = build(alloc, start, calls)?;
     print(&builder, finish)

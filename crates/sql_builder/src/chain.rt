@@ -4,7 +4,7 @@
 ghost use Rattle.std.specs.Prelude.{◌≡◌, [], ◌∷◌, codes, false, map, true, IfErr};
 ghost use Rattle.sql_parts.specs.Error.{FailsOnlyByMemory};
 ghost use Rattle.sql_parts.specs.Quoting.{quoted};
-ghost use Rattle.sql_builder.specs.Shape.{HasShape};
+ghost use Rattle.sql_builder.specs.Shape.{AddsText};
 ghost use Rattle.sql_builder.specs.Text.{fixed_piece, quoted_piece, raw_piece};
 ghost use Rattle.sql_builder.specs.Layout.{byte_atoms};
 ghost use Rattle.sql_builder.specs.Phrases.{count, count_as, equation};
@@ -18,7 +18,7 @@ impl SqlBuilder {
     ghost use Rattle.std.specs.Borrow.{sem};
     ghost use Rattle.sql_builder.specs.Builder.{RefusesConstraint, with_fields, with_fields_set, with_group_field, with_having, with_join, with_limit, with_offset, with_on, with_order, with_query, with_returning, with_row, with_set, with_table, with_union};
     ghost use Rattle.sql_builder.specs.Chaining.{IsUnchangedIfErr};
-    ghost use Rattle.sql_parts.specs.Lending.{IsChangedTo};
+    ghost use Rattle.sql_parts.specs.Lending.{IsChangedSoThat, IsChangedTo};
 
     /// Adds a table: appends `, ` and the table to the table text, also to an empty one.
     pub fn and_table<S: ToText>(&mut self, table: S) -> Result<&mut Self, SqlBuilderError>
@@ -56,12 +56,10 @@ impl SqlBuilder {
         right: T,
     ) -> Result<&mut Self, SqlBuilderError>
         ensures* refused { sem 𝓛 (IsUnchangedIfErr self.entry result) }
-        ensures changed { IsChangedTo self.entry
-            (with_on (equation byte_atoms (S.text left) (T.text right)) self.old) result }
+        ensures changed { IsChangedSoThat self.entry (AddsText (λ added. with_on added self.old)
+            (equation byte_atoms (S.text left) (T.text right))
+            (equation fixed_piece (raw_piece (S.text left)) (raw_piece (T.text right)))) result }
         ensures memory { IfErr result (RefusesConstraint self.old) }
-        ensures shape { HasShape
-            (equation fixed_piece (raw_piece (S.text left)) (raw_piece (T.text right)))
-            (equation byte_atoms (S.text left) (T.text right)) }
     {
         release(self.hold_pair(PairClause::OnEq, left, right))
     }
@@ -123,13 +121,11 @@ impl SqlBuilder {
         name: T,
     ) -> Result<&mut Self, SqlBuilderError>
         ensures* refused { sem 𝓛 (IsUnchangedIfErr self.entry result) }
-        ensures changed { IsChangedTo self.entry
-            (with_fields (count_as byte_atoms (S.text field) (T.text name) ∷ []) self.old)
-            result }
+        ensures changed { IsChangedSoThat self.entry
+            (AddsText (λ added. with_fields (added ∷ []) self.old)
+            (count_as byte_atoms (S.text field) (T.text name))
+            (count_as fixed_piece (raw_piece (S.text field)) (raw_piece (T.text name)))) result }
         ensures memory { FailsOnlyByMemory result }
-        ensures shape { HasShape
-            (count_as fixed_piece (raw_piece (S.text field)) (raw_piece (T.text name)))
-            (count_as byte_atoms (S.text field) (T.text name)) }
     {
         release(self.hold_pair(PairClause::CountAs, field, name))
     }
@@ -141,12 +137,10 @@ impl SqlBuilder {
         value: T,
     ) -> Result<&mut Self, SqlBuilderError>
         ensures* refused { sem 𝓛 (IsUnchangedIfErr self.entry result) }
-        ensures changed { IsChangedTo self.entry
-            (with_set (equation byte_atoms (S.text field) (T.text value)) self.old) result }
+        ensures changed { IsChangedSoThat self.entry (AddsText (λ added. with_set added self.old)
+            (equation byte_atoms (S.text field) (T.text value))
+            (equation fixed_piece (raw_piece (S.text field)) (raw_piece (T.text value)))) result }
         ensures memory { FailsOnlyByMemory result }
-        ensures shape { HasShape
-            (equation fixed_piece (raw_piece (S.text field)) (raw_piece (T.text value)))
-            (equation byte_atoms (S.text field) (T.text value)) }
     {
         release(self.hold_pair(PairClause::SetTo, field, value))
     }
@@ -159,13 +153,10 @@ impl SqlBuilder {
         value: T,
     ) -> Result<&mut Self, SqlBuilderError>
         ensures* refused { sem 𝓛 (IsUnchangedIfErr self.entry result) }
-        ensures changed { IsChangedTo self.entry
-            (with_set (equation byte_atoms (S.text field) (quoted (T.text value))) self.old)
-            result }
+        ensures changed { IsChangedSoThat self.entry (AddsText (λ added. with_set added self.old)
+            (equation byte_atoms (S.text field) (quoted (T.text value)))
+            (equation fixed_piece (raw_piece (S.text field)) (quoted_piece (T.text value)))) result }
         ensures memory { FailsOnlyByMemory result }
-        ensures shape { HasShape
-            (equation fixed_piece (raw_piece (S.text field)) (quoted_piece (T.text value)))
-            (equation byte_atoms (S.text field) (quoted (T.text value))) }
     {
         release(self.hold_pair(PairClause::SetStr, field, value))
     }

@@ -10,10 +10,9 @@ use sql_parts::{SqlBuilderError, ToText};
 
 impl SqlBuilder {
     ghost use Rattle.std.specs.Borrow.{sem};
-    ghost use Rattle.sql_builder.specs.Shape.{HasConditionShape};
-    ghost use Rattle.sql_builder.specs.Builder.{with_condition};
+    ghost use Rattle.sql_builder.specs.Shape.{AddsCondition};
     ghost use Rattle.sql_builder.specs.Chaining.{IsUnchangedIfErr};
-    ghost use Rattle.sql_parts.specs.Lending.{IsChangedTo};
+    ghost use Rattle.sql_parts.specs.Lending.{IsChangedSoThat};
     ghost use Rattle.sql_builder.specs.Conditions.{Raw, Compare, Like, IsNull, IsNotNull, InList, InQuoted, InQuery, Between};
     ghost use Rattle.sql_builder.specs.declared.calls.Family.TheVariants.{And, Or};
     ghost use Rattle.sql_builder.specs.declared.calls.Percent.TheVariants.{Plain, Right, Left, Any};
@@ -22,10 +21,9 @@ impl SqlBuilder {
     /// Adds the condition as it stands, in a group of its own.
     pub fn and_where<S: ToText>(&mut self, condition: S) -> Result<&mut Self, SqlBuilderError>
         ensures* refused { sem 𝓛 (IsUnchangedIfErr self.entry result) }
-        ensures changed { IsChangedTo self.entry
-            (with_condition And (Raw (S.text condition)) self.old) result }
+        ensures changed { IsChangedSoThat self.entry
+            (AddsCondition And (Raw (S.text condition)) self.old) result }
         ensures memory { FailsOnlyByMemory result }
-        ensures shape { HasConditionShape (Raw (S.text condition)) }
     {
         release(self.hold_unary(Family::And, UnaryCondition::Bare, condition))
     }
@@ -33,10 +31,9 @@ impl SqlBuilder {
     /// Adds `field IS NULL`, in a group of its own.
     pub fn and_where_is_null<S: ToText>(&mut self, field: S) -> Result<&mut Self, SqlBuilderError>
         ensures* refused { sem 𝓛 (IsUnchangedIfErr self.entry result) }
-        ensures changed { IsChangedTo self.entry
-            (with_condition And (IsNull (S.text field)) self.old) result }
+        ensures changed { IsChangedSoThat self.entry
+            (AddsCondition And (IsNull (S.text field)) self.old) result }
         ensures memory { FailsOnlyByMemory result }
-        ensures shape { HasConditionShape (IsNull (S.text field)) }
     {
         release(self.hold_unary(Family::And, UnaryCondition::IsNull, field))
     }
@@ -47,10 +44,9 @@ impl SqlBuilder {
         field: S,
     ) -> Result<&mut Self, SqlBuilderError>
         ensures* refused { sem 𝓛 (IsUnchangedIfErr self.entry result) }
-        ensures changed { IsChangedTo self.entry
-            (with_condition And (IsNotNull (S.text field)) self.old) result }
+        ensures changed { IsChangedSoThat self.entry
+            (AddsCondition And (IsNotNull (S.text field)) self.old) result }
         ensures memory { FailsOnlyByMemory result }
-        ensures shape { HasConditionShape (IsNotNull (S.text field)) }
     {
         release(self.hold_unary(Family::And, UnaryCondition::IsNotNull, field))
     }
@@ -62,10 +58,9 @@ impl SqlBuilder {
         value: T,
     ) -> Result<&mut Self, SqlBuilderError>
         ensures* refused { sem 𝓛 (IsUnchangedIfErr self.entry result) }
-        ensures changed { IsChangedTo self.entry
-            (with_condition And (Compare Eq (S.text field) (T.text value)) self.old) result }
+        ensures changed { IsChangedSoThat self.entry
+            (AddsCondition And (Compare Eq (S.text field) (T.text value)) self.old) result }
         ensures memory { FailsOnlyByMemory result }
-        ensures shape { HasConditionShape (Compare Eq (S.text field) (T.text value)) }
     {
         release(self.hold_binary(Family::And, BinaryCondition::Eq, field, value))
     }
@@ -77,10 +72,9 @@ impl SqlBuilder {
         value: T,
     ) -> Result<&mut Self, SqlBuilderError>
         ensures* refused { sem 𝓛 (IsUnchangedIfErr self.entry result) }
-        ensures changed { IsChangedTo self.entry
-            (with_condition And (Compare Ne (S.text field) (T.text value)) self.old) result }
+        ensures changed { IsChangedSoThat self.entry
+            (AddsCondition And (Compare Ne (S.text field) (T.text value)) self.old) result }
         ensures memory { FailsOnlyByMemory result }
-        ensures shape { HasConditionShape (Compare Ne (S.text field) (T.text value)) }
     {
         release(self.hold_binary(Family::And, BinaryCondition::Ne, field, value))
     }
@@ -92,10 +86,9 @@ impl SqlBuilder {
         value: T,
     ) -> Result<&mut Self, SqlBuilderError>
         ensures* refused { sem 𝓛 (IsUnchangedIfErr self.entry result) }
-        ensures changed { IsChangedTo self.entry
-            (with_condition And (Compare Gt (S.text field) (T.text value)) self.old) result }
+        ensures changed { IsChangedSoThat self.entry
+            (AddsCondition And (Compare Gt (S.text field) (T.text value)) self.old) result }
         ensures memory { FailsOnlyByMemory result }
-        ensures shape { HasConditionShape (Compare Gt (S.text field) (T.text value)) }
     {
         release(self.hold_binary(Family::And, BinaryCondition::Gt, field, value))
     }
@@ -107,10 +100,9 @@ impl SqlBuilder {
         value: T,
     ) -> Result<&mut Self, SqlBuilderError>
         ensures* refused { sem 𝓛 (IsUnchangedIfErr self.entry result) }
-        ensures changed { IsChangedTo self.entry
-            (with_condition And (Compare Ge (S.text field) (T.text value)) self.old) result }
+        ensures changed { IsChangedSoThat self.entry
+            (AddsCondition And (Compare Ge (S.text field) (T.text value)) self.old) result }
         ensures memory { FailsOnlyByMemory result }
-        ensures shape { HasConditionShape (Compare Ge (S.text field) (T.text value)) }
     {
         release(self.hold_binary(Family::And, BinaryCondition::Ge, field, value))
     }
@@ -122,10 +114,9 @@ impl SqlBuilder {
         value: T,
     ) -> Result<&mut Self, SqlBuilderError>
         ensures* refused { sem 𝓛 (IsUnchangedIfErr self.entry result) }
-        ensures changed { IsChangedTo self.entry
-            (with_condition And (Compare Lt (S.text field) (T.text value)) self.old) result }
+        ensures changed { IsChangedSoThat self.entry
+            (AddsCondition And (Compare Lt (S.text field) (T.text value)) self.old) result }
         ensures memory { FailsOnlyByMemory result }
-        ensures shape { HasConditionShape (Compare Lt (S.text field) (T.text value)) }
     {
         release(self.hold_binary(Family::And, BinaryCondition::Lt, field, value))
     }
@@ -137,10 +128,9 @@ impl SqlBuilder {
         value: T,
     ) -> Result<&mut Self, SqlBuilderError>
         ensures* refused { sem 𝓛 (IsUnchangedIfErr self.entry result) }
-        ensures changed { IsChangedTo self.entry
-            (with_condition And (Compare Le (S.text field) (T.text value)) self.old) result }
+        ensures changed { IsChangedSoThat self.entry
+            (AddsCondition And (Compare Le (S.text field) (T.text value)) self.old) result }
         ensures memory { FailsOnlyByMemory result }
-        ensures shape { HasConditionShape (Compare Le (S.text field) (T.text value)) }
     {
         release(self.hold_binary(Family::And, BinaryCondition::Le, field, value))
     }
@@ -152,10 +142,9 @@ impl SqlBuilder {
         mask: T,
     ) -> Result<&mut Self, SqlBuilderError>
         ensures* refused { sem 𝓛 (IsUnchangedIfErr self.entry result) }
-        ensures changed { IsChangedTo self.entry
-            (with_condition And (Like false Plain (S.text field) (T.text mask)) self.old) result }
+        ensures changed { IsChangedSoThat self.entry
+            (AddsCondition And (Like false Plain (S.text field) (T.text mask)) self.old) result }
         ensures memory { FailsOnlyByMemory result }
-        ensures shape { HasConditionShape (Like false Plain (S.text field) (T.text mask)) }
     {
         release(self.hold_binary(Family::And, BinaryCondition::Like, field, mask))
     }
@@ -168,10 +157,9 @@ impl SqlBuilder {
         mask: T,
     ) -> Result<&mut Self, SqlBuilderError>
         ensures* refused { sem 𝓛 (IsUnchangedIfErr self.entry result) }
-        ensures changed { IsChangedTo self.entry
-            (with_condition And (Like false Right (S.text field) (T.text mask)) self.old) result }
+        ensures changed { IsChangedSoThat self.entry
+            (AddsCondition And (Like false Right (S.text field) (T.text mask)) self.old) result }
         ensures memory { FailsOnlyByMemory result }
-        ensures shape { HasConditionShape (Like false Right (S.text field) (T.text mask)) }
     {
         release(self.hold_binary(Family::And, BinaryCondition::LikeRight, field, mask))
     }
@@ -184,10 +172,9 @@ impl SqlBuilder {
         mask: T,
     ) -> Result<&mut Self, SqlBuilderError>
         ensures* refused { sem 𝓛 (IsUnchangedIfErr self.entry result) }
-        ensures changed { IsChangedTo self.entry
-            (with_condition And (Like false Left (S.text field) (T.text mask)) self.old) result }
+        ensures changed { IsChangedSoThat self.entry
+            (AddsCondition And (Like false Left (S.text field) (T.text mask)) self.old) result }
         ensures memory { FailsOnlyByMemory result }
-        ensures shape { HasConditionShape (Like false Left (S.text field) (T.text mask)) }
     {
         release(self.hold_binary(Family::And, BinaryCondition::LikeLeft, field, mask))
     }
@@ -200,10 +187,9 @@ impl SqlBuilder {
         mask: T,
     ) -> Result<&mut Self, SqlBuilderError>
         ensures* refused { sem 𝓛 (IsUnchangedIfErr self.entry result) }
-        ensures changed { IsChangedTo self.entry
-            (with_condition And (Like false Any (S.text field) (T.text mask)) self.old) result }
+        ensures changed { IsChangedSoThat self.entry
+            (AddsCondition And (Like false Any (S.text field) (T.text mask)) self.old) result }
         ensures memory { FailsOnlyByMemory result }
-        ensures shape { HasConditionShape (Like false Any (S.text field) (T.text mask)) }
     {
         release(self.hold_binary(Family::And, BinaryCondition::LikeAny, field, mask))
     }
@@ -215,10 +201,9 @@ impl SqlBuilder {
         mask: T,
     ) -> Result<&mut Self, SqlBuilderError>
         ensures* refused { sem 𝓛 (IsUnchangedIfErr self.entry result) }
-        ensures changed { IsChangedTo self.entry
-            (with_condition And (Like true Plain (S.text field) (T.text mask)) self.old) result }
+        ensures changed { IsChangedSoThat self.entry
+            (AddsCondition And (Like true Plain (S.text field) (T.text mask)) self.old) result }
         ensures memory { FailsOnlyByMemory result }
-        ensures shape { HasConditionShape (Like true Plain (S.text field) (T.text mask)) }
     {
         release(self.hold_binary(Family::And, BinaryCondition::NotLike, field, mask))
     }
@@ -231,10 +216,9 @@ impl SqlBuilder {
         mask: T,
     ) -> Result<&mut Self, SqlBuilderError>
         ensures* refused { sem 𝓛 (IsUnchangedIfErr self.entry result) }
-        ensures changed { IsChangedTo self.entry
-            (with_condition And (Like true Right (S.text field) (T.text mask)) self.old) result }
+        ensures changed { IsChangedSoThat self.entry
+            (AddsCondition And (Like true Right (S.text field) (T.text mask)) self.old) result }
         ensures memory { FailsOnlyByMemory result }
-        ensures shape { HasConditionShape (Like true Right (S.text field) (T.text mask)) }
     {
         release(self.hold_binary(Family::And, BinaryCondition::NotLikeRight, field, mask))
     }
@@ -247,10 +231,9 @@ impl SqlBuilder {
         mask: T,
     ) -> Result<&mut Self, SqlBuilderError>
         ensures* refused { sem 𝓛 (IsUnchangedIfErr self.entry result) }
-        ensures changed { IsChangedTo self.entry
-            (with_condition And (Like true Left (S.text field) (T.text mask)) self.old) result }
+        ensures changed { IsChangedSoThat self.entry
+            (AddsCondition And (Like true Left (S.text field) (T.text mask)) self.old) result }
         ensures memory { FailsOnlyByMemory result }
-        ensures shape { HasConditionShape (Like true Left (S.text field) (T.text mask)) }
     {
         release(self.hold_binary(Family::And, BinaryCondition::NotLikeLeft, field, mask))
     }
@@ -263,10 +246,9 @@ impl SqlBuilder {
         mask: T,
     ) -> Result<&mut Self, SqlBuilderError>
         ensures* refused { sem 𝓛 (IsUnchangedIfErr self.entry result) }
-        ensures changed { IsChangedTo self.entry
-            (with_condition And (Like true Any (S.text field) (T.text mask)) self.old) result }
+        ensures changed { IsChangedSoThat self.entry
+            (AddsCondition And (Like true Any (S.text field) (T.text mask)) self.old) result }
         ensures memory { FailsOnlyByMemory result }
-        ensures shape { HasConditionShape (Like true Any (S.text field) (T.text mask)) }
     {
         release(self.hold_binary(Family::And, BinaryCondition::NotLikeAny, field, mask))
     }
@@ -278,11 +260,10 @@ impl SqlBuilder {
         values: &[T],
     ) -> Result<&mut Self, SqlBuilderError>
         ensures* refused { sem 𝓛 (IsUnchangedIfErr self.entry result) }
-        ensures changed { IsChangedTo self.entry
-            (with_condition And
+        ensures changed { IsChangedSoThat self.entry
+            (AddsCondition And
             (InList false (S.text field) (map T.text values.now)) self.old) result }
         ensures memory { FailsOnlyByMemory result }
-        ensures shape { HasConditionShape (InList false (S.text field) (map T.text values.now)) }
     {
         release(self.hold_among(Family::And, ListCondition::In, field, values))
     }
@@ -294,11 +275,10 @@ impl SqlBuilder {
         values: &[T],
     ) -> Result<&mut Self, SqlBuilderError>
         ensures* refused { sem 𝓛 (IsUnchangedIfErr self.entry result) }
-        ensures changed { IsChangedTo self.entry
-            (with_condition And
+        ensures changed { IsChangedSoThat self.entry
+            (AddsCondition And
             (InQuoted false (S.text field) (map T.text values.now)) self.old) result }
         ensures memory { FailsOnlyByMemory result }
-        ensures shape { HasConditionShape (InQuoted false (S.text field) (map T.text values.now)) }
     {
         release(self.hold_among(Family::And, ListCondition::InQuoted, field, values))
     }
@@ -310,10 +290,9 @@ impl SqlBuilder {
         query: T,
     ) -> Result<&mut Self, SqlBuilderError>
         ensures* refused { sem 𝓛 (IsUnchangedIfErr self.entry result) }
-        ensures changed { IsChangedTo self.entry
-            (with_condition And (InQuery false (S.text field) (T.text query)) self.old) result }
+        ensures changed { IsChangedSoThat self.entry
+            (AddsCondition And (InQuery false (S.text field) (T.text query)) self.old) result }
         ensures memory { FailsOnlyByMemory result }
-        ensures shape { HasConditionShape (InQuery false (S.text field) (T.text query)) }
     {
         release(self.hold_binary(Family::And, BinaryCondition::InQuery, field, query))
     }
@@ -326,11 +305,10 @@ impl SqlBuilder {
         greatest: U,
     ) -> Result<&mut Self, SqlBuilderError>
         ensures* refused { sem 𝓛 (IsUnchangedIfErr self.entry result) }
-        ensures changed { IsChangedTo self.entry
-            (with_condition And
+        ensures changed { IsChangedSoThat self.entry
+            (AddsCondition And
             (Between false (S.text field) (T.text least) (U.text greatest)) self.old) result }
         ensures memory { FailsOnlyByMemory result }
-        ensures shape { HasConditionShape (Between false (S.text field) (T.text least) (U.text greatest)) }
     {
         release(self.hold_range(Family::And, RangeCondition::Between, field, least, greatest))
     }
@@ -342,11 +320,10 @@ impl SqlBuilder {
         values: &[T],
     ) -> Result<&mut Self, SqlBuilderError>
         ensures* refused { sem 𝓛 (IsUnchangedIfErr self.entry result) }
-        ensures changed { IsChangedTo self.entry
-            (with_condition And
+        ensures changed { IsChangedSoThat self.entry
+            (AddsCondition And
             (InList true (S.text field) (map T.text values.now)) self.old) result }
         ensures memory { FailsOnlyByMemory result }
-        ensures shape { HasConditionShape (InList true (S.text field) (map T.text values.now)) }
     {
         release(self.hold_among(Family::And, ListCondition::NotIn, field, values))
     }
@@ -359,11 +336,10 @@ impl SqlBuilder {
         values: &[T],
     ) -> Result<&mut Self, SqlBuilderError>
         ensures* refused { sem 𝓛 (IsUnchangedIfErr self.entry result) }
-        ensures changed { IsChangedTo self.entry
-            (with_condition And
+        ensures changed { IsChangedSoThat self.entry
+            (AddsCondition And
             (InQuoted true (S.text field) (map T.text values.now)) self.old) result }
         ensures memory { FailsOnlyByMemory result }
-        ensures shape { HasConditionShape (InQuoted true (S.text field) (map T.text values.now)) }
     {
         release(self.hold_among(Family::And, ListCondition::NotInQuoted, field, values))
     }
@@ -375,10 +351,9 @@ impl SqlBuilder {
         query: T,
     ) -> Result<&mut Self, SqlBuilderError>
         ensures* refused { sem 𝓛 (IsUnchangedIfErr self.entry result) }
-        ensures changed { IsChangedTo self.entry
-            (with_condition And (InQuery true (S.text field) (T.text query)) self.old) result }
+        ensures changed { IsChangedSoThat self.entry
+            (AddsCondition And (InQuery true (S.text field) (T.text query)) self.old) result }
         ensures memory { FailsOnlyByMemory result }
-        ensures shape { HasConditionShape (InQuery true (S.text field) (T.text query)) }
     {
         release(self.hold_binary(Family::And, BinaryCondition::NotInQuery, field, query))
     }
@@ -391,11 +366,10 @@ impl SqlBuilder {
         greatest: U,
     ) -> Result<&mut Self, SqlBuilderError>
         ensures* refused { sem 𝓛 (IsUnchangedIfErr self.entry result) }
-        ensures changed { IsChangedTo self.entry
-            (with_condition And
+        ensures changed { IsChangedSoThat self.entry
+            (AddsCondition And
             (Between true (S.text field) (T.text least) (U.text greatest)) self.old) result }
         ensures memory { FailsOnlyByMemory result }
-        ensures shape { HasConditionShape (Between true (S.text field) (T.text least) (U.text greatest)) }
     {
         release(self.hold_range(
             Family::And,
@@ -410,10 +384,9 @@ impl SqlBuilder {
     /// is none.
     pub fn or_where<S: ToText>(&mut self, condition: S) -> Result<&mut Self, SqlBuilderError>
         ensures* refused { sem 𝓛 (IsUnchangedIfErr self.entry result) }
-        ensures changed { IsChangedTo self.entry
-            (with_condition Or (Raw (S.text condition)) self.old) result }
+        ensures changed { IsChangedSoThat self.entry
+            (AddsCondition Or (Raw (S.text condition)) self.old) result }
         ensures memory { FailsOnlyByMemory result }
-        ensures shape { HasConditionShape (Raw (S.text condition)) }
     {
         release(self.hold_unary(Family::Or, UnaryCondition::Bare, condition))
     }
@@ -421,10 +394,9 @@ impl SqlBuilder {
     /// Adds `field IS NULL`: joins the last group by OR, and opens one where there is none.
     pub fn or_where_is_null<S: ToText>(&mut self, field: S) -> Result<&mut Self, SqlBuilderError>
         ensures* refused { sem 𝓛 (IsUnchangedIfErr self.entry result) }
-        ensures changed { IsChangedTo self.entry
-            (with_condition Or (IsNull (S.text field)) self.old) result }
+        ensures changed { IsChangedSoThat self.entry
+            (AddsCondition Or (IsNull (S.text field)) self.old) result }
         ensures memory { FailsOnlyByMemory result }
-        ensures shape { HasConditionShape (IsNull (S.text field)) }
     {
         release(self.hold_unary(Family::Or, UnaryCondition::IsNull, field))
     }
@@ -435,10 +407,9 @@ impl SqlBuilder {
         field: S,
     ) -> Result<&mut Self, SqlBuilderError>
         ensures* refused { sem 𝓛 (IsUnchangedIfErr self.entry result) }
-        ensures changed { IsChangedTo self.entry
-            (with_condition Or (IsNotNull (S.text field)) self.old) result }
+        ensures changed { IsChangedSoThat self.entry
+            (AddsCondition Or (IsNotNull (S.text field)) self.old) result }
         ensures memory { FailsOnlyByMemory result }
-        ensures shape { HasConditionShape (IsNotNull (S.text field)) }
     {
         release(self.hold_unary(Family::Or, UnaryCondition::IsNotNull, field))
     }
@@ -450,10 +421,9 @@ impl SqlBuilder {
         value: T,
     ) -> Result<&mut Self, SqlBuilderError>
         ensures* refused { sem 𝓛 (IsUnchangedIfErr self.entry result) }
-        ensures changed { IsChangedTo self.entry
-            (with_condition Or (Compare Eq (S.text field) (T.text value)) self.old) result }
+        ensures changed { IsChangedSoThat self.entry
+            (AddsCondition Or (Compare Eq (S.text field) (T.text value)) self.old) result }
         ensures memory { FailsOnlyByMemory result }
-        ensures shape { HasConditionShape (Compare Eq (S.text field) (T.text value)) }
     {
         release(self.hold_binary(Family::Or, BinaryCondition::Eq, field, value))
     }
@@ -465,10 +435,9 @@ impl SqlBuilder {
         value: T,
     ) -> Result<&mut Self, SqlBuilderError>
         ensures* refused { sem 𝓛 (IsUnchangedIfErr self.entry result) }
-        ensures changed { IsChangedTo self.entry
-            (with_condition Or (Compare Ne (S.text field) (T.text value)) self.old) result }
+        ensures changed { IsChangedSoThat self.entry
+            (AddsCondition Or (Compare Ne (S.text field) (T.text value)) self.old) result }
         ensures memory { FailsOnlyByMemory result }
-        ensures shape { HasConditionShape (Compare Ne (S.text field) (T.text value)) }
     {
         release(self.hold_binary(Family::Or, BinaryCondition::Ne, field, value))
     }
@@ -480,10 +449,9 @@ impl SqlBuilder {
         value: T,
     ) -> Result<&mut Self, SqlBuilderError>
         ensures* refused { sem 𝓛 (IsUnchangedIfErr self.entry result) }
-        ensures changed { IsChangedTo self.entry
-            (with_condition Or (Compare Gt (S.text field) (T.text value)) self.old) result }
+        ensures changed { IsChangedSoThat self.entry
+            (AddsCondition Or (Compare Gt (S.text field) (T.text value)) self.old) result }
         ensures memory { FailsOnlyByMemory result }
-        ensures shape { HasConditionShape (Compare Gt (S.text field) (T.text value)) }
     {
         release(self.hold_binary(Family::Or, BinaryCondition::Gt, field, value))
     }
@@ -495,10 +463,9 @@ impl SqlBuilder {
         value: T,
     ) -> Result<&mut Self, SqlBuilderError>
         ensures* refused { sem 𝓛 (IsUnchangedIfErr self.entry result) }
-        ensures changed { IsChangedTo self.entry
-            (with_condition Or (Compare Ge (S.text field) (T.text value)) self.old) result }
+        ensures changed { IsChangedSoThat self.entry
+            (AddsCondition Or (Compare Ge (S.text field) (T.text value)) self.old) result }
         ensures memory { FailsOnlyByMemory result }
-        ensures shape { HasConditionShape (Compare Ge (S.text field) (T.text value)) }
     {
         release(self.hold_binary(Family::Or, BinaryCondition::Ge, field, value))
     }
@@ -510,10 +477,9 @@ impl SqlBuilder {
         value: T,
     ) -> Result<&mut Self, SqlBuilderError>
         ensures* refused { sem 𝓛 (IsUnchangedIfErr self.entry result) }
-        ensures changed { IsChangedTo self.entry
-            (with_condition Or (Compare Lt (S.text field) (T.text value)) self.old) result }
+        ensures changed { IsChangedSoThat self.entry
+            (AddsCondition Or (Compare Lt (S.text field) (T.text value)) self.old) result }
         ensures memory { FailsOnlyByMemory result }
-        ensures shape { HasConditionShape (Compare Lt (S.text field) (T.text value)) }
     {
         release(self.hold_binary(Family::Or, BinaryCondition::Lt, field, value))
     }
@@ -525,10 +491,9 @@ impl SqlBuilder {
         value: T,
     ) -> Result<&mut Self, SqlBuilderError>
         ensures* refused { sem 𝓛 (IsUnchangedIfErr self.entry result) }
-        ensures changed { IsChangedTo self.entry
-            (with_condition Or (Compare Le (S.text field) (T.text value)) self.old) result }
+        ensures changed { IsChangedSoThat self.entry
+            (AddsCondition Or (Compare Le (S.text field) (T.text value)) self.old) result }
         ensures memory { FailsOnlyByMemory result }
-        ensures shape { HasConditionShape (Compare Le (S.text field) (T.text value)) }
     {
         release(self.hold_binary(Family::Or, BinaryCondition::Le, field, value))
     }
@@ -541,10 +506,9 @@ impl SqlBuilder {
         mask: T,
     ) -> Result<&mut Self, SqlBuilderError>
         ensures* refused { sem 𝓛 (IsUnchangedIfErr self.entry result) }
-        ensures changed { IsChangedTo self.entry
-            (with_condition Or (Like false Plain (S.text field) (T.text mask)) self.old) result }
+        ensures changed { IsChangedSoThat self.entry
+            (AddsCondition Or (Like false Plain (S.text field) (T.text mask)) self.old) result }
         ensures memory { FailsOnlyByMemory result }
-        ensures shape { HasConditionShape (Like false Plain (S.text field) (T.text mask)) }
     {
         release(self.hold_binary(Family::Or, BinaryCondition::Like, field, mask))
     }
@@ -557,10 +521,9 @@ impl SqlBuilder {
         mask: T,
     ) -> Result<&mut Self, SqlBuilderError>
         ensures* refused { sem 𝓛 (IsUnchangedIfErr self.entry result) }
-        ensures changed { IsChangedTo self.entry
-            (with_condition Or (Like false Right (S.text field) (T.text mask)) self.old) result }
+        ensures changed { IsChangedSoThat self.entry
+            (AddsCondition Or (Like false Right (S.text field) (T.text mask)) self.old) result }
         ensures memory { FailsOnlyByMemory result }
-        ensures shape { HasConditionShape (Like false Right (S.text field) (T.text mask)) }
     {
         release(self.hold_binary(Family::Or, BinaryCondition::LikeRight, field, mask))
     }
@@ -573,10 +536,9 @@ impl SqlBuilder {
         mask: T,
     ) -> Result<&mut Self, SqlBuilderError>
         ensures* refused { sem 𝓛 (IsUnchangedIfErr self.entry result) }
-        ensures changed { IsChangedTo self.entry
-            (with_condition Or (Like false Left (S.text field) (T.text mask)) self.old) result }
+        ensures changed { IsChangedSoThat self.entry
+            (AddsCondition Or (Like false Left (S.text field) (T.text mask)) self.old) result }
         ensures memory { FailsOnlyByMemory result }
-        ensures shape { HasConditionShape (Like false Left (S.text field) (T.text mask)) }
     {
         release(self.hold_binary(Family::Or, BinaryCondition::LikeLeft, field, mask))
     }
@@ -589,10 +551,9 @@ impl SqlBuilder {
         mask: T,
     ) -> Result<&mut Self, SqlBuilderError>
         ensures* refused { sem 𝓛 (IsUnchangedIfErr self.entry result) }
-        ensures changed { IsChangedTo self.entry
-            (with_condition Or (Like false Any (S.text field) (T.text mask)) self.old) result }
+        ensures changed { IsChangedSoThat self.entry
+            (AddsCondition Or (Like false Any (S.text field) (T.text mask)) self.old) result }
         ensures memory { FailsOnlyByMemory result }
-        ensures shape { HasConditionShape (Like false Any (S.text field) (T.text mask)) }
     {
         release(self.hold_binary(Family::Or, BinaryCondition::LikeAny, field, mask))
     }
@@ -605,10 +566,9 @@ impl SqlBuilder {
         mask: T,
     ) -> Result<&mut Self, SqlBuilderError>
         ensures* refused { sem 𝓛 (IsUnchangedIfErr self.entry result) }
-        ensures changed { IsChangedTo self.entry
-            (with_condition Or (Like true Plain (S.text field) (T.text mask)) self.old) result }
+        ensures changed { IsChangedSoThat self.entry
+            (AddsCondition Or (Like true Plain (S.text field) (T.text mask)) self.old) result }
         ensures memory { FailsOnlyByMemory result }
-        ensures shape { HasConditionShape (Like true Plain (S.text field) (T.text mask)) }
     {
         release(self.hold_binary(Family::Or, BinaryCondition::NotLike, field, mask))
     }
@@ -621,10 +581,9 @@ impl SqlBuilder {
         mask: T,
     ) -> Result<&mut Self, SqlBuilderError>
         ensures* refused { sem 𝓛 (IsUnchangedIfErr self.entry result) }
-        ensures changed { IsChangedTo self.entry
-            (with_condition Or (Like true Right (S.text field) (T.text mask)) self.old) result }
+        ensures changed { IsChangedSoThat self.entry
+            (AddsCondition Or (Like true Right (S.text field) (T.text mask)) self.old) result }
         ensures memory { FailsOnlyByMemory result }
-        ensures shape { HasConditionShape (Like true Right (S.text field) (T.text mask)) }
     {
         release(self.hold_binary(Family::Or, BinaryCondition::NotLikeRight, field, mask))
     }
@@ -637,10 +596,9 @@ impl SqlBuilder {
         mask: T,
     ) -> Result<&mut Self, SqlBuilderError>
         ensures* refused { sem 𝓛 (IsUnchangedIfErr self.entry result) }
-        ensures changed { IsChangedTo self.entry
-            (with_condition Or (Like true Left (S.text field) (T.text mask)) self.old) result }
+        ensures changed { IsChangedSoThat self.entry
+            (AddsCondition Or (Like true Left (S.text field) (T.text mask)) self.old) result }
         ensures memory { FailsOnlyByMemory result }
-        ensures shape { HasConditionShape (Like true Left (S.text field) (T.text mask)) }
     {
         release(self.hold_binary(Family::Or, BinaryCondition::NotLikeLeft, field, mask))
     }
@@ -653,10 +611,9 @@ impl SqlBuilder {
         mask: T,
     ) -> Result<&mut Self, SqlBuilderError>
         ensures* refused { sem 𝓛 (IsUnchangedIfErr self.entry result) }
-        ensures changed { IsChangedTo self.entry
-            (with_condition Or (Like true Any (S.text field) (T.text mask)) self.old) result }
+        ensures changed { IsChangedSoThat self.entry
+            (AddsCondition Or (Like true Any (S.text field) (T.text mask)) self.old) result }
         ensures memory { FailsOnlyByMemory result }
-        ensures shape { HasConditionShape (Like true Any (S.text field) (T.text mask)) }
     {
         release(self.hold_binary(Family::Or, BinaryCondition::NotLikeAny, field, mask))
     }
@@ -669,11 +626,10 @@ impl SqlBuilder {
         values: &[T],
     ) -> Result<&mut Self, SqlBuilderError>
         ensures* refused { sem 𝓛 (IsUnchangedIfErr self.entry result) }
-        ensures changed { IsChangedTo self.entry
-            (with_condition Or
+        ensures changed { IsChangedSoThat self.entry
+            (AddsCondition Or
             (InList false (S.text field) (map T.text values.now)) self.old) result }
         ensures memory { FailsOnlyByMemory result }
-        ensures shape { HasConditionShape (InList false (S.text field) (map T.text values.now)) }
     {
         release(self.hold_among(Family::Or, ListCondition::In, field, values))
     }
@@ -686,11 +642,10 @@ impl SqlBuilder {
         values: &[T],
     ) -> Result<&mut Self, SqlBuilderError>
         ensures* refused { sem 𝓛 (IsUnchangedIfErr self.entry result) }
-        ensures changed { IsChangedTo self.entry
-            (with_condition Or
+        ensures changed { IsChangedSoThat self.entry
+            (AddsCondition Or
             (InQuoted false (S.text field) (map T.text values.now)) self.old) result }
         ensures memory { FailsOnlyByMemory result }
-        ensures shape { HasConditionShape (InQuoted false (S.text field) (map T.text values.now)) }
     {
         release(self.hold_among(Family::Or, ListCondition::InQuoted, field, values))
     }
@@ -702,10 +657,9 @@ impl SqlBuilder {
         query: T,
     ) -> Result<&mut Self, SqlBuilderError>
         ensures* refused { sem 𝓛 (IsUnchangedIfErr self.entry result) }
-        ensures changed { IsChangedTo self.entry
-            (with_condition Or (InQuery false (S.text field) (T.text query)) self.old) result }
+        ensures changed { IsChangedSoThat self.entry
+            (AddsCondition Or (InQuery false (S.text field) (T.text query)) self.old) result }
         ensures memory { FailsOnlyByMemory result }
-        ensures shape { HasConditionShape (InQuery false (S.text field) (T.text query)) }
     {
         release(self.hold_binary(Family::Or, BinaryCondition::InQuery, field, query))
     }
@@ -719,11 +673,10 @@ impl SqlBuilder {
         greatest: U,
     ) -> Result<&mut Self, SqlBuilderError>
         ensures* refused { sem 𝓛 (IsUnchangedIfErr self.entry result) }
-        ensures changed { IsChangedTo self.entry
-            (with_condition Or
+        ensures changed { IsChangedSoThat self.entry
+            (AddsCondition Or
             (Between false (S.text field) (T.text least) (U.text greatest)) self.old) result }
         ensures memory { FailsOnlyByMemory result }
-        ensures shape { HasConditionShape (Between false (S.text field) (T.text least) (U.text greatest)) }
     {
         release(self.hold_range(Family::Or, RangeCondition::Between, field, least, greatest))
     }
@@ -736,11 +689,10 @@ impl SqlBuilder {
         values: &[T],
     ) -> Result<&mut Self, SqlBuilderError>
         ensures* refused { sem 𝓛 (IsUnchangedIfErr self.entry result) }
-        ensures changed { IsChangedTo self.entry
-            (with_condition Or
+        ensures changed { IsChangedSoThat self.entry
+            (AddsCondition Or
             (InList true (S.text field) (map T.text values.now)) self.old) result }
         ensures memory { FailsOnlyByMemory result }
-        ensures shape { HasConditionShape (InList true (S.text field) (map T.text values.now)) }
     {
         release(self.hold_among(Family::Or, ListCondition::NotIn, field, values))
     }
@@ -753,11 +705,10 @@ impl SqlBuilder {
         values: &[T],
     ) -> Result<&mut Self, SqlBuilderError>
         ensures* refused { sem 𝓛 (IsUnchangedIfErr self.entry result) }
-        ensures changed { IsChangedTo self.entry
-            (with_condition Or
+        ensures changed { IsChangedSoThat self.entry
+            (AddsCondition Or
             (InQuoted true (S.text field) (map T.text values.now)) self.old) result }
         ensures memory { FailsOnlyByMemory result }
-        ensures shape { HasConditionShape (InQuoted true (S.text field) (map T.text values.now)) }
     {
         release(self.hold_among(Family::Or, ListCondition::NotInQuoted, field, values))
     }
@@ -770,10 +721,9 @@ impl SqlBuilder {
         query: T,
     ) -> Result<&mut Self, SqlBuilderError>
         ensures* refused { sem 𝓛 (IsUnchangedIfErr self.entry result) }
-        ensures changed { IsChangedTo self.entry
-            (with_condition Or (InQuery true (S.text field) (T.text query)) self.old) result }
+        ensures changed { IsChangedSoThat self.entry
+            (AddsCondition Or (InQuery true (S.text field) (T.text query)) self.old) result }
         ensures memory { FailsOnlyByMemory result }
-        ensures shape { HasConditionShape (InQuery true (S.text field) (T.text query)) }
     {
         release(self.hold_binary(Family::Or, BinaryCondition::NotInQuery, field, query))
     }
@@ -787,11 +737,10 @@ impl SqlBuilder {
         greatest: U,
     ) -> Result<&mut Self, SqlBuilderError>
         ensures* refused { sem 𝓛 (IsUnchangedIfErr self.entry result) }
-        ensures changed { IsChangedTo self.entry
-            (with_condition Or
+        ensures changed { IsChangedSoThat self.entry
+            (AddsCondition Or
             (Between true (S.text field) (T.text least) (U.text greatest)) self.old) result }
         ensures memory { FailsOnlyByMemory result }
-        ensures shape { HasConditionShape (Between true (S.text field) (T.text least) (U.text greatest)) }
     {
         release(self.hold_range(
             Family::Or,

@@ -1,7 +1,7 @@
 //! Laws of lists of calls, each the contract of a function that does nothing.
 ghost use Rattle.std.specs.Prelude.{IfOk, IsTrue, List};
 ghost use Rattle.sql_builder.specs.Calls.{CallText, Sql, StartText, having_in, limit_in, offset_in, returning_in};
-ghost use Rattle.sql_builder.specs.Laws.{FieldsJoin, OnlyLastCounts};
+ghost use Rattle.sql_builder.specs.Laws.{ConditionsKeepTokens, CountsKeepTokens, EquationsKeepTokens, FieldsJoin, OnlyLastCounts, QuotedEquationsKeepTokens};
 ghost use Rattle.sql_builder.specs.Shape.{EndsInOneSemicolon, has_closed_fragments, has_no_semicolons};
 ghost use Rattle.sql_builder.specs.Statement.{pieces};
 ghost use Rattle.sql_builder.specs.Text.{pieces_text};
@@ -25,6 +25,16 @@ pub fn only_last_counts()
     ensures offset { OnlyLastCounts offset_in }
     ensures having { OnlyLastCounts having_in }
     ensures returning { OnlyLastCounts returning_in }
+{}
+
+/// Where the texts handed in as they stand are closed, what a condition call, `on_eq`, `set`,
+/// `set_str` or `count_as` adds has the tokens of its parts, and a text that it quotes is one token.
+#[tactic(auto, using(crate::proofs::ClauseShapes::condition_shape, crate::proofs::ClauseShapes::equation_shape, crate::proofs::ClauseShapes::quoted_equation_shape, crate::proofs::ClauseShapes::count_as_shape))]
+pub fn added_texts_keep_tokens()
+    ensures conditions { ConditionsKeepTokens }
+    ensures equations { EquationsKeepTokens }
+    ensures quoted_equations { QuotedEquationsKeepTokens }
+    ensures counts { CountsKeepTokens }
 {}
 
 /// Where each fragment that `sql` prints is closed and has no `;` among its tokens, the tokens of

@@ -3,8 +3,8 @@
 ghost use Rattle.std.specs.Prelude.{◌≡◌, [], ◌∷◌, ◌++◌, map, codes, string_bytes, IfErr, OnOk, OnErr};
 ghost use Rattle.sql_parts.specs.Error.{FailsOnlyByMemory};
 ghost use Rattle.sql_builder.specs.Builder.{extend_last, with_condition, with_condition_text, with_order, with_returning};
-ghost use Rattle.sql_builder.specs.Shape.{HasConditionShape};
-ghost use Rattle.sql_builder.specs.Steps.{HasPairShape, binary_condition, list_condition, range_condition, unary_condition, with_pair, with_text, with_texts, RefusesPair, RefusesText, Tells};
+ghost use Rattle.sql_builder.specs.Shape.{AddsCondition};
+ghost use Rattle.sql_builder.specs.Steps.{AddsPair, binary_condition, list_condition, range_condition, unary_condition, with_pair, with_text, with_texts, RefusesPair, RefusesText, Tells};
 ghost use Rattle.sql_parts.specs.Text.{texts};
 ghost use Rattle.std.specs.Result.{result_map_both};
 
@@ -355,7 +355,7 @@ impl SqlBuilder {
 
 impl SqlBuilder {
     ghost use Rattle.std.specs.Borrow.{sem};
-    ghost use Rattle.sql_builder.specs.Chaining.{IsUnchangedIfHeldErr, IsHeldChangedTo};
+    ghost use Rattle.sql_builder.specs.Chaining.{IsUnchangedIfHeldErr, IsHeldChangedSoThat, IsHeldChangedTo};
 
     pub(crate) fn hold_text<S: ToText>(
         &mut self,
@@ -380,7 +380,7 @@ impl SqlBuilder {
         Ok(Held(self))
     }
 
-    #[tactic(auto, using(crate::proofs::ClauseShapes::pair_shape))]
+    #[tactic(auto, using(crate::proofs::ClauseShapes::adds_pair))]
     pub(crate) fn hold_pair<S: ToText, T: ToText>(
         &mut self,
         clause: PairClause,
@@ -388,10 +388,9 @@ impl SqlBuilder {
         second: T,
     ) -> Result<Held<'_>, SqlBuilderError>
         ensures* refused { sem 𝓛 (IsUnchangedIfHeldErr self.entry result) }
-        ensures changed { IsHeldChangedTo self.entry
-            (with_pair clause (S.text first) (T.text second) self.old) result }
+        ensures changed { IsHeldChangedSoThat self.entry
+            (AddsPair clause (S.text first) (T.text second) self.old) result }
         ensures memory { IfErr result (RefusesPair clause self.old) }
-        ensures shape { HasPairShape clause (S.text first) (T.text second) }
     {
         self.push_pair(clause, first, second)?;
         Ok(Held(self))
@@ -425,7 +424,7 @@ impl SqlBuilder {
         Ok(Held(self))
     }
 
-    #[tactic(auto, using(crate::proofs::ClauseShapes::condition_shape))]
+    #[tactic(auto, using(crate::proofs::ClauseShapes::adds_condition))]
     pub(crate) fn hold_unary<S: ToText>(
         &mut self,
         family: Family,
@@ -433,17 +432,15 @@ impl SqlBuilder {
         text: S,
     ) -> Result<Held<'_>, SqlBuilderError>
         ensures* refused { sem 𝓛 (IsUnchangedIfHeldErr self.entry result) }
-        ensures changed { IsHeldChangedTo self.entry
-            (with_condition family (unary_condition condition (S.text text)) self.old) result }
+        ensures changed { IsHeldChangedSoThat self.entry (AddsCondition family (unary_condition condition (S.text text)) self.old) result }
         ensures memory { FailsOnlyByMemory result }
-        ensures shape { HasConditionShape (unary_condition condition (S.text text)) }
     {
         let text = unary(self.alloc, condition, text)?;
         self.push_condition(family, text)?;
         Ok(Held(self))
     }
 
-    #[tactic(auto, using(crate::proofs::ClauseShapes::condition_shape))]
+    #[tactic(auto, using(crate::proofs::ClauseShapes::adds_condition))]
     pub(crate) fn hold_binary<S: ToText, T: ToText>(
         &mut self,
         family: Family,
@@ -452,18 +449,16 @@ impl SqlBuilder {
         value: T,
     ) -> Result<Held<'_>, SqlBuilderError>
         ensures* refused { sem 𝓛 (IsUnchangedIfHeldErr self.entry result) }
-        ensures changed { IsHeldChangedTo self.entry (with_condition family
+        ensures changed { IsHeldChangedSoThat self.entry (AddsCondition family
             (binary_condition condition (S.text field) (T.text value)) self.old) result }
         ensures memory { FailsOnlyByMemory result }
-        ensures shape { HasConditionShape
-            (binary_condition condition (S.text field) (T.text value)) }
     {
         let text = binary(self.alloc, condition, field, value)?;
         self.push_condition(family, text)?;
         Ok(Held(self))
     }
 
-    #[tactic(auto, using(crate::proofs::ClauseShapes::condition_shape))]
+    #[tactic(auto, using(crate::proofs::ClauseShapes::adds_condition))]
     pub(crate) fn hold_among<S: ToText, T: ToText>(
         &mut self,
         family: Family,
@@ -472,18 +467,16 @@ impl SqlBuilder {
         values: &[T],
     ) -> Result<Held<'_>, SqlBuilderError>
         ensures* refused { sem 𝓛 (IsUnchangedIfHeldErr self.entry result) }
-        ensures changed { IsHeldChangedTo self.entry (with_condition family
+        ensures changed { IsHeldChangedSoThat self.entry (AddsCondition family
             (list_condition condition (S.text field) (map T.text values.now)) self.old) result }
         ensures memory { FailsOnlyByMemory result }
-        ensures shape { HasConditionShape
-            (list_condition condition (S.text field) (map T.text values.now)) }
     {
         let text = among(self.alloc, condition, field, values)?;
         self.push_condition(family, text)?;
         Ok(Held(self))
     }
 
-    #[tactic(auto, using(crate::proofs::ClauseShapes::condition_shape))]
+    #[tactic(auto, using(crate::proofs::ClauseShapes::adds_condition))]
     pub(crate) fn hold_range<S: ToText, T: ToText, U: ToText>(
         &mut self,
         family: Family,
@@ -493,12 +486,10 @@ impl SqlBuilder {
         greatest: U,
     ) -> Result<Held<'_>, SqlBuilderError>
         ensures* refused { sem 𝓛 (IsUnchangedIfHeldErr self.entry result) }
-        ensures changed { IsHeldChangedTo self.entry (with_condition family
+        ensures changed { IsHeldChangedSoThat self.entry (AddsCondition family
             (range_condition condition (S.text field) (T.text least) (U.text greatest))
             self.old) result }
         ensures memory { FailsOnlyByMemory result }
-        ensures shape { HasConditionShape (range_condition condition
-            (S.text field) (T.text least) (U.text greatest)) }
     {
         let text = range(self.alloc, condition, field, least, greatest)?;
         self.push_condition(family, text)?;

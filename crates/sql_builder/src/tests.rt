@@ -1129,6 +1129,10 @@ fn selects_texts_of_many_types(alloc: Global) -> Made {
         .sql()
 }
 
+fn sets_a_truth_value(alloc: Global) -> Made {
+    SqlBuilder::update_table(alloc, "t")?.set("a", true)?.sql()
+}
+
 fn sets_texts_of_many_types(alloc: Global) -> Made {
     SqlBuilder::update_table(alloc, String::from_str(alloc, "t")?)?
         .set("a", true)?
@@ -1268,7 +1272,7 @@ fn binds_numbers_beside_quoted_text(alloc: Global) -> Made {
 
 /// Chains of calls, and what each makes. A function for each, since the proof of several in one
 /// takes long.
-const CHAINS: [(fn(Global) -> Made, &str); 15] = [
+const CHAINS: [(fn(Global) -> Made, &str); 16] = [
     (
         first_statement,
         "SELECT id, name FROM company WHERE salary > 25000;",
@@ -1282,6 +1286,7 @@ const CHAINS: [(fn(Global) -> Made, &str); 15] = [
         selects_texts_of_many_types,
         "SELECT COUNT(id1) AS n FROM t WHERE (salary > 25000) AND (true) LIMIT 3 OFFSET -1;",
     ),
+    (sets_a_truth_value, "UPDATE t SET a = true;"),
     (
         sets_texts_of_many_types,
         "UPDATE t SET a = true, id2 = 'id3' RETURNING id2;",
@@ -1411,4 +1416,5 @@ fn states_its_laws() {
     laws::fields_join();
     laws::only_last_counts();
     laws::only_the_end_is_a_semicolon();
+    laws::added_texts_keep_tokens();
 }

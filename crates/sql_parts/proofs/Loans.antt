@@ -71,16 +71,10 @@ pub record Lent : Type 2 where
   pub loan : (κ : NamedLft) → (held κ).Denot → MutBor row.Denot
   pub fits : (κ : Lft) (v : Val) → Typed (RS.the_row (held (at κ)) E).mir (v ∷ []) → Good (layout (RS.the_row (held in_a_local) E)) v
 
--- what a call says besides, whether it is refused or not, if it does
-pub data Known : Type 1 where
-  Nothing : Known
-  Fact : Type 0 → Known
-
--- what a call does: what it makes of a value where it is not refused, and how it is refused
+-- what a call does: what holds of the value that it leaves where it is not refused, and how it is refused
 pub record Effect (D : Type 0) : Type 1 where
-  pub told : D
+  pub leaves : D → Type 0
   pub refuses : SqlBuilderError → Type 0
-  pub known : Known
 
 module _ {M : Type 1} {𝓤 : Ura M} (𝓛 : Logic 𝓤) where
   result_Lawful : (A B : RattleType) → Lawful 𝓛 A → Lawful 𝓛 B → Lawful 𝓛 (RS.the_row A B)
@@ -109,16 +103,12 @@ module _ {M : Type 1} {𝓤 : Ura M} (𝓛 : Logic 𝓤) where
     released κ r = result_map_both (L.loan (at κ)) (λ error. error) r
 
     -- the clauses of `hold_x`, and those of `x`
-    abbrev pub with_known : Known → SProp 𝓤 → SProp 𝓤
-    with_known Nothing said = said
-    with_known (Fact known) said = sep 𝓤 said (fact 𝓤 known)
-
     module _ (s : MutBor L.row.Denot) (x : Effect L.row.Denot) where
       abbrev pub held_says : (κ : Lft) → Holds κ → SProp 𝓤
-      held_says κ r = sep 𝓤 (sem 𝓛 (RestsIfErr L.row s (λ h. (L.loan (at κ) h).ghost_name) r (λ n. n ≡ s.now))) (sep 𝓤 (fact 𝓤 (IfOk r (λ h. ((L.loan (at κ) h).ghost_name ≡ s.ghost_name) × ((L.loan (at κ) h).now ≡ x.told)))) (with_known x.known (fact 𝓤 (IfErr r x.refuses))))
+      held_says κ r = sep 𝓤 (sem 𝓛 (RestsIfErr L.row s (λ h. (L.loan (at κ) h).ghost_name) r (λ n. n ≡ s.now))) (sep 𝓤 (fact 𝓤 (IfOk r (λ h. ((L.loan (at κ) h).ghost_name ≡ s.ghost_name) × x.leaves (L.loan (at κ) h).now))) (fact 𝓤 (IfErr r x.refuses)))
 
       abbrev pub says : Lends → SProp 𝓤
-      says r = sep 𝓤 (sem 𝓛 (RestsIfErr L.row s (λ b. b.ghost_name) r (λ n. n ≡ s.now))) (sep 𝓤 (fact 𝓤 (IfOk r (λ b. (b.ghost_name ≡ s.ghost_name) × (b.now ≡ x.told)))) (with_known x.known (fact 𝓤 (IfErr r x.refuses))))
+      says r = sep 𝓤 (sem 𝓛 (RestsIfErr L.row s (λ b. b.ghost_name) r (λ n. n ≡ s.now))) (sep 𝓤 (fact 𝓤 (IfOk r (λ b. (b.ghost_name ≡ s.ghost_name) × x.leaves b.now))) (fact 𝓤 (IfErr r x.refuses)))
 
       passes : (κ : Lft) (r : Holds κ) → ent 𝓤 (held_says κ r) (says (released κ r))
       passes κ (Ok h) = id⊢ 𝓤 _

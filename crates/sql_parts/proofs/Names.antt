@@ -1,6 +1,6 @@
 -- The calls that tell a name something and hand it back. Such a call's proof is one use of `by_told`.
-use Rattle.sql_parts.proofs.Walking.{[], ◌∷◌, a_type, dcons, dnil, bounded, inst_fn, refl, Ura, Logic, RattleType, SProp}
-use Rattle.sql_parts.proofs.Loans.{Effect, Lent, Variant, constant, generic, Nothing}
+use Rattle.sql_parts.proofs.Walking.{◌≡◌, [], ◌∷◌, a_type, dcons, dnil, bounded, inst_fn, refl, Ura, Logic, RattleType, SProp}
+use Rattle.sql_parts.proofs.Loans.{Effect, Lent, Variant, constant, generic}
 use Rattle.sql_parts.proofs.Variants.{variant}
 use Rattle.sql_parts.proofs.ChainCalls as calls
 use mir.Syntax.{Args, Callee, Dict, Fn}
@@ -55,7 +55,7 @@ module _ {M : Type 1} (𝓤 : Ura M) (𝓛 : Logic 𝓤) (𝓜 : Model 𝓤 𝓛
   asked κs a = (step.clauses S s d d' 𝓛 𝓜.mem 𝓡.returns κs a).requires tt
 
   abbrev tells : (κs : Lfts 2) → Denots (types_at (step.signature S).params κs) → Effect Name
-  tells κs a = record { told = with_told a.1.0 (s.text a.1.1.0) a.0.now; refuses = IsMemory; known = Nothing }
+  tells κs a = record { leaves = λ name. name ≡ with_told a.1.0 (s.text a.1.1.0) a.0.now; refuses = IsMemory }
 
   pub by_told : calls.Code-text name 𝓛 𝓜 𝓡 1 [] (constant 𝓛 told.the_type told_laws.the_plain X) (generic 𝓛 2 0 S LS)
       asked tells (inst_fn types fn) (step_code.name types) release_code.name (callee types)

@@ -1,9 +1,9 @@
 -- Laws of tokens.
-use Rattle.std.proofs.Common.{◌≡◌, ℕ, true, false, not, ◌||◌, List, [], ◌∷◌, ◌++◌, sym, refl, ap, ◌∙◌}
+use Rattle.std.proofs.Common.{◌≡◌, ℕ, true, false, not, ◌||◌, List, [], ◌∷◌, ◌++◌, codes, sym, refl, ap, ◌∙◌}
 use Rattle.std.proofs.lemmas.Bool.{not-true, not_from_false, or_from}
 use Rattle.std.proofs.lemmas.List.Folds.{list_any-append}
-use Rattle.sql_parts.specs.Quoting.{between}
-use Rattle.sql_parts.specs.Tokens.{clean, closed, is_open, tokens, quoted_token}
+use Rattle.sql_parts.specs.Quoting.{between, escaped}
+use Rattle.sql_parts.specs.Tokens.{Str, clean, closed, is_open, tokens, quoted_token}
 use Rattle.sql_parts.specs.declared.text.Quotes.{Quotes}
 use Rattle.sql_parts.specs.declared.text.Quotes.TheVariants.{Single, Back, Square, Double}
 use Rattle.sql_parts.proofs.Reading.{tokens-read}
@@ -30,6 +30,10 @@ between-tokens Double text = tokens-read (between Double text) ∙ read-doubled 
 
 pub between_token : (quotes : Quotes) (text written : List ℕ) → written ≡ between quotes text → tokens written ≡ quoted_token quotes text ∷ []
 between_token quotes text written is = ap tokens is ∙ between-tokens quotes text
+
+-- the same of a text that was escaped
+pub escaped_token : (text written : List ℕ) → written ≡ escaped text → tokens (codes "'" ++ (written ++ codes "'")) ≡ Str text ∷ []
+escaped_token text written is = ap (λ t. tokens (codes "'" ++ (t ++ codes "'"))) is ∙ between-tokens Single text
 
 quoted-shut : (quotes : Quotes) (text : List ℕ) → is_open (quoted_token quotes text) ≡ false
 quoted-shut Single text = refl

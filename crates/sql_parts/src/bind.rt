@@ -33,7 +33,7 @@ pub enum Marks<'a> {
 
 /// A text whose markers can be bound. Each call goes through the text once, from the left, and
 /// gives a new one: what is put in is not looked at again, and quotes in the text mean nothing.
-pub trait Bind: Drop {
+pub trait Bind {
     /// The text, as its bytes.
     ghost template: { Self → List ℕ };
 

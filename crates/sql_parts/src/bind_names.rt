@@ -12,7 +12,7 @@ use std::alloc::Global;
 use std::collections::HashMap;
 
 /// What binds names to literals: a map, or pairs of which the last one with a name counts.
-pub trait BindNames: Drop {
+pub trait BindNames {
     /// The literal of each name that has one.
     ghost literals: { Self → List ℕ → Option LiteralValue };
 

@@ -279,7 +279,7 @@ fn states_the_laws_of_binding() {
     unmarked_is_unchanged();
 }
 
-fn bound_names<N: BindNames>(alloc: Global, template: &str, names: N) -> Bound {
+fn bound_names<N: BindNames + Drop>(alloc: Global, template: &str, names: N) -> Bound {
     template.bind_names(alloc, &names)
 }
 

@@ -80,7 +80,7 @@ pub(crate) struct LookedUp<N> {
     pub(crate) names: N,
 }
 
-impl<N: BindNames> Literals for LookedUp<N> {
+impl<N: BindNames + Drop> Literals for LookedUp<N> {
     ghost literals = { λ bound. looked_up (N.literals bound.names) };
 
     fn push_literal(

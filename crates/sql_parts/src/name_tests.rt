@@ -28,7 +28,7 @@ fn named(alloc: Global, parts: &[&str], alias: Option<&str>) -> Result<SqlName, 
 }
 
 /// Parts, an alias, and what `safe`, `quoted`, `baquoted`, `brquoted` and `dquoted` write.
-const NAMES: [(&[&str], Option<&str>, [&str; 5]); 16] = [
+const NAMES: [(&[&str], Option<&str>, [&str; 5]); 17] = [
     (
         &["safe_name"],
         None,
@@ -139,6 +139,7 @@ const NAMES: [(&[&str], Option<&str>, [&str; 5]); 16] = [
             "\"a\".\"é\" AS `é`",
         ],
     ),
+    (&["`"], None, ["````", "'`'", "````", "[`]", "\"`\""]),
     (
         &["`"],
         Some("`"),

@@ -1,5 +1,5 @@
 //! Texts between quotes.
-ghost use Rattle.std.specs.Prelude.{◌≡◌, ◌<◌, [], ◌∷◌, ◌++◌, string_bytes, IfOk, IsTrue, OnErr, OnOk};
+ghost use Rattle.std.specs.Prelude.{◌≡◌, ◌<◌, [], ◌∷◌, ◌++◌, codes, string_bytes, IfOk, IsTrue, OnErr, OnOk};
 ghost use Rattle.std.specs.Io.{StartsWith};
 ghost use Rattle.sql_parts.specs.Error.{FailsOnlyByMemory};
 ghost use Rattle.sql_parts.specs.Quoting.{baquoted, brquoted, dquoted, escaped, quoted};
@@ -58,9 +58,13 @@ fn enclose<S: ToText>(alloc: Global, quotes: Quotes, text: S) -> Result<String, 
     Ok(out)
 }
 
-/// The text with each `'` in it doubled. It is refused only for want of memory.
+/// The text with each `'` in it doubled: between two `'` it is an SQL text. It is refused only for
+/// want of memory.
+#[tactic(auto, using(crate::proofs::TokenLaws::escaped_token))]
 pub fn esc<S: ToText>(alloc: Global, text: S) -> Result<String, SqlBuilderError>
     ensures text { IfOk result (λ s. string_bytes s ≡ escaped (S.text text)) }
+    ensures token { IfOk result (λ s. tokens (codes "'" ++ (string_bytes s ++ codes "'"))
+        ≡ Str (S.text text) ∷ []) }
     ensures memory { FailsOnlyByMemory result }
 {
     let mut out = String::new(alloc);
