@@ -12,3 +12,17 @@ pub mod Shape
 pub mod Statement
 pub mod Steps
 pub mod Text
+
+-- what the contracts here cite of the library below, for callers that list this one alone
+pub use Rattle.sql_parts.specs.Apart
+pub use Rattle.sql_parts.specs.Error
+pub use Rattle.sql_parts.specs.Lending
+pub use Rattle.sql_parts.specs.Literal
+pub use Rattle.sql_parts.specs.Name
+pub use Rattle.sql_parts.specs.Quoting
+pub use Rattle.sql_parts.specs.Templates
+pub use Rattle.sql_parts.specs.Tokens
+pub use Rattle.sql_parts.specs.Chaining as NameChaining
+pub use Rattle.sql_parts.specs.Laws as PartLaws
+pub use Rattle.sql_parts.specs.Text as Texts
+pub use Rattle.sql_parts.specs.declared.error.SqlBuilderError

@@ -39,7 +39,7 @@ impl SqlBuilder {
         release(self.hold_text(TextClause::Join, table))
     }
 
-    /// Adds a constraint to the last join. Without a join it does nothing, and takes no memory.
+    /// Adds a constraint to the last join. Without a join it does nothing, and can't be refused.
     pub fn on<S: ToText>(&mut self, constraint: S) -> Result<&mut Self, SqlBuilderError>
         ensures* refused { sem 𝓛 (IsUnchangedIfErr self.entry result) }
         ensures changed { IsChangedTo self.entry (with_on (S.text constraint) self.old) result }
@@ -49,7 +49,7 @@ impl SqlBuilder {
     }
 
     /// Adds the constraint `left = right` to the last join. Without a join it does nothing, and
-    /// takes no memory.
+    /// can't be refused.
     pub fn on_eq<S: ToText, T: ToText>(
         &mut self,
         left: S,
@@ -299,7 +299,7 @@ impl SqlBuilder {
     ghost use Rattle.sql_builder.specs.Builder.{with_distinct, with_natural, with_operator};
     ghost use Rattle.sql_builder.specs.declared.clauses.JoinOperator.TheVariants.{Left, LeftOuter, Right, RightOuter, Inner, Cross};
 
-    /// The next join is NATURAL. It takes no memory, and gives the builder back.
+    /// The next join is NATURAL. It can't be refused, and gives the builder back.
     pub fn natural(&mut self) -> &mut Self
         ensures same { result.ghost_name ≡ self.entry.ghost_name }
         ensures changed { result.now ≡ with_natural self.old }
@@ -308,7 +308,7 @@ impl SqlBuilder {
         self
     }
 
-    /// The joins to come are LEFT joins. It takes no memory, and gives the builder back.
+    /// The joins to come are LEFT joins. It can't be refused, and gives the builder back.
     pub fn left(&mut self) -> &mut Self
         ensures same { result.ghost_name ≡ self.entry.ghost_name }
         ensures changed { result.now ≡ with_operator Left self.old }
@@ -317,7 +317,7 @@ impl SqlBuilder {
         self
     }
 
-    /// The joins to come are LEFT OUTER joins. It takes no memory, and gives the builder back.
+    /// The joins to come are LEFT OUTER joins. It can't be refused, and gives the builder back.
     pub fn left_outer(&mut self) -> &mut Self
         ensures same { result.ghost_name ≡ self.entry.ghost_name }
         ensures changed { result.now ≡ with_operator LeftOuter self.old }
@@ -326,7 +326,7 @@ impl SqlBuilder {
         self
     }
 
-    /// The joins to come are RIGHT joins. It takes no memory, and gives the builder back.
+    /// The joins to come are RIGHT joins. It can't be refused, and gives the builder back.
     pub fn right(&mut self) -> &mut Self
         ensures same { result.ghost_name ≡ self.entry.ghost_name }
         ensures changed { result.now ≡ with_operator Right self.old }
@@ -335,7 +335,7 @@ impl SqlBuilder {
         self
     }
 
-    /// The joins to come are RIGHT OUTER joins. It takes no memory, and gives the builder back.
+    /// The joins to come are RIGHT OUTER joins. It can't be refused, and gives the builder back.
     pub fn right_outer(&mut self) -> &mut Self
         ensures same { result.ghost_name ≡ self.entry.ghost_name }
         ensures changed { result.now ≡ with_operator RightOuter self.old }
@@ -344,7 +344,7 @@ impl SqlBuilder {
         self
     }
 
-    /// The joins to come are INNER joins. It takes no memory, and gives the builder back.
+    /// The joins to come are INNER joins. It can't be refused, and gives the builder back.
     pub fn inner(&mut self) -> &mut Self
         ensures same { result.ghost_name ≡ self.entry.ghost_name }
         ensures changed { result.now ≡ with_operator Inner self.old }
@@ -353,7 +353,7 @@ impl SqlBuilder {
         self
     }
 
-    /// The joins to come are CROSS joins. It takes no memory, and gives the builder back.
+    /// The joins to come are CROSS joins. It can't be refused, and gives the builder back.
     pub fn cross(&mut self) -> &mut Self
         ensures same { result.ghost_name ≡ self.entry.ghost_name }
         ensures changed { result.now ≡ with_operator Cross self.old }
@@ -362,7 +362,7 @@ impl SqlBuilder {
         self
     }
 
-    /// Selects equal rows once. It takes no memory, and gives the builder back.
+    /// Selects equal rows once. It can't be refused, and gives the builder back.
     pub fn distinct(&mut self) -> &mut Self
         ensures same { result.ghost_name ≡ self.entry.ghost_name }
         ensures changed { result.now ≡ with_distinct self.old }

@@ -22,7 +22,7 @@ pub enum SqlBuilderError {
 }
 
 impl SqlBuilderError {
-    /// The refusal's text, which Display prints too. It takes no memory.
+    /// The refusal's text, which Display prints too. It can't be refused.
     pub fn message(&self) -> &'static str
         ensures text { result.now ≡ message_text self.now }
     {

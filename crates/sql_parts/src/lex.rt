@@ -146,7 +146,7 @@ fn first_token(text: &str) -> Option<(Token<'_>, &str)>
     None
 }
 
-/// Whether each quote and each comment of the text has its end. It takes no memory.
+/// Whether each quote and each comment of the text has its end. It can't be refused.
 pub fn is_closed(text: &str) -> bool
     ensures { result ≡ closed text.now }
 {
@@ -160,7 +160,7 @@ pub fn is_closed(text: &str) -> bool
     true
 }
 
-/// Whether a `;` is among the tokens of the text. It takes no memory.
+/// Whether a `;` is among the tokens of the text. It can't be refused.
 pub fn has_semicolon(text: &str) -> bool
     ensures { result ≡ has_semicolon text.now }
 {
