@@ -32,6 +32,17 @@ const CALLS: &[(&str, &[Step])] = &[
             (Marks::First, &[Whole(10)], "'lol'foo10"),
         ],
     ),
+    (
+        "a = ? AND b = ?",
+        &[
+            (Marks::First, &[Text("?")], "a = '?' AND b = ?"),
+            (
+                Marks::First,
+                &[Text(" OR 1=1 --")],
+                "a = '' OR 1=1 --'' AND b = ?",
+            ),
+        ],
+    ),
     ("fo?o", &[(Marks::First, &[Whole(10)], "fo10o")]),
     ("fo?o", &[(Marks::First, &[Truth(false)], "foFALSEo")]),
     ("fo?o", &[(Marks::First, &[Null], "foNULLo")]),
