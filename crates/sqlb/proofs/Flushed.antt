@@ -1,9 +1,14 @@
 -- A buffered writer that is flushed.
-use Rattle.std.proofs.Common.{◌≡◌, List, ℕ, [], refl, ap}
-use Rattle.std.specs.Prelude.{Option, None, Some, Result, Ok, Err}
-use Rattle.std.specs.Io.KnownBytes.{append_known}
-use Rattle.std.proofs.lemmas.List.{append-nil}
-use Rattle.sqlb.specs.Ran.{UnlessWriteFails}
+use Rattle.std.proofs.Common.{◌≡◌, List, ℕ, Bool, true, false, [], ◌++◌, refl, ap, subst, sym, ◌∙◌}
+use Rattle.std.specs.declared.io.buffered.BufWriter.{BufWriter}
+use Rattle.std.specs.Io.Buffered.{writer_buffer, writer_contents, writer_inner}
+use Rattle.std.specs.Io.KnownBytes.{Appends, append_known}
+use Rattle.std.specs.Prelude.{Option, Result, Ok, Err, OnOk, flat_map, is_err}
+use Rattle.std.specs.Io.{StartsWith}
+use Rattle.std.proofs.Transfers.{starts_with_of_append, starts_with_of_eq}
+use Rattle.std.proofs.lemmas.Grind.{flat_map-append}
+use Rattle.sqlb.specs.Output.{Output, output_text}
+use Rattle.sqlb.specs.Ran.{LosesOnlyIfDeviceFails, Ran, UnlessWriteFails}
 use Rattle.sqlb.specs.declared.fault.Fault.{Fault}
 use Rattle.sqlb.specs.declared.fault.Fault.TheVariants.{At, Memory, Read, Write}
 
@@ -15,7 +20,32 @@ unless_write_fails (Err Memory) P h = h
 unless_write_fails (Err Write) P h = tt
 unless_write_fails (Err Read) P h = h
 
--- a writer whose buffer is empty holds what the writer under it holds
-pub append_known-nil : (known : Option (List ℕ)) (held_back : List ℕ) → held_back ≡ [] → append_known known held_back ≡ known
-append_known-nil None held_back none = refl
-append_known-nil (Some bytes) held_back none = rw none (ap Some (append-nil bytes))
+-- what a buffered writer holds is what the writer below it holds, and what would be lost with its buffer
+pub appends-lost : {W A : Type 0} (contents : W → Option (List ℕ)) (start : Option (List ℕ)) (buffered : BufWriter W A) (below : W) (written : List ℕ)
+    → below ≡ writer_inner buffered → Appends start (writer_contents contents buffered) written
+    → Appends start (append_known (contents below) (writer_buffer buffered)) written
+appends-lost contents start buffered below written is appends =
+    subst (λ inner. Appends start (append_known (contents inner) (writer_buffer buffered)) written) (sym is) appends
+
+-- nothing is lost where nothing is held back
+pub loses_none : {T : Type 0} (result : Result T Fault) (lost : List ℕ) → lost ≡ [] → LosesOnlyIfDeviceFails result lost
+loses_none (Ok done) lost none = none
+loses_none (Err (At line reason)) lost none = none
+loses_none (Err Memory) lost none = none
+loses_none (Err Write) lost none = tt
+loses_none (Err Read) lost none = tt
+
+-- what a run has written is a beginning of the output, whatever it answers
+pub ran-begins : {T : Type 0} (result : Result T Fault) (written : List ℕ) (out : Output) → Ran result written out → StartsWith (output_text out) written
+ran-begins (Ok done) written out ran = starts_with_of_eq (output_text out) written (sym ran.1)
+ran-begins (Err (At line reason)) written out ran = starts_with_of_eq (output_text out) written (sym ran.1)
+ran-begins (Err Memory) written out ran =
+    starts_with_of_append (output_text out) written (flat_map (λ statement. statement) ran.1)
+    (ap (flat_map (λ statement. statement)) ran.2 ∙ flat_map-append (λ (statement : List ℕ). statement) ran.0 ran.1 ∙ ap (λ (front : List ℕ). front ++ flat_map (λ statement. statement) ran.1) (sym ran.3))
+ran-begins (Err Write) written out ran = ran
+ran-begins (Err Read) written out ran = rw ran refl
+
+-- what holds of each success holds where there was no error
+pub unless_err : {T E : Type 0} (result : Result T E) {P : Type 0} → is_err result ≡ false → OnOk result P → P
+unless_err (Ok value) none holds = holds
+unless_err (Err error) none holds = cc none

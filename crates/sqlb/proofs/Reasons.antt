@@ -2,9 +2,9 @@
 use Rattle.std.proofs.Common.{◌≡◌, ℕ, Bool, true, false, List, [], ◌∷◌, if◌then◌else◌, subst}
 use Rattle.std.specs.Prelude.{Option, None, Some, Result, Ok, Err, IfErr, IfSome, ok_or}
 use Rattle.std.specs.Str.{is_utf8}
-use Rattle.sql_parts.specs.Error.{IsMemory}
-use Rattle.sql_parts.specs.declared.error.SqlBuilderError.{SqlBuilderError}
-use Rattle.sql_parts.specs.declared.error.SqlBuilderError.TheVariants.{NoSetFields, NoValues}
+use Rattle.sql_builder.specs.Error.{IsMemory}
+use Rattle.sql_builder.specs.SqlBuilderError.{SqlBuilderError}
+use Rattle.sql_builder.specs.SqlBuilderError.TheVariants.{NoSetFields, NoValues}
 use Rattle.sql_builder.specs.Calls.{StartText, CallText, FinishText, Sql, Query, QueryValues, Subquery, SubqueryAs, clauses}
 use Rattle.sql_builder.specs.Clauses.{Clauses, map_clauses}
 use Rattle.sql_builder.specs.Layout.{refusal_of, refuse_empty, refuse_no_rows, refuse_no_table}

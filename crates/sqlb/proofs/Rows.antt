@@ -12,7 +12,7 @@ use Rattle.sqlb.specs.Fault.{fault_text}
 use Rattle.sqlb.specs.Lines.{lines, command_of, command_in}
 use Rattle.sqlb.specs.Names.{meaning_of, names}
 use Rattle.sqlb.specs.Output.{Output, open_statement, output, output_of}
-use Rattle.sql_parts.specs.declared.error.SqlBuilderError.TheVariants.{NoSetFields, NoTableName, NoValues}
+use Rattle.sql_builder.specs.SqlBuilderError.TheVariants.{NoSetFields, NoTableName, NoValues}
 use Rattle.sqlb.specs.declared.fault.Reason.{Reason}
 use Rattle.sqlb.specs.declared.fault.Reason.TheVariants.{UnknownCall, WrongArguments, NoStatement, StatementOpen, NoEnd, NotUtf8, Builder}
 use Rattle.sqlb.specs.declared.fault.Fault.TheVariants.{At}

@@ -1,6 +1,6 @@
 -- How faults are printed, and the exit status that each asks for.
 use Rattle.std.specs.Prelude.{ℕ, List, ◌++◌, codes, decimal}
-use Rattle.sql_parts.specs.Error.{message_text}
+use Rattle.sql_builder.specs.Error.{message_text}
 use Rattle.sqlb.specs.declared.fault.Reason.{Reason}
 use Rattle.sqlb.specs.declared.fault.Reason.TheVariants.{UnknownCall, WrongArguments, NoStatement, StatementOpen, NoEnd, NotUtf8, Builder}
 use Rattle.sqlb.specs.declared.fault.Fault.{Fault}

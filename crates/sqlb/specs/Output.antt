@@ -5,7 +5,7 @@ use Rattle.sql_builder.specs.Calls.{StartText, CallText}
 use Rattle.sql_builder.specs.Filters.{any_unfollowed, since, until}
 use Rattle.sqlb.specs.Lines.{lines, CommandResult, Starts, Calls, Finishes, command_of}
 use Rattle.sql_builder.specs.Statement.{statement}
-use Rattle.sql_parts.specs.declared.error.SqlBuilderError.{SqlBuilderError}
+use Rattle.sql_builder.specs.SqlBuilderError.{SqlBuilderError}
 use Rattle.sqlb.specs.declared.fault.Reason.{Reason}
 use Rattle.sqlb.specs.declared.fault.Reason.TheVariants.{NoStatement, StatementOpen, NoEnd, Builder}
 

@@ -1,7 +1,7 @@
 -- How a run ends, by what it read and what it wrote.
 use Rattle.std.specs.Prelude.{◌≡◌, ◌≢◌, ℕ, Bool, true, false, List, [], ◌++◌, Some, None, Result, Ok, Err, flat_map}
 use Rattle.std.specs.Io.{StartsWith}
-use Rattle.sql_parts.specs.Error.{IsMemory}
+use Rattle.sql_builder.specs.Error.{IsMemory}
 use Rattle.sqlb.specs.Output.{Output, output_text}
 use Rattle.sqlb.specs.declared.fault.Fault.{Fault}
 use Rattle.sqlb.specs.declared.fault.Fault.TheVariants.{At, Memory, Read, Write}
@@ -56,3 +56,11 @@ UnlessWriteFails (Err (At line reason)) P = P
 UnlessWriteFails (Err Memory) P = P
 UnlessWriteFails (Err Write) P = Unit {0}
 UnlessWriteFails (Err Read) P = P
+
+-- bytes that were held back are lost only where a read or a write failed
+abbrev pub LosesOnlyIfDeviceFails : {T : Type 0} → Result T Fault → List ℕ → Type 0
+LosesOnlyIfDeviceFails (Ok done) lost = lost ≡ []
+LosesOnlyIfDeviceFails (Err (At line reason)) lost = lost ≡ []
+LosesOnlyIfDeviceFails (Err Memory) lost = lost ≡ []
+LosesOnlyIfDeviceFails (Err Write) lost = Unit {0}
+LosesOnlyIfDeviceFails (Err Read) lost = Unit {0}

@@ -1,10 +1,10 @@
 //! Runs an input, from its bytes to the statements that it prints.
 ghost use Rattle.std.specs.Prelude.{◌≡◌, ◌↔◌, ℕ, List, true, false, IfErr, IsErrOf};
-ghost use Rattle.std.specs.Io.KnownBytes.{Appends, Consumes, IsAtEnd};
+ghost use Rattle.std.specs.Io.KnownBytes.{Appends, Consumes, IsAtEnd, append_known};
 ghost use Rattle.std.specs.Io.Buffered.{writer_contents};
 ghost use Rattle.sqlb.specs.Output.{output};
 ghost use Rattle.sqlb.specs.Ran.{EndsUnlessStopped, FailsOnlyToWrite, NamesNoMemory};
-ghost use Rattle.sqlb.specs.Ran.{Ran, UnlessWriteFails};
+ghost use Rattle.sqlb.specs.Ran.{LosesOnlyIfDeviceFails, Ran, UnlessWriteFails};
 
 use crate::fault::{Fault, Reason};
 use crate::input::read_all;
@@ -76,8 +76,8 @@ pub fn run_input<R: Read, W: Write>(
 }
 
 /// Runs an input as `run_input` does, flushes the buffer before it answers, and gives the writer
-/// back. A flush that fails is the fault `Write`. Where a write or the flush has failed, what is
-/// still held back is lost.
+/// back. Where a write has failed, nothing more is written or flushed; a flush that fails is the
+/// fault `Write`, unless a read has failed. What is still held back then is lost.
 pub(crate) fn run_flushed<R: Read, W: Write + Drop>(
     alloc: Global,
     reader: &mut Watched<R>,
@@ -85,12 +85,16 @@ pub(crate) fn run_flushed<R: Read, W: Write + Drop>(
 ) -> (W, Result<(), Fault>)
     requires reader_not_failed { reader.old.failed ≡ false }
     requires reader_not_ended { reader.old.ended ≡ false }
-    ensures ran { UnlessWriteFails result.1 ((taken : List ℕ) × (written : List ℕ)
+
+    // What the writer holds, with what is lost behind it, is what it and its buffer held and what
+    // was written, which agrees with what the bytes read say to print.
+    ensures ran { (taken : List ℕ) × (written : List ℕ) × (lost : List ℕ)
         × Consumes (R.remaining reader.old.inner) (R.remaining reader.new.inner) taken
-        × Appends (writer_contents W.contents writer) (W.contents result.0) written
+        × Appends (writer_contents W.contents writer) (append_known (W.contents result.0) lost) written
         × Ran result.1 written (output taken)
-        × EndsUnlessStopped result.1 written reader.new.ended) }
-    ensures read { IsErrOf result.1 Fault.Read → reader.new.failed ≡ true }
+        × LosesOnlyIfDeviceFails result.1 lost
+        × UnlessWriteFails result.1 (EndsUnlessStopped result.1 written reader.new.ended) }
+    ensures read { IsErrOf result.1 Fault.Read ↔ (reader.new.failed ≡ true) }
     ensures no_memory { IfErr result.1 NamesNoMemory }
 {
     let mut writer = Watched::new(writer);
@@ -103,8 +107,9 @@ pub(crate) fn run_flushed<R: Read, W: Write + Drop>(
     }
     let flushed = buffered.flush();
     let writer = buffered.into_parts().0;
-    match flushed {
-        Ok(()) => (writer, answer),
-        Err(_) => (writer, Err(Fault::Write)),
+    match answer {
+        Err(Fault::Read) => (writer, Err(Fault::Read)),
+        _ if flushed.is_err() => (writer, Err(Fault::Write)),
+        _ => (writer, answer),
     }
 }

@@ -104,6 +104,45 @@ impl Write for Small {
     }
 
     fn flush(&mut self) -> io::Result<()> {
+        self.calls = self.calls.saturating_add(1);
+        if self.calls == self.fails_at {
+            return Err(io::Error::from(ErrorKind::StorageFull));
+        }
+        Ok(())
+    }
+}
+
+/// Notes how many calls are made, and how long the slice of the last one is.
+#[derive(Drop)]
+struct Noting {
+    calls: usize,
+    len: usize,
+}
+
+impl Read for Noting {
+    ghost use Rattle.std.specs.Prelude.{None};
+
+    ghost remaining = { λ s. None };
+
+    fn read(&mut self, buf: &mut [u8]) -> io::Result<usize> {
+        self.calls = self.calls.saturating_add(1);
+        self.len = buf.len();
+        Ok(self.len.min(3))
+    }
+}
+
+impl Write for Noting {
+    ghost use Rattle.std.specs.Prelude.{None};
+
+    ghost contents = { λ s. None };
+
+    fn write(&mut self, buf: &[u8]) -> io::Result<usize> {
+        self.calls = self.calls.saturating_add(1);
+        self.len = buf.len();
+        Ok(self.len.min(3))
+    }
+
+    fn flush(&mut self) -> io::Result<()> {
         Ok(())
     }
 }
@@ -363,6 +402,30 @@ fn a_buffered_run_is_flushed(rt: HostRuntime) -> Result<(), Fail> {
     Ok(())
 }
 
+// The last of the seven calls is the flush.
+#[test]
+fn a_buffered_run_ends_with_the_call_that_fails(rt: HostRuntime) -> Result<(), Fail> {
+    for at in 1..8 {
+        let mut reader = Watched::new(TWO);
+        let writer = BufWriter::with_capacity(rt.alloc(), 24, Small::new(HELD, 7, at))?;
+        let (writer, answer) = run_flushed(rt.alloc(), &mut reader, writer);
+        assert!(rt; matches!(answer, Err(Fault::Write)), "at {at}");
+        assert_eq!(rt; writer.calls, at, "at {at}");
+        assert!(rt; TWO_PRINTS.starts_with(writer.held()), "at {at}");
+    }
+    Ok(())
+}
+
+#[test]
+fn a_buffered_run_says_that_a_read_failed(rt: HostRuntime) -> Result<(), Fail> {
+    let mut reader = Watched::new(Slow::new(TWO, 7, 2));
+    let writer = BufWriter::with_capacity(rt.alloc(), 24, Small::new(HELD, 7, 1))?;
+    let (writer, answer) = run_flushed(rt.alloc(), &mut reader, writer);
+    assert!(rt; matches!(answer, Err(Fault::Read)));
+    assert!(rt; writer.held().is_empty());
+    Ok(())
+}
+
 #[test]
 fn prints_a_fault_as_one_line(rt: HostRuntime) -> Result<(), Fail> {
     let fault = Fault::At(
@@ -387,6 +450,20 @@ fn prints_a_fault_as_one_line(rt: HostRuntime) -> Result<(), Fail> {
     let (line, exit) = fault_line(rt.alloc(), Err(Fault::Memory));
     assert_eq!(rt; line.as_slice(), b"Out of memory\n".as_slice());
     assert_eq!(rt; exit, 1);
+    Ok(())
+}
+
+#[test]
+fn watched_hands_on_the_whole_slice(rt: HostRuntime) -> Result<(), Fail> {
+    let mut reader = Watched::new(Noting { calls: 0, len: 0 });
+    assert_eq!(rt; reader.read(&mut [0; 1000])?, 3);
+    let reader = reader.into_inner();
+    assert_eq!(rt; (reader.calls, reader.len), (1, 1000));
+
+    let mut writer = Watched::new(Noting { calls: 0, len: 0 });
+    assert_eq!(rt; writer.write(&[0; 1000])?, 3);
+    let writer = writer.into_inner();
+    assert_eq!(rt; (writer.calls, writer.len), (1, 1000));
     Ok(())
 }
 
