@@ -12,7 +12,6 @@ pub mod Shape
 pub mod Statement
 pub mod Steps
 pub mod Text
-
 -- what the contracts here cite of the library below, for callers that list this one alone
 pub use Rattle.sql_parts.specs.Apart
 pub use Rattle.sql_parts.specs.Error

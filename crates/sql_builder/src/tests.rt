@@ -832,7 +832,7 @@ fn tell_comparison(
     Ok(())
 }
 
-fn tell_like(
+fn tell_and_like(
     builder: &mut SqlBuilder,
     name: &str,
     field: &str,
@@ -847,6 +847,18 @@ fn tell_like(
         "and_where_not_like_right" => builder.and_where_not_like_right(field, mask)?,
         "and_where_not_like_left" => builder.and_where_not_like_left(field, mask)?,
         "and_where_not_like_any" => builder.and_where_not_like_any(field, mask)?,
+        _ => return Err(UNKNOWN),
+    };
+    Ok(())
+}
+
+fn tell_or_like(
+    builder: &mut SqlBuilder,
+    name: &str,
+    field: &str,
+    mask: &str,
+) -> Result<(), SqlBuilderError> {
+    match name {
         "or_where_like" => builder.or_where_like(field, mask)?,
         "or_where_like_right" => builder.or_where_like_right(field, mask)?,
         "or_where_like_left" => builder.or_where_like_left(field, mask)?,
@@ -922,7 +934,10 @@ fn tell_condition(
     match arguments {
         [field, values @ ..] if is_list => tell_among(builder, name, field, values),
         [text] => tell_unary(builder, name, text),
-        [field, mask] if name.contains("_like") => tell_like(builder, name, field, mask),
+        [field, mask] if name.contains("_like") && name.starts_with("and") => {
+            tell_and_like(builder, name, field, mask)
+        }
+        [field, mask] if name.contains("_like") => tell_or_like(builder, name, field, mask),
         [field, query] if name.ends_with("_query") => tell_query(builder, name, field, query),
         [field, value] => tell_comparison(builder, name, field, value),
         [field, least, greatest] => tell_range(builder, name, field, least, greatest),
@@ -1248,15 +1263,18 @@ fn binds_rows_of_an_insert(alloc: Global) -> Made {
         .binds(alloc, numbers.as_slice())
 }
 
+fn range_to_bind(alloc: Global) -> Made {
+    SqlBuilder::delete_from(alloc, "company")?
+        .and_where("salary >= :min:")?
+        .and_where("salary <= :max:")?
+        .sql()
+}
+
 fn binds_names_of_a_condition(alloc: Global) -> Made {
     let mut range: HashMap<&str, Box<dyn SqlArg>> = HashMap::new(alloc);
     let _ = range.insert("min", Box::new(alloc, 1_000)?)?;
     let _ = range.insert("max", Box::new(alloc, 25_000)?)?;
-    SqlBuilder::delete_from(alloc, "company")?
-        .and_where("salary >= :min:")?
-        .and_where("salary <= :max:")?
-        .sql()?
-        .bind_names(alloc, &range)
+    range_to_bind(alloc)?.bind_names(alloc, &range)
 }
 
 fn binds_numbers_beside_quoted_text(alloc: Global) -> Made {

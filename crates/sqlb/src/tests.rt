@@ -1,6 +1,6 @@
 //! What no clause says: that calls succeed where there is memory, what is printed, and what a run
 //! does where a reader or a writer fails.
-ghost use Rattle.std.specs.Prelude.{◌<◌, ◌≤◌};
+ghost use Rattle.std.specs.Prelude.{◌<◌, ◌≤◌, IfOk};
 
 use crate::fault::{Fault, Reason};
 use crate::output::write_fault;
@@ -55,7 +55,7 @@ impl<'a> Read for Slow<'a> {
 
 const HELD: usize = 128;
 
-/// Takes a few bytes a call into a few places, and fails at one call alone.
+/// Takes a few bytes a write into a few places, and fails at one call alone, a write or a flush.
 #[derive(Drop)]
 struct Small {
     bytes: [u8; HELD],
@@ -112,34 +112,44 @@ impl Write for Small {
     }
 }
 
-/// Notes how many calls are made, and how long the slice of the last one is.
+/// Notes how often it is called and how long a slice it is handed, and answers what it is to give.
 #[derive(Drop)]
 struct Noting {
     calls: usize,
     len: usize,
+    gives: Option<usize>,
+}
+
+impl Noting {
+    fn new(gives: Option<usize>) -> Self {
+        Noting {
+            calls: 0,
+            len: 0,
+            gives,
+        }
+    }
+
+    fn note(&mut self, len: usize) -> io::Result<usize>
+        ensures { IfOk result (λ n. n ≤ len) }
+    {
+        self.calls = self.calls.saturating_add(1);
+        self.len = len;
+        match self.gives {
+            Some(n) => Ok(n.min(len)),
+            None => Err(io::Error::from(ErrorKind::BrokenPipe)),
+        }
+    }
 }
 
 impl Read for Noting {
-    ghost use Rattle.std.specs.Prelude.{None};
-
-    ghost remaining = { λ s. None };
-
     fn read(&mut self, buf: &mut [u8]) -> io::Result<usize> {
-        self.calls = self.calls.saturating_add(1);
-        self.len = buf.len();
-        Ok(self.len.min(3))
+        self.note(buf.len())
     }
 }
 
 impl Write for Noting {
-    ghost use Rattle.std.specs.Prelude.{None};
-
-    ghost contents = { λ s. None };
-
     fn write(&mut self, buf: &[u8]) -> io::Result<usize> {
-        self.calls = self.calls.saturating_add(1);
-        self.len = buf.len();
-        Ok(self.len.min(3))
+        self.note(buf.len())
     }
 
     fn flush(&mut self) -> io::Result<()> {
@@ -388,10 +398,11 @@ fn a_writer_that_is_full_fails_the_run(rt: HostRuntime) -> Result<(), Fail> {
 
 #[test]
 fn a_buffered_run_is_flushed(rt: HostRuntime) -> Result<(), Fail> {
-    for room in [42, 41, 0] {
+    for (room, calls) in [(42, 8), (41, 8), (0, 1)] {
         let mut reader = Watched::new(TWO);
         let writer = BufWriter::with_capacity(rt.alloc(), 24, Small::new(room, 7, 0))?;
         let (writer, answer) = run_flushed(rt.alloc(), &mut reader, writer);
+        assert_eq!(rt; writer.calls, calls, "room {room}");
         let is_held = writer.held() == TWO_PRINTS;
         assert_eq!(rt; is_held, room == 42, "room {room}");
         assert!(rt; TWO_PRINTS.starts_with(writer.held()), "room {room}");
@@ -402,16 +413,33 @@ fn a_buffered_run_is_flushed(rt: HostRuntime) -> Result<(), Fail> {
     Ok(())
 }
 
-// The last of the seven calls is the flush.
+const FOUR: &[u8] = b"select_from\tt\nsql\nselect_from\tbooks\nfield\ttitle\nsql\n\
+    select_from\tt\nsql\nselect_from\tbooks\nfield\ttitle\nsql\n";
+
+const FOUR_PRINTS: &[u8] = b"SELECT * FROM t;\nSELECT title FROM books;\n\
+    SELECT * FROM t;\nSELECT title FROM books;\n";
+
 #[test]
-fn a_buffered_run_ends_with_the_call_that_fails(rt: HostRuntime) -> Result<(), Fail> {
-    for at in 1..8 {
-        let mut reader = Watched::new(TWO);
-        let writer = BufWriter::with_capacity(rt.alloc(), 24, Small::new(HELD, 7, at))?;
-        let (writer, answer) = run_flushed(rt.alloc(), &mut reader, writer);
-        assert!(rt; matches!(answer, Err(Fault::Write)), "at {at}");
-        assert_eq!(rt; writer.calls, at, "at {at}");
-        assert!(rt; TWO_PRINTS.starts_with(writer.held()), "at {at}");
+fn a_buffered_run_stops_at_the_first_call_that_fails(rt: HostRuntime) -> Result<(), Fail> {
+    // How many bytes a write takes, and how many calls a run makes, the last of them the flush.
+    for (step, calls) in [(7, 15), (HELD, 6)] {
+        for at in 1..=calls + 1 {
+            let mut reader = Watched::new(FOUR);
+            let writer = BufWriter::with_capacity(rt.alloc(), 24, Small::new(HELD, step, at))?;
+            let (writer, answer) = run_flushed(rt.alloc(), &mut reader, writer);
+            assert_eq!(rt; writer.calls, at.min(calls), "step {step} at {at}");
+            assert!(rt;
+                FOUR_PRINTS.starts_with(writer.held()),
+                "step {step} at {at}"
+            );
+            let (line, _) = fault_line(rt.alloc(), answer);
+            let wanted: &[u8] = if at > calls { b"" } else { b"write failed\n" };
+            assert_eq!(rt; line.as_slice(), wanted, "step {step} at {at}");
+            assert!(rt;
+                at < calls || writer.held() == FOUR_PRINTS,
+                "step {step} at {at}"
+            );
+        }
     }
     Ok(())
 }
@@ -455,15 +483,23 @@ fn prints_a_fault_as_one_line(rt: HostRuntime) -> Result<(), Fail> {
 
 #[test]
 fn watched_hands_on_the_whole_slice(rt: HostRuntime) -> Result<(), Fail> {
-    let mut reader = Watched::new(Noting { calls: 0, len: 0 });
-    assert_eq!(rt; reader.read(&mut [0; 1000])?, 3);
-    let reader = reader.into_inner();
-    assert_eq!(rt; (reader.calls, reader.len), (1, 1000));
+    let mut buf = [0; 1000];
+    for gives in [Some(1000), Some(3), Some(0), None] {
+        let wanted = gives.ok_or(ErrorKind::BrokenPipe);
+        let mut reader = Watched::new(Noting::new(gives));
+        let answer = reader.read(&mut buf).map_err(|e| e.kind());
+        assert_eq!(rt; answer, wanted, "a read that gives {gives:?}");
+        let noted = reader.into_inner();
+        assert_eq!(rt; noted.calls, 1, "a read that gives {gives:?}");
+        assert_eq!(rt; noted.len, 1000, "a read that gives {gives:?}");
 
-    let mut writer = Watched::new(Noting { calls: 0, len: 0 });
-    assert_eq!(rt; writer.write(&[0; 1000])?, 3);
-    let writer = writer.into_inner();
-    assert_eq!(rt; (writer.calls, writer.len), (1, 1000));
+        let mut writer = Watched::new(Noting::new(gives));
+        let answer = writer.write(&buf).map_err(|e| e.kind());
+        assert_eq!(rt; answer, wanted, "a write that gives {gives:?}");
+        let noted = writer.into_inner();
+        assert_eq!(rt; noted.calls, 1, "a write that gives {gives:?}");
+        assert_eq!(rt; noted.len, 1000, "a write that gives {gives:?}");
+    }
     Ok(())
 }
 
