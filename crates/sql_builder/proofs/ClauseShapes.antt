@@ -13,8 +13,8 @@ use Rattle.sql_builder.specs.Calls as call
 use Rattle.sql_builder.specs.Conditions.{ConditionText, Raw, Compare, Like, IsNull, IsNotNull, InList, InQuoted, InQuery, Between, mask_text, not_text, relation_text}
 use Rattle.sql_builder.specs.Filters.{Group, in_place, last_said, since, until}
 use Rattle.sql_builder.specs.Phrases.{comma_list, count, count_as, equation, join_words, order}
-use Rattle.sql_builder.specs.Clauses.{map_clauses}
-use Rattle.sql_builder.specs.Shape.{EndsInOneSemicolon, has_closed_fragments, has_no_semicolons, AddsCondition, AddsText, HasClosedFragments, HasShape, pieces_tokens, shape}
+use Rattle.sql_builder.specs.Clauses.{Clauses, map_clauses}
+use Rattle.sql_builder.specs.Shape.{EndsInOneSemicolon, has_closed_fragments, has_no_semicolons, AddsCondition, AddsText, HasClosedFragments, KeepsTokens, as_fragments, pieces_tokens, shape}
 use Rattle.sql_builder.specs.Statement.{layout_at, pieces, refusal_at, statement, text_unless_refused, unless_refused}
 use Rattle.sql_builder.specs.Text.{Pieces, fixed_piece, pieces_text, quoted_piece, raw_piece}
 use Rattle.sql_builder.specs.Steps.{AddsPair, with_pair}
@@ -27,7 +27,7 @@ use Rattle.sql_builder.specs.declared.calls.Relation.{Relation}
 use Rattle.sql_builder.specs.declared.calls.Relation.TheVariants.{Eq, Ne, Gt, Ge, Lt, Le}
 use Rattle.sql_builder.specs.declared.clauses.JoinOperator.{JoinOperator}
 use Rattle.sql_builder.specs.declared.clauses.JoinOperator.TheVariants as operator
-use Rattle.sql_builder.proofs.Layouts.{sql-semicolon, Parts, items-inside, layout-shaped, raw-all}
+use Rattle.sql_builder.proofs.Layouts.{sql-semicolon, Parts, fragments-printed, items-inside, layout-shaped, raw-all, raw-parts}
 use Rattle.sql_parts.proofs.JoinedTokens.{Edged}
 use Rattle.sql_builder.proofs.Shapes.{AllInside, Behind, Inside, Shaped, Whole, all-flat, brackets-inside, ended-inside, inside-inside, joined-inside, none-behind, none-inside, quoted-inside, raw-inside, shape_closed, shaped, whole, words-behind, words-ended, words-inside}
 
@@ -296,41 +296,48 @@ module _ {Z : Type 0} (start : StartText) (calls : List CallText) (finish : Fini
   statement_closed (Ok s) is all = printed-closed _ (printed-shaped start calls finish) (refusal_at finish (map_clauses pieces_text (clauses start calls))) (string_bytes s) is all
 
 -- what a condition and a call with two texts print
-shape-of : (printed : Pieces) (text : List ℕ) → Inside printed → pieces_text printed ≡ text → HasShape printed text
-shape-of printed text inside is = λ all. ap tokens (sym is) ∙ (shaped printed inside).shape_is all
+keeps : (printed : Pieces) (text : List ℕ) → Inside printed → pieces_text printed ≡ text → KeepsTokens printed text
+keeps printed text inside is =
+    (λ all. ap tokens (sym is) ∙ (shaped printed inside).shape_is all, λ all. ap closed (sym is) ∙ shape_closed printed (shaped printed inside) all)
 
-pub condition_shape : (condition : ConditionText) → HasShape (condition_pieces condition) (condition_bytes condition)
-condition_shape condition = shape-of (condition_pieces condition) (condition_bytes condition) (condition-inside condition) (condition_printed condition)
+pub condition_keeps : (condition : ConditionText) → KeepsTokens (condition_pieces condition) (condition_bytes condition)
+condition_keeps condition = keeps (condition_pieces condition) (condition_bytes condition) (condition-inside condition) (condition_printed condition)
 
-pub equation_shape : (left right : List ℕ) → HasShape (equation fixed_piece (raw_piece left) (raw_piece right)) (equation byte_atoms left right)
-equation_shape left right = shape-of (equation fixed_piece (raw_piece left) (raw_piece right)) (equation byte_atoms left right)
+pub equation_keeps : (left right : List ℕ) → KeepsTokens (equation fixed_piece (raw_piece left) (raw_piece right)) (equation byte_atoms left right)
+equation_keeps left right = keeps (equation fixed_piece (raw_piece left) (raw_piece right)) (equation byte_atoms left right)
     (equation-inside (raw_piece left) (raw_piece right) (raw-inside left) (raw-inside right)) (simp append-nil)
 
-pub quoted_equation_shape : (field value : List ℕ)
-    → HasShape (equation fixed_piece (raw_piece field) (quoted_piece value)) (equation byte_atoms field (quoted value))
-quoted_equation_shape field value = shape-of (equation fixed_piece (raw_piece field) (quoted_piece value)) (equation byte_atoms field (quoted value))
+pub quoted_equation_keeps : (field value : List ℕ)
+    → KeepsTokens (equation fixed_piece (raw_piece field) (quoted_piece value)) (equation byte_atoms field (quoted value))
+quoted_equation_keeps field value = keeps (equation fixed_piece (raw_piece field) (quoted_piece value)) (equation byte_atoms field (quoted value))
     (equation-inside (raw_piece field) (quoted_piece value) (raw-inside field) (quoted-inside value)) (simp append-nil)
 
-pub count_as_shape : (field name : List ℕ) → HasShape (count_as fixed_piece (raw_piece field) (raw_piece name)) (count_as byte_atoms field name)
-count_as_shape field name = shape-of (count_as fixed_piece (raw_piece field) (raw_piece name)) (count_as byte_atoms field name) (count_as-inside field name) (simp append-nil)
+pub count_as_keeps : (field name : List ℕ) → KeepsTokens (count_as fixed_piece (raw_piece field) (raw_piece name)) (count_as byte_atoms field name)
+count_as_keeps field name = keeps (count_as fixed_piece (raw_piece field) (raw_piece name)) (count_as byte_atoms field name) (count_as-inside field name) (simp append-nil)
 
 -- a record that has a text added has its tokens added
-adds : (adding : List ℕ → ClauseTexts) (text : List ℕ) (printed : Pieces) (new : ClauseTexts) → HasShape printed text → new ≡ adding text → AddsText adding text printed new
-adds adding text printed new keeps is = (is, (text, is, keeps))
+adds : (adding : List ℕ → ClauseTexts) (text : List ℕ) (printed : Pieces) (new : ClauseTexts) → KeepsTokens printed text → new ≡ adding text → AddsText adding text printed new
+adds adding text printed new keeps is = (is, keeps.0, keeps.1)
 
 pub adds_condition : (family : Family) (condition : ConditionText) (old new : ClauseTexts) → new ≡ with_condition family condition old → AddsCondition family condition old new
 adds_condition family condition old new is =
-    adds (λ added. with_condition_text family added old) (condition_bytes condition) (condition_pieces condition) new (condition_shape condition) is
+    adds (λ added. with_condition_text family added old) (condition_bytes condition) (condition_pieces condition) new (condition_keeps condition) is
 
 pub adds_pair : (clause : PairClause) (one other : List ℕ) (old new : ClauseTexts) → new ≡ with_pair clause one other old → AddsPair clause one other old new
 adds_pair pair.OnEq left right old new is =
-    adds (λ added. with_on added old) (equation byte_atoms left right) (equation fixed_piece (raw_piece left) (raw_piece right)) new (equation_shape left right) is
+    adds (λ added. with_on added old) (equation byte_atoms left right) (equation fixed_piece (raw_piece left) (raw_piece right)) new (equation_keeps left right) is
 adds_pair pair.CountAs field name old new is =
-    adds (λ added. with_fields (added ∷ []) old) (count_as byte_atoms field name) (count_as fixed_piece (raw_piece field) (raw_piece name)) new (count_as_shape field name) is
+    adds (λ added. with_fields (added ∷ []) old) (count_as byte_atoms field name) (count_as fixed_piece (raw_piece field) (raw_piece name)) new (count_as_keeps field name) is
 adds_pair pair.SetTo field value old new is =
-    adds (λ added. with_set added old) (equation byte_atoms field value) (equation fixed_piece (raw_piece field) (raw_piece value)) new (equation_shape field value) is
+    adds (λ added. with_set added old) (equation byte_atoms field value) (equation fixed_piece (raw_piece field) (raw_piece value)) new (equation_keeps field value) is
 adds_pair pair.SetStr field value old new is =
-    adds (λ added. with_set added old) (equation byte_atoms field (quoted value)) (equation fixed_piece (raw_piece field) (quoted_piece value)) new (quoted_equation_shape field value) is
+    adds (λ added. with_set added old) (equation byte_atoms field (quoted value)) (equation fixed_piece (raw_piece field) (quoted_piece value)) new (quoted_equation_keeps field value) is
+
+-- the `;` of what a builder prints
+pub builder_semicolon : (r : Clauses (List ℕ)) → IsTrue (has_closed_fragments (sql fixed_piece (as_fragments r)))
+    → IsTrue (has_no_semicolons (sql fixed_piece (as_fragments r))) → EndsInOneSemicolon (tokens (sql byte_atoms r))
+builder_semicolon r is plain =
+    subst (λ text. EndsInOneSemicolon (tokens text)) (fragments-printed call.Sql r) (sql-semicolon (as_fragments r) (raw-parts r) is plain)
 
 -- the `;` of a statement
 module _ (start : StartText) (calls : List CallText) where

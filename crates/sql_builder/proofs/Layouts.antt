@@ -268,7 +268,7 @@ fragment-texts r = λ i. record {
   offset = raw-text r.offset i;
 }
 
-fragments-printed : (finish : FinishText) (r : Clauses (List ℕ)) → pieces_text (layout_at fixed_piece raw_piece finish (as_fragments r)) ≡ text_at finish r
+pub fragments-printed : (finish : FinishText) (r : Clauses (List ℕ)) → pieces_text (layout_at fixed_piece raw_piece finish (as_fragments r)) ≡ text_at finish r
 fragments-printed finish r = text_of_layout finish (as_fragments r) ∙ ap (text_at finish) (fragment-texts r)
 
 -- what a builder prints

@@ -18,6 +18,8 @@ pub use Rattle.sql_parts.specs.Error
 pub use Rattle.sql_parts.specs.Lending
 pub use Rattle.sql_parts.specs.Literal
 pub use Rattle.sql_parts.specs.Name
+pub use Rattle.sql_parts.specs.Pairs
+pub use Rattle.sql_parts.specs.Places
 pub use Rattle.sql_parts.specs.Quoting
 pub use Rattle.sql_parts.specs.Templates
 pub use Rattle.sql_parts.specs.Tokens

@@ -72,15 +72,15 @@ HasClosedFragments start calls finish = IfOk (pieces start calls finish) (λ pri
 abbrev pub IsClosedAs : Pieces → List ℕ → Type 0
 IsClosedAs printed text = IsTrue (has_closed_fragments printed) → IsTrue (closed text)
 
--- the new record has a text added, which has the tokens of these pieces, where their fragments are closed
-abbrev pub HasTokensAdded : (List ℕ → ClauseTexts) → Pieces → ClauseTexts → Type 0
-HasTokensAdded adding printed new = (added : List ℕ) × (new ≡ adding added) × HasShape printed added
+-- where its fragments are closed, a text has the tokens of these pieces and is closed
+abbrev pub KeepsTokens : Pieces → List ℕ → Type 0
+KeepsTokens printed text = HasShape printed text × IsClosedAs printed text
 
--- the new record has this text added, with the tokens of these pieces
+-- the new record has this text added, which has the tokens of these pieces and is closed, where their fragments are closed
 abbrev pub AddsText : (List ℕ → ClauseTexts) → List ℕ → Pieces → ClauseTexts → Type 0
-AddsText adding text printed new = (new ≡ adding text) × HasTokensAdded adding printed new
+AddsText adding text printed new = (new ≡ adding text) × HasShape printed text × IsClosedAs printed text
 
--- the new record has this condition added, with the condition's tokens
+-- the new record has this condition added, which has its tokens and is closed, where its fragments are closed
 abbrev pub AddsCondition : Family → ConditionText → ClauseTexts → ClauseTexts → Type 0
 AddsCondition family condition old new =
     AddsText (λ added. with_condition_text family added old) (condition_bytes condition) (condition_pieces condition) new

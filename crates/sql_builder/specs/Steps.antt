@@ -93,7 +93,7 @@ with_pair pair.CountAs field name r = with_fields (count_as byte_atoms field nam
 with_pair pair.SetTo field value r = with_set (equation byte_atoms field value) r
 with_pair pair.SetStr field value r = with_set (equation byte_atoms field (quoted value)) r
 
--- a call with two texts adds this text, with its tokens
+-- a call with two texts adds this text, with its tokens, where its fragments are closed; without a join `on_eq` adds nothing
 abbrev pub AddsPair : PairClause → List ℕ → List ℕ → ClauseTexts → ClauseTexts → Type 0
 AddsPair pair.OnEq left right old =
     AddsText (λ added. with_on added old) (equation byte_atoms left right)

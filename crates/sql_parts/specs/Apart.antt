@@ -49,6 +49,6 @@ abbrev pub HasBoundTokens : List ℕ → Marks → (Value → LiteralValue) → 
 HasBoundTokens template marks literals text =
     IsTrue (apart template marks) → Some (tokens text) ≡ option_map (bound_tokens literals) (resolve template marks)
 
--- there it is closed
+-- where the values of a template stand apart, a text is closed
 abbrev pub IsClosedIfApart : List ℕ → Marks → List ℕ → Type 0
 IsClosedIfApart template marks text = IsTrue (apart template marks) → IsTrue (closed text)

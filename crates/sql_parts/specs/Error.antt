@@ -16,6 +16,6 @@ abbrev pub IsMemory : SqlBuilderError → Type 0
 IsMemory (Memory error) = Unit {0}
 IsMemory _ = ⊥
 
--- a refusal comes only where a growth was refused
+-- where the call is refused, that is for want of memory
 abbrev pub FailsOnlyByMemory : {T : Type 0} → Result T SqlBuilderError → Type 0
 FailsOnlyByMemory result = IfErr result IsMemory

@@ -27,6 +27,6 @@ abbrev pub DifferInText : LiteralValue → LiteralValue → Type 0
 DifferInText (words one) (words other) = Unit {0}
 DifferInText one other = one ≡ other
 
--- the literals of each value are
+-- the same of the literals of each value
 abbrev pub DifferInTexts : (Value → LiteralValue) → (Value → LiteralValue) → Type 0
 DifferInTexts one other = (value : Value) → DifferInText (one value) (other value)

@@ -15,7 +15,7 @@ pub enum SqlBuilderError {
     NoValues,
     /// An UPDATE sets nothing.
     NoSetFields,
-    /// A text with a place for an argument is to be bound to an empty list.
+    /// `binds` has a text with a `?`, and no argument.
     NoArguments,
     /// A growth was refused.
     Memory(AllocError),
