@@ -308,7 +308,8 @@ impl SqlBuilder {
         self
     }
 
-    /// The joins to come are LEFT joins. It can't be refused, and gives the builder back.
+    /// Until another operator is chosen, the joins to come are LEFT joins. It can't be refused, and
+    /// gives the builder back.
     pub fn left(&mut self) -> &mut Self
         ensures same { result.ghost_name ≡ self.entry.ghost_name }
         ensures changed { result.now ≡ with_operator Left self.old }
@@ -317,7 +318,8 @@ impl SqlBuilder {
         self
     }
 
-    /// The joins to come are LEFT OUTER joins. It can't be refused, and gives the builder back.
+    /// Until another operator is chosen, the joins to come are LEFT OUTER joins. It can't be refused, and
+    /// gives the builder back.
     pub fn left_outer(&mut self) -> &mut Self
         ensures same { result.ghost_name ≡ self.entry.ghost_name }
         ensures changed { result.now ≡ with_operator LeftOuter self.old }
@@ -326,7 +328,8 @@ impl SqlBuilder {
         self
     }
 
-    /// The joins to come are RIGHT joins. It can't be refused, and gives the builder back.
+    /// Until another operator is chosen, the joins to come are RIGHT joins. It can't be refused, and
+    /// gives the builder back.
     pub fn right(&mut self) -> &mut Self
         ensures same { result.ghost_name ≡ self.entry.ghost_name }
         ensures changed { result.now ≡ with_operator Right self.old }
@@ -335,7 +338,8 @@ impl SqlBuilder {
         self
     }
 
-    /// The joins to come are RIGHT OUTER joins. It can't be refused, and gives the builder back.
+    /// Until another operator is chosen, the joins to come are RIGHT OUTER joins. It can't be refused, and
+    /// gives the builder back.
     pub fn right_outer(&mut self) -> &mut Self
         ensures same { result.ghost_name ≡ self.entry.ghost_name }
         ensures changed { result.now ≡ with_operator RightOuter self.old }
@@ -344,7 +348,8 @@ impl SqlBuilder {
         self
     }
 
-    /// The joins to come are INNER joins. It can't be refused, and gives the builder back.
+    /// Until another operator is chosen, the joins to come are INNER joins. It can't be refused, and
+    /// gives the builder back.
     pub fn inner(&mut self) -> &mut Self
         ensures same { result.ghost_name ≡ self.entry.ghost_name }
         ensures changed { result.now ≡ with_operator Inner self.old }
@@ -353,7 +358,8 @@ impl SqlBuilder {
         self
     }
 
-    /// The joins to come are CROSS joins. It can't be refused, and gives the builder back.
+    /// Until another operator is chosen, the joins to come are CROSS joins. It can't be refused, and
+    /// gives the builder back.
     pub fn cross(&mut self) -> &mut Self
         ensures same { result.ghost_name ≡ self.entry.ghost_name }
         ensures changed { result.now ≡ with_operator Cross self.old }

@@ -381,7 +381,7 @@ impl SqlBuilder {
     /// The statement, ended by `;`. It is refused with `NoTableName` where the table text is empty
     /// and the statement is no SELECT of values; then with `NoValues` where an INSERT has neither
     /// rows nor a query, or a SELECT of values no value, and with `NoSetFields` where an UPDATE
-    /// sets nothing; each before it asks for memory, and else only for want of memory.
+    /// sets nothing; each whether there is memory or not, and else only for want of memory.
     #[tactic(auto, using(crate::proofs::Layouts::sql_shape, crate::proofs::Layouts::sql_closed))]
     pub fn sql(&self) -> Result<String, SqlBuilderError>
         ensures text { IfOk result (λ s. string_bytes s ≡ sql byte_atoms self.now) }

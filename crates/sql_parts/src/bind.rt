@@ -49,8 +49,8 @@ pub trait Bind {
         ensures memory { FailsOnlyByMemory result };
 
     /// The text with the arguments in place of each `?` in turn, the first again after the last.
-    /// A text with a `?` and no argument is refused as `NoArguments`, before any memory is asked
-    /// for.
+    /// A text with a `?` and no argument is refused as `NoArguments`, whether there is memory or
+    /// not. It is else refused only for want of memory.
     fn binds(&self, alloc: Global, args: &[Box<dyn SqlArg>]) -> Result<String, SqlBuilderError>
         ensures text { IfOk result (λ s. Some (string_bytes s)
             ≡ bound (template self.now) (templates.Cycle (length args.now))

@@ -1,4 +1,5 @@
 //! Facts about the definitions that the contracts of this crate speak of.
+ghost use Prim.Native.Char.{code};
 ghost use Rattle.std.specs.Prelude.{◌≡◌, ◌++◌, IsTrue, List, ℕ};
 ghost use Rattle.sql_parts.specs.Apart.{apart};
 ghost use Rattle.sql_parts.specs.Laws.{DifferInTexts, LeavesWithout, UndoesDoubling, WritesApart, token_count};
@@ -20,15 +21,15 @@ pub fn quoting_is_injective()
 /// A text in which each `$` stands twice is given back by `bind_nums`, and one in which each `:`
 /// stands twice by `bind_names`, whatever is bound. It does nothing when it runs.
 pub fn doubling_is_undone()
-    ensures bind_nums { (count : ℕ) → UndoesDoubling 36 (Nums count) }
-    ensures bind_names { UndoesDoubling 58 Names }
+    ensures bind_nums { (count : ℕ) → UndoesDoubling (code "$") (Nums count) }
+    ensures bind_names { UndoesDoubling (code ":") Names }
 {}
 
 /// A text without a `?` is given back by `bind`, and by `binds` of any number of arguments, none
 /// too. It does nothing when it runs.
 pub fn unmarked_is_unchanged()
-    ensures bind { LeavesWithout 63 First }
-    ensures binds { (count : ℕ) → LeavesWithout 63 (Cycle count) }
+    ensures bind { LeavesWithout (code "?") First }
+    ensures binds { (count : ℕ) → LeavesWithout (code "?") (Cycle count) }
 {}
 
 /// Where a text is closed and an edge stands beside the seam, the tokens on both sides of it stay
