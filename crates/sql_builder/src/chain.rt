@@ -155,7 +155,8 @@ impl SqlBuilder {
         ensures* refused { sem 𝓛 (IsUnchangedIfErr self.entry result) }
         ensures changed { IsChangedSoThat self.entry (AddsText (λ added. with_set added self.old)
             (equation byte_atoms (S.text field) (quoted (T.text value)))
-            (equation fixed_piece (raw_piece (S.text field)) (quoted_piece (T.text value)))) result }
+            (equation fixed_piece (raw_piece (S.text field)) (quoted_piece (T.text value))))
+            result }
         ensures memory { FailsOnlyByMemory result }
     {
         release(self.hold_pair(PairClause::SetStr, field, value))
@@ -308,8 +309,8 @@ impl SqlBuilder {
         self
     }
 
-    /// Until another operator is chosen, the joins to come are LEFT joins. It can't be refused, and
-    /// gives the builder back.
+    /// The joins to come are LEFT joins, until another operator is chosen. It can't be
+    /// refused, and gives the builder back.
     pub fn left(&mut self) -> &mut Self
         ensures same { result.ghost_name ≡ self.entry.ghost_name }
         ensures changed { result.now ≡ with_operator Left self.old }
@@ -318,8 +319,8 @@ impl SqlBuilder {
         self
     }
 
-    /// Until another operator is chosen, the joins to come are LEFT OUTER joins. It can't be refused, and
-    /// gives the builder back.
+    /// The joins to come are LEFT OUTER joins, until another operator is chosen. It can't be
+    /// refused, and gives the builder back.
     pub fn left_outer(&mut self) -> &mut Self
         ensures same { result.ghost_name ≡ self.entry.ghost_name }
         ensures changed { result.now ≡ with_operator LeftOuter self.old }
@@ -328,8 +329,8 @@ impl SqlBuilder {
         self
     }
 
-    /// Until another operator is chosen, the joins to come are RIGHT joins. It can't be refused, and
-    /// gives the builder back.
+    /// The joins to come are RIGHT joins, until another operator is chosen. It can't be
+    /// refused, and gives the builder back.
     pub fn right(&mut self) -> &mut Self
         ensures same { result.ghost_name ≡ self.entry.ghost_name }
         ensures changed { result.now ≡ with_operator Right self.old }
@@ -338,8 +339,8 @@ impl SqlBuilder {
         self
     }
 
-    /// Until another operator is chosen, the joins to come are RIGHT OUTER joins. It can't be refused, and
-    /// gives the builder back.
+    /// The joins to come are RIGHT OUTER joins, until another operator is chosen. It can't be
+    /// refused, and gives the builder back.
     pub fn right_outer(&mut self) -> &mut Self
         ensures same { result.ghost_name ≡ self.entry.ghost_name }
         ensures changed { result.now ≡ with_operator RightOuter self.old }
@@ -348,8 +349,8 @@ impl SqlBuilder {
         self
     }
 
-    /// Until another operator is chosen, the joins to come are INNER joins. It can't be refused, and
-    /// gives the builder back.
+    /// The joins to come are INNER joins, until another operator is chosen. It can't be
+    /// refused, and gives the builder back.
     pub fn inner(&mut self) -> &mut Self
         ensures same { result.ghost_name ≡ self.entry.ghost_name }
         ensures changed { result.now ≡ with_operator Inner self.old }
@@ -358,8 +359,8 @@ impl SqlBuilder {
         self
     }
 
-    /// Until another operator is chosen, the joins to come are CROSS joins. It can't be refused, and
-    /// gives the builder back.
+    /// The joins to come are CROSS joins, until another operator is chosen. It can't be
+    /// refused, and gives the builder back.
     pub fn cross(&mut self) -> &mut Self
         ensures same { result.ghost_name ≡ self.entry.ghost_name }
         ensures changed { result.now ≡ with_operator Cross self.old }

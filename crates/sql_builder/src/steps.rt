@@ -432,7 +432,8 @@ impl SqlBuilder {
         text: S,
     ) -> Result<Held<'_>, SqlBuilderError>
         ensures* refused { sem 𝓛 (IsUnchangedIfHeldErr self.entry result) }
-        ensures changed { IsHeldChangedSoThat self.entry (AddsCondition family (unary_condition condition (S.text text)) self.old) result }
+        ensures changed { IsHeldChangedSoThat self.entry
+            (AddsCondition family (unary_condition condition (S.text text)) self.old) result }
         ensures memory { FailsOnlyByMemory result }
     {
         let text = unary(self.alloc, condition, text)?;

@@ -1,10 +1,21 @@
 -- What the laws state.
+use Prim.Native.Char.{code}
 use Rattle.std.specs.Prelude.{◌≡◌, ◌≢◌, ℕ, List, Option, Some, length, option_map}
 use Rattle.std.specs.List.{All}
 use Rattle.sql_parts.specs.Literal.{LiteralValue, words}
 use Rattle.sql_parts.specs.Quoting.{doubled}
 use Rattle.sql_parts.specs.Templates.{Marks, Value, bound}
 use Rattle.sql_parts.specs.Tokens.{tokens}
+
+-- the bytes that markers begin with
+abbrev pub dollar : ℕ
+dollar = code "$"
+
+abbrev pub colon : ℕ
+colon = code ":"
+
+abbrev pub question_mark : ℕ
+question_mark = code "?"
 
 -- texts that are written alike are the same text
 abbrev pub WritesApart : (List ℕ → List ℕ) → Type 0

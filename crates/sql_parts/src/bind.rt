@@ -56,7 +56,8 @@ pub trait Bind {
             ≡ bound (template self.now) (templates.Cycle (length args.now))
             (listed (map (λ b. literal b) args.now))) }
         ensures tokens { IfOk result (λ s. HasBoundTokens (template self.now)
-            (templates.Cycle (length args.now)) (listed (map (λ b. literal b) args.now)) (string_bytes s)) }
+            (templates.Cycle (length args.now)) (listed (map (λ b. literal b) args.now))
+            (string_bytes s)) }
         ensures closed { IfOk result (λ s. IsClosedIfApart (template self.now)
             (templates.Cycle (length args.now)) (string_bytes s)) }
         ensures refused { resolve (template self.now) (templates.Cycle (length args.now)) ≡ None
@@ -88,7 +89,8 @@ pub trait Bind {
             ≡ bound (template self.now) (templates.Nums (length args.now))
             (listed (map (λ b. literal b) args.now))) }
         ensures tokens { IfOk result (λ s. HasBoundTokens (template self.now)
-            (templates.Nums (length args.now)) (listed (map (λ b. literal b) args.now)) (string_bytes s)) }
+            (templates.Nums (length args.now)) (listed (map (λ b. literal b) args.now))
+            (string_bytes s)) }
         ensures closed { IfOk result (λ s. IsClosedIfApart (template self.now)
             (templates.Nums (length args.now)) (string_bytes s)) }
         ensures memory { FailsOnlyByMemory result };

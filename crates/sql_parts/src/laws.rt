@@ -1,8 +1,7 @@
 //! Facts about the definitions that the contracts of this crate speak of.
-ghost use Prim.Native.Char.{code};
 ghost use Rattle.std.specs.Prelude.{◌≡◌, ◌++◌, IsTrue, List, ℕ};
 ghost use Rattle.sql_parts.specs.Apart.{apart};
-ghost use Rattle.sql_parts.specs.Laws.{DifferInTexts, LeavesWithout, UndoesDoubling, WritesApart, token_count};
+ghost use Rattle.sql_parts.specs.Laws.{DifferInTexts, LeavesWithout, UndoesDoubling, WritesApart, colon, dollar, question_mark, token_count};
 ghost use Rattle.sql_parts.specs.Quoting.{baquoted, brquoted, dquoted, escaped, quoted};
 ghost use Rattle.sql_parts.specs.Literal.{LiteralValue};
 ghost use Rattle.sql_parts.specs.Templates.{Cycle, First, Marks, Names, Nums, Value, bound};
@@ -21,15 +20,15 @@ pub fn quoting_is_injective()
 /// A text in which each `$` stands twice is given back by `bind_nums`, and one in which each `:`
 /// stands twice by `bind_names`, whatever is bound. It does nothing when it runs.
 pub fn doubling_is_undone()
-    ensures bind_nums { (count : ℕ) → UndoesDoubling (code "$") (Nums count) }
-    ensures bind_names { UndoesDoubling (code ":") Names }
+    ensures bind_nums { (count : ℕ) → UndoesDoubling dollar (Nums count) }
+    ensures bind_names { UndoesDoubling colon Names }
 {}
 
 /// A text without a `?` is given back by `bind`, and by `binds` of any number of arguments, none
 /// too. It does nothing when it runs.
 pub fn unmarked_is_unchanged()
-    ensures bind { LeavesWithout (code "?") First }
-    ensures binds { (count : ℕ) → LeavesWithout (code "?") (Cycle count) }
+    ensures bind { LeavesWithout question_mark First }
+    ensures binds { (count : ℕ) → LeavesWithout question_mark (Cycle count) }
 {}
 
 /// Where a text is closed and an edge stands beside the seam, the tokens on both sides of it stay
