@@ -6,40 +6,24 @@ use std::test::Fail;
 
 type Named = Result<String, SqlBuilderError>;
 
-fn safe_part_and_a_comma(alloc: Global) -> Named {
-    Ok(name!(alloc, "safe_name",))
+fn safe(alloc: Global) -> Named {
+    Ok(name!(alloc, "BOOKS"))
 }
 
-fn safe_parts_and_an_alias(alloc: Global) -> Named {
-    Ok(name!(alloc, "safe_name", "sub"; "sn"))
-}
-
-fn books(alloc: Global) -> Named {
-    Ok(name!(alloc, "public", "BOOKS"; "b"))
-}
-
-fn spaced_and_an_alias(alloc: Global) -> Named {
-    Ok(name!(alloc, "spaced name"; "s n"))
-}
-
-fn awesome(alloc: Global) -> Named {
+fn quoted(alloc: Global) -> Named {
     Ok(qname!(alloc, "some 'awesome' name"))
 }
 
-fn quoted_parts_and_an_alias(alloc: Global) -> Named {
-    Ok(qname!(alloc, "safe_name", "sub"; "sn"))
+fn baquoted(alloc: Global) -> Named {
+    Ok(baname!(alloc, "books"))
 }
 
-fn baquoted_parts_and_an_alias(alloc: Global) -> Named {
-    Ok(baname!(alloc, "safe_name", "sub"; "sn"))
+fn brquoted(alloc: Global) -> Named {
+    Ok(brname!(alloc, "books"))
 }
 
-fn brquoted_parts_and_an_alias(alloc: Global) -> Named {
-    Ok(brname!(alloc, "safe_name", "sub"; "sn"))
-}
-
-fn dquoted_parts_and_an_alias(alloc: Global) -> Named {
-    Ok(dname!(alloc, "safe_name", "sub"; "sn"))
+fn dquoted(alloc: Global) -> Named {
+    Ok(dname!(alloc, "books"))
 }
 
 fn statement(alloc: Global) -> Named {
@@ -51,17 +35,14 @@ fn statement(alloc: Global) -> Named {
         .sql()
 }
 
-/// Each macro, names in the calls of a builder, and what they write.
-const BY_MACROS: [(fn(Global) -> Named, &str); 10] = [
-    (safe_part_and_a_comma, "safe_name"),
-    (safe_parts_and_an_alias, "safe_name.sub AS sn"),
-    (books, "`public`.`BOOKS` AS b"),
-    (spaced_and_an_alias, "`spaced name` AS `s n`"),
-    (awesome, "'some ''awesome'' name'"),
-    (quoted_parts_and_an_alias, "'safe_name'.'sub' AS sn"),
-    (baquoted_parts_and_an_alias, "`safe_name`.`sub` AS sn"),
-    (brquoted_parts_and_an_alias, "[safe_name].[sub] AS sn"),
-    (dquoted_parts_and_an_alias, "\"safe_name\".\"sub\" AS sn"),
+/// Each macro, names in the calls of a builder, and what they write; more of them stand in the tests
+/// of `sql_parts`.
+const BY_MACROS: [(fn(Global) -> Named, &str); 6] = [
+    (safe, "`BOOKS`"),
+    (quoted, "'some ''awesome'' name'"),
+    (baquoted, "`books`"),
+    (brquoted, "[books]"),
+    (dquoted, "\"books\""),
     (
         statement,
         "SELECT b.title FROM books AS b LEFT JOIN shops AS s ON b.id = s.book;",
