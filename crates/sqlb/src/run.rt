@@ -64,6 +64,9 @@ pub fn run_input<R: Read, W: Write>(
         × EndsUnlessStopped result written reader.new.ended }
     ensures end { reader.new.ended ≡ true → IsAtEnd (R.remaining reader.new.inner) }
 
+    // No call of the writer is made before the reader has ended.
+    ensures unwritten { reader.new.ended ≡ false → writer.new ≡ writer.old }
+
     // A device's fault is answered exactly where that device has failed.
     ensures read { IsErrOf result Fault.Read ↔ (reader.new.failed ≡ true) }
     ensures write { IsErrOf result Fault.Write ↔ (writer.new.failed ≡ true) }
@@ -99,17 +102,15 @@ pub(crate) fn run_flushed<R: Read, W: Write + Drop>(
 {
     let mut writer = Watched::new(writer);
     let answer = run_input(alloc, reader, &mut writer);
-    let has_failed = writer.failed();
-    let mut buffered = writer.into_inner();
     // Dropped whole, a buffered writer would try once more to write what it holds.
-    if has_failed {
-        return (buffered.into_parts().0, Err(Fault::Write));
+    if writer.failed() {
+        return (writer.into_inner().into_parts().0, Err(Fault::Write));
     }
-    let flushed = buffered.flush();
-    let writer = buffered.into_parts().0;
+    let flushed = writer.flush_on();
+    let below = writer.into_inner().into_parts().0;
     match answer {
-        Err(Fault::Read) => (writer, Err(Fault::Read)),
-        _ if flushed.is_err() => (writer, Err(Fault::Write)),
-        _ => (writer, answer),
+        Err(Fault::Read) => (below, Err(Fault::Read)),
+        _ if flushed.is_err() => (below, Err(Fault::Write)),
+        _ => (below, answer),
     }
 }

@@ -1,11 +1,12 @@
 //! A reader or a writer that remembers whether it failed and whether it ended.
-ghost use Rattle.std.specs.Prelude.{◌≡◌, ◌||◌, false, is_err};
+ghost use Rattle.std.specs.Prelude.{◌≡◌, ◌||◌, [], false, is_err, OnOk};
 ghost use Rattle.std.specs.Io.{ReadsAtMost, WritesAtMost};
-ghost use Rattle.std.specs.Io.KnownBytes.{ReadConsumes, WriteAppends};
+ghost use Rattle.std.specs.Io.Buffered.{writer_buffer, writer_contents};
+ghost use Rattle.std.specs.Io.KnownBytes.{Keeps, ReadConsumes, WriteAppends};
 ghost use Rattle.sqlb.specs.Watch.{fails_to_write, gives_end};
 
 use std::io;
-use std::io::{Read, Write};
+use std::io::{BufWriter, Read, Write};
 use std::marker::Model;
 
 /// A reader or a writer, and what its calls have answered so far. No call takes memory, beyond
@@ -121,5 +122,23 @@ impl<W: Write> Watched<W> {
         ensures ended { self.new.ended ≡ self.old.ended }
     {
         self.write(buf)
+    }
+}
+
+impl<W: Write + Drop> Watched<BufWriter<W>> {
+    // A flush by one who tries nothing again after an error.
+    pub(crate) fn flush_on(&mut self) -> io::Result<()>
+        requires not_failed { self.old.failed ≡ false }
+        ensures bytes { Keeps (writer_contents W.contents self.old.inner)
+            (writer_contents W.contents self.new.inner) }
+        ensures emptied { OnOk result (writer_buffer self.new.inner ≡ []) }
+        ensures failed { self.new.failed ≡ is_err result }
+        ensures ended { self.new.ended ≡ self.old.ended }
+    {
+        let answer = self.inner.flush();
+        if answer.is_err() {
+            self.has_failed = true;
+        }
+        answer
     }
 }

@@ -1,5 +1,5 @@
-use Rattle.std.proofs.Common.{◌≡◌, [], sym, ◌∙◌}
-use Rattle.std.specs.Io.Buffered.{writer_buffer}
+use Rattle.std.proofs.Common.{◌≡◌, [], ap, sym, ◌∙◌}
+use Rattle.std.specs.Io.Buffered.{writer_buffer, writer_inner}
 use Rattle.std.proofs.KnownBytes.{Appends-kept}
 use Rattle.sqlb.specs.Output.{output}
 use Rattle.sqlb.proofs.Flushed.{appends-lost, loses_none, ran-begins, unless_err, unless_write_fails}
@@ -8,14 +8,14 @@ use Rattle.sqlb.proofs.run.run_flushed.Goals as goal
 pub returns-in_default-clause-ran : goal.returns-in_default-clause-ran
 returns-in_default-clause-ran g c =
     let ran = rw c.new-writer.ensures.inner at c.run_input-answer.ensures.ran in
-    let kept = rw c.into_inner-buffered.ensures.inner at c.flush-flushed.ensures.bytes in
     let contents = g.W.Write.contents in
-    let lost = writer_buffer c.flush-flushed.new.self in (
+    let buffered = c.flush_on-flushed.new.self.inner in
+    let lost = writer_buffer buffered in (
       ran.0,
       ran.1,
       lost,
       ran.2,
-      appends-lost contents _ c.flush-flushed.new.self _ ran.1 c.into_parts-writer.ensures.inner (Appends-kept _ _ _ ran.1 ran.3 kept),
+      appends-lost contents _ buffered _ ran.1 (c.into_parts-below.ensures.inner ∙ ap writer_inner c.into_inner-2.ensures.inner) (Appends-kept _ _ _ ran.1 ran.3 c.flush_on-flushed.ensures.bytes),
       ran-begins c.run_input-answer.result ran.1 (output ran.0) ran.4,
       tt,
       tt,
@@ -24,15 +24,15 @@ returns-in_default-clause-ran g c =
 pub returns-in_default-2-clause-ran : goal.returns-in_default-2-clause-ran
 returns-in_default-2-clause-ran g c =
     let ran = rw c.new-writer.ensures.inner at c.run_input-answer.ensures.ran in
-    let kept = rw c.into_inner-buffered.ensures.inner at c.flush-flushed.ensures.bytes in
     let contents = g.W.Write.contents in
-    let lost = writer_buffer c.flush-flushed.new.self in
-    let none : lost ≡ [] = unless_err c.flush-flushed.result (sym c.is_err.ensures.value ∙ c.if-is_err.false) c.flush-flushed.ensures.ok in (
+    let buffered = c.flush_on-flushed.new.self.inner in
+    let lost = writer_buffer buffered in
+    let none : lost ≡ [] = unless_err c.flush_on-flushed.result (sym c.is_err.ensures.value ∙ c.if-is_err.false) c.flush_on-flushed.ensures.emptied in (
       ran.0,
       ran.1,
       lost,
       ran.2,
-      appends-lost contents _ c.flush-flushed.new.self _ ran.1 c.into_parts-writer.ensures.inner (Appends-kept _ _ _ ran.1 ran.3 kept),
+      appends-lost contents _ buffered _ ran.1 (c.into_parts-below.ensures.inner ∙ ap writer_inner c.into_inner-2.ensures.inner) (Appends-kept _ _ _ ran.1 ran.3 c.flush_on-flushed.ensures.bytes),
       ran.4,
       loses_none c.run_input-answer.result lost none,
       unless_write_fails c.run_input-answer.result _ ran.5,
