@@ -1,9 +1,9 @@
 -- The pieces of each clause of a list of calls keep their tokens.
 use Rattle.std.proofs.Common.{◌≡◌, ℕ, Bool, true, false, List, [], ◌∷◌, ◌++◌, Option, None, Some, map, codes, refl, flat_map, subst, Result, Ok, Err, IfOk, String, string_bytes, ap, sym, ◌∙◌}
-use Rattle.std.specs.Prelude.{IfSome, IsTrue, filter_map}
+use Rattle.std.specs.Prelude.{IfSome, IsTrue}
 use Rattle.std.specs.Result.{result_map_both}
-use Rattle.sql_builder.specs.Builder.{ClauseTexts, condition_bytes, with_condition, with_condition_text, with_fields, with_on, with_set}
-use Rattle.std.specs.List.{cons_option, last_or, AllByRecursion}
+use Rattle.sql_builder.specs.Builder.{ClauseTexts, condition_bytes, with_fields, with_on, with_set}
+use Rattle.std.specs.List.{AllByRecursion}
 use Rattle.sql_parts.specs.Tokens.{closed, ends_with, is_edge, tokens}
 use Rattle.sql_parts.specs.declared.error.SqlBuilderError.{SqlBuilderError}
 use Rattle.sql_parts.specs.Quoting.{quoted}
@@ -14,7 +14,7 @@ use Rattle.sql_builder.specs.Conditions.{ConditionText, Raw, Compare, Like, IsNu
 use Rattle.sql_builder.specs.Filters.{Group, in_place, last_said, since, until}
 use Rattle.sql_builder.specs.Phrases.{comma_list, count, count_as, equation, join_words, order}
 use Rattle.sql_builder.specs.Clauses.{Clauses, map_clauses}
-use Rattle.sql_builder.specs.Shape.{EndsInOneSemicolon, has_closed_fragments, has_no_semicolons, AddsCondition, AddsText, HasClosedFragments, KeepsTokens, as_fragments, pieces_tokens, shape}
+use Rattle.sql_builder.specs.Shape.{EndsInOneSemicolon, has_closed_fragments, has_no_semicolons, AddsText, HasClosedFragments, KeepsTokens, as_fragments, pieces_tokens, shape}
 use Rattle.sql_builder.specs.Statement.{layout_at, pieces, refusal_at, statement, text_unless_refused, unless_refused}
 use Rattle.sql_builder.specs.Text.{Pieces, fixed_piece, pieces_text, quoted_piece, raw_piece}
 use Rattle.sql_builder.specs.Steps.{AddsPair, with_pair}
@@ -22,35 +22,14 @@ use Rattle.sql_builder.specs.declared.steps.PairClause.{PairClause}
 use Rattle.sql_builder.specs.declared.steps.PairClause.TheVariants as pair
 use Rattle.std.proofs.lemmas.List.{append-nil}
 use Rattle.sql_builder.proofs.Runs.{condition_printed}
-use Rattle.sql_builder.specs.declared.calls.Family.{Family}
 use Rattle.sql_builder.specs.declared.calls.Relation.{Relation}
 use Rattle.sql_builder.specs.declared.calls.Relation.TheVariants.{Eq, Ne, Gt, Ge, Lt, Le}
 use Rattle.sql_builder.specs.declared.clauses.JoinOperator.{JoinOperator}
 use Rattle.sql_builder.specs.declared.clauses.JoinOperator.TheVariants as operator
 use Rattle.sql_builder.proofs.Layouts.{sql-semicolon, Parts, fragments-printed, items-inside, layout-shaped, raw-all, raw-parts}
+use Rattle.sql_builder.proofs.Each.{append-all, flat-all, last-some, map-all}
 use Rattle.sql_parts.proofs.JoinedTokens.{Edged}
 use Rattle.sql_builder.proofs.Shapes.{AllInside, Behind, Inside, Shaped, Whole, all-flat, brackets-inside, ended-inside, inside-inside, joined-inside, none-behind, none-inside, quoted-inside, raw-inside, shape_closed, shaped, whole, words-behind, words-ended, words-inside}
-
--- lists of such pieces
-append-all : {X : Type 0} (P : X → Type 0) (one other : List X) → AllByRecursion P one → AllByRecursion P other → AllByRecursion P (one ++ other)
-append-all P [] other all too = too
-append-all P (x ∷ one) other all too = (all.0, append-all P one other all.1 too)
-
-flat-all : {X Y : Type 0} (P : Y → Type 0) (f : X → List Y) → ((x : X) → AllByRecursion P (f x)) → (xs : List X) → AllByRecursion P (flat_map f xs)
-flat-all P f each [] = tt
-flat-all P f each (x ∷ xs) = append-all P (f x) (flat_map f xs) (each x) (flat-all P f each xs)
-
-map-all : {X Y : Type 0} (P : Y → Type 0) (f : X → Y) → ((x : X) → P (f x)) → (xs : List X) → AllByRecursion P (map f xs)
-map-all P f each [] = tt
-map-all P f each (x ∷ xs) = (each x, map-all P f each xs)
-
-last-some : {X Y : Type 0} (P : Y → Type 0) (f : X → Option Y) → ((x : X) → IfSome (f x) P) → (xs : List X) (before : Option Y) → IfSome before P → IfSome (last_or before (filter_map f xs)) P
-last-some P f each [] before holds = holds
-last-some {Y = Y} P f each (x ∷ xs) before holds = by (f x) (each x) (λ said keeps. last-some P f each xs said keeps)
-  where
-    by : (said : Option Y) → IfSome said P → ((next : Option Y) → IfSome next P → IfSome (last_or next (filter_map f xs)) P) → IfSome (last_or before (cons_option said (filter_map f xs))) P
-    by None keeps rest = rest before holds
-    by (Some y) keeps rest = rest (Some y) keeps
 
 said-last : (f : CallText → Option Pieces) → ((c : CallText) → IfSome (f c) Inside) → (calls : List CallText) → IfSome (last_said f calls) Inside
 said-last f each calls = last-some Inside f each calls None tt
@@ -268,7 +247,7 @@ clauses-parts start calls =
     }
 
 -- what a list of calls prints
-printed-shaped : (start : StartText) (calls : List CallText) (finish : FinishText) → Shaped (layout_at fixed_piece raw_piece finish (clauses start calls))
+pub printed-shaped : (start : StartText) (calls : List CallText) (finish : FinishText) → Shaped (layout_at fixed_piece raw_piece finish (clauses start calls))
 printed-shaped start calls finish = layout-shaped finish (clauses start calls) (clauses-parts start calls)
 
 -- what is known of a text that is a statement, where the statement's pieces keep their tokens
@@ -316,12 +295,8 @@ pub count_as_keeps : (field name : List ℕ) → KeepsTokens (count_as fixed_pie
 count_as_keeps field name = keeps (count_as fixed_piece (raw_piece field) (raw_piece name)) (count_as byte_atoms field name) (count_as-inside field name) (simp append-nil)
 
 -- a record that has a text added has its tokens added
-adds : (adding : List ℕ → ClauseTexts) (text : List ℕ) (printed : Pieces) (new : ClauseTexts) → KeepsTokens printed text → new ≡ adding text → AddsText adding text printed new
+pub adds : (adding : List ℕ → ClauseTexts) (text : List ℕ) (printed : Pieces) (new : ClauseTexts) → KeepsTokens printed text → new ≡ adding text → AddsText adding text printed new
 adds adding text printed new keeps is = (is, keeps.0, keeps.1)
-
-pub adds_condition : (family : Family) (condition : ConditionText) (old new : ClauseTexts) → new ≡ with_condition family condition old → AddsCondition family condition old new
-adds_condition family condition old new is =
-    adds (λ added. with_condition_text family added old) (condition_bytes condition) (condition_pieces condition) new (condition_keeps condition) is
 
 pub adds_pair : (clause : PairClause) (one other : List ℕ) (old new : ClauseTexts) → new ≡ with_pair clause one other old → AddsPair clause one other old new
 adds_pair pair.OnEq left right old new is =

@@ -16,7 +16,7 @@ use Rattle.sql_parts.specs.Error.{IsMemory}
 use Rattle.sql_parts.specs.declared.text.ToText.{Ghosts}
 use Rattle.sql_parts.specs.contracts.text.ToText.TheBound.{Met}
 use Rattle.sql_builder.specs.Builder.{ClauseTexts, with_order, with_returning}
-use Rattle.sql_builder.specs.Shape.{AddsCondition}
+use Rattle.sql_builder.specs.Meaning.{AddsCondition}
 use Rattle.sql_builder.specs.Steps.{AddsPair, RefusesPair, RefusesText, binary_condition, list_condition, range_condition, unary_condition, with_text, with_texts}
 use Rattle.sql_builder.specs.contracts.builder.SqlBuilder.{the_row}
 use Rattle.sql_builder.proofs.builder.SqlBuilder.TheLaws as builder_laws

@@ -52,7 +52,7 @@ pub record Behind (ps : Pieces) : Type 0 where
 text-append : (x y : Pieces) → pieces_text (x ++ y) ≡ pieces_text x ++ pieces_text y
 text-append x y = flat_map-append piece_text x y
 
-pieces_tokens-append : (x y : Pieces) → pieces_tokens (x ++ y) ≡ pieces_tokens x ++ pieces_tokens y
+pub pieces_tokens-append : (x y : Pieces) → pieces_tokens (x ++ y) ≡ pieces_tokens x ++ pieces_tokens y
 pieces_tokens-append x y = flat_map-append piece_tokens x y
 
 both-closed : (x y : Pieces) → has_closed_fragments (x ++ y) ≡ true → (has_closed_fragments x ≡ true) × (has_closed_fragments y ≡ true)

@@ -1,13 +1,19 @@
 -- Laws of lists of calls.
-use Rattle.std.specs.Prelude.{◌≡◌, ℕ, List, ◌∷◌, ◌++◌, IsTrue, Option, is_some, true}
+use Rattle.std.specs.Prelude.{◌≡◌, ◌&&◌, ℕ, Bool, List, [], ◌∷◌, ◌++◌, IsTrue, Option, codes, is_some, map, not, true}
+use Rattle.std.specs.List.{list_all}
+use Rattle.sql_parts.specs.Fragments.{has_outer, is_balanced, is_clause_word, is_joining, is_operand}
 use Rattle.sql_parts.specs.Quoting.{quoted}
-use Rattle.sql_parts.specs.Tokens.{tokens}
+use Rattle.sql_parts.specs.Tokens.{Token, Word, is_empty, tokens}
 use Rattle.sql_builder.specs.Builder.{ClauseTexts, condition_bytes}
-use Rattle.sql_builder.specs.Calls.{CallText, Fields, StartText, clauses, condition_pieces}
+use Rattle.sql_builder.specs.Calls.{CallText, Fields, FinishText, StartText, clauses, condition_pieces, kind_of}
 use Rattle.sql_builder.specs.Conditions.{ConditionText}
 use Rattle.sql_builder.specs.Layout.{byte_atoms, sql}
+use Rattle.sql_builder.specs.Fitting.{has_fit_texts}
+use Rattle.sql_builder.specs.Meaning.{HasBalancedFragments, HasFitConditions, HasFitFragments, IsAtomIfOperands, is_unenclosed, prints_where}
 use Rattle.sql_builder.specs.Phrases.{count_as, equation}
-use Rattle.sql_builder.specs.Shape.{EndsInOneSemicolon, KeepsTokens, as_fragments, has_closed_fragments, has_no_semicolons}
+use Rattle.sql_builder.specs.Shape.{EndsInOneSemicolon, KeepsTokens, as_fragments, cond_tokens, has_closed_fragments, has_no_semicolons}
+use Rattle.sql_builder.specs.Truths.{Fact, False, True, Truth, Valuation, exchange, greater, greatest, is_or, least, lesser, truth}
+use Rattle.sql_builder.specs.WhereTokens.{in_brackets, where_tokens}
 use Rattle.sql_builder.specs.Text.{Pieces, fixed_piece, quoted_piece, raw_piece}
 
 -- `fields` of a list and then of another is `fields` of the two joined
@@ -46,3 +52,74 @@ QuotedEquationsKeepTokens = (field value : List ℕ)
 abbrev pub CountsKeepTokens : Type 0
 CountsKeepTokens = (field name : List ℕ)
     → KeepsTokens (count_as fixed_piece (raw_piece field) (raw_piece name)) (count_as byte_atoms field name)
+
+-- each condition whose texts are operands is an atom
+abbrev pub ConditionsAreAtoms : Type 0
+ConditionsAreAtoms = (condition : ConditionText) → IsAtomIfOperands condition (cond_tokens condition)
+
+-- the truth of `one OR other`
+abbrev pub TruthOfOr : Type 0
+TruthOfOr = (facts : Valuation) (one other : List Token) → IsTrue (is_balanced one)
+    → truth facts (one ++ Word (codes "OR") ∷ other) ≡ greater (truth facts one) (truth facts other)
+
+-- the truth of `one AND other`, where the one has no outer OR, AND or BETWEEN, and the other no outer OR
+abbrev pub TruthOfAnd : Type 0
+TruthOfAnd = (facts : Valuation) (one other : List Token) → IsTrue (is_balanced one && not (has_outer is_joining one))
+    → IsTrue (not (has_outer is_or other))
+    → truth facts (one ++ Word (codes "AND") ∷ other) ≡ lesser (truth facts one) (truth facts other)
+
+-- the truth of `NOT negated`, where what is negated has no outer OR, AND or BETWEEN
+abbrev pub TruthOfNot : Type 0
+TruthOfNot = (facts : Valuation) (negated : List Token) → IsTrue (not (has_outer is_joining negated))
+    → truth facts (Word (codes "NOT") ∷ negated) ≡ exchange (truth facts negated)
+
+-- the truth of what stands between brackets, where it is balanced and has no outer clause word
+abbrev pub TruthOfBrackets : Type 0
+TruthOfBrackets = (facts : Valuation) (inner : List Token) → IsTrue (is_balanced inner && not (has_outer is_clause_word inner))
+    → truth facts (in_brackets inner) ≡ truth facts inner
+
+-- a group of conditions: there is one, and each is balanced and has no outer clause word
+abbrev pub is_fit_group : List (List Token) → Bool
+is_fit_group conditions = not (is_empty conditions) && list_all (λ ts. is_balanced ts && not (has_outer is_clause_word ts)) conditions
+
+-- the truth of a WHERE: the least over its groups of the greatest over a group's conditions
+abbrev pub TruthOfWhere : Type 0
+TruthOfWhere = (facts : Valuation) (groups : List (List (List Token))) → IsTrue (not (is_empty groups) && list_all is_fit_group groups)
+    → truth facts (where_tokens groups) ≡ least (map (λ conditions. greatest (map (truth facts) conditions)) groups)
+
+-- what is balanced is an operand without an outer clause word between brackets, whatever it holds
+abbrev pub BracketsMakeOperands : Type 0
+BracketsMakeOperands = (inner : List Token) → IsTrue (is_balanced inner)
+    → IsTrue (is_operand (in_brackets inner) && not (has_outer is_clause_word (in_brackets inner)))
+
+-- a fact of the atom that this text is
+abbrev pub fact : List ℕ → Truth → Fact
+fact text value = record { atom = tokens text; value = value }
+
+-- the range is false, the comparison true, and q has this value; nothing is known of p
+abbrev pub range_and_case : Truth → Valuation
+range_and_case q =
+    fact (codes "x BETWEEN 1 AND 2") False ∷ fact (codes "CASE WHEN a OR b THEN c END = 1") True ∷ fact (codes "q") q ∷ []
+
+-- a is false, b and d are true, and nothing is known of c
+abbrev pub brackets_and_not : Valuation
+brackets_and_not = fact (codes "a") False ∷ fact (codes "b") True ∷ fact (codes "d") True ∷ []
+
+-- by what is known, the condition of this text has this truth
+abbrev pub IsValued : Valuation → List ℕ → Truth → Type 0
+IsValued facts text value = truth facts (tokens text) ≡ value
+
+-- where the texts that are handed in are fit, one by one, so are the fragments that are printed
+abbrev pub FitTextsMakeFitFragments : Type 0
+FitTextsMakeFitFragments = (start : StartText) (calls : List CallText) (finish : FinishText)
+    → IsTrue (is_unenclosed finish && has_fit_texts start calls finish) → HasFitFragments start calls finish
+
+-- the same of the fragments of conditions, where the statement has a WHERE
+abbrev pub FitTextsMakeFitConditions : Type 0
+FitTextsMakeFitConditions = (start : StartText) (calls : List CallText) (finish : FinishText)
+    → IsTrue (prints_where finish (kind_of start) && has_fit_texts start calls finish) → HasFitConditions start calls finish
+
+-- and each fragment that is printed is balanced, whatever the finish
+abbrev pub FitTextsMakeBalancedFragments : Type 0
+FitTextsMakeBalancedFragments = (start : StartText) (calls : List CallText) (finish : FinishText)
+    → IsTrue (has_fit_texts start calls finish) → HasBalancedFragments start calls finish

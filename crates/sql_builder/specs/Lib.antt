@@ -5,16 +5,23 @@ pub mod Chaining
 pub mod Clauses
 pub mod Conditions
 pub mod Filters
+pub mod Fitting
 pub mod Laws
 pub mod Layout
+pub mod Meaning
+pub mod Parts
 pub mod Phrases
+pub mod Reading
 pub mod Shape
 pub mod Statement
 pub mod Steps
 pub mod Text
+pub mod Truths
+pub mod WhereTokens
 -- what the contracts here cite of the library below, for callers that list this one alone
 pub use Rattle.sql_parts.specs.Apart
 pub use Rattle.sql_parts.specs.Error
+pub use Rattle.sql_parts.specs.Fragments
 pub use Rattle.sql_parts.specs.Lending
 pub use Rattle.sql_parts.specs.Literal
 pub use Rattle.sql_parts.specs.Name

@@ -5,11 +5,10 @@ use Rattle.std.specs.List.{list_all, list_any}
 use Rattle.std.specs.Result.{result_map_both}
 use Rattle.sql_parts.specs.declared.error.SqlBuilderError.{SqlBuilderError}
 use Rattle.sql_parts.specs.Tokens.{Token, Str, Symbol, closed, has_semicolon, is_semicolon, tokens}
-use Rattle.sql_builder.specs.Builder.{ClauseTexts, condition_bytes, with_condition_text}
+use Rattle.sql_builder.specs.Builder.{ClauseTexts}
 use Rattle.sql_builder.specs.Calls.{CallText, FinishText, StartText, condition_pieces}
 use Rattle.sql_builder.specs.Clauses.{Clauses, map_clauses}
 use Rattle.sql_builder.specs.Conditions.{ConditionText}
-use Rattle.sql_builder.specs.declared.calls.Family.{Family}
 use Rattle.sql_builder.specs.Statement.{pieces}
 use Rattle.sql_builder.specs.Text.{Piece, Pieces, Fixed, Quoted, Raw, raw_piece}
 
@@ -79,8 +78,3 @@ KeepsTokens printed text = HasShape printed text × IsClosedAs printed text
 -- the new record has this text added, which has the tokens of these pieces and is closed, where their fragments are closed
 abbrev pub AddsText : (List ℕ → ClauseTexts) → List ℕ → Pieces → ClauseTexts → Type 0
 AddsText adding text printed new = (new ≡ adding text) × HasShape printed text × IsClosedAs printed text
-
--- the new record has this condition added, which has its tokens and is closed, where its fragments are closed
-abbrev pub AddsCondition : Family → ConditionText → ClauseTexts → ClauseTexts → Type 0
-AddsCondition family condition old new =
-    AddsText (λ added. with_condition_text family added old) (condition_bytes condition) (condition_pieces condition) new

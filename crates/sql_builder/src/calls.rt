@@ -6,6 +6,8 @@ ghost use Rattle.sql_builder.specs.Builder.{condition_bytes, with_condition};
 ghost use Rattle.sql_builder.specs.Steps.{with_call};
 ghost use Rattle.sql_builder.specs.Calls.{clauses, operator_in};
 ghost use Rattle.sql_builder.specs.Clauses.{map_clauses};
+ghost use Rattle.sql_builder.specs.Meaning.{HasBalancedFragments, HasFitConditions, HasFitFragments, IsTrueAs, condition_groups, is_nested};
+ghost use Rattle.sql_builder.specs.Reading.{clause_list, read};
 ghost use Rattle.sql_builder.specs.Shape.{HasClosedFragments, shape};
 ghost use Rattle.sql_builder.specs.Statement.{refusal_at, statement, text_at};
 ghost use Rattle.sql_builder.specs.Text.{pieces_text};
@@ -324,7 +326,9 @@ fn print(builder: &SqlBuilder, finish: &Finish) -> Result<String, SqlBuilderErro
 }
 
 /// Makes the builder, makes the calls in order, and prints: the statement that the whole list
-/// means, or its refusal. Want of memory may come in place of either.
+/// means, or its refusal. Want of memory may come in place of either. Where the texts that it
+/// prints as they stand are fit, the clauses of the statement are those that the calls say, and
+/// its WHERE is true where in each group some condition is.
 pub fn run(
     alloc: Global,
     start: &Start,
@@ -340,6 +344,15 @@ pub fn run(
         (map call_text calls.now) (finish_text finish.now) ≡ Ok (tokens (string_bytes s))) }
     ensures closed { HasClosedFragments (start_text start.now) (map call_text calls.now)
         (finish_text finish.now) → IfOk result (λ s. IsTrue (closed (string_bytes s))) }
+    ensures clauses { HasFitFragments (start_text start.now) (map call_text calls.now)
+        (finish_text finish.now) → IfOk result (λ s. clause_list (start_text start.now)
+        (map call_text calls.now) (finish_text finish.now) ≡ Ok (read (tokens (string_bytes s)))) }
+    ensures truth { HasFitConditions (start_text start.now) (map call_text calls.now)
+        (finish_text finish.now) → IfOk result (λ s.
+        IsTrueAs (condition_groups (map call_text calls.now)) (string_bytes s)) }
+    ensures nests { HasBalancedFragments (start_text start.now) (map call_text calls.now)
+        (finish_text finish.now) → IfOk result (λ s.
+        IsTrue (is_nested (finish_text finish.now) (string_bytes s))) }
 {
     let builder = build(alloc, start, calls)?;
     print(&builder, finish)

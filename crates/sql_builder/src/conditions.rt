@@ -12,7 +12,7 @@ use sql_parts::{SqlBuilderError, ToText};
 
 impl SqlBuilder {
     ghost use Rattle.std.specs.Borrow.{sem};
-    ghost use Rattle.sql_builder.specs.Shape.{AddsCondition};
+    ghost use Rattle.sql_builder.specs.Meaning.{AddsCondition};
     ghost use Rattle.sql_builder.specs.Chaining.{IsUnchangedIfErr};
     ghost use Rattle.sql_parts.specs.Lending.{IsChangedSoThat};
     ghost use Rattle.sql_builder.specs.Conditions.{Raw, Compare, Like, IsNull, IsNotNull, InList, InQuoted, InQuery, Between};

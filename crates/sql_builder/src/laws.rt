@@ -1,7 +1,8 @@
 //! Laws of lists of calls, each the contract of a function that does nothing.
-ghost use Rattle.std.specs.Prelude.{IfOk, IsTrue, List};
+ghost use Rattle.std.specs.Prelude.{IfOk, IsTrue, List, codes};
 ghost use Rattle.sql_builder.specs.Calls.{CallText, Sql, StartText, having_in, limit_in, offset_in, returning_in};
-ghost use Rattle.sql_builder.specs.Laws.{BuildersEndInOneSemicolon, ConditionsKeepTokens, CountsKeepTokens, EquationsKeepTokens, FieldsJoin, OnlyLastCounts, QuotedEquationsKeepTokens};
+ghost use Rattle.sql_builder.specs.Laws.{BuildersEndInOneSemicolon, ConditionsAreAtoms, ConditionsKeepTokens, BracketsMakeOperands, CountsKeepTokens, EquationsKeepTokens, FieldsJoin, IsValued, OnlyLastCounts, QuotedEquationsKeepTokens, TruthOfAnd, TruthOfBrackets, TruthOfNot, TruthOfOr, TruthOfWhere, brackets_and_not, range_and_case};
+ghost use Rattle.sql_builder.specs.Truths.{False, True, Unknown};
 ghost use Rattle.sql_builder.specs.Shape.{EndsInOneSemicolon, has_closed_fragments, has_no_semicolons};
 ghost use Rattle.sql_builder.specs.Statement.{pieces};
 ghost use Rattle.sql_builder.specs.Text.{pieces_text};
@@ -39,6 +40,13 @@ pub fn added_texts_keep_tokens()
     ensures counts { CountsKeepTokens }
 {}
 
+/// A condition whose texts are operands is an atom: its truth is what is known of its tokens. Of
+/// an IN that is asked of its field alone, and of what stands in its brackets that it is balanced.
+#[tactic(auto, using(crate::proofs::ConditionAtoms::condition_atom))]
+pub fn conditions_are_atoms()
+    ensures { ConditionsAreAtoms }
+{}
+
 /// Where each fragment that `sql` prints is closed and has no `;` among its tokens, the tokens of
 /// the statement have one `;`, and it is the last; the same of a builder and its texts.
 #[tactic(auto, using(crate::proofs::ClauseShapes::last_semicolon, crate::proofs::ClauseShapes::builder_semicolon))]
@@ -47,4 +55,46 @@ pub fn only_the_end_is_a_semicolon()
         (λ printed. IsTrue (has_closed_fragments printed) → IsTrue (has_no_semicolons printed)
         → EndsInOneSemicolon (tokens (pieces_text printed))) }
     ensures of_builders { BuildersEndInOneSemicolon }
+{}
+
+/// The truth of a condition by how it is made: of an OR the greater, of an AND the lesser, of a
+/// NOT the exchange, and of brackets that of the inside; of a WHERE the least over its groups of
+/// the greatest over a group's conditions. Each where the parts are balanced, and no word at
+/// their level would take them apart in another way.
+#[tactic(auto, using(crate::proofs::TruthLaws::of_or, crate::proofs::TruthLaws::of_and, crate::proofs::TruthLaws::of_not, crate::proofs::TruthLaws::of_brackets, crate::proofs::TruthLaws::of_where))]
+pub fn truth_follows_the_form()
+    ensures of_or { TruthOfOr }
+    ensures of_and { TruthOfAnd }
+    ensures of_not { TruthOfNot }
+    ensures of_brackets { TruthOfBrackets }
+    ensures of_where { TruthOfWhere }
+{}
+
+/// What is balanced is an operand between brackets, without an outer clause word, whatever it
+/// holds.
+#[tactic(auto, using(crate::proofs::TruthLaws::brackets_make_operands))]
+pub fn brackets_make_operands()
+    ensures { BracketsMakeOperands }
+{}
+
+/// Conditions of three kinds in two groups, where one part is unknown: a range and a NOT of an OR,
+/// and a comparison of a CASE; and the brackets and the NOT that a stranger's condition may have.
+#[tactic(auto, using(crate::proofs::MeaningRows::unknown_or, crate::proofs::MeaningRows::unknown_not, crate::proofs::MeaningRows::unknown_group, crate::proofs::MeaningRows::true_group, crate::proofs::MeaningRows::unknown_whole, crate::proofs::MeaningRows::false_group, crate::proofs::MeaningRows::false_whole, crate::proofs::MeaningRows::own_brackets, crate::proofs::MeaningRows::own_not, crate::proofs::MeaningRows::own_whole))]
+pub fn worked_truths()
+    ensures unknown_or { IsValued (range_and_case False) (codes "p OR q") Unknown }
+    ensures unknown_not { IsValued (range_and_case False) (codes "NOT (p OR q)") Unknown }
+    ensures unknown_group { IsValued (range_and_case False)
+        (codes "x BETWEEN 1 AND 2 OR NOT (p OR q)") Unknown }
+    ensures true_group { IsValued (range_and_case False)
+        (codes "CASE WHEN a OR b THEN c END = 1") True }
+    ensures unknown_whole { IsValued (range_and_case False)
+        (codes "(x BETWEEN 1 AND 2 OR NOT (p OR q)) AND (CASE WHEN a OR b THEN c END = 1)") Unknown }
+    ensures false_group { IsValued (range_and_case True)
+        (codes "x BETWEEN 1 AND 2 OR NOT (p OR q)") False }
+    ensures false_whole { IsValued (range_and_case True)
+        (codes "(x BETWEEN 1 AND 2 OR NOT (p OR q)) AND (CASE WHEN a OR b THEN c END = 1)") False }
+    ensures own_brackets { IsValued brackets_and_not (codes "(a) OR (b)") True }
+    ensures own_not { IsValued brackets_and_not (codes "NOT c AND d") Unknown }
+    ensures own_whole { IsValued brackets_and_not
+        (codes "((a) OR (b)) AND (NOT c AND d)") Unknown }
 {}

@@ -5,6 +5,8 @@ ghost use Rattle.sql_builder.specs.Builder.{join_text, union_text};
 ghost use Rattle.sql_builder.specs.Steps.{Adds};
 ghost use Rattle.sql_parts.specs.Text.{optional_text, texts};
 ghost use Rattle.sql_builder.specs.Layout.{byte_atoms, concat_sections, delete_sections, fields_or_star, group_by_sections, insert_sections, is_no_text, optional_section, order_by_sections, query, query_values, refusal, select_opening, sql, statement_sections, subquery, subquery_as, union_opening, update_sections, where_sections};
+ghost use Rattle.sql_builder.specs.Calls.{Query, Sql, Subquery, SubqueryAs};
+ghost use Rattle.sql_builder.specs.Meaning.{HasTruthOfGroups, Nests, ReadsBack};
 ghost use Rattle.sql_builder.specs.Phrases.{comma_list, further_table, operator_text};
 ghost use Rattle.sql_builder.specs.Shape.{HasShape, IsClosedAs, as_fragments};
 ghost use Rattle.sql_builder.specs.Statement.{unless_refused};
@@ -382,13 +384,17 @@ impl SqlBuilder {
     /// and the statement is no SELECT of values; then with `NoValues` where an INSERT has neither
     /// rows nor a query, or a SELECT of values no value, and with `NoSetFields` where an UPDATE
     /// sets nothing; each whether there is memory or not, and else only for want of memory.
-    #[tactic(auto, using(crate::proofs::Layouts::sql_shape, crate::proofs::Layouts::sql_closed))]
+    #[tactic(auto, using(crate::proofs::Layouts::sql_shape, crate::proofs::Layouts::sql_closed, crate::proofs::ReadBack::sql_clauses, crate::proofs::ReadBack::sql_truth))]
     pub fn sql(&self) -> Result<String, SqlBuilderError>
         ensures text { IfOk result (λ s. string_bytes s ≡ sql byte_atoms self.now) }
         ensures shape { IfOk result (λ s.
             HasShape (sql fixed_piece (as_fragments self.now)) (string_bytes s)) }
         ensures closed { IfOk result (λ s.
             IsClosedAs (sql fixed_piece (as_fragments self.now)) (string_bytes s)) }
+        ensures clauses { IfOk result (λ s.
+            ReadsBack (sql fixed_piece (as_fragments self.now)) (string_bytes s)) }
+        ensures truth { IfOk result (λ s.
+            HasTruthOfGroups Sql self.now (sql fixed_piece (as_fragments self.now)) (string_bytes s)) }
         ensures refused { IfSome (refusal self.now) (λ refusal. result ≡ Err refusal) }
         ensures memory { IsNone (refusal self.now) → FailsOnlyByMemory result }
     {
@@ -400,13 +406,19 @@ impl SqlBuilder {
 
     /// The query, on a builder of any kind. It is refused only for want of memory, as is each call
     /// below.
-    #[tactic(auto, using(crate::proofs::Layouts::query_shape, crate::proofs::Layouts::query_closed))]
+    #[tactic(auto, using(crate::proofs::Layouts::query_shape, crate::proofs::Layouts::query_closed, crate::proofs::ReadBack::query_clauses, crate::proofs::ReadBack::query_truth, crate::proofs::ReadBack::query_nests))]
     pub fn query(&self) -> Result<String, SqlBuilderError>
         ensures text { IfOk result (λ s. string_bytes s ≡ query byte_atoms self.now) }
         ensures shape { IfOk result (λ s.
             HasShape (query fixed_piece (as_fragments self.now)) (string_bytes s)) }
         ensures closed { IfOk result (λ s.
             IsClosedAs (query fixed_piece (as_fragments self.now)) (string_bytes s)) }
+        ensures clauses { IfOk result (λ s.
+            ReadsBack (query fixed_piece (as_fragments self.now)) (string_bytes s)) }
+        ensures truth { IfOk result (λ s.
+            HasTruthOfGroups Query self.now (query fixed_piece (as_fragments self.now)) (string_bytes s)) }
+        ensures nests { IfOk result (λ s.
+            Nests Query (query fixed_piece (as_fragments self.now)) (string_bytes s)) }
         ensures memory { FailsOnlyByMemory result }
     {
         let mut query = String::new(self.alloc);
@@ -415,13 +427,15 @@ impl SqlBuilder {
     }
 
     /// `SELECT` and the fields, nothing else, on a builder of any kind.
-    #[tactic(auto, using(crate::proofs::Layouts::query_values_shape, crate::proofs::Layouts::query_values_closed))]
+    #[tactic(auto, using(crate::proofs::Layouts::query_values_shape, crate::proofs::Layouts::query_values_closed, crate::proofs::ReadBack::query_values_clauses))]
     pub fn query_values(&self) -> Result<String, SqlBuilderError>
         ensures text { IfOk result (λ s. string_bytes s ≡ query_values byte_atoms self.now) }
         ensures shape { IfOk result (λ s.
             HasShape (query_values fixed_piece (as_fragments self.now)) (string_bytes s)) }
         ensures closed { IfOk result (λ s.
             IsClosedAs (query_values fixed_piece (as_fragments self.now)) (string_bytes s)) }
+        ensures clauses { IfOk result (λ s.
+            ReadsBack (query_values fixed_piece (as_fragments self.now)) (string_bytes s)) }
         ensures memory { FailsOnlyByMemory result }
     {
         let mut out = String::new(self.alloc);
@@ -430,13 +444,15 @@ impl SqlBuilder {
     }
 
     /// The query in brackets.
-    #[tactic(auto, using(crate::proofs::Layouts::subquery_shape, crate::proofs::Layouts::subquery_closed))]
+    #[tactic(auto, using(crate::proofs::Layouts::subquery_shape, crate::proofs::Layouts::subquery_closed, crate::proofs::ReadBack::subquery_nests))]
     pub fn subquery(&self) -> Result<String, SqlBuilderError>
         ensures text { IfOk result (λ s. string_bytes s ≡ subquery byte_atoms self.now) }
         ensures shape { IfOk result (λ s.
             HasShape (subquery fixed_piece (as_fragments self.now)) (string_bytes s)) }
         ensures closed { IfOk result (λ s.
             IsClosedAs (subquery fixed_piece (as_fragments self.now)) (string_bytes s)) }
+        ensures nests { IfOk result (λ s.
+            Nests Subquery (subquery fixed_piece (as_fragments self.now)) (string_bytes s)) }
         ensures memory { FailsOnlyByMemory result }
     {
         let mut subquery = String::new(self.alloc);
@@ -445,13 +461,15 @@ impl SqlBuilder {
     }
 
     /// The query in brackets, `AS` and the name.
-    #[tactic(auto, using(crate::proofs::Layouts::subquery_as_shape, crate::proofs::Layouts::subquery_as_closed))]
+    #[tactic(auto, using(crate::proofs::Layouts::subquery_as_shape, crate::proofs::Layouts::subquery_as_closed, crate::proofs::ReadBack::subquery_as_nests))]
     pub fn subquery_as<S: ToText>(&self, name: S) -> Result<String, SqlBuilderError>
         ensures text { IfOk result (λ s. string_bytes s
             ≡ subquery_as byte_atoms (S.text name) self.now) }
         ensures shape { IfOk result (λ s. HasShape (subquery_as fixed_piece
             (raw_piece (S.text name)) (as_fragments self.now)) (string_bytes s)) }
         ensures closed { IfOk result (λ s. IsClosedAs (subquery_as fixed_piece
+            (raw_piece (S.text name)) (as_fragments self.now)) (string_bytes s)) }
+        ensures nests { IfOk result (λ s. Nests (SubqueryAs (S.text name)) (subquery_as fixed_piece
             (raw_piece (S.text name)) (as_fragments self.now)) (string_bytes s)) }
         ensures memory { FailsOnlyByMemory result }
     {

@@ -3,7 +3,7 @@
 ghost use Rattle.std.specs.Prelude.{◌≡◌, [], ◌∷◌, ◌++◌, map, codes, string_bytes, IfErr, OnOk, OnErr};
 ghost use Rattle.sql_parts.specs.Error.{FailsOnlyByMemory};
 ghost use Rattle.sql_builder.specs.Builder.{extend_last, with_condition, with_condition_text, with_order, with_returning};
-ghost use Rattle.sql_builder.specs.Shape.{AddsCondition};
+ghost use Rattle.sql_builder.specs.Meaning.{AddsCondition};
 ghost use Rattle.sql_builder.specs.Steps.{AddsPair, binary_condition, list_condition, range_condition, unary_condition, with_pair, with_text, with_texts, RefusesPair, RefusesText, Tells};
 ghost use Rattle.sql_parts.specs.Text.{texts};
 ghost use Rattle.std.specs.Result.{result_map_both};
@@ -424,7 +424,7 @@ impl SqlBuilder {
         Ok(Held(self))
     }
 
-    #[tactic(auto, using(crate::proofs::ClauseShapes::adds_condition))]
+    #[tactic(auto, using(crate::proofs::ConditionAtoms::adds_condition))]
     pub(crate) fn hold_unary<S: ToText>(
         &mut self,
         family: Family,
@@ -441,7 +441,7 @@ impl SqlBuilder {
         Ok(Held(self))
     }
 
-    #[tactic(auto, using(crate::proofs::ClauseShapes::adds_condition))]
+    #[tactic(auto, using(crate::proofs::ConditionAtoms::adds_condition))]
     pub(crate) fn hold_binary<S: ToText, T: ToText>(
         &mut self,
         family: Family,
@@ -459,7 +459,7 @@ impl SqlBuilder {
         Ok(Held(self))
     }
 
-    #[tactic(auto, using(crate::proofs::ClauseShapes::adds_condition))]
+    #[tactic(auto, using(crate::proofs::ConditionAtoms::adds_condition))]
     pub(crate) fn hold_among<S: ToText, T: ToText>(
         &mut self,
         family: Family,
@@ -477,7 +477,7 @@ impl SqlBuilder {
         Ok(Held(self))
     }
 
-    #[tactic(auto, using(crate::proofs::ClauseShapes::adds_condition))]
+    #[tactic(auto, using(crate::proofs::ConditionAtoms::adds_condition))]
     pub(crate) fn hold_range<S: ToText, T: ToText, U: ToText>(
         &mut self,
         family: Family,

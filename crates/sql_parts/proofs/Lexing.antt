@@ -11,8 +11,8 @@ use Rattle.std.proofs.lemmas.Bool.{cases_Bool, eqb-true, false≢true}
 use Rattle.std.specs.Prelude.{MatchOption}
 use Rattle.sql_parts.specs.Lexing.{IsRead, StandsFor, behind_bytes, closing_mark, seen_text}
 use Rattle.sql_parts.specs.Tokens.{Token, Word, Str, Name, Symbol, Open, first, inside, is_blank, is_word_byte, reach, tokens, tokens_from, unquoted, word}
-use Rattle.sql_parts.specs.declared.lex.Token as declared
-use Rattle.sql_parts.specs.declared.lex.Token.TheVariants as seen
+use Rattle.sql_parts.specs.declared.lexer.Token as declared
+use Rattle.sql_parts.specs.declared.lexer.Token.TheVariants as seen
 use Rattle.sql_parts.proofs.Resolving.{starts_with-yes, starts_with-no}
 
 behind-suc : (byte : ℕ) (text : List ℕ) (bytes : Option ℕ) → behind_bytes (byte ∷ text) (option_map suc bytes) ≡ behind_bytes text bytes

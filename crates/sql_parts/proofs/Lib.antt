@@ -1,10 +1,13 @@
+pub mod Betweens
 pub mod ChainCalls
 pub mod Confined
 pub mod Decimal
 pub mod Doubled
+pub mod FragmentRows
 pub mod JoinedTokens
 pub mod Kept
 pub mod LastPairs
+pub mod LevelCounts
 pub mod Lexing
 pub mod Loans
 pub mod MarkerLemmas
@@ -17,10 +20,13 @@ pub mod Reading
 pub mod Resolving
 pub mod Rows
 pub mod Seams
+pub mod Sides
 pub mod TemplateLaws
 pub mod TemplateRows
 pub mod TokenLaws
 pub mod TokenRows
 pub mod Variants
+pub mod Waiting
 pub mod Walking
+pub mod Walks
 pub mod WordTokens

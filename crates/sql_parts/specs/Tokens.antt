@@ -112,21 +112,21 @@ is_separator byte = is_one_of (codes " \t\n\r(),;=<>") byte
 abbrev pub is_edge : ℕ → Bool
 is_edge byte = is_one_of (codes " \t\n\r(),;=<>.") byte
 
--- the first byte passes
-abbrev pub begins_with : (ℕ → Bool) → List ℕ → Bool
+-- the first element is there, and passes a test
+abbrev pub begins_with : {X : Type 0} → (X → Bool) → List X → Bool
 begins_with test [] = false
-begins_with test (byte ∷ behind) = test byte
+begins_with test (x ∷ xs) = test x
 
--- the last byte passes
-abbrev pub ends_with : (ℕ → Bool) → List ℕ → Bool
+-- the last element is there, and passes a test
+abbrev pub ends_with : {X : Type 0} → (X → Bool) → List X → Bool
 ends_with test [] = false
-ends_with test (byte ∷ []) = test byte
-ends_with test (byte ∷ next ∷ behind) = ends_with test (next ∷ behind)
+ends_with test (x ∷ []) = test x
+ends_with test (x ∷ next ∷ xs) = ends_with test (next ∷ xs)
 
--- there is no byte
-abbrev pub is_empty : List ℕ → Bool
+-- there is no element
+abbrev pub is_empty : {X : Type 0} → List X → Bool
 is_empty [] = true
-is_empty (byte ∷ behind) = false
+is_empty (x ∷ xs) = false
 
 -- The second text may stand behind the first: one of them is empty, or an edge stands beside the seam.
 abbrev pub clean : List ℕ → List ℕ → Bool

@@ -1,150 +1,22 @@
 //! Tests of fragments, which read a text as the tokens of SQL.
-ghost use Rattle.std.specs.Prelude.{◌≡◌, ◌<◌, [], ◌∷◌, IfOk, IfSome, MatchOption, Some, drop, length, option_map, take, true};
-ghost use Rattle.std.specs.List.{prefix_len};
-ghost use Rattle.sql_parts.specs.Apart.{apart, piece_apart, pieces_apart};
+ghost use Rattle.std.specs.Prelude.{◌≡◌, ◌&&◌, IfOk, not};
+ghost use Rattle.sql_parts.specs.Apart.{apart};
 ghost use Rattle.sql_parts.specs.Error.{FailsOnlyByMemory};
-ghost use Rattle.sql_parts.specs.Lexing.{IsRead, StandsFor, behind_bytes, closing_mark, seen_text};
+ghost use Rattle.sql_parts.specs.Fragments.{balanced, dangling, has_clause_word, has_outer, is_balanced, operand};
+ghost use Rattle.sql_parts.specs.Lexing.{is_listed_word};
 ghost use Rattle.sql_parts.specs.Places.{marks_of};
-ghost use Rattle.sql_parts.specs.Templates.{resolved_from};
 ghost use Rattle.sql_parts.specs.Tokens as tokens;
-ghost use Rattle.sql_parts.specs.Tokens.{begins_with, closed, ends_with, has_semicolon, inside, is_blank, is_separator, is_word_byte, reach};
-ghost use Rattle.sql_parts.specs.declared.lex.Token.TheVariants as seen;
+ghost use Rattle.sql_parts.specs.Tokens.{begins_with, closed, has_semicolon};
 
+use crate::apart::pieces_apart;
 use crate::bind::Marks;
 use crate::binding::lacks_arguments;
+use crate::dangling::{Betweens, Sides};
 use crate::error::SqlBuilderError;
-use crate::places::{Place, first_place, opening};
+use crate::levels::Level;
+use crate::lexer::{Token, first_token};
+use crate::words::{CLAUSE_WORDS, JOINING_WORDS, is_word_of};
 use std::alloc::Global;
-
-/// A token of a text. What stands between quotes isn't kept.
-#[derive(Clone, Copy)]
-enum Token<'t> {
-    /// A word, a keyword or a number.
-    Word(&'t str),
-    /// A text or a name between quotes.
-    Quoted,
-    /// Any other character.
-    Symbol(u8),
-    /// A quote or a comment that has no end.
-    Open,
-}
-
-fn is_blank(byte: u8) -> bool
-    ensures { result ≡ is_blank byte }
-{
-    matches!(byte, b' ' | b'\t' | b'\n' | b'\r')
-}
-
-fn is_word_byte(byte: u8) -> bool
-    ensures { result ≡ is_word_byte byte }
-{
-    byte.is_ascii_alphanumeric() || byte == b'_' || byte >= 0x80
-}
-
-// The mark that closes a quote which the byte opens, where it opens one.
-fn closing_mark(byte: u8) -> Option<char>
-    ensures mark { result ≡ closing_mark byte }
-    ensures one_byte { IfSome result (λ mark. mark < 128) }
-{
-    match byte {
-        b'\'' | b'"' | b'`' => Some(char::from(byte)),
-        b'[' => Some(']'),
-        _ => None,
-    }
-}
-
-// The text behind the first such ending, where there is one.
-fn behind_ending<'t>(ending: &str, text: &'t str) -> Option<&'t str>
-    requires some { 0 < length ending.now }
-    ensures { seen_text result ≡ behind_bytes text.now (reach ending.now text.now) }
-{
-    match text.split_once(ending) {
-        Some((_, behind)) => Some(behind),
-        None => None,
-    }
-}
-
-// The text behind the mark that closes a quote, where one does.
-fn behind_quote(mark: char, quoted: &str) -> Option<&str>
-    requires one_byte { mark < 128 }
-    ensures { seen_text result ≡ behind_bytes quoted.now (option_map (λ found. found.1) (inside mark quoted.now)) }
-{
-    let mut rest = quoted;
-    while let Some((_, behind)) = rest.split_once(mark) {
-        match behind.strip_prefix(mark) {
-            Some(more) => rest = more,
-            None => return Some(behind),
-        }
-    }
-    None
-}
-
-// A comment or a quote: this token, and the text behind its end. Without an end it is open, up to
-// the end of the text.
-fn ended<'t>(token: Option<Token<'t>>, behind: Option<&'t str>) -> (Option<Token<'t>>, &'t str)
-    ensures { MatchOption behind.entry ((result.0 ≡ Some seen.Open) × (result.1.now ≡ [])) (λ rest. result ≡ (token.entry, rest)) }
-{
-    match behind {
-        Some(rest) => (token, rest),
-        None => (Some(Token::Open), ""),
-    }
-}
-
-// The run of word characters at the front of a text, and the text behind it.
-fn split_word(text: &str) -> (&str, &str)
-    ensures word { result.0.now ≡ take (prefix_len is_word_byte text.now) text.now }
-    ensures rest { result.1.now ≡ drop (prefix_len is_word_byte text.now) text.now }
-{
-    let bytes = text.as_bytes();
-    let mut end = 0;
-    while end < bytes.len() && is_word_byte(bytes[end]) {
-        end += 1;
-    }
-    text.split_at(end)
-}
-
-// What the first rule that fits reads at the front of a text, and the text behind it.
-fn read(first: u8, text: &str) -> (Option<Token<'_>>, &str)
-    requires first { text.now ≡ first ∷ drop 1 text.now }
-    ensures { IsRead (drop 1 text.now) result (tokens.first first (drop 1 text.now)) }
-{
-    if is_word_byte(first) {
-        let (word, rest) = split_word(text);
-        return (Some(Token::Word(word)), rest);
-    }
-    if let Some(comment) = text.strip_prefix("--") {
-        return ended(None, behind_ending("\n", comment));
-    }
-    if let Some(comment) = text.strip_prefix("/*") {
-        return ended(None, behind_ending("*/", comment));
-    }
-    let behind = &text[1..];
-    if is_blank(first) {
-        return (None, behind);
-    }
-    match closing_mark(first) {
-        Some(mark) => ended(Some(Token::Quoted), behind_quote(mark, behind)),
-        None => (Some(Token::Symbol(first)), behind),
-    }
-}
-
-// The first token of a text, and the text behind it.
-fn first_token(text: &str) -> Option<(Token<'_>, &str)>
-    ensures token { MatchOption result (tokens.tokens text.now ≡ [])
-        (λ found. (token : tokens.Token) × StandsFor found.0 token
-        × (tokens.tokens text.now ≡ token ∷ tokens.tokens found.1.now)) }
-    ensures shorter { IfSome result (λ found. length found.1.now < length text.now) }
-{
-    let mut rest = text;
-    while let Some(first) = rest.as_bytes().first() {
-        let (token, behind) = read(*first, rest);
-        if let Some(token) = token {
-            return Some((token, behind));
-        }
-        rest = behind;
-    }
-    None
-}
 
 /// Whether each quote and each comment of the text has its end. It can't be refused.
 pub fn is_closed(text: &str) -> bool
@@ -174,67 +46,81 @@ pub fn has_semicolon(text: &str) -> bool
     false
 }
 
-fn is_separator(byte: u8) -> bool
-    ensures { result ≡ is_separator byte }
+// Whether the text is balanced, none of the `outer` words stands at its level 0, and none of the
+// `first` words begins it.
+fn is_balanced_without(text: &str, outer: &[&str], first: &[&str]) -> bool
+    ensures { result ≡ (is_balanced (tokens.tokens text.now)
+        && not (has_outer (is_listed_word outer.now) (tokens.tokens text.now))
+        && not (begins_with (is_listed_word first.now) (tokens.tokens text.now))) }
 {
-    matches!(
-        byte,
-        b' ' | b'\t' | b'\n' | b'\r' | b'(' | b')' | b',' | b';' | b'=' | b'<' | b'>'
-    )
-}
-
-fn begins_apart(piece: &str) -> bool
-    ensures { result ≡ begins_with is_separator piece.now }
-{
-    match piece.as_bytes().first() {
-        None => false,
-        Some(byte) => is_separator(*byte),
+    let mut level = Level::start();
+    let mut is_empty = true;
+    let mut rest = text;
+    while let Some((token, behind)) = first_token(rest) {
+        if is_empty && is_word_of(token, first) || level.is_outer() && is_word_of(token, outer) {
+            return false;
+        }
+        level = level.behind(token);
+        if matches!(token, Token::Open | Token::Symbol(b';')) || level.is_below() {
+            return false;
+        }
+        is_empty = false;
+        rest = behind;
     }
+    !is_empty && level.is_outer()
 }
 
-fn ends_apart(piece: &str) -> bool
-    ensures { result ≡ ends_with is_separator piece.now }
+/// Whether the text has a token, no quote or comment without an end and no `;`, and its brackets,
+/// `(` to `)` and CASE to END, close: as many close as open, and nowhere more before. It can't be
+/// refused.
+pub fn is_balanced(text: &str) -> bool
+    ensures { result ≡ balanced text.now }
 {
-    match piece.as_bytes().last() {
-        None => false,
-        Some(byte) => is_separator(*byte),
+    is_balanced_without(text, &[], &[])
+}
+
+/// Whether the text is balanced, has no OR, AND or BETWEEN outside its brackets, and doesn't begin
+/// with NOT. It can't be refused.
+pub fn is_operand(text: &str) -> bool
+    ensures { result ≡ operand text.now }
+{
+    is_balanced_without(text, &JOINING_WORDS, &["NOT"])
+}
+
+/// Whether a word that begins a clause stands outside all brackets of the text. It can't be
+/// refused.
+pub fn has_clause_word(text: &str) -> bool
+    ensures { result ≡ has_clause_word text.now }
+{
+    let mut level = Level::start();
+    let mut rest = text;
+    while let Some((token, behind)) = first_token(rest) {
+        if level.is_outer() && is_word_of(token, &CLAUSE_WORDS) {
+            return true;
+        }
+        level = level.behind(token);
+        rest = behind;
     }
+    false
 }
 
-fn piece_apart(first: bool, last: bool, piece: &str) -> bool
-    ensures { result ≡ piece_apart first last piece.now }
-{
-    is_closed(piece)
-        && (last || first && piece.is_empty() || ends_apart(piece))
-        && (first || last && piece.is_empty() || begins_apart(piece))
-}
-
-// Whether the pieces of a template stand apart, for a `?` without arguments too.
-fn pieces_apart(alloc: Global, template: &str, marks: &Marks<'_>) -> Result<bool, SqlBuilderError>
-    ensures apart { let resolved = resolved_from (marks_of marks.now) 0 0 template.now in
-        IfOk result (λ b. b ≡ pieces_apart true resolved.0 resolved.1) }
+/// Whether an OR, AND or NOT of the text lacks an operand beside it, or a BETWEEN its AND. It is
+/// refused only for want of memory.
+pub fn has_dangling(alloc: Global, text: &str) -> Result<bool, SqlBuilderError>
+    ensures dangling { IfOk result (λ b. b ≡ dangling text.now) }
     ensures memory { FailsOnlyByMemory result }
 {
-    let opening = opening(alloc, marks)?;
-    let mut piece = String::new(alloc);
-    let mut rest = template;
-    let mut seen = 0;
-    while let Some(found) = first_place(marks, opening.as_str(), seen, rest) {
-        piece.push_str(found.piece)?;
-        match found.place {
-            Place::Writes(text) => piece.push_str(text)?,
-            Place::Holds(_) => {
-                if !piece_apart(seen == 0, false, piece.as_str()) {
-                    return Ok(false);
-                }
-                piece.clear();
-                seen += 1;
-            }
+    let mut sides = Sides::start();
+    let mut betweens = Betweens::new(alloc);
+    let mut rest = text;
+    while let Some((token, behind)) = first_token(rest) {
+        if !sides.fits(token) || !betweens.read(token)? {
+            return Ok(true);
         }
-        rest = found.rest;
+        sides = Sides::behind(token);
+        rest = behind;
     }
-    piece.push_str(rest)?;
-    Ok(piece_apart(seen == 0, true, piece.as_str()))
+    Ok(!sides.may_end() || !betweens.is_empty())
 }
 
 /// Whether the values that these marks bind stand apart in a template: no `?` lacks an argument,

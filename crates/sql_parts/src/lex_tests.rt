@@ -1,7 +1,9 @@
 //! What the tests of fragments answer, through the calls themselves.
 use crate::bind::Marks;
 use crate::laws::{bound_texts_keep_the_count, tokens_join_at_edges};
-use crate::lex::{has_semicolon, is_closed, stands_apart};
+use crate::lex::{
+    has_clause_word, has_dangling, has_semicolon, is_balanced, is_closed, is_operand, stands_apart,
+};
 use std::test::Fail;
 
 /// Texts, whether each is closed, and whether each has a semicolon.
@@ -83,4 +85,102 @@ fn tests_templates(rt: HostRuntime) -> Result<(), Fail> {
 fn states_the_laws_of_tokens() {
     tokens_join_at_edges();
     bound_texts_keep_the_count();
+}
+
+/// Texts, and whether each is balanced, dangles, is an operand and has a clause word.
+const CONDITIONS: &[(&str, bool, bool, bool, bool)] = &[
+    ("(a", false, false, false, false),
+    ("a; b", false, false, false, false),
+    ("", false, false, false, false),
+    ("a OR", true, true, false, false),
+    ("x BETWEEN 1", true, true, false, false),
+    ("a IS NOT NULL", true, false, true, false),
+    ("x BETWEEN 1 AND 2 AND y", true, false, false, false),
+    ("(a OR b)", true, false, true, false),
+    ("a OR b", true, false, false, false),
+    ("NOT a", true, false, false, false),
+    ("x BETWEEN 1 AND 2", true, false, false, false),
+    ("a FROM b", true, false, true, true),
+    ("(SELECT 1)", true, false, true, false),
+    ("\"from\"", true, false, true, false),
+    ("fromage", true, false, true, false),
+    ("NOT a AND b", true, false, false, false),
+    ("AND a", true, true, false, false),
+    ("a AND AND b", true, true, false, false),
+    ("x BETWEEN a OR b AND c", true, true, false, false),
+    ("a)(b", false, false, false, false),
+    ("(a END", true, false, true, false),
+    ("CASE WHEN a OR b THEN c END", true, false, true, false),
+    ("CASE WHEN NOT a THEN b END", true, false, true, false),
+    ("x NOT BETWEEN 1 AND 2", true, false, false, false),
+    ("a where b", true, false, true, true),
+    ("a) FROM b", false, false, false, false),
+    (
+        "(SELECT id FROM b WHERE (p OR q) AND (r))",
+        true,
+        false,
+        true,
+        false,
+    ),
+    ("a) ( FROM b", false, false, false, true),
+    ("a) x BETWEEN 1 ( AND 2", false, true, false, false),
+    ("(x BETWEEN 1) AND 2", true, true, false, false),
+    (
+        "x BETWEEN (a BETWEEN 1 AND 2) AND c",
+        true,
+        false,
+        false,
+        false,
+    ),
+    ("x between 1", true, true, false, false),
+    ("(x BETWEEN (1", false, true, false, false),
+    ("(a NOT)", true, true, true, false),
+    ("\"FROM\" \"AND\"", true, false, true, false),
+    ("'a", false, false, false, false),
+];
+
+#[test]
+fn tests_conditions(rt: HostRuntime) -> Result<(), Fail> {
+    for (text, balanced, dangling, operand, clause_word) in CONDITIONS.iter() {
+        assert_eq!(rt;
+            is_balanced(text),
+            *balanced,
+            "{text} is balanced: {balanced}"
+        );
+        assert_eq!(rt;
+            has_dangling(rt.alloc(), text)?,
+            *dangling,
+            "{text} dangles: {dangling}"
+        );
+        assert_eq!(rt;
+            is_operand(text),
+            *operand,
+            "{text} is an operand: {operand}"
+        );
+        assert_eq!(rt;
+            has_clause_word(text),
+            *clause_word,
+            "{text} has a clause word: {clause_word}"
+        );
+    }
+    Ok(())
+}
+
+/// Brackets that never close, as deep as the text is long.
+#[test]
+fn tests_deep_brackets(rt: HostRuntime) -> Result<(), Fail> {
+    let text = "(".repeat(rt.alloc(), 100_000)?;
+    assert_eq!(rt; is_balanced(text.as_str()), false, "they are balanced");
+    assert_eq!(rt; is_operand(text.as_str()), false, "they are an operand");
+    assert_eq!(rt;
+        has_clause_word(text.as_str()),
+        false,
+        "they have a clause word"
+    );
+    assert_eq!(rt;
+        has_dangling(rt.alloc(), text.as_str())?,
+        false,
+        "they dangle"
+    );
+    Ok(())
 }

@@ -2,17 +2,22 @@
 //! all calls share.
 #![tactic(auto)]
 
+mod apart;
 pub mod arg;
 pub mod bind;
 mod bind_names;
 mod binding;
+mod dangling;
 pub mod error;
 pub mod laws;
+mod levels;
 pub mod lex;
+mod lexer;
 pub mod name;
 mod places;
 mod quoting;
 pub mod text;
+mod words;
 
 pub use arg::{Literal, SqlArg};
 pub use bind::{Bind, BindNames, Marks};

@@ -2,6 +2,7 @@ use Rattle.std.proofs.Common.{map}
 use Rattle.sql_builder.specs.Answers.{call_text, finish_text, start_text}
 use Rattle.sql_builder.specs.Calls.{clauses}
 use Rattle.sql_builder.proofs.ClauseShapes.{statement_closed, statement_shape}
+use Rattle.sql_builder.proofs.ReadBack.{statement_clauses, statement_nests, statement_truth}
 use Rattle.sql_builder.proofs.Runs.{statement_printed, statement_refused}
 use Rattle.sql_builder.proofs.calls.run.Goals as goal
 
@@ -24,3 +25,15 @@ returns-clause-shape c =
 pub returns-clause-closed : goal.returns-clause-closed
 returns-clause-closed c =
     statement_closed (start_text c.args.start.now) (map call_text c.args.calls.now) (finish_text c.args.finish.now) c.print.result (returns-clause-text c)
+
+pub returns-clause-clauses : goal.returns-clause-clauses
+returns-clause-clauses c =
+    statement_clauses (start_text c.args.start.now) (map call_text c.args.calls.now) (finish_text c.args.finish.now) c.print.result (returns-clause-text c)
+
+pub returns-clause-truth : goal.returns-clause-truth
+returns-clause-truth c =
+    statement_truth (start_text c.args.start.now) (map call_text c.args.calls.now) (finish_text c.args.finish.now) c.print.result (returns-clause-text c)
+
+pub returns-clause-nests : goal.returns-clause-nests
+returns-clause-nests c =
+    statement_nests (start_text c.args.start.now) (map call_text c.args.calls.now) (finish_text c.args.finish.now) c.print.result (returns-clause-text c)

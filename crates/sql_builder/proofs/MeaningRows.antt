@@ -1,0 +1,96 @@
+-- Worked rows of clauses that read back and of the truth of WHERE: what the definitions give, by computing.
+use Rattle.std.specs.Prelude.{◌≡◌, [], ◌∷◌, codes, false, refl, true}
+use Rattle.sql_parts.specs.Tokens.{Word, tokens}
+use Rattle.sql_builder.specs.Calls as call
+use Rattle.sql_builder.specs.Calls.{clauses}
+use Rattle.sql_builder.specs.Conditions.{InQuery, Raw}
+use Rattle.sql_builder.specs.Layout.{sql}
+use Rattle.sql_builder.specs.Shape.{pieces_tokens}
+use Rattle.sql_builder.specs.Text.{Pieces, fixed_piece}
+use Rattle.sql_builder.specs.declared.calls.Family.TheVariants.{And, Or}
+use Rattle.sql_builder.specs.Fitting.{has_fit_conditions, has_fit_fragments}
+use Rattle.sql_builder.specs.Reading.{piece_clauses, read}
+use Rattle.sql_builder.specs.Truths.{False, True, Unknown, truth}
+use Rattle.sql_builder.specs.Laws.{IsValued, brackets_and_not, range_and_case}
+
+-- DELETE FROM t WHERE a OR b;
+abbrev deleted : Pieces
+deleted = sql fixed_piece (clauses (call.DeleteFrom (codes "t")) (call.Cond And (Raw (codes "a")) ∷ call.Cond Or (Raw (codes "b")) ∷ []))
+
+delete-clauses : piece_clauses deleted ≡ (Word (codes "DELETE"), []) ∷ (Word (codes "FROM"), Word (codes "t") ∷ []) ∷ (Word (codes "WHERE"), Word (codes "a") ∷ Word (codes "OR") ∷ Word (codes "b") ∷ []) ∷ []
+unfolding piece_clauses
+delete-clauses = refl
+
+delete-read : read (tokens (codes "DELETE FROM t WHERE a OR b;")) ≡ piece_clauses deleted
+unfolding piece_clauses read
+delete-read = refl
+
+-- SELECT * FROM t WHERE ((a) OR (b)) AND (NOT c AND d) UNION SELECT x FROM y WHERE z; the queries behind UNION may have clause words
+abbrev united : Pieces
+united =
+    sql fixed_piece (clauses (call.SelectFrom (codes "t"))
+    (call.Cond And (Raw (codes "(a) OR (b)")) ∷ call.Union (codes "SELECT x FROM y WHERE z") ∷ call.Cond And (Raw (codes "NOT c AND d")) ∷ []))
+
+united-read : read (pieces_tokens united) ≡ piece_clauses united
+unfolding piece_clauses read
+united-read = refl
+
+united-fit : has_fit_fragments united ≡ true
+united-fit = refl
+
+pub unknown_or : IsValued (range_and_case False) (codes "p OR q") Unknown
+unfolding truth
+unknown_or = refl
+
+pub unknown_not : IsValued (range_and_case False) (codes "NOT (p OR q)") Unknown
+unfolding truth
+unknown_not = refl
+
+pub unknown_group : IsValued (range_and_case False) (codes "x BETWEEN 1 AND 2 OR NOT (p OR q)") Unknown
+unfolding truth
+unknown_group = refl
+
+pub true_group : IsValued (range_and_case False) (codes "CASE WHEN a OR b THEN c END = 1") True
+unfolding truth
+true_group = refl
+
+pub unknown_whole : IsValued (range_and_case False) (codes "(x BETWEEN 1 AND 2 OR NOT (p OR q)) AND (CASE WHEN a OR b THEN c END = 1)") Unknown
+unfolding truth
+unknown_whole = refl
+
+pub false_group : IsValued (range_and_case True) (codes "x BETWEEN 1 AND 2 OR NOT (p OR q)") False
+unfolding truth
+false_group = refl
+
+pub false_whole : IsValued (range_and_case True) (codes "(x BETWEEN 1 AND 2 OR NOT (p OR q)) AND (CASE WHEN a OR b THEN c END = 1)") False
+unfolding truth
+false_whole = refl
+
+pub own_brackets : IsValued brackets_and_not (codes "(a) OR (b)") True
+unfolding truth
+own_brackets = refl
+
+pub own_not : IsValued brackets_and_not (codes "NOT c AND d") Unknown
+unfolding truth
+own_not = refl
+
+pub own_whole : IsValued brackets_and_not (codes "((a) OR (b)) AND (NOT c AND d)") Unknown
+unfolding truth
+own_whole = refl
+
+-- a query in IN's brackets may have clause words, a table may not
+in_query-fit : has_fit_fragments (sql fixed_piece (clauses (call.DeleteFrom (codes "t")) (call.Cond And (InQuery true (codes "a") (codes "SELECT b FROM c")) ∷ []))) ≡ true
+in_query-fit = refl
+
+table-unfit : has_fit_fragments (sql fixed_piece (clauses (call.DeleteFrom (codes "t WHERE b")) [])) ≡ false
+table-unfit = refl
+
+-- in the brackets round a group a clause word is no outer one, and the clauses read back; the truth of WHERE asks for more
+abbrev queried : Pieces
+queried = sql fixed_piece (clauses (call.DeleteFrom (codes "t")) (call.Cond And (Raw (codes "x FROM y")) ∷ call.Cond And (Raw (codes "p")) ∷ []))
+
+group-fit : has_fit_fragments queried ≡ true
+group-fit = refl
+
+group-unfit : has_fit_conditions (call.Cond And (Raw (codes "x FROM y")) ∷ call.Cond And (Raw (codes "p")) ∷ []) ≡ false
+group-unfit = refl

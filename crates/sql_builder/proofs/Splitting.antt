@@ -1,0 +1,110 @@
+-- The parts of a list that is joined, and tests of its outer tokens.
+use Rattle.std.proofs.Common.{◌≡◌, refl, ◌∙◌, ap, Bool, true, false, cond, ◌&&◌, ◌||◌, List, [], ◌∷◌, ◌++◌, map, ℤ}
+use Rattle.std.proofs.lemmas.Bool.{or_parts, or_from, true≢false}
+use Rattle.std.specs.List.{list_any}
+use Rattle.sql_parts.specs.Tokens.{Token}
+use Rattle.sql_builder.specs.Parts.{Parts, parts_at, pieces_at, pieces_of, with_front}
+use Rattle.sql_builder.specs.Truths.{is_and, is_between, is_between_last, is_or, without_owned}
+use Rattle.sql_parts.proofs.Walks.{after, is_zero, placed_from}
+use Rattle.sql_parts.specs.Fragments.{Inner, Outer, Placed, is_joining, is_outer, token_of}
+
+pub any-append : (test : Token → Bool) (a b : List Placed) → list_any (is_outer test) (a ++ b) ≡ (list_any (is_outer test) a || list_any (is_outer test) b)
+any-append test [] b = refl
+any-append test (m ∷ a) b = shift (is_outer test m) (list_any (is_outer test) a) (list_any (is_outer test) b) (list_any (is_outer test) (a ++ b)) (any-append test a b)
+  where
+    shift : (x y z w : Bool) → w ≡ (y || z) → (x || w) ≡ ((x || y) || z)
+    shift true y z w e = refl
+    shift false y z w e = e
+
+pub none-append : (test : Token → Bool) (a b : List Placed) → list_any (is_outer test) a ≡ false → list_any (is_outer test) b ≡ false → list_any (is_outer test) (a ++ b) ≡ false
+none-append test a b h k = any-append test a b ∙ or_from _ _ h k
+
+pub none-inner : (test : Token → Bool) (a : List Token) → list_any (is_outer test) (map Inner a) ≡ false
+none-inner test [] = refl
+none-inner test (t ∷ a) = none-inner test a
+
+abbrev tokens_of : List Placed → List Token
+tokens_of ms = map token_of ms
+
+pub parts-clear : (test : Token → Bool) (a b : List Placed) → list_any (is_outer test) a ≡ false → parts_at test (a ++ b) ≡ record { lead = tokens_of a ++ (parts_at test b).lead; rest = (parts_at test b).rest }
+parts-clear test [] b h = refl
+parts-clear test (m ∷ a) b h =
+    let both = or_parts (is_outer test m) (list_any (is_outer test) a) h in
+    rw (both.0, parts-clear test a b both.1)
+
+-- parts, and further ones behind a separator
+pub parts_then : Parts → Token → Parts → Parts
+parts_then a t b = record { lead = a.lead; rest = a.rest ++ (t, b.lead) ∷ b.rest }
+
+with_front-then : (is : Bool) (s : Token) (a : Parts) (t : Token) (b : Parts) → with_front is s (parts_then a t b) ≡ parts_then (with_front is s a) t b
+unfolding parts_then
+with_front-then true s a t b = refl
+with_front-then false s a t b = refl
+
+pub parts-separator : (test : Token → Bool) (a : List Placed) (t : Token) (b : List Placed) → test t ≡ true → parts_at test (a ++ Outer t ∷ b) ≡ parts_then (parts_at test a) t (parts_at test b)
+unfolding parts_then
+parts-separator test [] t b h = rw h
+parts-separator test (m ∷ a) t b h = rw (parts-separator test a t b h) (with_front-then (is_outer test m) (token_of m) (parts_at test a) t (parts_at test b))
+
+map-append : (xs ys : List (Token × List Token)) → map (λ (part : Token × List Token). part.1) (xs ++ ys) ≡ map (λ (part : Token × List Token). part.1) xs ++ map (λ (part : Token × List Token). part.1) ys
+map-append [] ys = refl
+map-append (x ∷ xs) ys = ap (λ zs. x.1 ∷ zs) (map-append xs ys)
+
+pub pieces-separator : (test : Token → Bool) (a : List Placed) (t : Token) (b : List Placed) → test t ≡ true → pieces_at test (a ++ Outer t ∷ b) ≡ pieces_at test a ++ pieces_at test b
+unfolding parts_then
+pieces-separator test a t b h =
+    let parted = parts_at test a in
+    let more = parts_at test b in
+    ap pieces_of (parts-separator test a t b h) ∙ ap (λ zs. parted.lead ∷ zs) (map-append parted.rest ((t, more.lead) ∷ more.rest))
+
+pub parts-none : (test : Token → Bool) (a : List Placed) → list_any (is_outer test) a ≡ false → parts_at test a ≡ record { lead = map token_of a; rest = [] }
+parts-none test [] h = refl
+parts-none test (m ∷ a) h =
+    let both = or_parts (is_outer test m) (list_any (is_outer test) a) h in
+    rw (both.0, parts-none test a both.1)
+
+pub tokens-placed_from : (l : ℤ) (ts : List Token) → map token_of (placed_from l ts) ≡ ts
+tokens-placed_from l [] = refl
+tokens-placed_from l (t ∷ ts) = back (is_zero l) t (map token_of (placed_from (after l t) ts)) ts (tokens-placed_from (after l t) ts)
+  where
+    back : (outer : Bool) (t : Token) (us ts : List Token) → us ≡ ts → token_of (place outer t) ∷ us ≡ t ∷ ts
+    back true t us ts e = ap (λ vs. t ∷ vs) e
+    back false t us ts e = ap (λ vs. t ∷ vs) e
+
+-- one AND hidden or not, the token is the same
+token_hidden : (b : Bool) (t : Token) → token_of (cond b (Inner t) (Outer t)) ≡ t
+token_hidden true t = refl
+token_hidden false t = refl
+
+pub tokens-without_owned : (owned : Bool) (ms : List Placed) → map token_of (without_owned owned ms) ≡ map token_of ms
+tokens-without_owned owned [] = refl
+tokens-without_owned owned (Inner t ∷ ms) = ap (λ ts. t ∷ ts) (tokens-without_owned owned ms)
+tokens-without_owned owned (Outer t ∷ ms) = cc (token_hidden (owned && is_and t) t, tokens-without_owned (is_between_last owned t) ms)
+
+-- where no outer token is OR, AND or BETWEEN, no AND is owned, and what follows is as before
+pub without_owned-plain : (owned : Bool) (a b : List Placed) → list_any (is_outer is_joining) a ≡ false → without_owned owned (a ++ b) ≡ a ++ without_owned owned b
+without_owned-plain owned [] b h = refl
+without_owned-plain owned (Inner t ∷ a) b h = ap (λ ms. Inner t ∷ ms) (without_owned-plain owned a b h)
+without_owned-plain owned (Outer t ∷ a) b h =
+    let here = or_parts (is_joining t) (list_any (is_outer is_joining) a) h in
+    let words = or_parts (is_or t) (is_and t || (is_between t || false)) here.0 in
+    let ands = or_parts (is_and t) (is_between t || false) words.1 in
+    kept owned (is_or t) (is_and t) (is_between t) words.0 ands.0 (or_parts (is_between t) false ands.1).0 (without_owned-plain owned a b here.1)
+  where
+    kept : (owned or and between : Bool) → or ≡ false → and ≡ false → between ≡ false → without_owned owned (a ++ b) ≡ a ++ without_owned owned b → cond (owned && and) (Inner t) (Outer t) ∷ without_owned (cond between true (cond (and || or) false owned)) (a ++ b) ≡ Outer t ∷ (a ++ without_owned owned b)
+    kept true true and between e f g k = absurd (true≢false e)
+    kept true false true between e f g k = absurd (true≢false f)
+    kept true false false true e f g k = absurd (true≢false g)
+    kept true false false false e f g k = ap (λ ms. Outer t ∷ ms) k
+    kept false true and between e f g k = absurd (true≢false e)
+    kept false false true between e f g k = absurd (true≢false f)
+    kept false false false true e f g k = absurd (true≢false g)
+    kept false false false false e f g k = ap (λ ms. Outer t ∷ ms) k
+
+-- a test that implies another
+pub none_narrower : (test wider : Token → Bool) → ((t : Token) → wider t ≡ false → test t ≡ false) → (a : List Placed) → list_any (is_outer wider) a ≡ false → list_any (is_outer test) a ≡ false
+none_narrower test wider narrow [] h = refl
+none_narrower test wider narrow (Inner t ∷ a) h = none_narrower test wider narrow a h
+none_narrower test wider narrow (Outer t ∷ a) h =
+    let both = or_parts (wider t) (list_any (is_outer wider) a) h in
+    or_from _ _ (narrow t both.0) (none_narrower test wider narrow a both.1)

@@ -1,0 +1,214 @@
+-- What stands with WHERE is true as its conditions make it.
+use Rattle.std.proofs.Common.{◌≡◌, refl, sym, ◌∙◌, ap, subst, ℕ, Bool, true, false, not, ◌||◌, List, [], ◌∷◌, ◌++◌, map, pos, codes, append-nil}
+use Rattle.std.specs.Prelude.{filter_map, flat_map}
+use Rattle.std.specs.List.{list_all, list_any}
+use Rattle.std.proofs.lemmas.Bool.{and_parts, and_from, false≢true, not_from_false}
+use Rattle.sql_parts.specs.Text.{join_with}
+use Rattle.sql_parts.specs.Tokens.{Token, Symbol, tokens, is_empty}
+use Rattle.sql_builder.specs.Builder.{ClauseTexts}
+use Rattle.sql_builder.specs.Calls.{CallText, condition_in, condition_pieces, group_pieces, opens_group, conditions_of, groups}
+use Rattle.sql_builder.specs.Conditions.{ConditionText, Raw, Compare, Like, IsNull, IsNotNull, InList, InQuoted, InQuery, Between}
+use Rattle.sql_builder.specs.Filters.{Group, begins, cut, lead_and_groups}
+use Rattle.sql_builder.specs.Phrases.{in_brackets}
+use Rattle.sql_builder.specs.Shape.{pieces_tokens, cond_tokens}
+use Rattle.sql_builder.specs.Text as text
+use Rattle.sql_builder.specs.Text.{Pieces, Fixed, fixed_piece, raw_piece}
+use Rattle.sql_builder.specs.declared.calls.Family.{Family}
+use Rattle.sql_builder.proofs.OwnClauses.{condition-calm}
+use Rattle.sql_builder.proofs.OwnLayouts.{calm-raw, where_bodies, where_body}
+use Rattle.sql_builder.proofs.OwnSections.{Calm, calm-front, own-outer}
+use Rattle.sql_builder.proofs.OwnWords.{Mark, fit-balanced, fit-marks, marks, shape-even, are_fit, are_fit_from, is_fit, are_fit-is}
+use Rattle.sql_builder.proofs.Shapes.{pieces_tokens-append}
+use Rattle.sql_builder.proofs.TruthGroups.{truth_where}
+use Rattle.sql_builder.specs.WhereTokens as where_tokens
+use Rattle.sql_builder.specs.WhereTokens.{group_tokens, joined}
+use Rattle.sql_builder.proofs.WhereTokens.{are_groups, is_condition, is_group, and_word, has_clause, or_word}
+use Rattle.sql_builder.specs.Fitting.{has_fit_conditions, has_fit_groups, are_fit}
+use Rattle.sql_builder.specs.Meaning.{condition_groups, text_groups, where_truths}
+use Rattle.sql_builder.specs.Reading.{own_placed}
+use Rattle.sql_builder.specs.Truths.{truth, Valuation}
+use Rattle.sql_parts.proofs.Walks.{is_balanced, placed}
+use Rattle.sql_parts.specs.Fragments.{Placed, is_clause_word, is_outer}
+use Rattle.std.proofs.lemmas.List.Folds.{list_all-map}
+
+-- ---- one condition
+
+any-marks : (ms : List Placed) → list_any (is_outer is_clause_word) ms ≡ list_any (λ (m : Mark). m.0) (marks ms)
+any-marks [] = refl
+any-marks (m ∷ ms) = ap (λ (b : Bool). is_outer is_clause_word m || b) (any-marks ms)
+
+-- fit pieces without a clause word of the product's have no outer clause word
+no_clause-tokens : (ps : Pieces) → Calm ps → are_fit_from (pos 0) ps ≡ true → has_clause (pieces_tokens ps) ≡ false
+no_clause-tokens ps calm fit =
+    any-marks (placed (pieces_tokens ps))
+    ∙ ap (list_any (λ (m : Mark). m.0)) (fit-marks (pos 0) ps refl fit (calm-front ps calm).laid)
+    ∙ sym (any-marks (flat_map own_placed ps)) ∙ own-outer is_clause_word ps ∙ calm.no_word
+
+some-append : (a b : List Token) → is_balanced a ≡ true → not (is_empty (a ++ b)) ≡ true
+some-append [] b h = absurd (false≢true h)
+some-append (t ∷ a) b h = refl
+
+-- a fragment first, so that there is a token
+fit-condition : (first : List ℕ) (ps : Pieces) → Calm (text.Raw first ∷ ps) → are_fit (text.Raw first ∷ ps) ≡ true → is_condition (pieces_tokens (text.Raw first ∷ ps)) ≡ true
+fit-condition first ps calm are =
+    let all = text.Raw first ∷ ps in
+    let fit = sym (are_fit-is all) ∙ are in
+    let here = and_parts (is_balanced (tokens first)) _ (and_parts (is_fit (pos 0) (text.Raw first)) (are_fit_from (pos 0) ps) fit).0 in
+    and_from _ _ (and_from _ _ (some-append (tokens first) (pieces_tokens ps) here.0) (shape-even all (fit-balanced (pos 0) all fit) calm.even))
+    (not_from_false _ (no_clause-tokens all calm fit))
+
+pub condition-fit : (condition : ConditionText) → are_fit (condition_pieces condition) ≡ true → is_condition (cond_tokens condition) ≡ true
+condition-fit condition fit = by condition (condition-calm condition) fit
+  where
+    by : (c : ConditionText) → Calm (condition_pieces c) → are_fit (condition_pieces c) ≡ true → is_condition (cond_tokens c) ≡ true
+    by (Raw condition) calm fit = fit-condition condition _ calm fit
+    by (Compare relation field value) calm fit = fit-condition field _ calm fit
+    by (Like negated percent field mask) calm fit = fit-condition field _ calm fit
+    by (IsNull field) calm fit = fit-condition field _ calm fit
+    by (IsNotNull field) calm fit = fit-condition field _ calm fit
+    by (InList negated field values) calm fit = fit-condition field _ calm fit
+    by (InQuoted negated field values) calm fit = fit-condition field _ calm fit
+    by (InQuery negated field query) calm fit = fit-condition field _ calm fit
+    by (Between negated field least greatest) calm fit = fit-condition field _ calm fit
+
+-- ---- tokens of what is joined
+
+pieces_tokens-joined : (words : List ℕ) (w : Token) → tokens words ≡ w ∷ [] → (items : List Pieces) → pieces_tokens (join_with (fixed_piece words) items) ≡ joined w (map pieces_tokens items)
+pieces_tokens-joined words w is [] = refl
+pieces_tokens-joined words w is (x ∷ []) = ap pieces_tokens (append-nil x)
+pieces_tokens-joined words w is (x ∷ y ∷ items) =
+    let more = join_with (fixed_piece words) (y ∷ items) in
+    pieces_tokens-append x (Fixed words ∷ more)
+    ∙ ap (λ ts. pieces_tokens x ++ (ts ++ pieces_tokens more)) is
+    ∙ ap (λ ts. pieces_tokens x ++ w ∷ ts) (pieces_tokens-joined words w is (y ∷ items))
+
+pub pieces_tokens-brackets : (x : Pieces) → pieces_tokens (in_brackets fixed_piece x) ≡ where_tokens.in_brackets (pieces_tokens x)
+unfolding where_tokens.in_brackets
+pieces_tokens-brackets x = ap (λ ts. Symbol 40 ∷ ts) (pieces_tokens-append x (fixed_piece (codes ")")))
+
+-- ---- groups
+
+-- a group's pieces, and its conditions' tokens
+record Grouped (group : Pieces) (conditions : List (List Token)) : Type 0 where
+  is : pieces_tokens group ≡ group_tokens conditions
+  fine : is_group conditions ≡ true
+
+abbrev AllGrouped : List Pieces → List (List (List Token)) → Type 0
+AllGrouped [] [] = Unit {0}
+AllGrouped [] (cs ∷ css) = ⊥
+AllGrouped (g ∷ gs) [] = ⊥
+AllGrouped (g ∷ gs) (cs ∷ css) = Grouped g cs × AllGrouped gs css
+
+brackets-are : (gs : List Pieces) (css : List (List (List Token))) → AllGrouped gs css → map pieces_tokens (map (in_brackets fixed_piece) gs) ≡ map (λ (cs : List (List Token)). where_tokens.in_brackets (group_tokens cs)) css
+brackets-are [] [] all = refl
+brackets-are [] (cs ∷ css) all = absurd all
+brackets-are (g ∷ gs) [] all = absurd all
+brackets-are (g ∷ gs) (cs ∷ css) all = cc (pieces_tokens-brackets g, all.0.is, brackets-are gs css all.1)
+
+all-fine : (gs : List Pieces) (css : List (List (List Token))) → AllGrouped gs css → list_all is_group css ≡ true
+all-fine [] [] all = refl
+all-fine [] (cs ∷ css) all = absurd all
+all-fine (g ∷ gs) [] all = absurd all
+all-fine (g ∷ gs) (cs ∷ css) all = and_from _ _ all.0.fine (all-fine gs css all.1)
+
+body-is : (g : Pieces) (gs : List Pieces) (cs : List (List Token)) (css : List (List (List Token))) → AllGrouped (g ∷ gs) (cs ∷ css) → pieces_tokens (where_body g gs) ≡ where_tokens.where_tokens (cs ∷ css)
+unfolding where_tokens.where_tokens
+body-is g [] cs [] all = all.0.is
+body-is g [] cs (ds ∷ css) all = absurd all.1
+body-is g (h ∷ gs) cs [] all = absurd all.1
+body-is g (h ∷ gs) cs (ds ∷ css) all =
+    pieces_tokens-joined (codes " AND ") and_word refl (map (in_brackets fixed_piece) (g ∷ h ∷ gs))
+    ∙ ap (joined and_word) (brackets-are (g ∷ h ∷ gs) (cs ∷ ds ∷ css) all)
+
+-- what stands with WHERE, over pieces
+bodies-true : (facts : Valuation) (gs : List Pieces) (css : List (List (List Token))) → AllGrouped gs css → map (truth facts) (where_bodies gs) ≡ where_truths facts css
+unfolding are_groups
+bodies-true facts [] [] all = refl
+bodies-true facts [] (cs ∷ css) all = absurd all
+bodies-true facts (g ∷ gs) [] all = absurd all
+bodies-true facts (g ∷ gs) (cs ∷ css) all =
+    ap (λ ts. truth facts ts ∷ []) (body-is g gs cs css all)
+    ∙ ap (λ t. t ∷ []) (truth_where facts (cs ∷ css) (all-fine (g ∷ gs) (cs ∷ css) all))
+
+-- ---- the groups of calls
+
+abbrev Said : Type 0
+Said = Family × ConditionText
+
+abbrev fits : ConditionText → Bool
+fits condition = are_fit (condition_pieces condition)
+
+abbrev said_fits : Said → Bool
+said_fits c = fits c.1
+
+-- the conditions of a group and those before it, each fit
+abbrev all_fit : Group Said → Bool
+all_fit group = list_all said_fits (group.0 ∷ group.1)
+
+lead-all : (cs : List Said) → list_all said_fits cs ≡ true
+    → (list_all said_fits (lead_and_groups opens_group cs).0 ≡ true) × (list_all all_fit (lead_and_groups opens_group cs).1 ≡ true)
+lead-all [] all = (refl, refl)
+lead-all (c ∷ cs) all =
+    let both = and_parts (said_fits c) (list_all said_fits cs) all in
+    step (opens_group c) (lead_and_groups opens_group cs) both.0 (lead-all cs both.1)
+  where
+    step : (opens : Bool) (r : List Said × List (Group Said)) → said_fits c ≡ true → (list_all said_fits r.0 ≡ true) × (list_all all_fit r.1 ≡ true)
+        → (list_all said_fits (begins opens c r).0 ≡ true) × (list_all all_fit (begins opens c r).1 ≡ true)
+    step true r here more = (refl, and_from _ _ (and_from _ _ here more.0) more.1)
+    step false r here more = (and_from _ _ here more.0, more.1)
+
+cut-all : (cs : List Said) → list_all said_fits cs ≡ true → list_all all_fit (cut opens_group cs) ≡ true
+cut-all [] all = refl
+cut-all (c ∷ cs) all =
+    let both = and_parts (said_fits c) (list_all said_fits cs) all in
+    let more = lead-all cs both.1 in
+    and_from _ _ (and_from _ _ both.0 more.0) more.1
+
+conditions-fine : (cs : List ConditionText) → list_all fits cs ≡ true → list_all is_condition (map cond_tokens cs) ≡ true
+conditions-fine [] all = refl
+conditions-fine (c ∷ cs) all =
+    let both = and_parts (fits c) (list_all fits cs) all in
+    and_from _ _ (condition-fit c both.0) (conditions-fine cs both.1)
+
+tokens-of : (cs : List ConditionText) → map pieces_tokens (map condition_pieces cs) ≡ map cond_tokens cs
+tokens-of [] = refl
+tokens-of (c ∷ cs) = ap (λ ts. cond_tokens c ∷ ts) (tokens-of cs)
+
+group-is : (group : Group ConditionText) → list_all fits (group.0 ∷ group.1) ≡ true → Grouped (group_pieces group) (map cond_tokens (group.0 ∷ group.1))
+group-is group all = record {
+  is = pieces_tokens-joined (codes " OR ") or_word refl (map condition_pieces (group.0 ∷ group.1)) ∙ ap (joined or_word) (tokens-of (group.0 ∷ group.1));
+  fine = conditions-fine (group.0 ∷ group.1) all;
+}
+
+without-families : (cs : List Said) → list_all said_fits cs ≡ true → list_all fits (map (λ (c : Said). c.1) cs) ≡ true
+without-families cs all = list_all-map fits (λ (c : Said). c.1) cs ∙ all
+
+groups-are : (found : List (Group Said)) → list_all all_fit found ≡ true
+    → AllGrouped (map group_pieces (map conditions_of found)) (map (λ (group : Group ConditionText). map cond_tokens (group.0 ∷ group.1)) (map conditions_of found))
+groups-are [] all = tt
+groups-are (group ∷ found) all =
+    let both = and_parts (all_fit group) (list_all all_fit found) all in
+    (group-is (conditions_of group) (without-families (group.0 ∷ group.1) both.0), groups-are found both.1)
+
+pub calls-true : (facts : Valuation) (calls : List CallText) → has_fit_conditions calls ≡ true
+    → map (truth facts) (where_bodies (map group_pieces (groups calls))) ≡ where_truths facts (condition_groups calls)
+calls-true facts calls fit =
+    bodies-true facts (map group_pieces (groups calls)) (condition_groups calls)
+    (groups-are (cut opens_group (filter_map condition_in calls)) (cut-all (filter_map condition_in calls) fit))
+
+-- ---- the groups of a builder
+
+text-is : (group : List ℕ) → are_fit (raw_piece group) ≡ true → Grouped (raw_piece group) (tokens group ∷ [])
+text-is group fit = record {
+  is = append-nil (tokens group);
+  fine = and_from _ _ (subst (λ ts. is_condition ts ≡ true) (append-nil (tokens group)) (fit-condition group [] (calm-raw group) fit)) refl;
+}
+
+texts-are : (groups : List (List ℕ)) → list_all (λ (group : List ℕ). are_fit (raw_piece group)) groups ≡ true → AllGrouped (map raw_piece groups) (map (λ (group : List ℕ). tokens group ∷ []) groups)
+texts-are [] all = tt
+texts-are (group ∷ groups) all =
+    let both = and_parts (are_fit (raw_piece group)) (list_all (λ (g : List ℕ). are_fit (raw_piece g)) groups) all in
+    (text-is group both.0, texts-are groups both.1)
+
+pub texts-true : (facts : Valuation) (r : ClauseTexts) → has_fit_groups r ≡ true → map (truth facts) (where_bodies (map raw_piece r.groups)) ≡ where_truths facts (text_groups r)
+texts-true facts r fit = bodies-true facts (map raw_piece r.groups) (text_groups r) (texts-are r.groups fit)

@@ -1,0 +1,144 @@
+-- Fragments that leave the clauses and the conditions of a statement as the builder wrote them.
+use Rattle.std.specs.Prelude.{Bool, true, false, not, ◌&&◌, ◌||◌, List, [], ◌∷◌, ◌++◌, ℕ, filter_map, flat_map, length, map}
+use Rattle.std.specs.List.{list_all, list_any}
+use Rattle.sql_parts.specs.Fragments.{balanced, has_clause_word, is_outer_place}
+use Rattle.sql_parts.specs.Tokens.{Token, tokens}
+use Rattle.sql_builder.specs.Builder.{ClauseTexts}
+use Rattle.sql_builder.specs.Calls as call
+use Rattle.sql_builder.specs.Calls.{CallText, FinishText, StartText, condition_in, condition_pieces}
+use Rattle.sql_builder.specs.Conditions.{ConditionText, Raw, Compare, Like, IsNull, IsNotNull, InList, InQuoted, InQuery, Between}
+use Rattle.sql_builder.specs.Filters.{until}
+use Rattle.sql_builder.specs.Reading.{is_union}
+use Rattle.sql_builder.specs.Shape.{has_closed_fragments}
+use Rattle.sql_builder.specs.Text as text
+use Rattle.sql_builder.specs.Text.{Piece, Pieces, Fixed, raw_piece}
+
+-- the tokens of a piece, if it is of the builder's own
+abbrev pub own_tokens : Piece → List Token
+own_tokens (Fixed text) = tokens text
+own_tokens _ = []
+
+-- the tokens of the builder's own words
+abbrev pub own : Pieces → List Token
+own printed = flat_map own_tokens printed
+
+-- behind these pieces no bracket of the builder's own is open
+abbrev pub is_bare_behind : Pieces → Bool
+is_bare_behind before = is_outer_place (own before) (length (own before))
+
+-- A fragment that stands behind these pieces is balanced; where no bracket of the builder's own is open there, it has no
+-- outer clause word.
+abbrev pub is_fit_behind : Pieces → Piece → Bool
+is_fit_behind before (text.Raw text) = balanced text && (not (is_bare_behind before) || not (has_clause_word text))
+is_fit_behind before _ = true
+
+-- each fragment of pieces that stand behind others is so
+abbrev pub are_fit_behind : Pieces → Pieces → Bool
+are_fit_behind before [] = true
+are_fit_behind before (piece ∷ pieces) = is_fit_behind before piece && are_fit_behind (before ++ piece ∷ []) pieces
+
+-- each fragment is balanced, and where no bracket of the builder's own stands round it has no outer clause word
+abbrev pub are_fit : Pieces → Bool
+are_fit pieces = are_fit_behind [] pieces
+
+-- a union begins with this piece
+abbrev pub begins_union : Piece → Bool
+begins_union (Fixed text) = list_any is_union (tokens text)
+begins_union _ = false
+
+-- each fragment before the first UNION is fit
+abbrev pub are_fit_to_union : Pieces → Bool
+are_fit_to_union printed = are_fit (until begins_union printed)
+
+-- each fragment is closed, and before the first UNION fit
+abbrev pub has_fit_fragments : Pieces → Bool
+has_fit_fragments printed = has_closed_fragments printed && are_fit_to_union printed
+
+-- the fragments of each condition are fit, by the brackets that the condition itself has
+abbrev pub has_fit_conditions : List CallText → Bool
+has_fit_conditions calls = list_all (λ c. are_fit (condition_pieces c.1)) (filter_map condition_in calls)
+
+-- each group of conditions, as a fragment, is balanced and has no outer clause word
+abbrev pub has_fit_groups : ClauseTexts → Bool
+has_fit_groups r = list_all (λ group. are_fit (raw_piece group)) r.groups
+
+-- a fragment is balanced
+abbrev pub is_balanced_piece : Piece → Bool
+is_balanced_piece (text.Raw text) = balanced text
+is_balanced_piece _ = true
+
+-- each fragment is, those behind a UNION too
+abbrev pub has_balanced_fragments : Pieces → Bool
+has_balanced_fragments printed = list_all is_balanced_piece printed
+
+-- ---- the same, of the texts that are handed in
+
+-- A text that is handed in to be printed as it stands: bare, or where clause words may stand, which is between brackets
+-- that the call writes, or behind UNION.
+pub data Handed : Type 0 where
+  Bare : List ℕ → Handed
+  Enclosed : List ℕ → Handed
+
+-- it is balanced, and has no outer clause word where none may stand
+abbrev pub is_fit : Handed → Bool
+is_fit (Bare text) = balanced text && not (has_clause_word text)
+is_fit (Enclosed text) = balanced text
+
+-- the texts of a condition
+abbrev pub condition_texts : ConditionText → List Handed
+condition_texts (Raw condition) = Bare condition ∷ []
+condition_texts (Compare relation field value) = Bare field ∷ Bare value ∷ []
+condition_texts (Like negated percent field mask) = Bare field ∷ []
+condition_texts (IsNull field) = Bare field ∷ []
+condition_texts (IsNotNull field) = Bare field ∷ []
+condition_texts (InList negated field values) = Bare field ∷ map Enclosed values
+condition_texts (InQuoted negated field values) = Bare field ∷ []
+condition_texts (InQuery negated field query) = Bare field ∷ Enclosed query ∷ []
+condition_texts (Between negated field least greatest) = Bare field ∷ Bare least ∷ Bare greatest ∷ []
+
+-- the texts of a start
+abbrev pub start_texts : StartText → List Handed
+start_texts (call.SelectFrom table) = Bare table ∷ []
+start_texts (call.SelectValues values) = map Bare values
+start_texts (call.InsertInto table) = Bare table ∷ []
+start_texts (call.UpdateTable table) = Bare table ∷ []
+start_texts (call.DeleteFrom table) = Bare table ∷ []
+
+-- the texts of a call
+abbrev pub call_texts : CallText → List Handed
+call_texts (call.AndTable table) = Bare table ∷ []
+call_texts (call.Join table) = Bare table ∷ []
+call_texts (call.On condition) = Bare condition ∷ []
+call_texts (call.OnEq left right) = Bare left ∷ Bare right ∷ []
+call_texts (call.Fields fields) = map Bare fields
+call_texts (call.SetFields fields) = map Bare fields
+call_texts (call.Field field) = Bare field ∷ []
+call_texts (call.SetField field) = Bare field ∷ []
+call_texts (call.Count field) = Enclosed field ∷ []
+call_texts (call.CountAs field name) = Enclosed field ∷ Bare name ∷ []
+call_texts (call.SetTo field value) = Bare field ∷ Bare value ∷ []
+call_texts (call.SetStr field value) = Bare field ∷ []
+call_texts (call.Values values) = map Enclosed values
+call_texts (call.Select query) = Bare query ∷ []
+call_texts (call.Returning fields) = Bare fields ∷ []
+call_texts (call.GroupBy field) = Bare field ∷ []
+call_texts (call.Having condition) = Bare condition ∷ []
+call_texts (call.Cond family condition) = condition_texts condition
+call_texts (call.Union query) = Enclosed query ∷ []
+call_texts (call.UnionAll query) = Enclosed query ∷ []
+call_texts (call.OrderBy field descending) = Bare field ∷ []
+call_texts (call.OrderAsc field) = Bare field ∷ []
+call_texts (call.OrderDesc field) = Bare field ∷ []
+call_texts (call.Limit limit) = Bare limit ∷ []
+call_texts (call.Offset offset) = Bare offset ∷ []
+call_texts _ = []
+
+-- the text of a finish, a name behind the brackets
+abbrev pub finish_texts : FinishText → List Handed
+finish_texts (call.SubqueryAs name) = Bare name ∷ []
+finish_texts _ = []
+
+-- each text that is handed in is fit
+abbrev pub has_fit_texts : StartText → List CallText → FinishText → Bool
+has_fit_texts start calls finish =
+    list_all is_fit (start_texts start) && list_all (λ c. list_all is_fit (call_texts c)) calls && list_all is_fit (finish_texts finish)

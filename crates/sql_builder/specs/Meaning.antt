@@ -1,0 +1,115 @@
+-- What a printed statement means: its clauses, the truth of its WHERE, and that queries serve as fragments.
+use Rattle.std.specs.Prelude.{◌≡◌, ℕ, Bool, true, false, not, ◌&&◌, IfOk, IsTrue, List, [], ◌∷◌, codes, map}
+use Rattle.std.specs.List.{list_all}
+use Rattle.sql_parts.specs.Fragments.{balanced, has_clause_word, operand}
+use Rattle.sql_parts.specs.Tokens.{Token, tokens}
+use Rattle.sql_builder.specs.Builder.{ClauseTexts, condition_bytes, with_condition_text}
+use Rattle.sql_builder.specs.Calls.{CallText, FinishText, StartText, Sql, Query, Subquery, SubqueryAs, condition_pieces, groups, kind_of}
+use Rattle.sql_builder.specs.Conditions.{ConditionText, Raw, Compare, Like, IsNull, IsNotNull, InList, InQuoted, InQuery, Between}
+use Rattle.sql_builder.specs.Fitting.{has_balanced_fragments, has_fit_conditions, has_fit_fragments, has_fit_groups}
+use Rattle.sql_builder.specs.Reading.{piece_clauses, read, stand_with}
+use Rattle.sql_builder.specs.Shape.{AddsText, cond_tokens}
+use Rattle.sql_builder.specs.Statement.{pieces}
+use Rattle.sql_builder.specs.Text.{Pieces}
+use Rattle.sql_builder.specs.Truths.{IsAtom, Truth, Valuation, greatest, least, truth}
+use Rattle.sql_builder.specs.declared.calls.Family.{Family}
+use Rattle.sql_builder.specs.declared.clauses.Kind.{Kind}
+use Rattle.sql_builder.specs.declared.clauses.Kind.TheVariants.{SelectFrom, UpdateTable, DeleteFrom}
+
+-- ---- clauses
+
+-- a finish that prints a statement without brackets round it
+abbrev pub is_unenclosed : FinishText → Bool
+is_unenclosed Subquery = false
+is_unenclosed (SubqueryAs name) = false
+is_unenclosed _ = true
+
+-- where its fragments are fit, a text reads back as the clauses of these pieces
+abbrev pub ReadsBack : Pieces → List ℕ → Type 0
+ReadsBack printed text = IsTrue (has_fit_fragments printed) → read (tokens text) ≡ piece_clauses printed
+
+-- no brackets stand round the statement, and each fragment that is printed is fit
+abbrev pub HasFitFragments : StartText → List CallText → FinishText → Type 0
+HasFitFragments start calls finish =
+    IsTrue (is_unenclosed finish) × IfOk (pieces start calls finish) (λ printed. IsTrue (has_fit_fragments printed))
+
+-- ---- the truth of WHERE
+
+-- the tokens of the conditions of all calls, group by group
+abbrev pub condition_groups : List CallText → List (List (List Token))
+condition_groups calls = map (λ group. map cond_tokens (group.0 ∷ group.1)) (groups calls)
+
+-- the tokens of a builder's groups, each as one condition
+abbrev pub text_groups : ClauseTexts → List (List (List Token))
+text_groups r = map (λ group. tokens group ∷ []) r.groups
+
+-- the statements with a WHERE where there is a condition
+abbrev pub prints_where : FinishText → Kind → Bool
+prints_where Query kind = true
+prints_where Sql SelectFrom = true
+prints_where Sql UpdateTable = true
+prints_where Sql DeleteFrom = true
+prints_where _ _ = false
+
+-- one truth, the least over the groups of the greatest over a group's conditions; none where there is no condition
+abbrev pub where_truths : Valuation → List (List (List Token)) → List Truth
+where_truths facts [] = []
+where_truths facts (group ∷ groups) = least (map (λ conditions. greatest (map (truth facts) conditions)) (group ∷ groups)) ∷ []
+
+-- whatever is known of atoms, what stands with WHERE in a text has the truth of these groups
+abbrev pub IsTrueAs : List (List (List Token)) → List ℕ → Type 0
+IsTrueAs groups text =
+    (facts : Valuation) → map (truth facts) (stand_with (codes "WHERE") (read (tokens text))) ≡ where_truths facts groups
+
+-- fragments are fit, also in their conditions, and the statement has a WHERE where there is a condition
+abbrev pub HasFitConditions : StartText → List CallText → FinishText → Type 0
+HasFitConditions start calls finish =
+    HasFitFragments start calls finish × IsTrue (prints_where finish (kind_of start) && has_fit_conditions calls)
+
+-- where a WHERE is printed and the fragments and the groups are fit, what stands with WHERE in a text has the truth of the
+-- groups
+abbrev pub HasTruthOfGroups : FinishText → ClauseTexts → Pieces → List ℕ → Type 0
+HasTruthOfGroups finish r printed text =
+    IsTrue (prints_where finish r.kind) → IsTrue (has_fit_fragments printed) → IsTrue (has_fit_groups r) → IsTrueAs (text_groups r) text
+
+-- ---- nesting
+
+-- what the text of each finish is as a fragment: of a query balanced, and of a subquery an operand without an outer clause word
+abbrev pub is_nested : FinishText → List ℕ → Bool
+is_nested Query text = balanced text
+is_nested Subquery text = operand text && not (has_clause_word text)
+is_nested (SubqueryAs name) text = balanced text
+is_nested _ text = true
+
+-- where its fragments are balanced, those behind a UNION too, a text is so
+abbrev pub Nests : FinishText → Pieces → List ℕ → Type 0
+Nests finish printed text = IsTrue (has_balanced_fragments printed) → IsTrue (is_nested finish text)
+
+-- each fragment that is printed is balanced, those behind a UNION too
+abbrev pub HasBalancedFragments : StartText → List CallText → FinishText → Type 0
+HasBalancedFragments start calls finish = IfOk (pieces start calls finish) (λ printed. IsTrue (has_balanced_fragments printed))
+
+-- ---- conditions
+
+-- the texts of a condition are operands; of IN the field is, and what stands in the brackets is balanced
+abbrev pub has_operands : ConditionText → Bool
+has_operands (Raw condition) = false
+has_operands (Compare relation field value) = operand field && operand value
+has_operands (Like negated percent field mask) = operand field
+has_operands (IsNull field) = operand field
+has_operands (IsNotNull field) = operand field
+has_operands (InList negated field values) = operand field && list_all balanced values
+has_operands (InQuoted negated field values) = operand field
+has_operands (InQuery negated field query) = operand field && balanced query
+has_operands (Between negated field least greatest) = operand field && (operand least && operand greatest)
+
+-- there these tokens are an atom: their truth is what is known of them
+abbrev pub IsAtomIfOperands : ConditionText → List Token → Type 0
+IsAtomIfOperands condition ts = IsTrue (has_operands condition) → IsAtom ts
+
+-- The new record has this condition added. Where its fragments are closed, what is added has the condition's tokens and is
+-- closed, and where they are operands it is an atom.
+abbrev pub AddsCondition : Family → ConditionText → ClauseTexts → ClauseTexts → Type 0
+AddsCondition family condition old new =
+    AddsText (λ added. with_condition_text family added old) (condition_bytes condition) (condition_pieces condition) new
+    × IsAtomIfOperands condition (tokens (condition_bytes condition))

@@ -1,0 +1,47 @@
+-- A statement as its clauses: as its tokens read back, and as the builder's own words divide its pieces.
+use Rattle.std.specs.Prelude.{Bool, Result, ◌||◌, if◌then◌else◌, List, [], ◌∷◌, ℕ, flat_map, map, codes}
+use Rattle.std.specs.Result.{result_map_both}
+use Rattle.sql_parts.specs.declared.error.SqlBuilderError.{SqlBuilderError}
+use Rattle.sql_parts.specs.Fragments.{Placed, Outer, Inner, is_clause_word, is_word, placed}
+use Rattle.sql_parts.specs.Tokens.{Token, Str, ends_with, is_semicolon, tokens}
+use Rattle.sql_builder.specs.Calls.{CallText, FinishText, StartText}
+use Rattle.sql_builder.specs.Parts.{before_outer, but_last, parts_at}
+use Rattle.sql_builder.specs.Statement.{pieces}
+use Rattle.sql_builder.specs.Text.{Piece, Pieces, Fixed, Quoted, Raw}
+
+-- A clause: its word, and the tokens up to the next clause's word.
+abbrev pub Clause : Type 0
+Clause = Token × List Token
+
+-- without a `;` at the end
+abbrev pub without_semicolon : List Token → List Token
+without_semicolon ts = if ends_with is_semicolon ts then but_last ts else ts
+
+abbrev pub is_union : Token → Bool
+is_union token = is_word (codes "UNION") token
+
+-- each outer clause word with the tokens up to the next, before the first outer UNION and without a last `;`
+unfoldable pub read : List Token → List Clause
+read ts = (parts_at is_clause_word (before_outer is_union (placed (without_semicolon ts)))).rest
+
+-- the tokens of a piece: those that stand in a text of the builder's own count as outer, whatever their level
+abbrev pub own_placed : Piece → List Placed
+own_placed (Fixed text) = map Outer (tokens text)
+own_placed (Quoted text) = Inner (Str text) ∷ []
+own_placed (Raw text) = map Inner (tokens text)
+
+-- the clauses end before UNION, and before `;`
+abbrev pub ends_clauses : Token → Bool
+ends_clauses token = is_union token || is_semicolon token
+
+-- each clause word of the builder's own with the tokens up to the next, before its first UNION and its `;`
+unfoldable pub piece_clauses : Pieces → List Clause
+piece_clauses printed = (parts_at is_clause_word (before_outer ends_clauses (flat_map own_placed printed))).rest
+
+-- the clauses of the pieces that are printed, or the refusal
+abbrev pub clause_list : StartText → List CallText → FinishText → Result (List Clause) SqlBuilderError
+clause_list start calls finish = result_map_both piece_clauses (λ refusal. refusal) (pieces start calls finish)
+
+-- what stands with this word, in each clause that has it
+abbrev pub stand_with : List ℕ → List Clause → List (List Token)
+stand_with word clauses = flat_map (λ clause. if is_word word clause.0 then clause.1 ∷ [] else []) clauses

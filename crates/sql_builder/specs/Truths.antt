@@ -1,0 +1,153 @@
+-- The truth of a condition, in SQL's three values, read off its tokens.
+use Prim.Native.Char.{code}
+use Rattle.std.specs.Prelude.{◌≡◌, ℕ, zero, suc, Bool, true, false, not, ◌&&◌, ◌||◌, ◌==◌, if◌then◌else◌, List, [], ◌∷◌, map, length, drop, pos, int_le, codes}
+use Rattle.std.specs.List.{list_all, list_any}
+use Rattle.std.specs.Str.{bytes_eq}
+use Rattle.sql_parts.specs.Fragments.{Placed, Outer, Inner, any_token, has_outer, is_clause_word, is_outer, is_symbol, is_word, level, placed, places}
+use Rattle.sql_parts.specs.Tokens.{Token, Word, Str, Name, Symbol, Open, begins_with, ends_with}
+use Rattle.sql_builder.specs.Parts.{but_last, pieces_at}
+
+-- A truth value.
+pub data Truth : Type 0 where
+  False Unknown True : Truth
+
+-- the one that comes first in the order False, Unknown, True: what AND gives
+abbrev pub lesser : Truth → Truth → Truth
+lesser False y = False
+lesser True y = y
+lesser Unknown False = False
+lesser Unknown Unknown = Unknown
+lesser Unknown True = Unknown
+
+-- the one that comes last in that order: what OR gives
+abbrev pub greater : Truth → Truth → Truth
+greater True y = True
+greater False y = y
+greater Unknown True = True
+greater Unknown Unknown = Unknown
+greater Unknown False = Unknown
+
+-- the least of several, which is True of none
+abbrev pub least : List Truth → Truth
+least [] = True
+least (x ∷ xs) = lesser x (least xs)
+
+-- the greatest of several, which is False of none
+abbrev pub greatest : List Truth → Truth
+greatest [] = False
+greatest (x ∷ xs) = greater x (greatest xs)
+
+-- what NOT gives
+abbrev pub exchange : Truth → Truth
+exchange False = True
+exchange Unknown = Unknown
+exchange True = False
+
+-- the same token, letter by letter
+abbrev pub same_token : Token → Token → Bool
+same_token (Word one) (Word other) = bytes_eq one other
+same_token (Str one) (Str other) = bytes_eq one other
+same_token (Name one) (Name other) = bytes_eq one other
+same_token (Symbol one) (Symbol other) = one == other
+same_token Open Open = true
+same_token _ _ = false
+
+-- the same tokens
+abbrev pub same_tokens : List Token → List Token → Bool
+same_tokens [] [] = true
+same_tokens (one ∷ ts) (other ∷ us) = same_token one other && same_tokens ts us
+same_tokens _ _ = false
+
+-- What is known of the truth of these tokens.
+pub record Fact : Type 0 where
+  pub atom : List Token
+  pub value : Truth
+
+-- A valuation: a finite map from lists of tokens to truth values.
+abbrev pub Valuation : Type 0
+Valuation = List Fact
+
+-- the value of some tokens: that of their first entry, and Unknown without one
+abbrev pub value_in : Valuation → List Token → Truth
+value_in [] ts = Unknown
+value_in (fact ∷ facts) ts = if same_tokens fact.atom ts then fact.value else value_in facts ts
+
+abbrev pub is_or : Token → Bool
+is_or token = is_word (codes "OR") token
+
+abbrev pub is_and : Token → Bool
+is_and token = is_word (codes "AND") token
+
+abbrev pub is_not : Token → Bool
+is_not token = is_word (codes "NOT") token
+
+abbrev pub is_between : Token → Bool
+is_between token = is_word (codes "BETWEEN") token
+
+-- whether the last outer word among BETWEEN, AND and OR is BETWEEN, behind one more
+abbrev pub is_between_last : Bool → Token → Bool
+is_between_last owned token = if is_between token then true else (if is_and token || is_or token then false else owned)
+
+-- An AND is owned by a BETWEEN if the last outer word before it among BETWEEN, AND and OR is BETWEEN: as if it were inner.
+abbrev pub without_owned : Bool → List Placed → List Placed
+without_owned owned [] = []
+without_owned owned (Inner token ∷ more) = Inner token ∷ without_owned owned more
+without_owned owned (Outer token ∷ more) =
+    (if owned && is_and token then Inner token else Outer token) ∷ without_owned (is_between_last owned token) more
+
+-- the level is at least 1 behind each token
+abbrev pub is_inside : List Token → Bool
+is_inside ts = list_all (λ place. int_le (pos 1) (level ts (suc place))) (places any_token ts)
+
+-- what stands between the first token and the last
+abbrev pub inside : List Token → List Token
+inside ts = but_last (drop 1 ts)
+
+-- `(`, an inside and `)`: the level is at least 1 behind each token but the last, and the inside by itself has no outer
+-- clause word, so that it is no query
+abbrev pub is_bracketed : List Token → Bool
+is_bracketed ts =
+    begins_with (is_symbol (code "(")) ts && ends_with (is_symbol (code ")")) ts && is_inside (but_last ts)
+    && not (has_outer is_clause_word (inside ts))
+
+-- How a condition is made.
+pub data Form : Type 0 where
+  AnyOf : List (List Token) → Form
+  AllOf : List (List Token) → Form
+  Negated : List Token → Form
+  Bracketed : List Token → Form
+  Atom : Form
+
+-- the first of the five that fits, from the tokens with their places and from whether they are bracketed
+abbrev pub form_of : List Placed → Bool → List Token → Form
+form_of ms bracketed ts =
+    if list_any (is_outer is_or) ms then AnyOf (pieces_at is_or ms)
+    else (if list_any (is_outer is_and) (without_owned false ms) then AllOf (pieces_at is_and (without_owned false ms))
+    else (if begins_with is_not ts then Negated (drop 1 ts)
+    else (if bracketed then Bracketed (inside ts)
+    else Atom)))
+
+-- how these tokens are made
+abbrev pub form : List Token → Form
+form ts = form_of (placed ts) (is_bracketed ts) ts
+
+-- the truth by the form, from the truth of its pieces and, for an atom, its value
+abbrev pub truth_by : (List Token → Truth) → Truth → Form → Truth
+truth_by truth_of value (AnyOf pieces) = greatest (map truth_of pieces)
+truth_by truth_of value (AllOf pieces) = least (map truth_of pieces)
+truth_by truth_of value (Negated rest) = exchange (truth_of rest)
+truth_by truth_of value (Bracketed inner) = truth_of inner
+truth_by truth_of value Atom = value
+
+-- the truth by so many steps
+abbrev pub truth_within : ℕ → Valuation → List Token → Truth
+truth_within zero facts ts = value_in facts ts
+truth_within (suc steps) facts ts = truth_by (truth_within steps facts) (value_in facts ts) (form ts)
+
+-- The truth of tokens. Each piece is shorter than the whole, so as many steps as there are tokens are enough.
+unfoldable pub truth : Valuation → List Token → Truth
+truth facts ts = truth_within (length ts) facts ts
+
+-- an atom: its truth is its value, whatever is known
+abbrev pub IsAtom : List Token → Type 0
+IsAtom ts = (facts : Valuation) → truth facts ts ≡ value_in facts ts

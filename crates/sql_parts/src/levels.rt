@@ -1,0 +1,64 @@
+//! The level of brackets at a place of a text, counted token by token.
+ghost use Rattle.std.specs.Prelude.{◌≡◌, ◌==◌, ◌+◌, ◌<◌, nat_lt};
+ghost use Rattle.sql_parts.specs.Fragments.{lowers, raises, weight};
+ghost use Rattle.sql_parts.specs.Lexing.{StandsFor};
+ghost use Rattle.sql_parts.specs.Tokens as tokens;
+
+use crate::lexer::Token;
+use crate::words::{is_symbol, is_word};
+
+pub(crate) fn raises(token: Token<'_>) -> bool
+    ensures { (defined : tokens.Token) → StandsFor token.entry defined → result ≡ raises defined }
+{
+    is_symbol(token, b'(') || is_word(token, "CASE")
+}
+
+pub(crate) fn lowers(token: Token<'_>) -> bool
+    ensures { (defined : tokens.Token) → StandsFor token.entry defined → result ≡ lowers defined }
+{
+    is_symbol(token, b')') || is_word(token, "END")
+}
+
+/// How many tokens before a place raised the level, and how many lowered it.
+#[derive(Clone, Copy)]
+pub(crate) struct Level {
+    raised: usize,
+    lowered: usize,
+}
+
+impl Level {
+    // The level at the front of a text.
+    pub(crate) fn start() -> Level
+        ensures { result ≡ record { raised = 0; lowered = 0 } }
+    {
+        Level {
+            raised: 0,
+            lowered: 0,
+        }
+    }
+
+    pub(crate) fn is_outer(self) -> bool
+        ensures { result ≡ (self.raised == self.lowered) }
+    {
+        self.raised == self.lowered
+    }
+
+    pub(crate) fn is_below(self) -> bool
+        ensures { result ≡ nat_lt self.raised self.lowered }
+    {
+        self.raised < self.lowered
+    }
+
+    // The level behind a token.
+    pub(crate) fn behind(self, token: Token<'_>) -> Level
+        requires raised { self.raised < usize.MAX }
+        requires lowered { self.lowered < usize.MAX }
+        ensures { (defined : tokens.Token) → StandsFor token.entry defined
+            → result ≡ record { raised = self.raised + weight raises defined; lowered = self.lowered + weight lowers defined } }
+    {
+        Level {
+            raised: self.raised + usize::from(raises(token)),
+            lowered: self.lowered + usize::from(lowers(token)),
+        }
+    }
+}
