@@ -1,8 +1,8 @@
 -- The product's own words in each statement: what is read back, and what stands with WHERE.
-use Rattle.std.proofs.Common.{◌≡◌, refl, sym, ◌∙◌, ap, subst, ℕ, Bool, true, false, List, [], ◌∷◌, ◌++◌, Option, None, Some, map, codes, append-nil, append_assoc}
+use Rattle.std.proofs.Common.{◌≡◌, refl, sym, ◌∙◌, ap, subst, ℕ, Bool, true, false, List, [], ◌∷◌, ◌++◌, Option, None, Some, map, codes, append-nil, append_assoc, not, ◌&&◌, pos}
 use Rattle.std.specs.Prelude.{IfSome, flat_map}
 use Rattle.std.specs.List.{AllByRecursion, list_any}
-use Rattle.std.proofs.lemmas.Bool.{or_from}
+use Rattle.std.proofs.lemmas.Bool.{or_from, and_parts, not-true}
 use Rattle.std.proofs.lemmas.Grind.{flat_map-append}
 use Rattle.std.proofs.lemmas.List.Folds.{list_any-append}
 use Rattle.sql_parts.specs.Text.{join_with}
@@ -16,16 +16,12 @@ use Rattle.sql_builder.specs.declared.clauses.Kind.{Kind}
 use Rattle.sql_builder.specs.declared.clauses.Kind.TheVariants.{SelectFrom, SelectValues, InsertInto, UpdateTable, DeleteFrom}
 use Rattle.sql_builder.proofs.Balance.{is_even-append, is_even-brackets}
 use Rattle.sql_builder.proofs.OwnSections.{AllOpen, Calm, Ending, Front, clauses_in, clauses-sections, ending-none, ending-semicolon, ending-union, list-back, opening_clauses, read-back, section-clauses, section_pieces, sections-front, with_last}
-use Rattle.sql_builder.proofs.OwnWords.{own, own-append}
+use Rattle.sql_builder.specs.Fitting.{own, are_fit_to_union}
+use Rattle.sql_builder.proofs.OwnWords.{own-append, laid_from}
 use Rattle.sql_builder.specs.WhereTokens as where_tokens
-use Rattle.sql_builder.specs.Fitting.{are_fit_to_union}
-use Rattle.sql_builder.specs.Reading.{Clause, piece_clauses, read, stand_with}
+use Rattle.sql_builder.specs.Reading.{Clause, piece_clauses, read, stand_with, is_union}
 use Rattle.sql_parts.proofs.Walks.{is_even}
 use Rattle.sql_parts.specs.Fragments.{is_clause_word}
-use Rattle.std.proofs.Common.{not, ◌&&◌, true, pos}
-use Rattle.std.proofs.lemmas.Bool.{and_parts, not-true}
-use Rattle.sql_builder.proofs.OwnWords.{laid_from}
-use Rattle.sql_builder.specs.Reading.{is_union}
 
 -- ---- pieces without clause words of the product's
 

@@ -12,11 +12,11 @@ use Rattle.sql_builder.specs.Shape.{pieces_tokens}
 use Rattle.sql_builder.specs.Text.{Piece, Pieces, Fixed, Quoted, Raw, fixed_piece}
 use Rattle.sql_builder.proofs.Balance.{even_closes, is_even-append}
 use Rattle.sql_builder.proofs.Joining.{placed-then}
-use Rattle.sql_builder.proofs.OwnWords.{fit-balanced, fit-marks, laid-both, laid-plain, laid_from, Mark, marks, own, own-append, same-parts, shape-even, stays-closes, are_fit_from, is_fit, are_fit-is}
+use Rattle.sql_builder.specs.Fitting.{own, begins_union, are_fit_to_union, own_tokens}
+use Rattle.sql_builder.proofs.OwnWords.{fit-balanced, fit-marks, laid-both, laid-plain, laid_from, Mark, marks, own-append, same-parts, shape-even, stays-closes, are_fit_from, is_fit, are_fit-is}
 use Rattle.sql_builder.proofs.Placing.{at_end-closes}
 use Rattle.sql_builder.proofs.ReadTokens.{not_union, semicolon-later, semicolon-none, semicolon-one}
 use Rattle.sql_builder.proofs.Shapes.{pieces_tokens-append}
-use Rattle.sql_builder.specs.Fitting.{begins_union, are_fit_to_union, own_tokens}
 use Rattle.sql_builder.specs.Parts.{Parts, before_outer, parts_at, with_front}
 use Rattle.sql_builder.specs.Reading.{Clause, piece_clauses, ends_clauses, is_union, own_placed, read, without_semicolon}
 use Rattle.sql_parts.proofs.Walks.{at_end, closes_from, has_outer, is_even, placed, placed-is}

@@ -88,7 +88,7 @@ module _ (start : StartText) (calls : List CallText) (finish : FinishText) where
   abbrev refused : Option SqlBuilderError
   refused = refusal_at finish (map_clauses pieces_text said)
 
-  pub printed-tokens : (text : List ℕ) → Ok (pieces_text (layout finish said)) ≡ Ok text → HasShape (layout finish said) text
+  pub printed-tokens : (text : List ℕ) → text_unless_refused (Ok (layout finish said)) ≡ Ok text → HasShape (layout finish said) text
   printed-tokens text is = let same : pieces_text (layout finish said) ≡ text = cc is in λ all. ap tokens (sym same) ∙ (printed-shaped start calls finish).shape_is all
 
   any-reads : (refusal : Option SqlBuilderError) (text : List ℕ) → text_unless_refused (printed refusal) ≡ Ok text

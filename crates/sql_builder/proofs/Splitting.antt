@@ -6,7 +6,7 @@ use Rattle.sql_parts.specs.Tokens.{Token}
 use Rattle.sql_builder.specs.Parts.{Parts, parts_at, pieces_at, pieces_of, with_front}
 use Rattle.sql_builder.specs.Truths.{is_and, is_between, is_between_last, is_or, without_owned}
 use Rattle.sql_parts.proofs.Walks.{after, is_zero, placed_from}
-use Rattle.sql_parts.specs.Fragments.{Inner, Outer, Placed, is_joining, is_outer, token_of}
+use Rattle.sql_parts.specs.Fragments.{as_placed, Inner, Outer, Placed, is_joining, is_outer, token_of}
 
 pub any-append : (test : Token → Bool) (a b : List Placed) → list_any (is_outer test) (a ++ b) ≡ (list_any (is_outer test) a || list_any (is_outer test) b)
 any-append test [] b = refl
@@ -67,7 +67,7 @@ pub tokens-placed_from : (l : ℤ) (ts : List Token) → map token_of (placed_fr
 tokens-placed_from l [] = refl
 tokens-placed_from l (t ∷ ts) = back (is_zero l) t (map token_of (placed_from (after l t) ts)) ts (tokens-placed_from (after l t) ts)
   where
-    back : (outer : Bool) (t : Token) (us ts : List Token) → us ≡ ts → token_of (place outer t) ∷ us ≡ t ∷ ts
+    back : (outer : Bool) (t : Token) (us ts : List Token) → us ≡ ts → token_of (as_placed outer t) ∷ us ≡ t ∷ ts
     back true t us ts e = ap (λ vs. t ∷ vs) e
     back false t us ts e = ap (λ vs. t ∷ vs) e
 

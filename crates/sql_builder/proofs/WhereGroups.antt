@@ -17,7 +17,7 @@ use Rattle.sql_builder.specs.declared.calls.Family.{Family}
 use Rattle.sql_builder.proofs.OwnClauses.{condition-calm}
 use Rattle.sql_builder.proofs.OwnLayouts.{calm-raw, where_bodies, where_body}
 use Rattle.sql_builder.proofs.OwnSections.{Calm, calm-front, own-outer}
-use Rattle.sql_builder.proofs.OwnWords.{Mark, fit-balanced, fit-marks, marks, shape-even, are_fit, are_fit_from, is_fit, are_fit-is}
+use Rattle.sql_builder.proofs.OwnWords.{Mark, fit-balanced, fit-marks, marks, shape-even, are_fit_from, is_fit, are_fit-is}
 use Rattle.sql_builder.proofs.Shapes.{pieces_tokens-append}
 use Rattle.sql_builder.proofs.TruthGroups.{truth_where}
 use Rattle.sql_builder.specs.WhereTokens as where_tokens
