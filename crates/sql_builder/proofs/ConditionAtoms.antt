@@ -13,7 +13,8 @@ use Rattle.sql_builder.specs.declared.calls.Relation.{Relation}
 use Rattle.sql_builder.specs.declared.calls.Relation.TheVariants.{Eq, Ne, Gt, Ge, Lt, Le}
 use Rattle.sql_builder.proofs.Atoms.{atom_between, atom_in, atom_like, atom_not_between, atom_not_in, atom_not_like, atom_not_null, atom_null, atom_plain, operand_plain}
 use Rattle.sql_builder.proofs.Each.{map-all}
-use Rattle.sql_builder.proofs.OwnLayouts.{AllCalm, calm-list, calm-raw}
+use Rattle.sql_builder.proofs.CalmClauses.{calm-list, calm-raw}
+use Rattle.sql_builder.proofs.Handing.{Each}
 use Rattle.sql_builder.proofs.OwnSections.{Calm}
 use Rattle.sql_builder.proofs.OwnWords.{shape-even}
 use Rattle.sql_builder.proofs.WhereGroups.{pieces_tokens-brackets}
@@ -71,7 +72,7 @@ quoteds-balanced : (values : List (List ℕ)) → list_all has_balanced_fragment
 quoteds-balanced [] = refl
 quoteds-balanced (v ∷ values) = quoteds-balanced values
 
-list-even : (items : List Pieces) → AllCalm items → list_all has_balanced_fragments items ≡ true → is_even (pieces_tokens (comma_list fixed_piece items)) ≡ true
+list-even : (items : List Pieces) → Each Calm items → list_all has_balanced_fragments items ≡ true → is_even (pieces_tokens (comma_list fixed_piece items)) ≡ true
 list-even items calm all = shape-even (comma_list fixed_piece items) (list-balanced items all) (calm-list items calm).even
 
 between : (negated : Bool) (f a b : List ℕ) → operand f ≡ true → operand a ≡ true → operand b ≡ true → IsAtom (cond_tokens (Between negated f a b))

@@ -2,6 +2,10 @@
 use Rattle.std.proofs.Common.{List, [], ◌∷◌, ◌++◌, Option, None, Some, map, flat_map}
 use Rattle.std.specs.Prelude.{IfSome, filter_map}
 use Rattle.std.specs.List.{AllByRecursion, cons_option, last_or}
+use Rattle.std.proofs.Common.{◌≡◌, refl, Bool, true, false}
+use Rattle.std.specs.List.{list_all}
+use Rattle.std.proofs.lemmas.Bool.{and_parts, and_from}
+use Rattle.sql_builder.specs.Filters.{Group, begins, cut, lead_and_groups}
 
 pub append-all : {X : Type 0} (P : X → Type 0) (one other : List X) → AllByRecursion P one → AllByRecursion P other → AllByRecursion P (one ++ other)
 append-all P [] other all too = too
@@ -22,3 +26,26 @@ last-some {Y = Y} P f each (x ∷ xs) before holds = by (f x) (each x) (λ said 
     by : (said : Option Y) → IfSome said P → ((next : Option Y) → IfSome next P → IfSome (last_or next (filter_map f xs)) P) → IfSome (last_or before (cons_option said (filter_map f xs))) P
     by None keeps rest = rest before holds
     by (Some y) keeps rest = rest (Some y) keeps
+
+-- what holds of all elements holds of those of each group that they are cut into
+module _ {X : Type 0} (ok opens : X → Bool) where
+  abbrev group_ok : Group X → Bool
+  group_ok group = list_all ok (group.0 ∷ group.1)
+
+  lead-all : (xs : List X) → list_all ok xs ≡ true → (list_all ok (lead_and_groups opens xs).0 ≡ true) × (list_all group_ok (lead_and_groups opens xs).1 ≡ true)
+  lead-all [] all = (refl, refl)
+  lead-all (x ∷ xs) all =
+      let both = and_parts (ok x) (list_all ok xs) all in
+      step (opens x) (lead_and_groups opens xs) both.0 (lead-all xs both.1)
+    where
+      step : (first : Bool) (r : List X × List (Group X)) → ok x ≡ true → (list_all ok r.0 ≡ true) × (list_all group_ok r.1 ≡ true)
+          → (list_all ok (begins first x r).0 ≡ true) × (list_all group_ok (begins first x r).1 ≡ true)
+      step true r here more = (refl, and_from _ _ (and_from _ _ here more.0) more.1)
+      step false r here more = (and_from _ _ here more.0, more.1)
+
+  pub cut-all : (xs : List X) → list_all ok xs ≡ true → list_all (λ (group : Group X). list_all ok (group.0 ∷ group.1)) (cut opens xs) ≡ true
+  cut-all [] all = refl
+  cut-all (x ∷ xs) all =
+      let both = and_parts (ok x) (list_all ok xs) all in
+      let more = lead-all xs both.1 in
+      and_from _ _ (and_from _ _ both.0 more.0) more.1

@@ -11,7 +11,7 @@ use Rattle.sql_builder.specs.Shape.{HasShape, has_closed_fragments, pieces_token
 use Rattle.sql_builder.specs.Statement.{layout_at}
 use Rattle.sql_builder.specs.Text.{Pieces, Fixed, Quoted, Raw, fixed_piece, raw_piece}
 use Rattle.sql_builder.proofs.Balance.{is_even-append, is_even-brackets, is_operand-brackets, no_clause-brackets, even_text}
-use Rattle.sql_builder.proofs.OwnLayouts.{CalmParts, query-even}
+use Rattle.sql_builder.proofs.OwnLayouts.{query-even}
 use Rattle.sql_builder.specs.Fitting.{own, has_balanced_fragments, is_balanced_piece}
 use Rattle.sql_builder.proofs.OwnWords.{own-append, shape-even}
 use Rattle.sql_builder.proofs.WhereGroups.{pieces_tokens-brackets}
@@ -20,6 +20,7 @@ use Rattle.sql_builder.proofs.WhereTokens.{has_clause}
 use Rattle.sql_builder.specs.Meaning.{Nests}
 use Rattle.sql_parts.proofs.Walks.{is_balanced, is_even, is_operand, has_outer-is, is_balanced-is, is_operand-is}
 use Rattle.sql_parts.specs.Fragments.{is_whole, balanced, is_clause_word}
+use Rattle.sql_builder.proofs.CalmClauses.{CalmParts}
 
 -- what is balanced is closed
 whole-shut : (ts : List Token) → list_all is_whole ts ≡ true → list_any is_open ts ≡ false

@@ -2,89 +2,33 @@
 use Rattle.std.proofs.Common.{◌≡◌, refl, sym, ◌∙◌, ap, subst, ℕ, Bool, true, false, List, [], ◌∷◌, ◌++◌, Option, None, Some, map, codes, append-nil, append_assoc, not, ◌&&◌, pos}
 use Rattle.std.specs.Prelude.{IfSome, flat_map}
 use Rattle.std.specs.List.{AllByRecursion, list_any}
-use Rattle.std.proofs.lemmas.Bool.{or_from, and_parts, not-true}
+use Rattle.std.proofs.lemmas.Bool.{and_parts, not-true}
 use Rattle.std.proofs.lemmas.Grind.{flat_map-append}
-use Rattle.std.proofs.lemmas.List.Folds.{list_any-append}
 use Rattle.sql_parts.specs.Text.{join_with}
 use Rattle.sql_parts.specs.Tokens.{Token, tokens, begins_with}
 use Rattle.sql_builder.specs.Clauses.{Clauses}
 use Rattle.sql_builder.specs.Layout.{Section, concat_sections, delete_sections, fields_or_star, group_by_sections, insert_sections, insert_target, list_sections, optional_section, order_by_sections, query, query_sections, query_values, range_sections, returning_sections, section, select_opening, sql, statement_sections, table_and_joins, union_opening, union_sections, update_sections, values_sections, where_sections}
 use Rattle.sql_builder.specs.Phrases.{comma_list, in_brackets}
 use Rattle.sql_builder.specs.Shape.{pieces_tokens}
-use Rattle.sql_builder.specs.Text.{Piece, Pieces, Fixed, fixed_piece, raw_piece}
+use Rattle.sql_builder.specs.Text.{Piece, Pieces, Fixed, fixed_piece}
 use Rattle.sql_builder.specs.declared.clauses.Kind.{Kind}
 use Rattle.sql_builder.specs.declared.clauses.Kind.TheVariants.{SelectFrom, SelectValues, InsertInto, UpdateTable, DeleteFrom}
-use Rattle.sql_builder.proofs.Balance.{is_even-append, is_even-brackets}
+use Rattle.sql_builder.proofs.Balance.{is_even-append}
 use Rattle.sql_builder.proofs.OwnSections.{AllOpen, Calm, Ending, Front, clauses_in, clauses-sections, ending-none, ending-semicolon, ending-union, list-back, opening_clauses, read-back, section-clauses, section_pieces, sections-front, with_last}
-use Rattle.sql_builder.specs.Fitting.{own, are_fit_to_union}
 use Rattle.sql_builder.proofs.OwnWords.{own-append, laid_from}
-use Rattle.sql_builder.specs.WhereTokens as where_tokens
+use Rattle.sql_builder.specs.Fitting.{own, are_fit_to_union}
 use Rattle.sql_builder.specs.Reading.{Clause, piece_clauses, read, stand_with, is_union}
 use Rattle.sql_parts.proofs.Walks.{is_even}
 use Rattle.sql_parts.specs.Fragments.{is_clause_word}
+use Rattle.sql_builder.proofs.Handing.{Each, Joins, PartsAre, before-each, joined, listed}
+use Rattle.sql_builder.proofs.CalmClauses.{CalmParts, calm-brackets, calm-joins, calm-target}
 
--- ---- pieces without clause words of the product's
-
-pub calm-none : Calm []
-calm-none = record { even = refl; no_word = refl }
-
-pub calm-raw : (text : List ℕ) → Calm (raw_piece text)
-calm-raw text = record { even = refl; no_word = refl }
-
-pub calm-append : (x y : Pieces) → Calm x → Calm y → Calm (x ++ y)
-calm-append x y one other = record {
-  even = ap is_even (own-append x y) ∙ is_even-append (own x) (own y) one.even other.even;
-  no_word = ap (list_any is_clause_word) (own-append x y) ∙ list_any-append is_clause_word (own x) (own y) ∙ or_from _ _ one.no_word other.no_word;
-}
-
-abbrev pub AllCalm : List Pieces → Type 0
-AllCalm items = AllByRecursion Calm items
-
--- items with words before each
-pub calm-each : (words : List ℕ) → Calm (fixed_piece words) → (items : List Pieces) → AllCalm items → Calm (flat_map (λ item. fixed_piece words ++ item) items)
-calm-each words calm [] all = calm-none
-calm-each words calm (item ∷ items) all =
-    calm-append (fixed_piece words ++ item) (flat_map (λ (i : Pieces). fixed_piece words ++ i) items)
-    (calm-append (fixed_piece words) item calm all.0) (calm-each words calm items all.1)
-
-pub calm-joined : (words : List ℕ) → Calm (fixed_piece words) → (items : List Pieces) → AllCalm items → Calm (join_with (fixed_piece words) items)
-calm-joined words calm [] all = calm-none
-calm-joined words calm (item ∷ items) all = calm-append item (flat_map (λ (i : Pieces). fixed_piece words ++ i) items) all.0 (calm-each words calm items all.1)
-
-pub calm-list : (items : List Pieces) → AllCalm items → Calm (comma_list fixed_piece items)
-calm-list items all = calm-joined (codes ", ") (record { even = refl; no_word = refl }) items all
-
--- an item in brackets
-own-brackets : (x : Pieces) → own (in_brackets fixed_piece x) ≡ where_tokens.in_brackets (own x)
-unfolding where_tokens.in_brackets
-own-brackets x = ap (λ ts. Token.Symbol 40 ∷ ts) (own-append x (fixed_piece (codes ")")))
-
-pub calm-brackets : (x : Pieces) → Calm x → Calm (in_brackets fixed_piece x)
-calm-brackets x calm = record {
-  even = ap is_even (own-brackets x) ∙ is_even-brackets (own x) calm.even;
-  no_word = ap (list_any is_clause_word) (own-append x (fixed_piece (codes ")"))) ∙ list_any-append is_clause_word (own x) (own (fixed_piece (codes ")"))) ∙ or_from _ _ calm.no_word refl;
-}
-
-all-brackets : (items : List Pieces) → AllCalm items → AllCalm (map (in_brackets fixed_piece) items)
-all-brackets [] all = tt
-all-brackets (item ∷ items) all = (calm-brackets item all.0, all-brackets items all.1)
-
--- each clause is made of such pieces
-pub record CalmParts (r : Clauses Pieces) : Type 0 where
-  pub table : Calm r.table
-  pub joins : AllCalm r.joins
-  pub fields : AllCalm r.fields
-  pub sets : AllCalm r.sets
-  pub rows : AllCalm r.rows
-  pub query : IfSome r.query Calm
-  pub returning : IfSome r.returning Calm
-  pub group_fields : AllCalm r.group_fields
-  pub having : IfSome r.having Calm
-  pub groups : AllCalm r.groups
-  pub unions : AllByRecursion (λ union. Calm union.1) r.unions
-  pub order_fields : AllCalm r.order_fields
-  pub limit : IfSome r.limit Calm
-  pub offset : IfSome r.offset Calm
+-- a property of pieces that each layout keeps
+pub record Kept (P : Pieces → Type 0) : Type 0 where
+  pub joins : Joins P
+  pub brackets : (x : Pieces) → P x → P (in_brackets fixed_piece x)
+  pub target : (x : Pieces) → P x → P (fixed_piece (codes " (") ++ (x ++ fixed_piece (codes ")")))
+  pub calm : (x : Pieces) → P x → Calm x
 
 -- ---- sections, and the bodies that stand with WHERE
 
@@ -109,13 +53,13 @@ abbrev clauses_of : List (Section Piece) → List Clause
 clauses_of sections = flat_map (λ s. clauses_in (section_pieces s)) sections
 
 -- sections that are so opened, and the bodies of those of WHERE
-pub record Laid (sections : List (Section Piece)) (bodies : List (List Token)) : Type 0 where
-  pub opens : AllOpen sections
+pub record Laid (P : Pieces → Type 0) (sections : List (Section Piece)) (bodies : List (List Token)) : Type 0 where
+  pub opens : AllOpen P sections
   pub wheres : stand_with (codes "WHERE") (clauses_of sections) ≡ bodies
 
-opens-append : (one other : List (Section Piece)) → AllOpen one → AllOpen other → AllOpen (one ++ other)
-opens-append [] other all too = too
-opens-append (s ∷ one) other all too = (all.0, opens-append one other all.1 too)
+opens-append : (P : Pieces → Type 0) (one other : List (Section Piece)) → AllOpen P one → AllOpen P other → AllOpen P (one ++ other)
+opens-append P [] other all too = too
+opens-append P (s ∷ one) other all too = (all.0, opens-append P one other all.1 too)
 
 stand-append : (word : List ℕ) (a b : List Clause) → stand_with word (a ++ b) ≡ stand_with word a ++ stand_with word b
 stand-append word a b = flat_map-append _ a b
@@ -123,34 +67,20 @@ stand-append word a b = flat_map-append _ a b
 wheres-append : (one other : List (Section Piece)) → stand_with (codes "WHERE") (clauses_of (one ++ other)) ≡ stand_with (codes "WHERE") (clauses_of one) ++ stand_with (codes "WHERE") (clauses_of other)
 wheres-append one other = ap (stand_with (codes "WHERE")) (flat_map-append (λ (s : Section Piece). clauses_in (section_pieces s)) one other) ∙ stand-append (codes "WHERE") (clauses_of one) (clauses_of other)
 
-before : (one other : List (Section Piece)) {bodies : List (List Token)} → Laid one [] → Laid other bodies → Laid (one ++ other) bodies
-before one other first last = record {
-  opens = opens-append one other first.opens last.opens;
+before : {P : Pieces → Type 0} (one other : List (Section Piece)) {bodies : List (List Token)} → Laid P one [] → Laid P other bodies → Laid P (one ++ other) bodies
+before {P = P} one other first last = record {
+  opens = opens-append P one other first.opens last.opens;
   wheres = wheres-append one other ∙ cc (first.wheres, last.wheres);
 }
 
-behind : (one other : List (Section Piece)) {bodies : List (List Token)} → Laid one bodies → Laid other [] → Laid (one ++ other) bodies
-behind one other {bodies = bodies} first last = record {
-  opens = opens-append one other first.opens last.opens;
+behind : {P : Pieces → Type 0} (one other : List (Section Piece)) {bodies : List (List Token)} → Laid P one bodies → Laid P other [] → Laid P (one ++ other) bodies
+behind {P = P} one other {bodies = bodies} first last = record {
+  opens = opens-append P one other first.opens last.opens;
   wheres = wheres-append one other ∙ ap (λ bs. bs ++ stand_with (codes "WHERE") (clauses_of other)) first.wheres ∙ ap (λ bs. bodies ++ bs) last.wheres ∙ append-nil bodies;
 }
 
-laid-none : Laid [] []
+laid-none : {P : Pieces → Type 0} → Laid P [] []
 laid-none = record { opens = tt; wheres = refl }
-
-one-section : (words : List ℕ) (body : Pieces) → Opening words → Calm body → Laid (section words body ∷ []) []
-one-section words body opening calm = record {
-  opens = (record { front = opening.front; starts = opening.starts; body = calm }, tt);
-  wheres = ap (stand_with (codes "WHERE")) (append-nil (clauses_in (section_pieces (section words body))) ∙ section-clauses (section words body) calm) ∙ opening.elsewhere (pieces_tokens body);
-}
-
-optional-laid : (words : List ℕ) (body : Option Pieces) → Opening words → IfSome body Calm → Laid (optional_section words body) []
-optional-laid words None opening calm = laid-none
-optional-laid words (Some body) opening calm = one-section words body opening calm
-
-list-laid : (words : List ℕ) (items : List Pieces) → Opening words → AllCalm items → Laid (list_sections fixed_piece words items) []
-list-laid words [] opening all = laid-none
-list-laid words (item ∷ items) opening all = one-section words (comma_list fixed_piece (item ∷ items)) opening (calm-list (item ∷ items) all)
 
 -- what stands with WHERE
 abbrev pub where_body : Pieces → List Pieces → Pieces
@@ -161,180 +91,28 @@ abbrev pub where_bodies : List Pieces → List (List Token)
 where_bodies [] = []
 where_bodies (g ∷ gs) = pieces_tokens (where_body g gs) ∷ []
 
-where-section : (body : Pieces) → Calm body → Laid (section (codes " WHERE ") body ∷ []) (pieces_tokens body ∷ [])
-where-section body calm = record {
-  opens = (record { front = record { laid = refl; even = refl; no_union = refl }; starts = refl; body = calm }, tt);
-  wheres = ap (stand_with (codes "WHERE")) (append-nil (clauses_in (section_pieces (section (codes " WHERE ") body))) ∙ section-clauses (section (codes " WHERE ") body) calm);
-}
-
-where-laid : (groups : List Pieces) → AllCalm groups → Laid (where_sections fixed_piece groups) (where_bodies groups)
-where-laid [] all = laid-none
-where-laid (g ∷ []) all = where-section g all.0
-where-laid (g ∷ h ∷ gs) all =
-    where-section (where_body g (h ∷ gs))
-    (calm-joined (codes " AND ") (record { even = refl; no_word = refl }) (map (in_brackets fixed_piece) (g ∷ h ∷ gs)) (all-brackets (g ∷ h ∷ gs) all))
-
-group_by-laid : (fields : List Pieces) (having : Option Pieces) → AllCalm fields → IfSome having Calm → Laid (group_by_sections fixed_piece fields having) []
-group_by-laid [] having all calm = laid-none
-group_by-laid (field ∷ fields) having all calm =
-    before (section (codes " GROUP BY ") (comma_list fixed_piece (field ∷ fields)) ∷ []) (optional_section (codes " HAVING ") having)
-    (one-section (codes " GROUP BY ") (comma_list fixed_piece (field ∷ fields)) (opening refl (λ ts. refl)) (calm-list (field ∷ fields) all))
-    (optional-laid (codes " HAVING ") having (opening refl (λ ts. refl)) calm)
-
-range-laid : (r : Clauses Pieces) → CalmParts r → Laid (range_sections r) []
-range-laid r parts =
-    before (optional_section (codes " LIMIT ") r.limit) (optional_section (codes " OFFSET ") r.offset)
-    (optional-laid (codes " LIMIT ") r.limit (opening refl (λ ts. refl)) parts.limit)
-    (optional-laid (codes " OFFSET ") r.offset (opening refl (λ ts. refl)) parts.offset)
-
-returning-laid : (r : Clauses Pieces) → CalmParts r → Laid (returning_sections r) []
-returning-laid r parts = optional-laid (codes " RETURNING ") r.returning (opening refl (λ ts. refl)) parts.returning
-
--- ---- statements
-
 -- pieces as sections that are read, and what ends them
-pub record Split (printed : Pieces) (bodies : List (List Token)) : Type 0 where
+pub record Split (P : Pieces → Type 0) (printed : Pieces) (bodies : List (List Token)) : Type 0 where
   pub front : List (Section Piece)
   pub rest : Pieces
   pub is : printed ≡ concat_sections fixed_piece front ++ rest
-  pub laid : Laid front bodies
+  pub laid : Laid P front bodies
   pub ending : Ending rest
 
--- sections, and the `;` or nothing
-plain-split : (sections : List (Section Piece)) (tail : Pieces) {bodies : List (List Token)} → Laid sections bodies → Ending tail → Split (concat_sections fixed_piece sections ++ tail) bodies
-plain-split sections tail laid ending = record { front = sections; rest = tail; is = refl; laid = laid; ending = ending }
-
 -- a statement reads back as its clauses
-pub split-reads : {printed : Pieces} {bodies : List (List Token)} → Split printed bodies → are_fit_to_union printed ≡ true → read (pieces_tokens printed) ≡ piece_clauses printed
-split-reads split fit =
+pub split-reads : {P : Pieces → Type 0} {printed : Pieces} {bodies : List (List Token)} → Split P printed bodies → are_fit_to_union printed ≡ true → read (pieces_tokens printed) ≡ piece_clauses printed
+split-reads {P = P} split fit =
     let front = concat_sections fixed_piece split.front in
     ap (λ ps. read (pieces_tokens ps)) split.is
-    ∙ read-back front split.rest (sections-front split.front split.laid.opens) split.ending (ap are_fit_to_union (sym split.is) ∙ fit)
+    ∙ read-back front split.rest (sections-front P split.front split.laid.opens) split.ending (ap are_fit_to_union (sym split.is) ∙ fit)
     ∙ ap piece_clauses (sym split.is)
 
-pub split-wheres : {printed : Pieces} {bodies : List (List Token)} → Split printed bodies → stand_with (codes "WHERE") (piece_clauses printed) ≡ bodies
-split-wheres split =
+pub split-wheres : {P : Pieces → Type 0} {printed : Pieces} {bodies : List (List Token)} → Split P printed bodies → stand_with (codes "WHERE") (piece_clauses printed) ≡ bodies
+split-wheres {P = P} split =
     let front = concat_sections fixed_piece split.front in
     ap (stand_with (codes "WHERE"))
-    (ap piece_clauses split.is ∙ list-back front split.rest (sections-front split.front split.laid.opens) split.ending ∙ clauses-sections split.front split.laid.opens)
+    (ap piece_clauses split.is ∙ list-back front split.rest (sections-front P split.front split.laid.opens) split.ending ∙ clauses-sections P split.front split.laid.opens)
     ∙ split.laid.wheres
-
--- DELETE
-pub delete-split : (tail : Pieces) (r : Clauses Pieces) → CalmParts r → Ending tail → Split (concat_sections fixed_piece (delete_sections fixed_piece r) ++ tail) (where_bodies r.groups)
-delete-split tail r parts ending =
-    plain-split (delete_sections fixed_piece r) tail
-    (before (section (codes "DELETE FROM ") r.table ∷ []) (where_sections fixed_piece r.groups)
-    (one-section (codes "DELETE FROM ") r.table (opening refl (λ ts. refl)) parts.table)
-    (where-laid r.groups parts.groups))
-    ending
-
--- UPDATE
-pub update-split : (tail : Pieces) (r : Clauses Pieces) → CalmParts r → Ending tail → Split (concat_sections fixed_piece (update_sections fixed_piece r) ++ tail) (where_bodies r.groups)
-update-split tail r parts ending =
-    let set = section (codes " SET ") (comma_list fixed_piece r.sets) in
-    plain-split (update_sections fixed_piece r) tail
-    (before (section (codes "UPDATE ") r.table ∷ []) (set ∷ (where_sections fixed_piece r.groups ++ returning_sections r))
-    (one-section (codes "UPDATE ") r.table (opening refl (λ ts. refl)) parts.table)
-    (before (set ∷ []) (where_sections fixed_piece r.groups ++ returning_sections r)
-    (one-section (codes " SET ") (comma_list fixed_piece r.sets) (opening refl (λ ts. refl)) (calm-list r.sets parts.sets))
-    (behind (where_sections fixed_piece r.groups) (returning_sections r) (where-laid r.groups parts.groups) (returning-laid r parts))))
-    ending
-
--- SELECT of values
-pub values-split : (tail : Pieces) (r : Clauses Pieces) → CalmParts r → Ending tail → Split (concat_sections fixed_piece (values_sections fixed_piece r) ++ tail) []
-values-split tail r parts ending =
-    plain-split (values_sections fixed_piece r) tail
-    (one-section (codes "SELECT ") (comma_list fixed_piece r.fields) (opening refl (λ ts. refl)) (calm-list r.fields parts.fields))
-    ending
-
--- INSERT
-target-calm : (r : Clauses Pieces) → CalmParts r → Calm (insert_target fixed_piece r)
-target-calm r parts =
-    let fields = calm-brackets (comma_list fixed_piece r.fields) (calm-list r.fields parts.fields) in
-    calm-append r.table (fixed_piece (codes " (") ++ (comma_list fixed_piece r.fields ++ fixed_piece (codes ")"))) parts.table (record { even = fields.even; no_word = fields.no_word })
-
-pub insert-split : (tail : Pieces) (given : Option Pieces) (r : Clauses Pieces) → CalmParts r → IfSome given Calm → Ending tail → Split (concat_sections fixed_piece (insert_sections fixed_piece given r) ++ tail) []
-insert-split tail None r parts calm ending =
-    plain-split (insert_sections fixed_piece None r) tail
-    (before (section (codes "INSERT INTO ") (insert_target fixed_piece r) ∷ []) (section (codes " VALUES ") (comma_list fixed_piece r.rows) ∷ returning_sections r)
-    (one-section (codes "INSERT INTO ") (insert_target fixed_piece r) (opening refl (λ ts. refl)) (target-calm r parts))
-    (before (section (codes " VALUES ") (comma_list fixed_piece r.rows) ∷ []) (returning_sections r)
-    (one-section (codes " VALUES ") (comma_list fixed_piece r.rows) (opening refl (λ ts. refl)) (calm-list r.rows parts.rows))
-    (returning-laid r parts)))
-    ending
-insert-split tail (Some rows) r parts calm ending =
-    plain-split (insert_sections fixed_piece (Some rows) r) tail
-    (one-section (codes "INSERT INTO ") (insert_target fixed_piece r ++ (fixed_piece (codes " ") ++ rows)) (opening refl (λ ts. refl))
-    (calm-append (insert_target fixed_piece r) (fixed_piece (codes " ") ++ rows) (target-calm r parts) (calm-append (fixed_piece (codes " ")) rows (record { even = refl; no_word = refl }) calm)))
-    ending
-
--- SELECT of a table
-fields-calm : (fields : List Pieces) → AllCalm fields → Calm (fields_or_star fixed_piece fields)
-fields-calm [] all = record { even = refl; no_word = refl }
-fields-calm (field ∷ fields) all = calm-list (field ∷ fields) all
-
-select-opening : (distinct : Bool) → Opening (select_opening distinct)
-select-opening true = opening refl (λ ts. refl)
-select-opening false = opening refl (λ ts. refl)
-
-module _ (r : Clauses Pieces) (parts : CalmParts r) where
-  abbrev select : Section Piece
-  select = section (select_opening r.distinct) (fields_or_star fixed_piece r.fields)
-
-  abbrev from : Section Piece
-  from = section (codes " FROM ") (table_and_joins fixed_piece r.table r.joins)
-
-  abbrev grouped : List (Section Piece)
-  grouped = where_sections fixed_piece r.groups ++ group_by_sections fixed_piece r.group_fields r.having
-
-  from-laid : Laid (from ∷ []) []
-  from-laid =
-      one-section (codes " FROM ") (table_and_joins fixed_piece r.table r.joins) (opening refl (λ ts. refl))
-      (calm-append r.table (flat_map (λ (join : Pieces). fixed_piece (codes " ") ++ join) r.joins) parts.table (calm-each (codes " ") (record { even = refl; no_word = refl }) r.joins parts.joins))
-
-  first-laid : (more : List (Section Piece)) → Laid more (where_bodies r.groups) → Laid (select ∷ from ∷ more) (where_bodies r.groups)
-  first-laid more laid =
-      before (select ∷ []) (from ∷ more) (one-section (select_opening r.distinct) (fields_or_star fixed_piece r.fields) (select-opening r.distinct) (fields-calm r.fields parts.fields))
-      (before (from ∷ []) more from-laid laid)
-
-  wheres-laid : Laid (where_sections fixed_piece r.groups) (where_bodies r.groups)
-  wheres-laid = where-laid r.groups parts.groups
-
-  groups-laid : Laid (group_by_sections fixed_piece r.group_fields r.having) []
-  groups-laid = group_by-laid r.group_fields r.having parts.group_fields parts.having
-
-  -- up to the first union
-  at_union : (tail : Pieces) (union : Bool × Pieces) (more : List (Section Piece))
-      → Split (concat_sections fixed_piece (select ∷ from ∷ (where_sections fixed_piece r.groups ++ (group_by_sections fixed_piece r.group_fields r.having ++ (section (union_opening union.0) union.1 ∷ more)))) ++ tail) (where_bodies r.groups)
-  at_union tail union more =
-      let front = select ∷ from ∷ grouped in
-      let behind_front = section (union_opening union.0) union.1 ∷ more in
-      record {
-        front = front;
-        rest = Fixed (union_opening union.0) ∷ ((union.1 ++ concat_sections fixed_piece more) ++ tail);
-        is =
-            ap (λ ss. concat_sections fixed_piece (select ∷ from ∷ ss) ++ tail) (sym (append_assoc (where_sections fixed_piece r.groups) (group_by_sections fixed_piece r.group_fields r.having) behind_front))
-            ∙ ap (λ ps. ps ++ tail) (flat_map-append section_pieces front behind_front)
-            ∙ append_assoc (concat_sections fixed_piece front) (concat_sections fixed_piece behind_front) tail;
-        laid = first-laid grouped (behind (where_sections fixed_piece r.groups) (group_by_sections fixed_piece r.group_fields r.having) wheres-laid groups-laid);
-        ending = ending-union union.0 ((union.1 ++ concat_sections fixed_piece more) ++ tail);
-      }
-
-  pub query-split : (tail : Pieces) → Ending tail → Split (concat_sections fixed_piece (query_sections fixed_piece r) ++ tail) (where_bodies r.groups)
-  query-split tail ending = by r.unions
-    where
-      by : (unions : List (Bool × Pieces))
-          → Split (concat_sections fixed_piece (select ∷ from ∷ (where_sections fixed_piece r.groups ++ (group_by_sections fixed_piece r.group_fields r.having ++ (union_sections unions ++ (order_by_sections fixed_piece unions r.order_fields ++ range_sections r))))) ++ tail) (where_bodies r.groups)
-      by [] =
-          let order = order_by_sections fixed_piece [] r.order_fields in
-          let more = group_by_sections fixed_piece r.group_fields r.having ++ (order ++ range_sections r) in
-          plain-split (select ∷ from ∷ (where_sections fixed_piece r.groups ++ more)) tail
-          (first-laid (where_sections fixed_piece r.groups ++ more)
-          (behind (where_sections fixed_piece r.groups) more wheres-laid
-          (before (group_by_sections fixed_piece r.group_fields r.having) (order ++ range_sections r) groups-laid
-          (before order (range_sections r) (list-laid (codes " ORDER BY ") r.order_fields (opening refl (λ ts. refl)) parts.order_fields) (range-laid r parts)))))
-          ending
-      by (u ∷ us) = at_union tail u (union_sections us ++ (order_by_sections fixed_piece (u ∷ us) r.order_fields ++ range_sections r))
 
 -- what stands with WHERE in the statement of each kind
 abbrev pub kind_bodies : Kind → Clauses Pieces → List (List Token)
@@ -344,27 +122,201 @@ kind_bodies InsertInto r = []
 kind_bodies UpdateTable r = where_bodies r.groups
 kind_bodies DeleteFrom r = where_bodies r.groups
 
-statement-split : (kind : Kind) (tail : Pieces) (r : Clauses Pieces) → CalmParts r → Ending tail → Split (concat_sections fixed_piece (statement_sections fixed_piece kind r) ++ tail) (kind_bodies kind r)
-statement-split SelectFrom tail r parts ending = query-split r parts tail ending
-statement-split SelectValues tail r parts ending = values-split tail r parts ending
-statement-split InsertInto tail r parts ending = insert-split tail r.query r parts parts.query ending
-statement-split UpdateTable tail r parts ending = update-split tail r parts ending
-statement-split DeleteFrom tail r parts ending = delete-split tail r parts ending
+module _ (P : Pieces → Type 0) (kept : Kept P) where
+  all-brackets : (items : List Pieces) → Each P items → Each P (map (in_brackets fixed_piece) items)
+  all-brackets [] all = tt
+  all-brackets (item ∷ items) all = (kept.brackets item all.0, all-brackets items all.1)
 
--- what `sql`, `query` and `query_values` print
-pub sql-split : (r : Clauses Pieces) → CalmParts r → Split (sql fixed_piece r) (kind_bodies r.kind r)
-sql-split r parts = statement-split r.kind (fixed_piece (codes ";")) r parts ending-semicolon
+  one-section : (words : List ℕ) (body : Pieces) → Opening words → P body → Laid P (section words body ∷ []) []
+  one-section words body opening calm = record {
+    opens = (record { front = opening.front; starts = opening.starts; calm = kept.calm body calm; body = calm }, tt);
+    wheres = ap (stand_with (codes "WHERE")) (append-nil (clauses_in (section_pieces (section words body))) ∙ section-clauses (section words body) (kept.calm body calm)) ∙ opening.elsewhere (pieces_tokens body);
+  }
 
-bare-split : (printed : Pieces) (bodies : List (List Token)) → Split (printed ++ []) bodies → Split printed bodies
-bare-split printed bodies split = subst (λ ps. Split ps bodies) (append-nil printed) split
+  optional-laid : (words : List ℕ) (body : Option Pieces) → Opening words → IfSome body P → Laid P (optional_section words body) []
+  optional-laid words None opening calm = laid-none
+  optional-laid words (Some body) opening calm = one-section words body opening calm
 
-pub bare_query-split : (r : Clauses Pieces) → CalmParts r → Split (query fixed_piece r) (where_bodies r.groups)
-bare_query-split r parts = bare-split (query fixed_piece r) (where_bodies r.groups) (query-split r parts [] ending-none)
+  list-laid : (words : List ℕ) (items : List Pieces) → Opening words → Each P items → Laid P (list_sections fixed_piece words items) []
+  list-laid words [] opening all = laid-none
+  list-laid words (item ∷ items) opening all = one-section words (comma_list fixed_piece (item ∷ items)) opening (listed P kept.joins (item ∷ items) all)
 
-pub bare_values-split : (r : Clauses Pieces) → CalmParts r → Split (query_values fixed_piece r) []
-bare_values-split r parts = bare-split (query_values fixed_piece r) [] (values-split [] r parts ending-none)
+  where-section : (body : Pieces) → P body → Laid P (section (codes " WHERE ") body ∷ []) (pieces_tokens body ∷ [])
+  where-section body calm = record {
+    opens = (record { front = record { laid = refl; even = refl; no_union = refl }; starts = refl; calm = kept.calm body calm; body = calm }, tt);
+    wheres = ap (stand_with (codes "WHERE")) (append-nil (clauses_in (section_pieces (section (codes " WHERE ") body))) ∙ section-clauses (section (codes " WHERE ") body) (kept.calm body calm));
+  }
+
+  where-laid : (groups : List Pieces) → Each P groups → Laid P (where_sections fixed_piece groups) (where_bodies groups)
+  where-laid [] all = laid-none
+  where-laid (g ∷ []) all = where-section g all.0
+  where-laid (g ∷ h ∷ gs) all =
+      where-section (where_body g (h ∷ gs))
+      (joined P kept.joins (codes " AND ") (record { even = refl; no_word = refl }) (map (in_brackets fixed_piece) (g ∷ h ∷ gs)) (all-brackets (g ∷ h ∷ gs) all))
+
+  group_by-laid : (fields : List Pieces) (having : Option Pieces) → Each P fields → IfSome having P → Laid P (group_by_sections fixed_piece fields having) []
+  group_by-laid [] having all calm = laid-none
+  group_by-laid (field ∷ fields) having all calm =
+      before (section (codes " GROUP BY ") (comma_list fixed_piece (field ∷ fields)) ∷ []) (optional_section (codes " HAVING ") having)
+      (one-section (codes " GROUP BY ") (comma_list fixed_piece (field ∷ fields)) (opening refl (λ ts. refl)) (listed P kept.joins (field ∷ fields) all))
+      (optional-laid (codes " HAVING ") having (opening refl (λ ts. refl)) calm)
+
+  range-laid : (r : Clauses Pieces) → PartsAre P Calm r → Laid P (range_sections r) []
+  range-laid r parts =
+      before (optional_section (codes " LIMIT ") r.limit) (optional_section (codes " OFFSET ") r.offset)
+      (optional-laid (codes " LIMIT ") r.limit (opening refl (λ ts. refl)) parts.limit)
+      (optional-laid (codes " OFFSET ") r.offset (opening refl (λ ts. refl)) parts.offset)
+
+  returning-laid : (r : Clauses Pieces) → PartsAre P Calm r → Laid P (returning_sections r) []
+  returning-laid r parts = optional-laid (codes " RETURNING ") r.returning (opening refl (λ ts. refl)) parts.returning
+
+  -- ---- statements
+
+  -- sections, and the `;` or nothing
+  plain-split : (sections : List (Section Piece)) (tail : Pieces) {bodies : List (List Token)} → Laid P sections bodies → Ending tail → Split P (concat_sections fixed_piece sections ++ tail) bodies
+  plain-split sections tail laid ending = record { front = sections; rest = tail; is = refl; laid = laid; ending = ending }
+
+  -- DELETE
+  pub delete-split : (tail : Pieces) (r : Clauses Pieces) → PartsAre P Calm r → Ending tail → Split P (concat_sections fixed_piece (delete_sections fixed_piece r) ++ tail) (where_bodies r.groups)
+  delete-split tail r parts ending =
+      plain-split (delete_sections fixed_piece r) tail
+      (before (section (codes "DELETE FROM ") r.table ∷ []) (where_sections fixed_piece r.groups)
+      (one-section (codes "DELETE FROM ") r.table (opening refl (λ ts. refl)) parts.table)
+      (where-laid r.groups parts.groups))
+      ending
+
+  -- UPDATE
+  pub update-split : (tail : Pieces) (r : Clauses Pieces) → PartsAre P Calm r → Ending tail → Split P (concat_sections fixed_piece (update_sections fixed_piece r) ++ tail) (where_bodies r.groups)
+  update-split tail r parts ending =
+      let set = section (codes " SET ") (comma_list fixed_piece r.sets) in
+      plain-split (update_sections fixed_piece r) tail
+      (before (section (codes "UPDATE ") r.table ∷ []) (set ∷ (where_sections fixed_piece r.groups ++ returning_sections r))
+      (one-section (codes "UPDATE ") r.table (opening refl (λ ts. refl)) parts.table)
+      (before (set ∷ []) (where_sections fixed_piece r.groups ++ returning_sections r)
+      (one-section (codes " SET ") (comma_list fixed_piece r.sets) (opening refl (λ ts. refl)) (listed P kept.joins r.sets parts.sets))
+      (behind (where_sections fixed_piece r.groups) (returning_sections r) (where-laid r.groups parts.groups) (returning-laid r parts))))
+      ending
+
+  -- SELECT of values
+  pub values-split : (tail : Pieces) (r : Clauses Pieces) → PartsAre P Calm r → Ending tail → Split P (concat_sections fixed_piece (values_sections fixed_piece r) ++ tail) []
+  values-split tail r parts ending =
+      plain-split (values_sections fixed_piece r) tail
+      (one-section (codes "SELECT ") (comma_list fixed_piece r.fields) (opening refl (λ ts. refl)) (listed P kept.joins r.fields parts.fields))
+      ending
+
+  -- INSERT
+  target-kept : (r : Clauses Pieces) → PartsAre P Calm r → P (insert_target fixed_piece r)
+  target-kept r parts =
+      kept.joins.append r.table (fixed_piece (codes " (") ++ (comma_list fixed_piece r.fields ++ fixed_piece (codes ")"))) parts.table
+      (kept.target (comma_list fixed_piece r.fields) (listed P kept.joins r.fields parts.fields))
+
+  pub insert-split : (tail : Pieces) (given : Option Pieces) (r : Clauses Pieces) → PartsAre P Calm r → IfSome given P → Ending tail → Split P (concat_sections fixed_piece (insert_sections fixed_piece given r) ++ tail) []
+  insert-split tail None r parts calm ending =
+      plain-split (insert_sections fixed_piece None r) tail
+      (before (section (codes "INSERT INTO ") (insert_target fixed_piece r) ∷ []) (section (codes " VALUES ") (comma_list fixed_piece r.rows) ∷ returning_sections r)
+      (one-section (codes "INSERT INTO ") (insert_target fixed_piece r) (opening refl (λ ts. refl)) (target-kept r parts))
+      (before (section (codes " VALUES ") (comma_list fixed_piece r.rows) ∷ []) (returning_sections r)
+      (one-section (codes " VALUES ") (comma_list fixed_piece r.rows) (opening refl (λ ts. refl)) (listed P kept.joins r.rows parts.rows))
+      (returning-laid r parts)))
+      ending
+  insert-split tail (Some rows) r parts calm ending =
+      plain-split (insert_sections fixed_piece (Some rows) r) tail
+      (one-section (codes "INSERT INTO ") (insert_target fixed_piece r ++ (fixed_piece (codes " ") ++ rows)) (opening refl (λ ts. refl))
+      (kept.joins.append (insert_target fixed_piece r) (fixed_piece (codes " ") ++ rows) (target-kept r parts) (kept.joins.append (fixed_piece (codes " ")) rows (kept.joins.words (codes " ") (record { even = refl; no_word = refl })) calm)))
+      ending
+
+  -- SELECT of a table
+  fields-kept : (fields : List Pieces) → Each P fields → P (fields_or_star fixed_piece fields)
+  fields-kept [] all = kept.joins.words (codes "*") (record { even = refl; no_word = refl })
+  fields-kept (field ∷ fields) all = listed P kept.joins (field ∷ fields) all
+
+  select-opening : (distinct : Bool) → Opening (select_opening distinct)
+  select-opening true = opening refl (λ ts. refl)
+  select-opening false = opening refl (λ ts. refl)
+
+  module _ (r : Clauses Pieces) (parts : PartsAre P Calm r) where
+    abbrev select : Section Piece
+    select = section (select_opening r.distinct) (fields_or_star fixed_piece r.fields)
+
+    abbrev from : Section Piece
+    from = section (codes " FROM ") (table_and_joins fixed_piece r.table r.joins)
+
+    abbrev grouped : List (Section Piece)
+    grouped = where_sections fixed_piece r.groups ++ group_by_sections fixed_piece r.group_fields r.having
+
+    from-laid : Laid P (from ∷ []) []
+    from-laid =
+        one-section (codes " FROM ") (table_and_joins fixed_piece r.table r.joins) (opening refl (λ ts. refl))
+        (kept.joins.append r.table (flat_map (λ (join : Pieces). fixed_piece (codes " ") ++ join) r.joins) parts.table (before-each P kept.joins (codes " ") (record { even = refl; no_word = refl }) r.joins parts.joins))
+
+    first-laid : (more : List (Section Piece)) → Laid P more (where_bodies r.groups) → Laid P (select ∷ from ∷ more) (where_bodies r.groups)
+    first-laid more laid =
+        before (select ∷ []) (from ∷ more) (one-section (select_opening r.distinct) (fields_or_star fixed_piece r.fields) (select-opening r.distinct) (fields-kept r.fields parts.fields))
+        (before (from ∷ []) more from-laid laid)
+
+    wheres-laid : Laid P (where_sections fixed_piece r.groups) (where_bodies r.groups)
+    wheres-laid = where-laid r.groups parts.groups
+
+    groups-laid : Laid P (group_by_sections fixed_piece r.group_fields r.having) []
+    groups-laid = group_by-laid r.group_fields r.having parts.group_fields parts.having
+
+    -- up to the first union
+    at_union : (tail : Pieces) (union : Bool × Pieces) (more : List (Section Piece))
+        → Split P (concat_sections fixed_piece (select ∷ from ∷ (where_sections fixed_piece r.groups ++ (group_by_sections fixed_piece r.group_fields r.having ++ (section (union_opening union.0) union.1 ∷ more)))) ++ tail) (where_bodies r.groups)
+    at_union tail union more =
+        let front = select ∷ from ∷ grouped in
+        let behind_front = section (union_opening union.0) union.1 ∷ more in
+        record {
+          front = front;
+          rest = Fixed (union_opening union.0) ∷ ((union.1 ++ concat_sections fixed_piece more) ++ tail);
+          is =
+              ap (λ ss. concat_sections fixed_piece (select ∷ from ∷ ss) ++ tail) (sym (append_assoc (where_sections fixed_piece r.groups) (group_by_sections fixed_piece r.group_fields r.having) behind_front))
+              ∙ ap (λ ps. ps ++ tail) (flat_map-append section_pieces front behind_front)
+              ∙ append_assoc (concat_sections fixed_piece front) (concat_sections fixed_piece behind_front) tail;
+          laid = first-laid grouped (behind (where_sections fixed_piece r.groups) (group_by_sections fixed_piece r.group_fields r.having) wheres-laid groups-laid);
+          ending = ending-union union.0 ((union.1 ++ concat_sections fixed_piece more) ++ tail);
+        }
+
+    pub query-split : (tail : Pieces) → Ending tail → Split P (concat_sections fixed_piece (query_sections fixed_piece r) ++ tail) (where_bodies r.groups)
+    query-split tail ending = by r.unions
+      where
+        by : (unions : List (Bool × Pieces))
+            → Split P (concat_sections fixed_piece (select ∷ from ∷ (where_sections fixed_piece r.groups ++ (group_by_sections fixed_piece r.group_fields r.having ++ (union_sections unions ++ (order_by_sections fixed_piece unions r.order_fields ++ range_sections r))))) ++ tail) (where_bodies r.groups)
+        by [] =
+            let order = order_by_sections fixed_piece [] r.order_fields in
+            let more = group_by_sections fixed_piece r.group_fields r.having ++ (order ++ range_sections r) in
+            plain-split (select ∷ from ∷ (where_sections fixed_piece r.groups ++ more)) tail
+            (first-laid (where_sections fixed_piece r.groups ++ more)
+            (behind (where_sections fixed_piece r.groups) more wheres-laid
+            (before (group_by_sections fixed_piece r.group_fields r.having) (order ++ range_sections r) groups-laid
+            (before order (range_sections r) (list-laid (codes " ORDER BY ") r.order_fields (opening refl (λ ts. refl)) parts.order_fields) (range-laid r parts)))))
+            ending
+        by (u ∷ us) = at_union tail u (union_sections us ++ (order_by_sections fixed_piece (u ∷ us) r.order_fields ++ range_sections r))
+
+  statement-split : (kind : Kind) (tail : Pieces) (r : Clauses Pieces) → PartsAre P Calm r → Ending tail → Split P (concat_sections fixed_piece (statement_sections fixed_piece kind r) ++ tail) (kind_bodies kind r)
+  statement-split SelectFrom tail r parts ending = query-split r parts tail ending
+  statement-split SelectValues tail r parts ending = values-split tail r parts ending
+  statement-split InsertInto tail r parts ending = insert-split tail r.query r parts parts.query ending
+  statement-split UpdateTable tail r parts ending = update-split tail r parts ending
+  statement-split DeleteFrom tail r parts ending = delete-split tail r parts ending
+
+  -- what `sql`, `query` and `query_values` print
+  pub sql-split : (r : Clauses Pieces) → PartsAre P Calm r → Split P (sql fixed_piece r) (kind_bodies r.kind r)
+  sql-split r parts = statement-split r.kind (fixed_piece (codes ";")) r parts ending-semicolon
+
+  bare-split : (printed : Pieces) (bodies : List (List Token)) → Split P (printed ++ []) bodies → Split P printed bodies
+  bare-split printed bodies split = subst (λ ps. Split P ps bodies) (append-nil printed) split
+
+  pub bare_query-split : (r : Clauses Pieces) → PartsAre P Calm r → Split P (query fixed_piece r) (where_bodies r.groups)
+  bare_query-split r parts = bare-split (query fixed_piece r) (where_bodies r.groups) (query-split r parts [] ending-none)
+
+  pub bare_values-split : (r : Clauses Pieces) → PartsAre P Calm r → Split P (query_values fixed_piece r) []
+  bare_values-split r parts = bare-split (query_values fixed_piece r) [] (values-split [] r parts ending-none)
 
 -- ---- the whole of a query, its unions too
+
+pub calm-kept : Kept Calm
+calm-kept = record { joins = calm-joins; brackets = calm-brackets; target = calm-target; calm = λ x calm. calm }
 
 record Even (s : Section Piece) : Type 0 where
   even : is_even (own (section_pieces s)) ≡ true
@@ -379,9 +331,9 @@ evens-append (s ∷ one) other all too = (all.0, evens-append one other all.1 to
 even-section : (s : Section Piece) → Front (tokens s.opening) → Calm s.body → Even s
 even-section s front calm = record { even = is_even-append (tokens s.opening) (own s.body) front.even calm.even }
 
-evens-open : (sections : List (Section Piece)) → AllOpen sections → AllEven sections
+evens-open : (sections : List (Section Piece)) → AllOpen Calm sections → AllEven sections
 evens-open [] all = tt
-evens-open (s ∷ sections) all = (even-section s all.0.front all.0.body, evens-open sections all.1)
+evens-open (s ∷ sections) all = (even-section s all.0.front all.0.calm, evens-open sections all.1)
 
 union-even : (all : Bool) (body : Pieces) → Calm body → Even (section (union_opening all) body)
 union-even true body calm = record { even = is_even-append (tokens (codes " UNION ALL ")) (own body) refl calm.even }
@@ -391,8 +343,8 @@ unions-even : (unions : List (Bool × Pieces)) → AllByRecursion (λ (union : B
 unions-even [] all = tt
 unions-even (u ∷ us) all = (union-even u.0 u.1 all.0, unions-even us all.1)
 
-order_by-even : (unions : List (Bool × Pieces)) (fields : List Pieces) → AllCalm fields → AllEven (order_by_sections fixed_piece unions fields)
-order_by-even [] fields all = evens-open (list_sections fixed_piece (codes " ORDER BY ") fields) (list-laid (codes " ORDER BY ") fields (opening refl (λ ts. refl)) all).opens
+order_by-even : (unions : List (Bool × Pieces)) (fields : List Pieces) → Each Calm fields → AllEven (order_by_sections fixed_piece unions fields)
+order_by-even [] fields all = evens-open (list_sections fixed_piece (codes " ORDER BY ") fields) (list-laid Calm calm-kept (codes " ORDER BY ") fields (opening refl (λ ts. refl)) all).opens
 order_by-even (u ∷ us) fields all = tt
 
 sections-even : (sections : List (Section Piece)) → AllEven sections → is_even (own (concat_sections fixed_piece sections)) ≡ true
@@ -406,14 +358,14 @@ query-even r parts =
     let wheres = where_sections fixed_piece r.groups in
     let grouped = group_by_sections fixed_piece r.group_fields r.having in
     let ordered = order_by_sections fixed_piece r.unions r.order_fields in
-    let first = evens-open (select r parts ∷ from r parts ∷ wheres) (first-laid r parts wheres (wheres-laid r parts)).opens in
+    let first = evens-open (select Calm calm-kept r parts ∷ from Calm calm-kept r parts ∷ wheres) (first-laid Calm calm-kept r parts wheres (wheres-laid Calm calm-kept r parts)).opens in
     sections-even (query_sections fixed_piece r) (
       first.0,
       (
         first.1.0,
         evens-append wheres (grouped ++ (union_sections r.unions ++ (ordered ++ range_sections r))) first.1.1
-            (evens-append grouped (union_sections r.unions ++ (ordered ++ range_sections r)) (evens-open grouped (groups-laid r parts).opens)
+            (evens-append grouped (union_sections r.unions ++ (ordered ++ range_sections r)) (evens-open grouped (groups-laid Calm calm-kept r parts).opens)
             (evens-append (union_sections r.unions) (ordered ++ range_sections r) (unions-even r.unions parts.unions)
-            (evens-append ordered (range_sections r) (order_by-even r.unions r.order_fields parts.order_fields) (evens-open (range_sections r) (range-laid r parts).opens)))),
+            (evens-append ordered (range_sections r) (order_by-even r.unions r.order_fields parts.order_fields) (evens-open (range_sections r) (range-laid Calm calm-kept r parts).opens)))),
       ),
     )

@@ -132,7 +132,7 @@ fit-left l (p ∷ a) b fit =
     let both = and_parts (is_fit l p) (are_fit_from (at_end l (own_tokens p)) (a ++ b)) fit in
     and_from _ _ both.0 (fit-left (at_end l (own_tokens p)) a b both.1)
 
-until-behind : (a b : Pieces) → list_any is_union (own a) ≡ false → until begins_union (a ++ b) ≡ a ++ until begins_union b
+pub until-behind : (a b : Pieces) → list_any is_union (own a) ≡ false → until begins_union (a ++ b) ≡ a ++ until begins_union b
 until-behind [] b none = refl
 until-behind (Fixed text ∷ a) b none =
     let both = or_parts (list_any is_union (tokens text)) (list_any is_union (own a)) (sym (list_any-append is_union (tokens text) (own a)) ∙ none) in
@@ -144,27 +144,32 @@ until-behind (Raw text ∷ a) b none = ap (λ ps. Raw text ∷ ps) (until-behind
 pub record Ending (rest : Pieces) : Type 0 where
   pub cut : (a : List Token) → list_all is_whole a ≡ true → (r : List Token) × (without_semicolon (a ++ pieces_tokens rest) ≡ a ++ r) × (before_outer is_union (placed r) ≡ [])
   pub ends : before_outer ends_clauses (flat_map own_placed rest) ≡ []
+  pub until_fits : (l : ℤ) → are_fit_from l (until begins_union rest) ≡ true
 
 pub ending-none : Ending []
 ending-none = record {
   cut = λ a whole. ([], ap without_semicolon (append-nil a) ∙ semicolon-none a whole ∙ sym (append-nil a), refl);
   ends = refl;
+  until_fits = λ l. refl;
 }
 
 pub ending-semicolon : Ending (fixed_piece (codes ";"))
 ending-semicolon = record {
   cut = λ a whole. ([], semicolon-one a ∙ sym (append-nil a), refl);
   ends = refl;
+  until_fits = λ l. refl;
 }
 
 pub ending-union : (all : Bool) (more : Pieces) → Ending (Fixed (union_opening all) ∷ more)
 ending-union true more = record {
   cut = λ a whole. let found = semicolon-later a (Word (codes "UNION")) (Word (codes "ALL") ∷ pieces_tokens more) refl in (Word (codes "UNION") ∷ found.0, found.1, refl);
   ends = refl;
+  until_fits = λ l. refl;
 }
 ending-union false more = record {
   cut = λ a whole. let found = semicolon-later a (Word (codes "UNION")) (pieces_tokens more) refl in (Word (codes "UNION") ∷ found.0, found.1, refl);
   ends = refl;
+  until_fits = λ l. refl;
 }
 
 -- the clauses of pieces that no UNION and no `;` ends
@@ -208,25 +213,26 @@ module _ (front rest : Pieces) (is : Front (own front)) (ending : Ending rest) w
 
 -- ---- sections
 
--- a section that clause words of its own open, and whose body has no clause word of the product's
-pub record Opens (s : Section Piece) : Type 0 where
+-- a section that clause words of its own open, and whose body has a property, and no clause word of the builder's
+pub record Opens (P : Pieces → Type 0) (s : Section Piece) : Type 0 where
   pub front : Front (tokens s.opening)
   pub starts : begins_with is_clause_word (tokens s.opening) ≡ true
-  pub body : Calm s.body
+  pub calm : Calm s.body
+  pub body : P s.body
 
-abbrev pub AllOpen : List (Section Piece) → Type 0
-AllOpen sections = AllByRecursion Opens sections
+abbrev pub AllOpen : (Pieces → Type 0) → List (Section Piece) → Type 0
+AllOpen P sections = AllByRecursion (Opens P) sections
 
 -- the pieces of a section
 abbrev pub section_pieces : Section Piece → Pieces
 section_pieces s = fixed_piece s.opening ++ s.body
 
-pub sections-front : (sections : List (Section Piece)) → AllOpen sections → Front (own (concat_sections fixed_piece sections))
-sections-front [] all = record { laid = refl; even = refl; no_union = refl }
-sections-front (s ∷ sections) all =
+pub sections-front : (P : Pieces → Type 0) (sections : List (Section Piece)) → AllOpen P sections → Front (own (concat_sections fixed_piece sections))
+sections-front P [] all = record { laid = refl; even = refl; no_union = refl }
+sections-front P (s ∷ sections) all =
     subst Front (sym (own-append (section_pieces s) (concat_sections fixed_piece sections)))
     (front-append (tokens s.opening ++ own s.body) (own (concat_sections fixed_piece sections))
-    (front-append (tokens s.opening) (own s.body) all.0.front (calm-front s.body all.0.body)) (sections-front sections all.1))
+    (front-append (tokens s.opening) (own s.body) all.0.front (calm-front s.body all.0.calm)) (sections-front P sections all.1))
 
 -- the clauses of sections are those of each
 parts-cut : (test : Token → Bool) (a b : List Placed) → (parts_at test b).lead ≡ [] → (parts_at test (a ++ b)).rest ≡ (parts_at test a).rest ++ (parts_at test b).rest
@@ -244,17 +250,17 @@ starts-lead : (ts : List Token) (ms : List Placed) → begins_with is_clause_wor
 starts-lead [] ms h = absurd (false≢true h)
 starts-lead (t ∷ ts) ms h = ap (λ b. (with_front b t (parts_at is_clause_word (map Outer ts ++ ms))).lead) h
 
-sections-lead : (sections : List (Section Piece)) → AllOpen sections → (parts_at is_clause_word (flat_map own_placed (concat_sections fixed_piece sections))).lead ≡ []
-sections-lead [] all = refl
-sections-lead (s ∷ sections) all = starts-lead (tokens s.opening) (flat_map own_placed (s.body ++ concat_sections fixed_piece sections)) all.0.starts
+sections-lead : (P : Pieces → Type 0) (sections : List (Section Piece)) → AllOpen P sections → (parts_at is_clause_word (flat_map own_placed (concat_sections fixed_piece sections))).lead ≡ []
+sections-lead P [] all = refl
+sections-lead P (s ∷ sections) all = starts-lead (tokens s.opening) (flat_map own_placed (s.body ++ concat_sections fixed_piece sections)) all.0.starts
 
-pub clauses-sections : (sections : List (Section Piece)) → AllOpen sections → clauses_in (concat_sections fixed_piece sections) ≡ flat_map (λ s. clauses_in (section_pieces s)) sections
-clauses-sections [] all = refl
-clauses-sections (s ∷ sections) all =
+pub clauses-sections : (P : Pieces → Type 0) (sections : List (Section Piece)) → AllOpen P sections → clauses_in (concat_sections fixed_piece sections) ≡ flat_map (λ s. clauses_in (section_pieces s)) sections
+clauses-sections P [] all = refl
+clauses-sections P (s ∷ sections) all =
     let more = concat_sections fixed_piece sections in
     ap (λ ms. (parts_at is_clause_word ms).rest) (flat_map-append own_placed (section_pieces s) more)
-    ∙ parts-cut is_clause_word (flat_map own_placed (section_pieces s)) (flat_map own_placed more) (sections-lead sections all.1)
-    ∙ ap (λ cs. clauses_in (section_pieces s) ++ cs) (clauses-sections sections all.1)
+    ∙ parts-cut is_clause_word (flat_map own_placed (section_pieces s)) (flat_map own_placed more) (sections-lead P sections all.1)
+    ∙ ap (λ cs. clauses_in (section_pieces s) ++ cs) (clauses-sections P sections all.1)
 
 -- the last clause goes on
 abbrev pub with_last : List Token → List Clause → List Clause

@@ -129,7 +129,7 @@ pub laid-stays : (l : ℤ) (a : List Token) → laid_from l a ≡ true → stays
 laid-stays l [] h = refl
 laid-stays l (t ∷ a) h = let both = and_parts _ _ (and_parts _ _ h).1 in and_from _ _ both.0 (laid-stays (after l t) a both.1)
 
-or_so : (a b : Bool) → b ≡ true → (a || b) ≡ true
+pub or_so : (a b : Bool) → b ≡ true → (a || b) ≡ true
 or_so true b h = refl
 or_so false b h = h
 

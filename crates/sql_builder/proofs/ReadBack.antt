@@ -13,8 +13,8 @@ use Rattle.sql_builder.specs.declared.clauses.Kind.{Kind}
 use Rattle.sql_builder.specs.declared.clauses.Kind.TheVariants.{SelectFrom, SelectValues, InsertInto, UpdateTable, DeleteFrom}
 use Rattle.sql_builder.proofs.ClauseShapes.{printed-shaped}
 use Rattle.sql_builder.proofs.Layouts.{query_shape, query_values_shape, sql_shape, subquery_as_shape, subquery_shape}
-use Rattle.sql_builder.proofs.OwnClauses.{clauses-calm, raw-calm}
-use Rattle.sql_builder.proofs.OwnLayouts.{CalmParts, bare_query-split, bare_values-split, kind_bodies, split-reads, split-wheres, sql-split, where_bodies}
+use Rattle.sql_builder.proofs.CalmClauses.{clauses-calm, raw-calm, CalmParts}
+use Rattle.sql_builder.proofs.OwnLayouts.{calm-kept, bare_query-split, bare_values-split, kind_bodies, split-reads, split-wheres, sql-split, where_bodies}
 use Rattle.sql_builder.proofs.WhereGroups.{calls-true, texts-true}
 use Rattle.sql_builder.specs.Fitting.{are_fit_to_union, has_fit_fragments, has_fit_conditions, has_balanced_fragments}
 use Rattle.sql_builder.specs.Meaning.{HasTruthOfGroups, is_unenclosed, prints_where, HasBalancedFragments, HasFitConditions, HasFitFragments, IsTrueAs, Nests, ReadsBack, condition_groups, is_nested}
@@ -24,6 +24,7 @@ use Rattle.std.specs.Result.{result_map_both}
 use Rattle.std.specs.Prelude.{IsTrue}
 use Rattle.sql_builder.proofs.Nesting.{nests}
 use Rattle.sql_parts.specs.Tokens.{tokens}
+use Rattle.sql_builder.proofs.OwnSections.{Calm}
 
 -- the pieces that a finish prints
 abbrev pub layout : FinishText → Clauses Pieces → Pieces
@@ -32,9 +33,9 @@ layout finish r = layout_at fixed_piece raw_piece finish r
 -- they read back as their clauses
 pub layout-reads : (finish : FinishText) (r : Clauses Pieces) → CalmParts r → is_unenclosed finish ≡ true → are_fit_to_union (layout finish r) ≡ true
     → read (pieces_tokens (layout finish r)) ≡ piece_clauses (layout finish r)
-layout-reads Sql r parts bare fit = split-reads (sql-split r parts) fit
-layout-reads Query r parts bare fit = split-reads (bare_query-split r parts) fit
-layout-reads QueryValues r parts bare fit = split-reads (bare_values-split r parts) fit
+layout-reads Sql r parts bare fit = split-reads (sql-split Calm calm-kept r parts) fit
+layout-reads Query r parts bare fit = split-reads (bare_query-split Calm calm-kept r parts) fit
+layout-reads QueryValues r parts bare fit = split-reads (bare_values-split Calm calm-kept r parts) fit
 layout-reads Subquery r parts bare fit = absurd (false≢true bare)
 layout-reads (SubqueryAs name) r parts bare fit = absurd (false≢true bare)
 
@@ -46,7 +47,7 @@ kind-wheres InsertInto r prints = absurd (false≢true prints)
 kind-wheres UpdateTable r prints = refl
 kind-wheres DeleteFrom r prints = refl
 
-sql-bare : (finish : FinishText) (kind : Kind) → prints_where finish kind ≡ true → is_unenclosed finish ≡ true
+pub sql-bare : (finish : FinishText) (kind : Kind) → prints_where finish kind ≡ true → is_unenclosed finish ≡ true
 sql-bare Sql kind prints = refl
 sql-bare Query kind prints = refl
 sql-bare QueryValues kind prints = refl
@@ -55,8 +56,8 @@ sql-bare (SubqueryAs name) kind prints = absurd (false≢true prints)
 
 pub layout-wheres : (finish : FinishText) (r : Clauses Pieces) → CalmParts r → prints_where finish r.kind ≡ true
     → stand_with (codes "WHERE") (piece_clauses (layout finish r)) ≡ where_bodies r.groups
-layout-wheres Sql r parts prints = split-wheres (sql-split r parts) ∙ kind-wheres r.kind r prints
-layout-wheres Query r parts prints = split-wheres (bare_query-split r parts)
+layout-wheres Sql r parts prints = split-wheres (sql-split Calm calm-kept r parts) ∙ kind-wheres r.kind r prints
+layout-wheres Query r parts prints = split-wheres (bare_query-split Calm calm-kept r parts)
 layout-wheres QueryValues r parts prints = absurd (false≢true prints)
 layout-wheres Subquery r parts prints = absurd (false≢true prints)
 layout-wheres (SubqueryAs name) r parts prints = absurd (false≢true prints)

@@ -8,14 +8,14 @@ use Rattle.sql_parts.specs.Tokens.{Token, Symbol, tokens, is_empty}
 use Rattle.sql_builder.specs.Builder.{ClauseTexts}
 use Rattle.sql_builder.specs.Calls.{CallText, condition_in, condition_pieces, group_pieces, opens_group, conditions_of, groups}
 use Rattle.sql_builder.specs.Conditions.{ConditionText, Raw, Compare, Like, IsNull, IsNotNull, InList, InQuoted, InQuery, Between}
-use Rattle.sql_builder.specs.Filters.{Group, begins, cut, lead_and_groups}
+use Rattle.sql_builder.specs.Filters.{Group, cut}
 use Rattle.sql_builder.specs.Phrases.{in_brackets}
 use Rattle.sql_builder.specs.Shape.{pieces_tokens, cond_tokens}
 use Rattle.sql_builder.specs.Text as text
 use Rattle.sql_builder.specs.Text.{Pieces, Fixed, fixed_piece, raw_piece}
 use Rattle.sql_builder.specs.declared.calls.Family.{Family}
-use Rattle.sql_builder.proofs.OwnClauses.{condition-calm}
-use Rattle.sql_builder.proofs.OwnLayouts.{calm-raw, where_bodies, where_body}
+use Rattle.sql_builder.proofs.CalmClauses.{condition-calm, calm-raw}
+use Rattle.sql_builder.proofs.OwnLayouts.{where_bodies, where_body}
 use Rattle.sql_builder.proofs.OwnSections.{Calm, calm-front, own-outer}
 use Rattle.sql_builder.proofs.OwnWords.{Mark, fit-balanced, fit-marks, marks, shape-even, are_fit_from, is_fit, are_fit-is}
 use Rattle.sql_builder.proofs.Shapes.{pieces_tokens-append}
@@ -30,6 +30,7 @@ use Rattle.sql_builder.specs.Truths.{truth, Valuation}
 use Rattle.sql_parts.proofs.Walks.{is_balanced, placed}
 use Rattle.sql_parts.specs.Fragments.{Placed, is_clause_word, is_outer}
 use Rattle.std.proofs.lemmas.List.Folds.{list_all-map}
+use Rattle.sql_builder.proofs.Each.{cut-all}
 
 -- ---- one condition
 
@@ -141,28 +142,8 @@ fits condition = are_fit (condition_pieces condition)
 abbrev said_fits : Said → Bool
 said_fits c = fits c.1
 
--- the conditions of a group and those before it, each fit
 abbrev all_fit : Group Said → Bool
 all_fit group = list_all said_fits (group.0 ∷ group.1)
-
-lead-all : (cs : List Said) → list_all said_fits cs ≡ true
-    → (list_all said_fits (lead_and_groups opens_group cs).0 ≡ true) × (list_all all_fit (lead_and_groups opens_group cs).1 ≡ true)
-lead-all [] all = (refl, refl)
-lead-all (c ∷ cs) all =
-    let both = and_parts (said_fits c) (list_all said_fits cs) all in
-    step (opens_group c) (lead_and_groups opens_group cs) both.0 (lead-all cs both.1)
-  where
-    step : (opens : Bool) (r : List Said × List (Group Said)) → said_fits c ≡ true → (list_all said_fits r.0 ≡ true) × (list_all all_fit r.1 ≡ true)
-        → (list_all said_fits (begins opens c r).0 ≡ true) × (list_all all_fit (begins opens c r).1 ≡ true)
-    step true r here more = (refl, and_from _ _ (and_from _ _ here more.0) more.1)
-    step false r here more = (and_from _ _ here more.0, more.1)
-
-cut-all : (cs : List Said) → list_all said_fits cs ≡ true → list_all all_fit (cut opens_group cs) ≡ true
-cut-all [] all = refl
-cut-all (c ∷ cs) all =
-    let both = and_parts (said_fits c) (list_all said_fits cs) all in
-    let more = lead-all cs both.1 in
-    and_from _ _ (and_from _ _ both.0 more.0) more.1
 
 conditions-fine : (cs : List ConditionText) → list_all fits cs ≡ true → list_all is_condition (map cond_tokens cs) ≡ true
 conditions-fine [] all = refl
@@ -194,7 +175,7 @@ pub calls-true : (facts : Valuation) (calls : List CallText) → has_fit_conditi
     → map (truth facts) (where_bodies (map group_pieces (groups calls))) ≡ where_truths facts (condition_groups calls)
 calls-true facts calls fit =
     bodies-true facts (map group_pieces (groups calls)) (condition_groups calls)
-    (groups-are (cut opens_group (filter_map condition_in calls)) (cut-all (filter_map condition_in calls) fit))
+    (groups-are (cut opens_group (filter_map condition_in calls)) (cut-all said_fits opens_group (filter_map condition_in calls) fit))
 
 -- ---- the groups of a builder
 

@@ -1,7 +1,7 @@
 //! Laws of lists of calls, each the contract of a function that does nothing.
 ghost use Rattle.std.specs.Prelude.{IfOk, IsTrue, List, codes};
 ghost use Rattle.sql_builder.specs.Calls.{CallText, Sql, StartText, having_in, limit_in, offset_in, returning_in};
-ghost use Rattle.sql_builder.specs.Laws.{BuildersEndInOneSemicolon, ConditionsAreAtoms, ConditionsKeepTokens, BracketsMakeOperands, CountsKeepTokens, EquationsKeepTokens, FieldsJoin, IsValued, OnlyLastCounts, QuotedEquationsKeepTokens, TruthOfAnd, TruthOfBrackets, TruthOfNot, TruthOfOr, TruthOfWhere, brackets_and_not, range_and_case};
+ghost use Rattle.sql_builder.specs.Laws.{BuildersEndInOneSemicolon, ConditionsAreAtoms, ConditionsKeepTokens, BracketsMakeOperands, CountsKeepTokens, EquationsKeepTokens, FieldsJoin, FitTextsMakeBalancedFragments, FitTextsMakeFitConditions, FitTextsMakeFitFragments, IsValued, OnlyLastCounts, QuotedEquationsKeepTokens, TruthOfAnd, TruthOfBrackets, TruthOfNot, TruthOfOr, TruthOfWhere, brackets_and_not, range_and_case};
 ghost use Rattle.sql_builder.specs.Truths.{False, True, Unknown};
 ghost use Rattle.sql_builder.specs.Shape.{EndsInOneSemicolon, has_closed_fragments, has_no_semicolons};
 ghost use Rattle.sql_builder.specs.Statement.{pieces};
@@ -55,6 +55,16 @@ pub fn only_the_end_is_a_semicolon()
         (λ printed. IsTrue (has_closed_fragments printed) → IsTrue (has_no_semicolons printed)
         → EndsInOneSemicolon (tokens (pieces_text printed))) }
     ensures of_builders { BuildersEndInOneSemicolon }
+{}
+
+/// Where each text that a list of calls hands in is balanced, and has no outer clause word (which
+/// may stand in what a call puts between brackets, and in a query behind UNION), the fragments
+/// that are printed are fit: the premises of what `run` says of clauses, of WHERE and of nesting.
+#[tactic(auto, using(crate::proofs::FitTexts::fit_fragments, crate::proofs::FitTexts::fit_conditions, crate::proofs::FitTexts::balanced_fragments))]
+pub fn fit_texts_make_fit_fragments()
+    ensures fragments { FitTextsMakeFitFragments }
+    ensures conditions { FitTextsMakeFitConditions }
+    ensures nesting { FitTextsMakeBalancedFragments }
 {}
 
 /// The truth of a condition by how it is made: of an OR the greater, of an AND the lesser, of a
