@@ -96,4 +96,3 @@ atom_in f ts h k = atom_plain f in_word (in_brackets ts) h (none-brackets is_joi
 
 pub atom_not_in : (f ts : List Token) → is_operand f ≡ true → is_even ts ≡ true → IsAtom (f ++ not_word ∷ in_word ∷ in_brackets ts)
 atom_not_in f ts h k = atom_plain f not_word (in_word ∷ in_brackets ts) h (none-brackets is_joining ts refl (even_closes ts k))
-

@@ -250,8 +250,7 @@ module _ (r : Clauses Pieces) (parts : PartsAre Balanced Balanced r) where
   query-bodies =
       let grouped = group_by_sections fixed_piece r.group_fields r.having in
       let united = union_sections r.unions in
-      let ordered = order_by_sections fixed_piece r.unions r.order_fields in
-      (
+      let ordered = order_by_sections fixed_piece r.unions r.order_fields in (
         fields-balanced r.fields parts.fields,
         (
           balanced-append r.table _ parts.table (before-each Balanced balanced-joins (codes " ") (record { even = refl; no_word = refl }) r.joins parts.joins),

@@ -3,7 +3,7 @@ ghost use Rattle.std.specs.Prelude.{codes, ◌++◌};
 ghost use Rattle.sql_parts.specs.Text.{decimal_text};
 
 use crate::calls::{Call, Condition, Family, Finish, Percent, Relation, Start, run};
-use crate::lex::{has_semicolon, is_closed};
+use crate::lex::{has_clause_word, has_semicolon, is_closed, is_operand};
 use crate::prelude::{Bind, SqlArg, SqlBuilder, ToText, quote};
 use crate::{SqlBuilderError, laws};
 use std::alloc::Global;
@@ -1435,4 +1435,32 @@ fn states_its_laws() {
     laws::only_last_counts();
     laws::only_the_end_is_a_semicolon();
     laws::added_texts_keep_tokens();
+    laws::conditions_are_atoms();
+    laws::fit_texts_make_fit_fragments();
+    laws::truth_follows_the_form();
+    laws::brackets_make_operands();
+    laws::worked_truths();
+}
+
+/// A query of two groups in brackets, as a value of a condition.
+#[test]
+fn nests_a_subquery(rt: HostRuntime) -> Result<(), Fail> {
+    let heap = rt.alloc();
+    let ids = SqlBuilder::select_from(heap, "b")?
+        .field("id")?
+        .and_where("p OR q")?
+        .and_where("r")?
+        .subquery()?;
+    assert_eq!(rt; ids.as_str(), "(SELECT id FROM b WHERE (p OR q) AND (r))");
+    assert!(rt; is_operand(ids.as_str()), "{ids:?} is no operand");
+    assert!(rt; !has_clause_word(ids.as_str()), "{ids:?} has a clause word");
+    let made = SqlBuilder::select_from(heap, "a")?
+        .and_where_eq("x", ids)?
+        .or_where("y")?
+        .sql()?;
+    assert_eq!(rt;
+        made.as_str(),
+        "SELECT * FROM a WHERE x = (SELECT id FROM b WHERE (p OR q) AND (r)) OR y;"
+    );
+    Ok(())
 }
