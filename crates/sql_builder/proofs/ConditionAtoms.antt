@@ -2,8 +2,6 @@
 use Rattle.std.proofs.Common.{◌≡◌, refl, sym, ◌∙◌, ap, subst, ℕ, Bool, true, false, ◌&&◌, List, [], ◌∷◌, ◌++◌, map, codes, append-nil}
 use Rattle.std.specs.List.{list_all}
 use Rattle.std.proofs.lemmas.Bool.{and_parts, and_from, false≢true}
-use Rattle.std.proofs.lemmas.List.Folds.{list_all-append}
-use Rattle.std.specs.Prelude.{flat_map}
 use Rattle.sql_parts.specs.Tokens.{Symbol, tokens}
 use Rattle.sql_builder.specs.Conditions.{ConditionText, Raw, Compare, Like, IsNull, IsNotNull, InList, InQuoted, InQuery, Between, mask_text, not_text}
 use Rattle.sql_builder.specs.Phrases.{comma_list}
@@ -14,12 +12,12 @@ use Rattle.sql_builder.specs.declared.calls.Relation.TheVariants.{Eq, Ne, Gt, Ge
 use Rattle.sql_builder.proofs.Atoms.{atom_between, atom_in, atom_like, atom_not_between, atom_not_in, atom_not_like, atom_not_null, atom_null, atom_plain, operand_plain}
 use Rattle.sql_builder.proofs.Each.{map-all}
 use Rattle.sql_builder.proofs.CalmClauses.{calm-list, calm-raw}
-use Rattle.sql_builder.proofs.Handing.{Each}
+use Rattle.sql_builder.proofs.Handing.{Each, listed}
 use Rattle.sql_builder.proofs.OwnSections.{Calm}
 use Rattle.sql_builder.proofs.OwnWords.{shape-even}
 use Rattle.sql_builder.proofs.WhereGroups.{pieces_tokens-brackets}
 use Rattle.sql_builder.proofs.WhereTokens.{and_word, between_word, in_word, not_word}
-use Rattle.sql_builder.specs.Fitting.{has_balanced_fragments, is_balanced_piece}
+use Rattle.sql_builder.specs.Fitting.{has_balanced_fragments}
 use Rattle.sql_builder.specs.Meaning.{IsAtomIfOperands, AddsCondition, has_operands}
 use Rattle.sql_builder.specs.Truths.{IsAtom}
 use Rattle.sql_parts.proofs.Walks.{has_outer, is_even, is_operand, is_operand-is}
@@ -29,6 +27,7 @@ use Rattle.sql_builder.proofs.Nesting.{fragments_closed}
 use Rattle.sql_builder.specs.Builder.{ClauseTexts, condition_bytes, with_condition, with_condition_text}
 use Rattle.sql_builder.specs.Calls.{condition_pieces}
 use Rattle.sql_builder.specs.declared.calls.Family.{Family}
+use Rattle.sql_builder.proofs.BalancedPieces.{Balanced, balanced-joins, quoteds-balanced, raws-balanced, within}
 
 walked : (f : List ℕ) → operand f ≡ true → is_operand (tokens f) ≡ true
 walked f h = sym (is_operand-is (tokens f)) ∙ h
@@ -50,30 +49,8 @@ in-atom : (negated : Bool) (f : List ℕ) (inner : Pieces) → operand f ≡ tru
 in-atom true f inner h even = subst (λ ts. IsAtom (tokens f ++ not_word ∷ in_word ∷ ts)) (sym (pieces_tokens-brackets inner)) (atom_not_in (tokens f) (pieces_tokens inner) (walked f h) even)
 in-atom false f inner h even = subst (λ ts. IsAtom (tokens f ++ in_word ∷ ts)) (sym (pieces_tokens-brackets inner)) (atom_in (tokens f) (pieces_tokens inner) (walked f h) even)
 
-behind-balanced : (vs : List Pieces) → list_all has_balanced_fragments vs ≡ true → has_balanced_fragments (flat_map (λ v. fixed_piece (codes ", ") ++ v) vs) ≡ true
-behind-balanced [] all = refl
-behind-balanced (v ∷ vs) all =
-    let both = and_parts (has_balanced_fragments v) (list_all has_balanced_fragments vs) all in
-    list_all-append is_balanced_piece v (flat_map (λ (w : Pieces). fixed_piece (codes ", ") ++ w) vs) ∙ and_from _ _ both.0 (behind-balanced vs both.1)
-
-list-balanced : (vs : List Pieces) → list_all has_balanced_fragments vs ≡ true → has_balanced_fragments (comma_list fixed_piece vs) ≡ true
-list-balanced [] all = refl
-list-balanced (v ∷ vs) all =
-    let both = and_parts (has_balanced_fragments v) (list_all has_balanced_fragments vs) all in
-    list_all-append is_balanced_piece v (flat_map (λ (w : Pieces). fixed_piece (codes ", ") ++ w) vs) ∙ and_from _ _ both.0 (behind-balanced vs both.1)
-
-raws-balanced : (values : List (List ℕ)) → list_all balanced values ≡ true → list_all has_balanced_fragments (map raw_piece values) ≡ true
-raws-balanced [] all = refl
-raws-balanced (v ∷ values) all =
-    let both = and_parts (balanced v) (list_all balanced values) all in
-    and_from _ _ (and_from _ _ both.0 refl) (raws-balanced values both.1)
-
-quoteds-balanced : (values : List (List ℕ)) → list_all has_balanced_fragments (map quoted_piece values) ≡ true
-quoteds-balanced [] = refl
-quoteds-balanced (v ∷ values) = quoteds-balanced values
-
-list-even : (items : List Pieces) → Each Calm items → list_all has_balanced_fragments items ≡ true → is_even (pieces_tokens (comma_list fixed_piece items)) ≡ true
-list-even items calm all = shape-even (comma_list fixed_piece items) (list-balanced items all) (calm-list items calm).even
+list-even : (items : List Pieces) → Each Calm items → Each Balanced items → is_even (pieces_tokens (comma_list fixed_piece items)) ≡ true
+list-even items calm all = shape-even (comma_list fixed_piece items) (listed Balanced balanced-joins items all) (calm-list items calm).even
 
 between : (negated : Bool) (f a b : List ℕ) → operand f ≡ true → operand a ≡ true → operand b ≡ true → IsAtom (cond_tokens (Between negated f a b))
 between true f a b h k l = subst (λ ts. IsAtom (tokens f ++ not_word ∷ between_word ∷ (tokens a ++ and_word ∷ ts))) (sym (append-nil (tokens b))) (atom_not_between (tokens f) (tokens a) (tokens b) (walked f h) (walked a k) (walked b l))
@@ -114,13 +91,11 @@ operands_balanced (IsNull field) h = and_from _ _ (operand_balanced field h) ref
 operands_balanced (IsNotNull field) h = and_from _ _ (operand_balanced field h) refl
 operands_balanced (InList negated field values) h =
     let both = and_parts (operand field) (list_all balanced values) h in
-    let listed = comma_list fixed_piece (map raw_piece values) in
     and_from _ _ (operand_balanced field both.0)
-    (list_all-append is_balanced_piece listed (fixed_piece (codes ")")) ∙ and_from _ _ (list-balanced (map raw_piece values) (raws-balanced values both.1)) refl)
+    (within (not_text negated ++ codes " IN (") (comma_list fixed_piece (map raw_piece values)) (codes ")") (listed Balanced balanced-joins (map raw_piece values) (raws-balanced values both.1)))
 operands_balanced (InQuoted negated field values) h =
-    let listed = comma_list fixed_piece (map quoted_piece values) in
     and_from _ _ (operand_balanced field h)
-    (list_all-append is_balanced_piece listed (fixed_piece (codes ")")) ∙ and_from _ _ (list-balanced (map quoted_piece values) (quoteds-balanced values)) refl)
+    (within (not_text negated ++ codes " IN (") (comma_list fixed_piece (map quoted_piece values)) (codes ")") (listed Balanced balanced-joins (map quoted_piece values) (quoteds-balanced values)))
 operands_balanced (InQuery negated field query) h =
     let both = and_parts (operand field) (balanced query) h in
     and_from _ _ (operand_balanced field both.0) (and_from _ _ both.1 refl)

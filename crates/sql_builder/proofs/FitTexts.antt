@@ -3,7 +3,7 @@ use Rattle.std.proofs.Common.{◌≡◌, refl, sym, ◌∙◌, ap, subst, ℕ, s
 use Rattle.std.specs.Prelude.{IfSome, IsTrue}
 use Rattle.std.specs.List.{AllByRecursion, list_all}
 use Rattle.std.proofs.lemmas.Bool.{and_parts, and_from, false≢true}
-use Rattle.std.proofs.lemmas.List.Folds.{list_all-append}
+use Rattle.std.proofs.lemmas.List.Folds.{list_all-map}
 use Rattle.sql_parts.specs.Fragments.{balanced, has_clause_word, is_clause_word}
 use Rattle.sql_parts.specs.Tokens.{Token, tokens}
 use Rattle.sql_parts.specs.declared.error.SqlBuilderError.{SqlBuilderError}
@@ -12,7 +12,7 @@ use Rattle.sql_builder.specs.Calls.{CallText, FinishText, StartText, Sql, Query,
 use Rattle.sql_builder.specs.Clauses.{Clauses}
 use Rattle.sql_builder.specs.Conditions.{not_text}
 use Rattle.sql_builder.specs.Filters.{until}
-use Rattle.sql_builder.specs.Fitting.{Bare, Enclosed, are_fit, are_fit_to_union, begins_union, call_texts, finish_texts, has_balanced_fragments, has_fit_conditions, has_fit_fragments, has_fit_texts, is_balanced_piece, is_fit, own, own_tokens, start_texts}
+use Rattle.sql_builder.specs.Fitting.{Bare, Enclosed, are_fit, are_fit_to_union, begins_union, call_texts, finish_texts, has_balanced_fragments, has_fit_conditions, has_fit_fragments, has_fit_texts, is_fit, own, own_tokens, start_texts}
 use Rattle.sql_builder.specs.Laws.{FitTextsMakeBalancedFragments, FitTextsMakeFitConditions, FitTextsMakeFitFragments}
 use Rattle.sql_builder.specs.Layout.{Section, concat_sections, fields_or_star, group_by_sections, insert_sections, insert_target, list_sections, optional_section, order_by_sections, query, query_sections, range_sections, returning_sections, statement_sections, union_sections, values_sections, where_sections}
 use Rattle.sql_builder.specs.Meaning.{is_unenclosed, prints_where}
@@ -34,6 +34,7 @@ use Rattle.sql_builder.proofs.OwnWords.{are_fit-is, are_fit_from, even-ends, or_
 use Rattle.sql_builder.proofs.Placing.{at_end-append}
 use Rattle.sql_builder.proofs.ReadBack.{layout, sql-bare}
 use Rattle.sql_builder.proofs.WhereTokens.{has_clause}
+use Rattle.sql_builder.proofs.BalancedPieces.{Balanced, balanced-append, balanced-joins, quoteds-balanced, raw-balanced, raws-balanced, within}
 
 fit-both : (l : ℤ) (x y : Pieces) → are_fit_from l x ≡ true → are_fit_from (at_end l (own x)) y ≡ true → are_fit_from l (x ++ y) ≡ true
 fit-both l [] y one other = other
@@ -151,42 +152,16 @@ layout-fits (SubqueryAs name) r parts bare = absurd (false≢true bare)
 
 -- ---- all that is printed is balanced
 
-abbrev Balanced : Pieces → Type 0
-Balanced ps = has_balanced_fragments ps ≡ true
-
-balanced-append : (x y : Pieces) → Balanced x → Balanced y → Balanced (x ++ y)
-balanced-append x y one other = list_all-append is_balanced_piece x y ∙ and_from _ _ one other
-
-balanced-joins : Joins Balanced
-balanced-joins = record { none = refl; append = balanced-append; words = λ words calm. refl }
-
-raw-balanced : (text : List ℕ) → balanced text ≡ true → Balanced (raw_piece text)
-raw-balanced text h = and_from _ _ h refl
-
 bare-balanced : (text : List ℕ) → is_fit (Bare text) ≡ true → balanced text ≡ true
 bare-balanced text h = (and_parts (balanced text) (not (has_clause_word text)) h).0
-
-raws-balanced : (values : List (List ℕ)) → list_all is_fit (map Enclosed values) ≡ true → Each Balanced (map raw_piece values)
-raws-balanced [] all = tt
-raws-balanced (value ∷ values) all =
-    let both = and_parts (balanced value) (list_all is_fit (map Enclosed values)) all in
-    (raw-balanced value both.0, raws-balanced values both.1)
-
-quoteds-balanced : (values : List (List ℕ)) → Each Balanced (map quoted_piece values)
-quoteds-balanced [] = tt
-quoteds-balanced (value ∷ values) = (refl, quoteds-balanced values)
-
--- words, what stands behind them, and words that end it
-within : (words : List ℕ) (x : Pieces) (ending : List ℕ) → Balanced x → Balanced (fixed_piece words ++ (x ++ fixed_piece ending))
-within words x ending h = balanced-append x (fixed_piece ending) h refl
 
 balanced-takes : Takes is_fit Balanced Balanced
 balanced-takes = record {
   joins = balanced-joins;
   bare = λ text h. raw-balanced text (bare-balanced text h);
   quoted = λ text. refl;
-  row = λ values all. within (codes "(") (comma_list fixed_piece (map raw_piece values)) (codes ")") (listed Balanced balanced-joins (map raw_piece values) (raws-balanced values all));
-  in_list = λ negated values all. within (not_text negated ++ codes " IN (") (comma_list fixed_piece (map raw_piece values)) (codes ")") (listed Balanced balanced-joins (map raw_piece values) (raws-balanced values all));
+  row = λ values all. within (codes "(") (comma_list fixed_piece (map raw_piece values)) (codes ")") (listed Balanced balanced-joins (map raw_piece values) (raws-balanced values (sym (list_all-map is_fit Enclosed values) ∙ all)));
+  in_list = λ negated values all. within (not_text negated ++ codes " IN (") (comma_list fixed_piece (map raw_piece values)) (codes ")") (listed Balanced balanced-joins (map raw_piece values) (raws-balanced values (sym (list_all-map is_fit Enclosed values) ∙ all)));
   in_quoted = λ negated values. within (not_text negated ++ codes " IN (") (comma_list fixed_piece (map quoted_piece values)) (codes ")") (listed Balanced balanced-joins (map quoted_piece values) (quoteds-balanced values));
   in_query = λ negated query h. within (not_text negated ++ codes " IN (") (raw_piece query) (codes ")") (raw-balanced query h);
   count = λ field h. within (codes "COUNT(") (raw_piece field) (codes ")") (raw-balanced field h);

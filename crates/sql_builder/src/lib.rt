@@ -8,14 +8,10 @@ mod clauses;
 mod condition_texts;
 mod conditions;
 pub mod laws;
-#[cfg(test)]
-mod name_tests;
 mod phrases;
 pub mod prelude;
 mod printing;
 mod steps;
-#[cfg(test)]
-mod tests;
 
 pub use builder::SqlBuilder;
 pub use sql_parts::{

@@ -1,4 +1,5 @@
 -- Texts between quotes.
+use Prim.Native.Char.{code}
 use Rattle.std.specs.Prelude.{ℕ, List, [], ◌∷◌, ◌++◌, ◌==◌, flat_map, if◌then◌else◌}
 use Rattle.sql_parts.specs.declared.text.Quotes.{Quotes}
 use Rattle.sql_parts.specs.declared.text.Quotes.TheVariants.{Single, Back, Square, Double}
@@ -13,17 +14,17 @@ enclosed opening closing text = opening ∷ doubled closing text ++ closing ∷ 
 
 -- the mark before a text
 abbrev pub opening : Quotes → ℕ
-opening Single = 39
-opening Back = 96
-opening Square = 91
-opening Double = 34
+opening Single = code "'"
+opening Back = code "`"
+opening Square = code "["
+opening Double = code "\""
 
 -- the mark behind a text
 abbrev pub closing : Quotes → ℕ
-closing Single = 39
-closing Back = 96
-closing Square = 93
-closing Double = 34
+closing Single = code "'"
+closing Back = code "`"
+closing Square = code "]"
+closing Double = code "\""
 
 -- the text between these marks
 abbrev pub between : Quotes → List ℕ → List ℕ
@@ -31,20 +32,20 @@ between quotes text = enclosed (opening quotes) (closing quotes) text
 
 -- the text with each single quote in it written twice
 abbrev pub escaped : List ℕ → List ℕ
-escaped text = doubled 39 text
+escaped text = doubled (code "'") text
 
 -- the text between single quotes
 abbrev pub quoted : List ℕ → List ℕ
-quoted text = enclosed 39 39 text
+quoted text = enclosed (code "'") (code "'") text
 
 -- the text between backquotes
 abbrev pub baquoted : List ℕ → List ℕ
-baquoted text = enclosed 96 96 text
+baquoted text = enclosed (code "`") (code "`") text
 
 -- the text between square brackets
 abbrev pub brquoted : List ℕ → List ℕ
-brquoted text = enclosed 91 93 text
+brquoted text = enclosed (code "[") (code "]") text
 
 -- the text between double quotes
 abbrev pub dquoted : List ℕ → List ℕ
-dquoted text = enclosed 34 34 text
+dquoted text = enclosed (code "\"") (code "\"") text

@@ -25,14 +25,3 @@ pub use error::SqlBuilderError;
 pub use name::SqlName;
 pub use quoting::{baquote, brquote, dquote, esc, quote};
 pub use text::ToText;
-
-#[cfg(test)]
-mod bind_sample;
-#[cfg(test)]
-mod bind_tests;
-#[cfg(test)]
-mod lex_tests;
-#[cfg(test)]
-mod name_tests;
-#[cfg(test)]
-mod tests;

@@ -1,6 +1,6 @@
 //! What no clause says of names: that calls succeed where there is memory, and what the macros
 //! expand to.
-use crate::{SqlBuilderError, SqlName, baname, brname, dname, name, qname};
+use sql_parts::{SqlBuilderError, SqlName, baname, brname, dname, name, qname};
 use std::alloc::Global;
 use std::test::Fail;
 

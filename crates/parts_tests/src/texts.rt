@@ -3,9 +3,9 @@ ghost use Rattle.std.specs.Prelude.{pos, codes, ◌++◌};
 ghost use Rattle.sql_parts.specs.Literal.{whole};
 ghost use Rattle.sql_parts.specs.Text.{decimal_text};
 
-use crate::laws::quoting_is_injective;
-use crate::text::Quotes;
-use crate::{Literal, SqlArg, SqlBuilderError, ToText, baquote, brquote, dquote, esc, quote};
+use sql_parts::laws::quoting_is_injective;
+use sql_parts::text::Quotes;
+use sql_parts::{Literal, SqlArg, SqlBuilderError, ToText, baquote, brquote, dquote, esc, quote};
 use std::alloc::{AllocError, AllocFailed, Global};
 use std::borrow::CowStr;
 use std::error::Error;

@@ -1,7 +1,7 @@
 //! What the tests of fragments answer, through the calls themselves.
-use crate::bind::Marks;
-use crate::laws::{bound_texts_keep_the_count, tokens_join_at_edges};
-use crate::lex::{
+use sql_parts::bind::Marks;
+use sql_parts::laws::{bound_texts_keep_the_count, tokens_join_at_edges};
+use sql_parts::lex::{
     has_clause_word, has_dangling, has_semicolon, is_balanced, is_closed, is_operand, stands_apart,
 };
 use std::test::Fail;

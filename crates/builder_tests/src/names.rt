@@ -1,6 +1,6 @@
 //! That names and their macros are reached through this crate.
-use crate::name::SqlName;
-use crate::{SqlBuilder, SqlBuilderError, baname, brname, dname, name, qname};
+use sql_builder::name::SqlName;
+use sql_builder::{SqlBuilder, SqlBuilderError, baname, brname, dname, name, qname};
 use std::alloc::Global;
 use std::test::Fail;
 

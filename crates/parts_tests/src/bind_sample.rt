@@ -1,6 +1,6 @@
 //! Calls of binding on short and on random templates, with what the Rust crate gives for them.
-use crate::bind::Bind;
-use crate::{Literal, SqlArg, SqlBuilderError};
+use sql_parts::bind::Bind;
+use sql_parts::{Literal, SqlArg, SqlBuilderError};
 use std::alloc::Global;
 use std::collections::HashMap;
 use std::test::Fail;

@@ -1,7 +1,7 @@
 //! What binding gives, through the calls themselves.
-use crate::bind::{Bind, BindNames, Marks};
-use crate::laws::{doubling_is_undone, unmarked_is_unchanged};
-use crate::{Literal, SqlArg, SqlBuilderError};
+use sql_parts::bind::{Bind, BindNames, Marks};
+use sql_parts::laws::{doubling_is_undone, unmarked_is_unchanged};
+use sql_parts::{Literal, SqlArg, SqlBuilderError};
 use std::alloc::Global;
 use std::collections::HashMap;
 use std::test::Fail;

@@ -2,10 +2,10 @@
 ghost use Rattle.std.specs.Prelude.{codes, ◌++◌};
 ghost use Rattle.sql_parts.specs.Text.{decimal_text};
 
-use crate::calls::{Call, Condition, Family, Finish, Percent, Relation, Start, run};
-use crate::lex::{has_clause_word, has_semicolon, is_closed, is_operand};
-use crate::prelude::{Bind, SqlArg, SqlBuilder, ToText, quote};
-use crate::{SqlBuilderError, laws};
+use sql_builder::calls::{Call, Condition, Family, Finish, Percent, Relation, Start, run};
+use sql_builder::lex::{has_clause_word, has_semicolon, is_closed, is_operand};
+use sql_builder::prelude::{Bind, SqlArg, SqlBuilder, ToText, quote};
+use sql_builder::{SqlBuilderError, laws};
 use std::alloc::Global;
 use std::collections::HashMap;
 use std::test::Fail;
