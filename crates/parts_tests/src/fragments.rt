@@ -123,7 +123,8 @@ const CONDITIONS: &[(&str, bool, bool, bool, bool)] = &[
         false,
     ),
     ("a) ( FROM b", false, false, false, true),
-    ("a) x BETWEEN 1 ( AND 2", false, true, false, false),
+    ("a) x BETWEEN 1 (b AND 2", false, true, false, false),
+    ("(x BETWEEN 1) OR (2 AND y)", true, true, false, false),
     ("(x BETWEEN 1) AND 2", true, true, false, false),
     (
         "x BETWEEN (a BETWEEN 1 AND 2) AND c",

@@ -8,14 +8,14 @@ use Rattle.sql_parts.specs.Fragments.{balanced, has_clause_word, is_clause_word}
 use Rattle.sql_parts.specs.Tokens.{Token, tokens}
 use Rattle.sql_parts.specs.declared.error.SqlBuilderError.{SqlBuilderError}
 use Rattle.sql_parts.proofs.Walks.{at_end, has_outer-is, is_balanced, is_balanced-is, is_zero}
-use Rattle.sql_builder.specs.Calls.{CallText, FinishText, StartText, Sql, Query, QueryValues, Subquery, SubqueryAs, Cond, clauses, condition_pieces, kind_of}
+use Rattle.sql_builder.specs.Calls.{CallText, FinishText, StartText, Sql, Query, QueryValues, Subquery, SubqueryAs, Cond, clauses, condition_pieces}
 use Rattle.sql_builder.specs.Clauses.{Clauses}
 use Rattle.sql_builder.specs.Conditions.{not_text}
 use Rattle.sql_builder.specs.Filters.{until}
 use Rattle.sql_builder.specs.Fitting.{Bare, Enclosed, are_fit, are_fit_to_union, begins_union, call_texts, finish_texts, has_balanced_fragments, has_fit_conditions, has_fit_fragments, has_fit_texts, is_fit, own, own_tokens, start_texts}
 use Rattle.sql_builder.specs.Laws.{FitTextsMakeBalancedFragments, FitTextsMakeFitConditions, FitTextsMakeFitFragments}
 use Rattle.sql_builder.specs.Layout.{Section, concat_sections, fields_or_star, group_by_sections, insert_sections, insert_target, list_sections, optional_section, order_by_sections, query, query_sections, range_sections, returning_sections, statement_sections, union_sections, values_sections, where_sections}
-use Rattle.sql_builder.specs.Meaning.{is_unenclosed, prints_where}
+use Rattle.sql_builder.specs.Meaning.{is_unenclosed}
 use Rattle.sql_builder.specs.Phrases.{comma_list, in_brackets}
 use Rattle.sql_builder.specs.Statement.{unless_refused}
 use Rattle.sql_builder.specs.Text as printed
@@ -32,7 +32,7 @@ use Rattle.sql_builder.proofs.OwnSections.{AllOpen, Calm, Opens, section_pieces,
 use Rattle.sql_builder.proofs.OwnWords as own_words
 use Rattle.sql_builder.proofs.OwnWords.{are_fit-is, are_fit_from, even-ends, or_so}
 use Rattle.sql_builder.proofs.Placing.{at_end-append}
-use Rattle.sql_builder.proofs.ReadBack.{layout, sql-bare}
+use Rattle.sql_builder.proofs.ReadBack.{layout}
 use Rattle.sql_builder.proofs.WhereTokens.{has_clause}
 use Rattle.sql_builder.proofs.BalancedPieces.{Balanced, balanced-append, balanced-joins, quoteds-balanced, raw-balanced, raws-balanced, within}
 
@@ -303,14 +303,10 @@ unless None printed test h = h
 unless (Some refusal) printed test h = tt
 
 pub fit_fragments : FitTextsMakeFitFragments
-fit_fragments start calls finish h =
-    let both = and_parts (is_unenclosed finish) (has_fit_texts start calls finish) h in
-    (both.0, unless _ (layout finish (clauses start calls)) has_fit_fragments (all-fit start calls finish both.1 both.0))
+fit_fragments start calls finish bare all = unless _ (layout finish (clauses start calls)) has_fit_fragments (all-fit start calls finish all bare)
 
 pub fit_conditions : FitTextsMakeFitConditions
-fit_conditions start calls finish h =
-    let both = and_parts (prints_where finish (kind_of start)) (has_fit_texts start calls finish) h in
-    (fit_fragments start calls finish (and_from _ _ (sql-bare finish (kind_of start) both.0) both.1), and_from _ _ both.0 (conditions-fit calls (told start calls finish both.1).1))
+fit_conditions start calls finish all = conditions-fit calls (told start calls finish all).1
 
 pub balanced_fragments : FitTextsMakeBalancedFragments
 balanced_fragments start calls finish h = unless _ (layout finish (clauses start calls)) has_balanced_fragments (all-balanced start calls finish h)

@@ -1,5 +1,5 @@
 -- Worked rows of clauses that read back and of the truth of WHERE: what the definitions give, by computing.
-use Rattle.std.specs.Prelude.{◌≡◌, [], ◌∷◌, codes, false, refl, true}
+use Rattle.std.specs.Prelude.{◌≡◌, [], ◌∷◌, codes, false, refl, true, ℕ, List, map}
 use Rattle.sql_parts.specs.Tokens.{Word, tokens}
 use Rattle.sql_builder.specs.Calls as call
 use Rattle.sql_builder.specs.Calls.{clauses}
@@ -9,9 +9,9 @@ use Rattle.sql_builder.specs.Shape.{pieces_tokens}
 use Rattle.sql_builder.specs.Text.{Pieces, fixed_piece}
 use Rattle.sql_builder.specs.declared.calls.Family.TheVariants.{And, Or}
 use Rattle.sql_builder.specs.Fitting.{has_fit_conditions, has_fit_fragments}
-use Rattle.sql_builder.specs.Reading.{piece_clauses, read}
-use Rattle.sql_builder.specs.Truths.{False, True, Unknown, truth}
-use Rattle.sql_builder.specs.Laws.{IsValued, brackets_and_not, range_and_case}
+use Rattle.sql_builder.specs.Reading.{piece_clauses, read, stand_with}
+use Rattle.sql_builder.specs.Truths.{False, True, Unknown, truth, Truth, Valuation}
+use Rattle.sql_builder.specs.Laws.{IsValued, brackets_and_not, range_and_case, a_without_c}
 
 -- DELETE FROM t WHERE a OR b;
 abbrev deleted : Pieces
@@ -77,6 +77,45 @@ own_not = refl
 pub own_whole : IsValued brackets_and_not (codes "((a) OR (b)) AND (NOT c AND d)") Unknown
 unfolding truth
 own_whole = refl
+
+pub with_brackets : IsValued a_without_c (codes "(a OR b) AND (c)") False
+unfolding truth
+with_brackets = refl
+
+pub without_brackets : IsValued a_without_c (codes "a OR b AND c") True
+unfolding truth
+without_brackets = refl
+
+-- the whole statements, as they read back
+abbrev where_of : Valuation → List ℕ → List Truth
+where_of facts text = map (truth facts) (stand_with (codes "WHERE") (read (tokens text)))
+
+whole-unknown : where_of (range_and_case False) (codes "SELECT * FROM t WHERE (x BETWEEN 1 AND 2 OR NOT (p OR q)) AND (CASE WHEN a OR b THEN c END = 1);") ≡ Unknown ∷ []
+unfolding read truth
+whole-unknown = refl
+
+whole-own : where_of brackets_and_not (codes "SELECT * FROM t WHERE ((a) OR (b)) AND (NOT c AND d);") ≡ Unknown ∷ []
+unfolding read truth
+whole-own = refl
+
+-- the clause words of each kind of statement, and what stands with them
+insert-read : read (tokens (codes "INSERT INTO t (a, b) VALUES (1, 2) RETURNING id;"))
+    ≡ (Word (codes "INSERT"), tokens (codes "INTO t (a, b)")) ∷ (Word (codes "VALUES"), tokens (codes "(1, 2)")) ∷ (Word (codes "RETURNING"), tokens (codes "id")) ∷ []
+unfolding read
+insert-read = refl
+
+update-read : read (tokens (codes "UPDATE t SET a = 1, b = 'SET' WHERE c RETURNING id;"))
+    ≡ (Word (codes "UPDATE"), tokens (codes "t")) ∷ (Word (codes "SET"), tokens (codes "a = 1, b = 'SET'")) ∷ (Word (codes "WHERE"), tokens (codes "c"))
+    ∷ (Word (codes "RETURNING"), tokens (codes "id")) ∷ []
+unfolding read
+update-read = refl
+
+query-read : read (tokens (codes "SELECT a FROM t GROUP BY a HAVING b ORDER BY a DESC LIMIT 3 OFFSET 2 UNION SELECT c"))
+    ≡ (Word (codes "SELECT"), tokens (codes "a")) ∷ (Word (codes "FROM"), tokens (codes "t")) ∷ (Word (codes "GROUP"), tokens (codes "BY a"))
+    ∷ (Word (codes "HAVING"), tokens (codes "b")) ∷ (Word (codes "ORDER"), tokens (codes "BY a DESC")) ∷ (Word (codes "LIMIT"), tokens (codes "3"))
+    ∷ (Word (codes "OFFSET"), tokens (codes "2")) ∷ []
+unfolding read
+query-read = refl
 
 -- a query in IN's brackets may have clause words, a table may not
 in_query-fit : has_fit_fragments (sql fixed_piece (clauses (call.DeleteFrom (codes "t")) (call.Cond And (InQuery true (codes "a") (codes "SELECT b FROM c")) ∷ []))) ≡ true

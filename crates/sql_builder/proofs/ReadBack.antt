@@ -17,7 +17,7 @@ use Rattle.sql_builder.proofs.CalmClauses.{clauses-calm, raw-calm, CalmParts}
 use Rattle.sql_builder.proofs.OwnLayouts.{calm-kept, bare_query-split, bare_values-split, kind_bodies, split-reads, split-wheres, sql-split, where_bodies}
 use Rattle.sql_builder.proofs.WhereGroups.{calls-true, texts-true}
 use Rattle.sql_builder.specs.Fitting.{are_fit_to_union, has_fit_fragments, has_fit_conditions, has_balanced_fragments}
-use Rattle.sql_builder.specs.Meaning.{HasTruthOfGroups, is_unenclosed, prints_where, HasBalancedFragments, HasFitConditions, HasFitFragments, IsTrueAs, Nests, ReadsBack, condition_groups, is_nested}
+use Rattle.sql_builder.specs.Meaning.{HasTruthOfGroups, is_unenclosed, prints_where, HasBalancedFragments, HasFitFragments, IsTrueAs, Nests, ReadsBack, condition_groups, is_nested}
 use Rattle.sql_builder.specs.Reading.{piece_clauses, read, stand_with, clause_list}
 use Rattle.sql_builder.specs.Truths.{truth}
 use Rattle.std.specs.Result.{result_map_both}
@@ -25,6 +25,7 @@ use Rattle.std.specs.Prelude.{IsTrue}
 use Rattle.sql_builder.proofs.Nesting.{nests}
 use Rattle.sql_parts.specs.Tokens.{tokens}
 use Rattle.sql_builder.proofs.OwnSections.{Calm}
+use Rattle.sql_builder.specs.Laws.{StatementsReadBack}
 
 -- the pieces that a finish prints
 abbrev pub layout : FinishText → Clauses Pieces → Pieces
@@ -112,21 +113,28 @@ module _ (start : StartText) (calls : List CallText) (finish : FinishText) where
 
 module _ {Z : Type 0} (start : StartText) (calls : List CallText) (finish : FinishText) where
   pub statement_clauses : (result : Result (String Z) SqlBuilderError) → IfOk result (λ s. statement start calls finish ≡ Ok (string_bytes s))
-      → HasFitFragments start calls finish → IfOk result (λ s. clause_list start calls finish ≡ Ok (read (tokens (string_bytes s))))
-  statement_clauses (Err e) is fit = tt
-  statement_clauses (Ok s) is fit = any-reads start calls finish (refused start calls finish) (string_bytes s) is fit.0 fit.1
+      → IsTrue (is_unenclosed finish) → HasFitFragments start calls finish → IfOk result (λ s. clause_list start calls finish ≡ Ok (read (tokens (string_bytes s))))
+  statement_clauses (Err e) is bare fit = tt
+  statement_clauses (Ok s) is bare fit = any-reads start calls finish (refused start calls finish) (string_bytes s) is bare fit
 
   pub statement_truth : (result : Result (String Z) SqlBuilderError) → IfOk result (λ s. statement start calls finish ≡ Ok (string_bytes s))
-      → HasFitConditions start calls finish → IfOk result (λ s. IsTrueAs (condition_groups calls) (string_bytes s))
-  statement_truth (Err e) is fit = tt
-  statement_truth (Ok s) is fit =
-      let both = and_parts (prints_where finish (kind_of start)) (has_fit_conditions calls) fit.1 in
-      any-true start calls finish (refused start calls finish) (string_bytes s) is both.0 fit.0.1 both.1
+      → IsTrue (prints_where finish (kind_of start)) → HasFitFragments start calls finish → IsTrue (has_fit_conditions calls)
+      → IfOk result (λ s. IsTrueAs (condition_groups calls) (string_bytes s))
+  statement_truth (Err e) is prints fit fit_conditions = tt
+  statement_truth (Ok s) is prints fit fit_conditions = any-true start calls finish (refused start calls finish) (string_bytes s) is prints fit fit_conditions
 
   pub statement_nests : (result : Result (String Z) SqlBuilderError) → IfOk result (λ s. statement start calls finish ≡ Ok (string_bytes s))
       → HasBalancedFragments start calls finish → IfOk result (λ s. IsTrue (is_nested finish (string_bytes s)))
   statement_nests (Err e) is all = tt
   statement_nests (Ok s) is all = any-nests start calls finish (refused start calls finish) (string_bytes s) is all
+
+pub statements_read_back : StatementsReadBack
+statements_read_back start calls finish bare fit = by (refused start calls finish) fit
+  where
+    by : (refusal : Option SqlBuilderError) → IfOk (printed start calls finish refusal) (λ ps. IsTrue (has_fit_fragments ps))
+        → IfOk (text_unless_refused (printed start calls finish refusal)) (λ text. result_map_both piece_clauses (λ e. e) (printed start calls finish refusal) ≡ Ok (read (tokens text)))
+    by None fit = any-reads start calls finish None (pieces_text (layout finish (clauses start calls))) refl bare fit
+    by (Some refusal) fit = tt
 
 -- ---- a builder
 

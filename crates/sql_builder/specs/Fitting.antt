@@ -32,7 +32,7 @@ abbrev pub is_fit_behind : Pieces → Piece → Bool
 is_fit_behind before (text.Raw text) = balanced text && (not (is_bare_behind before) || not (has_clause_word text))
 is_fit_behind before _ = true
 
--- each fragment of pieces that stand behind others is so
+-- each fragment of the pieces that stand behind these is fit in its place
 abbrev pub are_fit_behind : Pieces → Pieces → Bool
 are_fit_behind before [] = true
 are_fit_behind before (piece ∷ pieces) = is_fit_behind before piece && are_fit_behind (before ++ piece ∷ []) pieces
@@ -79,7 +79,7 @@ pub data Handed : Type 0 where
   Bare : List ℕ → Handed
   Enclosed : List ℕ → Handed
 
--- it is balanced, and has no outer clause word where none may stand
+-- it is balanced, and has no outer clause word if it is bare
 abbrev pub is_fit : Handed → Bool
 is_fit (Bare text) = balanced text && not (has_clause_word text)
 is_fit (Enclosed text) = balanced text

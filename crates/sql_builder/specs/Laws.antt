@@ -1,19 +1,21 @@
--- Laws of lists of calls.
-use Rattle.std.specs.Prelude.{◌≡◌, ◌&&◌, ℕ, Bool, List, [], ◌∷◌, ◌++◌, IsTrue, Option, codes, is_some, map, not, true}
+-- Laws of lists of calls, of clauses and of truth.
+use Rattle.std.specs.Prelude.{◌≡◌, ◌&&◌, IfOk, Ok, ℕ, Bool, List, [], ◌∷◌, ◌++◌, IsTrue, Option, codes, is_some, map, not, true}
 use Rattle.std.specs.List.{list_all}
 use Rattle.sql_parts.specs.Fragments.{has_outer, is_balanced, is_clause_word, is_joining, is_operand}
 use Rattle.sql_parts.specs.Quoting.{quoted}
 use Rattle.sql_parts.specs.Tokens.{Token, Word, is_empty, tokens}
 use Rattle.sql_builder.specs.Builder.{ClauseTexts, condition_bytes}
-use Rattle.sql_builder.specs.Calls.{CallText, Fields, FinishText, StartText, clauses, condition_pieces, kind_of}
+use Rattle.sql_builder.specs.Calls.{CallText, Fields, FinishText, StartText, clauses, condition_pieces}
 use Rattle.sql_builder.specs.Conditions.{ConditionText}
 use Rattle.sql_builder.specs.Layout.{byte_atoms, sql}
-use Rattle.sql_builder.specs.Fitting.{has_fit_texts}
-use Rattle.sql_builder.specs.Meaning.{HasBalancedFragments, HasFitConditions, HasFitFragments, IsAtomIfOperands, is_unenclosed, prints_where}
+use Rattle.sql_builder.specs.Fitting.{has_fit_conditions, has_fit_texts}
+use Rattle.sql_builder.specs.Meaning.{HasBalancedFragments, HasFitFragments, IsAtomIfOperands, is_unenclosed}
 use Rattle.sql_builder.specs.Phrases.{count_as, equation}
 use Rattle.sql_builder.specs.Shape.{EndsInOneSemicolon, KeepsTokens, as_fragments, cond_tokens, has_closed_fragments, has_no_semicolons}
 use Rattle.sql_builder.specs.Truths.{Fact, False, True, Truth, Valuation, exchange, greater, greatest, is_or, least, lesser, truth}
 use Rattle.sql_builder.specs.WhereTokens.{in_brackets, where_tokens}
+use Rattle.sql_builder.specs.Reading.{clause_list, read}
+use Rattle.sql_builder.specs.Statement.{statement}
 use Rattle.sql_builder.specs.Text.{Pieces, fixed_piece, quoted_piece, raw_piece}
 
 -- `fields` of a list and then of another is `fields` of the two joined
@@ -53,7 +55,7 @@ abbrev pub CountsKeepTokens : Type 0
 CountsKeepTokens = (field name : List ℕ)
     → KeepsTokens (count_as fixed_piece (raw_piece field) (raw_piece name)) (count_as byte_atoms field name)
 
--- each condition whose texts are operands is an atom
+-- each condition whose texts are operands, but one handed in as it stands, is an atom
 abbrev pub ConditionsAreAtoms : Type 0
 ConditionsAreAtoms = (condition : ConditionText) → IsAtomIfOperands condition (cond_tokens condition)
 
@@ -105,19 +107,29 @@ range_and_case q =
 abbrev pub brackets_and_not : Valuation
 brackets_and_not = fact (codes "a") False ∷ fact (codes "b") True ∷ fact (codes "d") True ∷ []
 
+-- a is true and c is false, and nothing is known of b
+abbrev pub a_without_c : Valuation
+a_without_c = fact (codes "a") True ∷ fact (codes "c") False ∷ []
+
 -- by what is known, the condition of this text has this truth
 abbrev pub IsValued : Valuation → List ℕ → Truth → Type 0
 IsValued facts text value = truth facts (tokens text) ≡ value
 
--- where the texts that are handed in are fit, one by one, so are the fragments that are printed
+-- what `sql`, `query` and `query_values` print of a list of calls reads back as the clauses that it says
+abbrev pub StatementsReadBack : Type 0
+StatementsReadBack = (start : StartText) (calls : List CallText) (finish : FinishText)
+    → IsTrue (is_unenclosed finish) → HasFitFragments start calls finish
+    → IfOk (statement start calls finish) (λ text. clause_list start calls finish ≡ Ok (read (tokens text)))
+
+-- where the texts that are handed in are fit, one by one, so are the fragments that are printed without brackets round all
 abbrev pub FitTextsMakeFitFragments : Type 0
 FitTextsMakeFitFragments = (start : StartText) (calls : List CallText) (finish : FinishText)
-    → IsTrue (is_unenclosed finish && has_fit_texts start calls finish) → HasFitFragments start calls finish
+    → IsTrue (is_unenclosed finish) → IsTrue (has_fit_texts start calls finish) → HasFitFragments start calls finish
 
--- the same of the fragments of conditions, where the statement has a WHERE
+-- and so are the fragments of each condition by itself
 abbrev pub FitTextsMakeFitConditions : Type 0
 FitTextsMakeFitConditions = (start : StartText) (calls : List CallText) (finish : FinishText)
-    → IsTrue (prints_where finish (kind_of start) && has_fit_texts start calls finish) → HasFitConditions start calls finish
+    → IsTrue (has_fit_texts start calls finish) → IsTrue (has_fit_conditions calls)
 
 -- and each fragment that is printed is balanced, whatever the finish
 abbrev pub FitTextsMakeBalancedFragments : Type 0

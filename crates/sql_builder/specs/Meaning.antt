@@ -24,14 +24,13 @@ is_unenclosed Subquery = false
 is_unenclosed (SubqueryAs name) = false
 is_unenclosed _ = true
 
--- where its fragments are fit, a text reads back as the clauses of these pieces
+-- where its fragments are closed, and before the first UNION fit, a text reads back as the clauses of these pieces
 abbrev pub ReadsBack : Pieces → List ℕ → Type 0
 ReadsBack printed text = IsTrue (has_fit_fragments printed) → read (tokens text) ≡ piece_clauses printed
 
--- no brackets stand round the statement, and each fragment that is printed is fit
+-- each fragment that is printed is closed, and before the first UNION fit
 abbrev pub HasFitFragments : StartText → List CallText → FinishText → Type 0
-HasFitFragments start calls finish =
-    IsTrue (is_unenclosed finish) × IfOk (pieces start calls finish) (λ printed. IsTrue (has_fit_fragments printed))
+HasFitFragments start calls finish = IfOk (pieces start calls finish) (λ printed. IsTrue (has_fit_fragments printed))
 
 -- ---- the truth of WHERE
 
@@ -43,7 +42,7 @@ condition_groups calls = map (λ group. map cond_tokens (group.0 ∷ group.1)) (
 abbrev pub text_groups : ClauseTexts → List (List (List Token))
 text_groups r = map (λ group. tokens group ∷ []) r.groups
 
--- the statements with a WHERE where there is a condition
+-- the statements that have a WHERE, if there is a condition
 abbrev pub prints_where : FinishText → Kind → Bool
 prints_where Query kind = true
 prints_where Sql SelectFrom = true
@@ -61,13 +60,8 @@ abbrev pub IsTrueAs : List (List (List Token)) → List ℕ → Type 0
 IsTrueAs groups text =
     (facts : Valuation) → map (truth facts) (stand_with (codes "WHERE") (read (tokens text))) ≡ where_truths facts groups
 
--- fragments are fit, also in their conditions, and the statement has a WHERE where there is a condition
-abbrev pub HasFitConditions : StartText → List CallText → FinishText → Type 0
-HasFitConditions start calls finish =
-    HasFitFragments start calls finish × IsTrue (prints_where finish (kind_of start) && has_fit_conditions calls)
-
--- where a WHERE is printed and the fragments and the groups are fit, what stands with WHERE in a text has the truth of the
--- groups
+-- where the statement has a WHERE, if there is a condition, and fragments and groups are fit, what stands with WHERE in a text
+-- has the truth of the groups
 abbrev pub HasTruthOfGroups : FinishText → ClauseTexts → Pieces → List ℕ → Type 0
 HasTruthOfGroups finish r printed text =
     IsTrue (prints_where finish r.kind) → IsTrue (has_fit_fragments printed) → IsTrue (has_fit_groups r) → IsTrueAs (text_groups r) text
@@ -103,12 +97,12 @@ has_operands (InQuoted negated field values) = operand field
 has_operands (InQuery negated field query) = operand field && balanced query
 has_operands (Between negated field least greatest) = operand field && (operand least && operand greatest)
 
--- there these tokens are an atom: their truth is what is known of them
+-- where the condition's texts are operands, these tokens are an atom: their truth is what is known of them
 abbrev pub IsAtomIfOperands : ConditionText → List Token → Type 0
 IsAtomIfOperands condition ts = IsTrue (has_operands condition) → IsAtom ts
 
 -- The new record has this condition added. Where its fragments are closed, what is added has the condition's tokens and is
--- closed, and where they are operands it is an atom.
+-- closed; where they are operands, and it is no condition handed in as it stands, it is an atom.
 abbrev pub AddsCondition : Family → ConditionText → ClauseTexts → ClauseTexts → Type 0
 AddsCondition family condition old new =
     AddsText (λ added. with_condition_text family added old) (condition_bytes condition) (condition_pieces condition) new

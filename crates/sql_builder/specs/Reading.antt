@@ -17,6 +17,7 @@ Clause = Token × List Token
 abbrev pub without_semicolon : List Token → List Token
 without_semicolon ts = if ends_with is_semicolon ts then but_last ts else ts
 
+-- the word UNION
 abbrev pub is_union : Token → Bool
 is_union token = is_word (codes "UNION") token
 

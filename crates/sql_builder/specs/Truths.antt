@@ -72,15 +72,19 @@ abbrev pub value_in : Valuation → List Token → Truth
 value_in [] ts = Unknown
 value_in (fact ∷ facts) ts = if same_tokens fact.atom ts then fact.value else value_in facts ts
 
+-- the word OR
 abbrev pub is_or : Token → Bool
 is_or token = is_word (codes "OR") token
 
+-- the word AND
 abbrev pub is_and : Token → Bool
 is_and token = is_word (codes "AND") token
 
+-- the word NOT
 abbrev pub is_not : Token → Bool
 is_not token = is_word (codes "NOT") token
 
+-- the word BETWEEN
 abbrev pub is_between : Token → Bool
 is_between token = is_word (codes "BETWEEN") token
 
@@ -88,7 +92,8 @@ is_between token = is_word (codes "BETWEEN") token
 abbrev pub is_between_last : Bool → Token → Bool
 is_between_last owned token = if is_between token then true else (if is_and token || is_or token then false else owned)
 
--- An AND is owned by a BETWEEN if the last outer word before it among BETWEEN, AND and OR is BETWEEN: as if it were inner.
+-- The tokens, with each AND made inner that a BETWEEN owns: the last outer word before it among BETWEEN, AND and OR is
+-- BETWEEN. `owned` says whether it is, so far.
 abbrev pub without_owned : Bool → List Placed → List Placed
 without_owned owned [] = []
 without_owned owned (Inner token ∷ more) = Inner token ∷ without_owned owned more
@@ -110,7 +115,8 @@ is_bracketed ts =
     begins_with (is_symbol (code "(")) ts && ends_with (is_symbol (code ")")) ts && is_inside (but_last ts)
     && not (has_outer is_clause_word (inside ts))
 
--- How a condition is made.
+-- How a condition is made: of pieces joined by OR, of pieces joined by AND, of NOT and what it negates, of brackets and what
+-- they hold, or of nothing else.
 pub data Form : Type 0 where
   AnyOf : List (List Token) → Form
   AllOf : List (List Token) → Form

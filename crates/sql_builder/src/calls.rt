@@ -4,9 +4,10 @@ ghost use Rattle.sql_parts.specs.Error.{FailsOnlyByMemory, IsMemory};
 ghost use Rattle.sql_builder.specs.Answers.{call_text, condition_text, finish_text, start_text};
 ghost use Rattle.sql_builder.specs.Builder.{condition_bytes, with_condition};
 ghost use Rattle.sql_builder.specs.Steps.{with_call};
-ghost use Rattle.sql_builder.specs.Calls.{clauses, operator_in};
+ghost use Rattle.sql_builder.specs.Calls.{clauses, kind_of, operator_in};
 ghost use Rattle.sql_builder.specs.Clauses.{map_clauses};
-ghost use Rattle.sql_builder.specs.Meaning.{HasBalancedFragments, HasFitConditions, HasFitFragments, IsTrueAs, condition_groups, is_nested};
+ghost use Rattle.sql_builder.specs.Meaning.{HasBalancedFragments, HasFitFragments, IsTrueAs, condition_groups, is_nested, is_unenclosed, prints_where};
+ghost use Rattle.sql_builder.specs.Fitting.{has_fit_conditions};
 ghost use Rattle.sql_builder.specs.Reading.{clause_list, read};
 ghost use Rattle.sql_builder.specs.Shape.{HasClosedFragments, shape};
 ghost use Rattle.sql_builder.specs.Statement.{refusal_at, statement, text_at};
@@ -326,9 +327,18 @@ fn print(builder: &SqlBuilder, finish: &Finish) -> Result<String, SqlBuilderErro
 }
 
 /// Makes the builder, makes the calls in order, and prints: the statement that the whole list
-/// means, or its refusal. Want of memory may come in place of either. Where the texts that it
-/// prints as they stand are fit, the clauses of the statement are those that the calls say, and
-/// its WHERE is true where in each group some condition is.
+/// means, or its refusal. Want of memory may come in place of either.
+///
+/// The fragments are the texts that it prints as they stand. Where each is closed, the text has
+/// their tokens, and one token for each text that is quoted. Where, besides, each before the first
+/// UNION is balanced, and has no outer word that begins a clause unless brackets of the builder's
+/// own stand round it, what `sql`, `query` and `query_values` print reads back, up to that UNION,
+/// as the clauses that the calls say. Where this holds of the fragments of each condition too, by
+/// the condition's own brackets, the truth of the WHERE of a query, and of what `sql` prints of a
+/// SELECT from a table, an UPDATE or a DELETE, is the least over the groups of the greatest over a
+/// group's conditions. Where each fragment is balanced, those behind a UNION too, what `query` and
+/// `subquery_as` print is balanced, and what `subquery` prints is an operand without an outer word
+/// that begins a clause.
 pub fn run(
     alloc: Global,
     start: &Start,
@@ -344,11 +354,14 @@ pub fn run(
         (map call_text calls.now) (finish_text finish.now) ≡ Ok (tokens (string_bytes s))) }
     ensures closed { HasClosedFragments (start_text start.now) (map call_text calls.now)
         (finish_text finish.now) → IfOk result (λ s. IsTrue (closed (string_bytes s))) }
-    ensures clauses { HasFitFragments (start_text start.now) (map call_text calls.now)
+    ensures clauses { IsTrue (is_unenclosed (finish_text finish.now))
+        → HasFitFragments (start_text start.now) (map call_text calls.now)
         (finish_text finish.now) → IfOk result (λ s. clause_list (start_text start.now)
         (map call_text calls.now) (finish_text finish.now) ≡ Ok (read (tokens (string_bytes s)))) }
-    ensures truth { HasFitConditions (start_text start.now) (map call_text calls.now)
-        (finish_text finish.now) → IfOk result (λ s.
+    ensures truth { IsTrue (prints_where (finish_text finish.now) (kind_of (start_text start.now)))
+        → HasFitFragments (start_text start.now) (map call_text calls.now)
+        (finish_text finish.now) → IsTrue (has_fit_conditions (map call_text calls.now))
+        → IfOk result (λ s.
         IsTrueAs (condition_groups (map call_text calls.now)) (string_bytes s)) }
     ensures nests { HasBalancedFragments (start_text start.now) (map call_text calls.now)
         (finish_text finish.now) → IfOk result (λ s.

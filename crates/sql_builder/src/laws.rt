@@ -1,7 +1,8 @@
-//! Laws of lists of calls, each the contract of a function that does nothing.
+//! Laws of lists of calls, of clauses and of truth, each the contract of a function that does
+//! nothing.
 ghost use Rattle.std.specs.Prelude.{IfOk, IsTrue, List, codes};
 ghost use Rattle.sql_builder.specs.Calls.{CallText, Sql, StartText, having_in, limit_in, offset_in, returning_in};
-ghost use Rattle.sql_builder.specs.Laws.{BuildersEndInOneSemicolon, ConditionsAreAtoms, ConditionsKeepTokens, BracketsMakeOperands, CountsKeepTokens, EquationsKeepTokens, FieldsJoin, FitTextsMakeBalancedFragments, FitTextsMakeFitConditions, FitTextsMakeFitFragments, IsValued, OnlyLastCounts, QuotedEquationsKeepTokens, TruthOfAnd, TruthOfBrackets, TruthOfNot, TruthOfOr, TruthOfWhere, brackets_and_not, range_and_case};
+ghost use Rattle.sql_builder.specs.Laws.{BuildersEndInOneSemicolon, ConditionsAreAtoms, ConditionsKeepTokens, BracketsMakeOperands, CountsKeepTokens, EquationsKeepTokens, FieldsJoin, FitTextsMakeBalancedFragments, FitTextsMakeFitConditions, FitTextsMakeFitFragments, IsValued, OnlyLastCounts, QuotedEquationsKeepTokens, StatementsReadBack, TruthOfAnd, TruthOfBrackets, TruthOfNot, TruthOfOr, TruthOfWhere, a_without_c, brackets_and_not, range_and_case};
 ghost use Rattle.sql_builder.specs.Truths.{False, True, Unknown};
 ghost use Rattle.sql_builder.specs.Shape.{EndsInOneSemicolon, has_closed_fragments, has_no_semicolons};
 ghost use Rattle.sql_builder.specs.Statement.{pieces};
@@ -40,8 +41,9 @@ pub fn added_texts_keep_tokens()
     ensures counts { CountsKeepTokens }
 {}
 
-/// A condition whose texts are operands is an atom: its truth is what is known of its tokens. Of
-/// an IN that is asked of its field alone, and of what stands in its brackets that it is balanced.
+/// A condition whose texts are operands, but one that is handed in as it stands, is an atom: its
+/// truth is what is known of its tokens. Of an IN that is asked of its field alone, and of what
+/// stands in its brackets that it is balanced.
 #[tactic(auto, using(crate::proofs::ConditionAtoms::condition_atom))]
 pub fn conditions_are_atoms()
     ensures { ConditionsAreAtoms }
@@ -57,9 +59,16 @@ pub fn only_the_end_is_a_semicolon()
     ensures of_builders { BuildersEndInOneSemicolon }
 {}
 
+/// What `sql`, `query` and `query_values` print of a list of calls reads back as the clauses that
+/// the list says, where its fragments are closed, and before the first UNION fit.
+#[tactic(auto, using(crate::proofs::ReadBack::statements_read_back))]
+pub fn statements_read_back()
+    ensures { StatementsReadBack }
+{}
+
 /// Where each text that a list of calls hands in is balanced, and has no outer clause word (which
 /// may stand in what a call puts between brackets, and in a query behind UNION), the fragments
-/// that are printed are fit: the premises of what `run` says of clauses, of WHERE and of nesting.
+/// that are printed are fit: what `run` asks of them for clauses, for WHERE and for nesting.
 #[tactic(auto, using(crate::proofs::FitTexts::fit_fragments, crate::proofs::FitTexts::fit_conditions, crate::proofs::FitTexts::balanced_fragments))]
 pub fn fit_texts_make_fit_fragments()
     ensures fragments { FitTextsMakeFitFragments }
@@ -67,10 +76,11 @@ pub fn fit_texts_make_fit_fragments()
     ensures nesting { FitTextsMakeBalancedFragments }
 {}
 
-/// The truth of a condition by how it is made: of an OR the greater, of an AND the lesser, of a
-/// NOT the exchange, and of brackets that of the inside; of a WHERE the least over its groups of
-/// the greatest over a group's conditions. Each where the parts are balanced, and no word at
-/// their level would take them apart in another way.
+/// The truth of a condition by how it is made: of an OR whose left side is balanced the greater;
+/// of an AND the lesser, where the left side is balanced and has no outer OR, AND or BETWEEN, and
+/// the right side no outer OR; of a NOT the exchange, where no outer OR, AND or BETWEEN is behind
+/// it; of brackets round what is balanced and has no outer clause word that of the inside; of a
+/// WHERE of such conditions the least over its groups of the greatest over a group's conditions.
 #[tactic(auto, using(crate::proofs::TruthLaws::of_or, crate::proofs::TruthLaws::of_and, crate::proofs::TruthLaws::of_not, crate::proofs::TruthLaws::of_brackets, crate::proofs::TruthLaws::of_where))]
 pub fn truth_follows_the_form()
     ensures of_or { TruthOfOr }
@@ -87,9 +97,12 @@ pub fn brackets_make_operands()
     ensures { BracketsMakeOperands }
 {}
 
-/// Conditions of three kinds in two groups, where one part is unknown: a range and a NOT of an OR,
-/// and a comparison of a CASE; and the brackets and the NOT that a stranger's condition may have.
-#[tactic(auto, using(crate::proofs::MeaningRows::unknown_or, crate::proofs::MeaningRows::unknown_not, crate::proofs::MeaningRows::unknown_group, crate::proofs::MeaningRows::true_group, crate::proofs::MeaningRows::unknown_whole, crate::proofs::MeaningRows::false_group, crate::proofs::MeaningRows::false_whole, crate::proofs::MeaningRows::own_brackets, crate::proofs::MeaningRows::own_not, crate::proofs::MeaningRows::own_whole))]
+/// The truth of worked conditions. Of `x BETWEEN 1 AND 2` or `NOT (p OR q)`, and the comparison of
+/// a CASE, where the range is false, the comparison true and p unknown: unknown where q is false,
+/// and false where q is true. Of `(a) OR (b)` and `NOT c AND d`, where a is false, b and d are true
+/// and c is unknown: unknown. And groups need their brackets: where a is true and c false, so is
+/// `(a OR b) AND (c)`, but `a OR b AND c` is true.
+#[tactic(auto, using(crate::proofs::MeaningRows::unknown_or, crate::proofs::MeaningRows::unknown_not, crate::proofs::MeaningRows::unknown_group, crate::proofs::MeaningRows::true_group, crate::proofs::MeaningRows::unknown_whole, crate::proofs::MeaningRows::false_group, crate::proofs::MeaningRows::false_whole, crate::proofs::MeaningRows::own_brackets, crate::proofs::MeaningRows::own_not, crate::proofs::MeaningRows::own_whole, crate::proofs::MeaningRows::with_brackets, crate::proofs::MeaningRows::without_brackets))]
 pub fn worked_truths()
     ensures unknown_or { IsValued (range_and_case False) (codes "p OR q") Unknown }
     ensures unknown_not { IsValued (range_and_case False) (codes "NOT (p OR q)") Unknown }
@@ -107,4 +120,6 @@ pub fn worked_truths()
     ensures own_not { IsValued brackets_and_not (codes "NOT c AND d") Unknown }
     ensures own_whole { IsValued brackets_and_not
         (codes "((a) OR (b)) AND (NOT c AND d)") Unknown }
+    ensures with_brackets { IsValued a_without_c (codes "(a OR b) AND (c)") False }
+    ensures without_brackets { IsValued a_without_c (codes "a OR b AND c") True }
 {}

@@ -90,8 +90,11 @@ subquery = refl
 outer_again : told (codes "a) ( FROM b") ≡ (false, false, false, true)
 outer_again = refl
 
-range_below : told (codes "a) x BETWEEN 1 ( AND 2") ≡ (false, true, false, false)
+range_below : told (codes "a) x BETWEEN 1 (b AND 2") ≡ (false, true, false, false)
 range_below = refl
+
+range_left : told (codes "(x BETWEEN 1) OR (2 AND y)") ≡ (true, true, false, false)
+range_left = refl
 
 range_cut : told (codes "(x BETWEEN 1) AND 2") ≡ (true, true, false, false)
 range_cut = refl

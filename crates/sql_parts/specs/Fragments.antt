@@ -182,7 +182,7 @@ abbrev pub has_ands : List Token → Bool
 has_ands ts =
     list_all (λ between. list_any (is_and_of ts between) (places (is_word (codes "AND")) ts)) (places (is_word (codes "BETWEEN")) ts)
 
--- a word that joins or negates lacks a side, or a BETWEEN its AND
+-- an OR, AND or NOT stands where it may not, or a BETWEEN has no AND
 abbrev pub is_dangling : List Token → Bool
 is_dangling ts = not (has_left_sides ts && has_right_sides ts && has_ands ts)
 

@@ -1,4 +1,4 @@
-//! What dangles: an OR, AND or NOT without an operand beside it, and a BETWEEN without its AND.
+//! What dangles: an OR, AND or NOT where it may not stand, and a BETWEEN without its AND.
 ghost use Rattle.std.specs.Prelude.{◌≡◌, ◌&&◌, [], ◌∷◌, List, IfOk, false, not, true};
 ghost use Rattle.sql_parts.specs.Error.{FailsOnlyByMemory};
 ghost use Rattle.sql_parts.specs.Fragments.{is_closing, is_opening, needs_left, needs_right};
@@ -36,12 +36,12 @@ fn is_closing(token: Token<'_>) -> bool
     is_symbol(token, b')') || is_symbol(token, b',') || is_word_of(token, &CLOSING_WORDS)
 }
 
-/// Whether an operand has to begin at the place reached.
+/// What may not stand at the place reached.
 #[derive(Clone, Copy)]
 pub(crate) struct Sides {
-    /// No operand stands before it: a text begins there, or a token that opens stands before it.
+    /// No OR or AND: a text begins there, or a token that opens stands before it.
     begins: bool,
-    /// OR, AND or NOT stands before it.
+    /// No token that closes, and no end: OR, AND or NOT stands before it.
     wants: bool,
 }
 

@@ -70,25 +70,25 @@ fn is_balanced_without(text: &str, outer: &[&str], first: &[&str]) -> bool
     !is_empty && level.is_outer()
 }
 
-/// Whether the text has a token, no quote or comment without an end and no `;`, and its brackets,
-/// `(` to `)` and CASE to END, close: as many close as open, and nowhere more before. It can't be
-/// refused.
+/// Whether the text has a token, no quote or comment without an end and no `;`, and its brackets
+/// are level, `(` and CASE counted together, and `)` and END: as many close as open, and at no
+/// place have more closed than opened. Which closes which isn't asked. It can't be refused.
 pub fn is_balanced(text: &str) -> bool
     ensures { result ≡ balanced text.now }
 {
     is_balanced_without(text, &[], &[])
 }
 
-/// Whether the text is balanced, has no OR, AND or BETWEEN outside its brackets, and doesn't begin
-/// with NOT. It can't be refused.
+/// Whether the text is balanced, has no OR, AND or BETWEEN at level 0, and doesn't begin with NOT.
+/// It can't be refused.
 pub fn is_operand(text: &str) -> bool
     ensures { result ≡ operand text.now }
 {
     is_balanced_without(text, &JOINING_WORDS, &["NOT"])
 }
 
-/// Whether a word that begins a clause stands outside all brackets of the text. It can't be
-/// refused.
+/// Whether a word that begins a clause stands at level 0 of the text: as many `(` and CASE stand
+/// before it as `)` and END. It can't be refused.
 pub fn has_clause_word(text: &str) -> bool
     ensures { result ≡ has_clause_word text.now }
 {
@@ -104,8 +104,9 @@ pub fn has_clause_word(text: &str) -> bool
     false
 }
 
-/// Whether an OR, AND or NOT of the text lacks an operand beside it, or a BETWEEN its AND. It is
-/// refused only for want of memory.
+/// Whether an OR or AND is the first token of the text or stands right behind a token that opens,
+/// an OR, AND or NOT is the last or stands right before one that closes, or a BETWEEN has no AND of
+/// its own level behind it. It is refused only for want of memory.
 pub fn has_dangling(alloc: Global, text: &str) -> Result<bool, SqlBuilderError>
     ensures dangling { IfOk result (λ b. b ≡ dangling text.now) }
     ensures memory { FailsOnlyByMemory result }
