@@ -1436,10 +1436,25 @@ fn states_its_laws() {
     laws::only_the_end_is_a_semicolon();
     laws::added_texts_keep_tokens();
     laws::conditions_are_atoms();
+    laws::statements_read_back();
     laws::fit_texts_make_fit_fragments();
     laws::truth_follows_the_form();
     laws::brackets_make_operands();
     laws::worked_truths();
+}
+
+/// Conditions with brackets and a NOT of their own.
+#[test]
+fn puts_groups_in_brackets(rt: HostRuntime) -> Result<(), Fail> {
+    let made = SqlBuilder::select_from(rt.alloc(), "t")?
+        .and_where("(a) OR (b)")?
+        .and_where("NOT c AND d")?
+        .sql()?;
+    assert_eq!(rt;
+        made.as_str(),
+        "SELECT * FROM t WHERE ((a) OR (b)) AND (NOT c AND d);"
+    );
+    Ok(())
 }
 
 /// A query of two groups in brackets, as a value of a condition.

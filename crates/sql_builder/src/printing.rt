@@ -384,6 +384,10 @@ impl SqlBuilder {
     /// and the statement is no SELECT of values; then with `NoValues` where an INSERT has neither
     /// rows nor a query, or a SELECT of values no value, and with `NoSetFields` where an UPDATE
     /// sets nothing; each whether there is memory or not, and else only for want of memory.
+    ///
+    /// Where the builder's texts are closed, and before the first UNION balanced and, but between
+    /// brackets, without an outer word that begins a clause, it reads back as the builder's
+    /// clauses, and the truth of a WHERE is the least over the builder's groups.
     #[tactic(auto, using(crate::proofs::Layouts::sql_shape, crate::proofs::Layouts::sql_closed, crate::proofs::ReadBack::sql_clauses, crate::proofs::ReadBack::sql_truth))]
     pub fn sql(&self) -> Result<String, SqlBuilderError>
         ensures text { IfOk result (λ s. string_bytes s ≡ sql byte_atoms self.now) }
@@ -405,7 +409,8 @@ impl SqlBuilder {
     }
 
     /// The query, on a builder of any kind. It is refused only for want of memory, as is each call
-    /// below.
+    /// below. It reads back, and has the truth of its groups, as what `sql` prints; where the
+    /// builder's texts are balanced, also behind UNION, so is the query.
     #[tactic(auto, using(crate::proofs::Layouts::query_shape, crate::proofs::Layouts::query_closed, crate::proofs::ReadBack::query_clauses, crate::proofs::ReadBack::query_truth, crate::proofs::ReadBack::query_nests))]
     pub fn query(&self) -> Result<String, SqlBuilderError>
         ensures text { IfOk result (λ s. string_bytes s ≡ query byte_atoms self.now) }
@@ -426,7 +431,8 @@ impl SqlBuilder {
         Ok(query)
     }
 
-    /// `SELECT` and the fields, nothing else, on a builder of any kind.
+    /// `SELECT` and the fields, nothing else, on a builder of any kind. It reads back as what `sql`
+    /// prints.
     #[tactic(auto, using(crate::proofs::Layouts::query_values_shape, crate::proofs::Layouts::query_values_closed, crate::proofs::ReadBack::query_values_clauses))]
     pub fn query_values(&self) -> Result<String, SqlBuilderError>
         ensures text { IfOk result (λ s. string_bytes s ≡ query_values byte_atoms self.now) }
@@ -443,7 +449,8 @@ impl SqlBuilder {
         Ok(out)
     }
 
-    /// The query in brackets.
+    /// The query in brackets: an operand without an outer word that begins a clause, where the
+    /// builder's texts are balanced.
     #[tactic(auto, using(crate::proofs::Layouts::subquery_shape, crate::proofs::Layouts::subquery_closed, crate::proofs::ReadBack::subquery_nests))]
     pub fn subquery(&self) -> Result<String, SqlBuilderError>
         ensures text { IfOk result (λ s. string_bytes s ≡ subquery byte_atoms self.now) }
@@ -460,7 +467,8 @@ impl SqlBuilder {
         Ok(subquery)
     }
 
-    /// The query in brackets, `AS` and the name.
+    /// The query in brackets, `AS` and the name: balanced, where the builder's texts and the name
+    /// are.
     #[tactic(auto, using(crate::proofs::Layouts::subquery_as_shape, crate::proofs::Layouts::subquery_as_closed, crate::proofs::ReadBack::subquery_as_nests))]
     pub fn subquery_as<S: ToText>(&self, name: S) -> Result<String, SqlBuilderError>
         ensures text { IfOk result (λ s. string_bytes s

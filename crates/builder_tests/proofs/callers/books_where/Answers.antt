@@ -22,12 +22,12 @@ texts_fit one other h k = and_from _ _ (and_from _ _ (and_from _ _ h refl) (and_
 groups_are : (one other : List ℕ) → condition_groups (Cond And (Raw one) ∷ Cond And (Raw other) ∷ []) ≡ (tokens one ∷ []) ∷ (tokens other ∷ []) ∷ []
 groups_are one other = λ i. (append-nil (tokens one) i ∷ []) ∷ (append-nil (tokens other) i ∷ []) ∷ []
 
-pub returns : goal.returns
-returns c =
+pub returns-clause-truth : goal.returns-clause-truth
+returns-clause-truth c =
     let one = c.args.one.now in
     let other = c.args.other.now in
     let calls : map call_text c.deref.result.now ≡ Cond And (Raw one) ∷ Cond And (Raw other) ∷ [] =
-        rw (c.deref.ensures.value, c.in_ok-push-2.ensures.items, c.in_ok-push.ensures.items, c.new-calls.ensures.items, c.in_ok-from_str-2.ensures.ok, c.in_ok-from_str-3.ensures.ok) refl in
+    rw (c.deref.ensures.value, c.in_ok-push-2.ensures.items, c.in_ok-push.ensures.items, c.new-calls.ensures.items, c.in_ok-from_str-2.ensures.ok, c.in_ok-from_str-3.ensures.ok) refl in
     let first = asked one c.is_balanced.result c.has_clause_word.result c.is_balanced.ensures c.if-not-is_balanced.false c.has_clause_word.ensures c.if-has_clause_word.false in
     let second = asked other c.is_balanced-else-has_clause_word.result c.has_clause_word-else-not-is_balanced-2.result c.is_balanced-else-has_clause_word.ensures c.if-not-is_balanced-2.false c.has_clause_word-else-not-is_balanced-2.ensures c.if-has_clause_word-2.false in
     let fit = (λ i. has_fit_texts (SelectFrom (c.in_ok-from_str.ensures.ok i)) (calls i) Sql) ∙ texts_fit one other first second in
