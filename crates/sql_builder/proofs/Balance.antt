@@ -4,7 +4,7 @@ use Rattle.std.proofs.Math.IntN.{suc_ℤ}
 use Rattle.std.proofs.lemmas.Bool.{and_parts, and_from, or_from, false≢true, not-true, not_from_false}
 use Rattle.std.proofs.lemmas.List.Folds.{list_all-append}
 use Rattle.std.specs.List.{list_any, list_all}
-use Rattle.sql_parts.specs.Tokens.{Token, is_empty, tokens}
+use Rattle.sql_parts.specs.Tokens.{Token, is_empty, tokens, closed, is_open, is_semicolon}
 use Rattle.sql_builder.specs.WhereTokens.{in_brackets, joined}
 use Rattle.sql_builder.proofs.WhereTokens.{is_condition, has_clause, right_bracket}
 use Rattle.sql_builder.proofs.Placing.{closes_from-append, at_end-closes, after-suc}
@@ -89,3 +89,13 @@ is_condition-append a b h even none =
 
 pub even_text : (text : List ℕ) → balanced text ≡ true → is_even (tokens text) ≡ true
 even_text text h = balanced_even (tokens text) (sym (is_balanced-is (tokens text)) ∙ h)
+
+-- what is balanced is closed
+whole-shut : (ts : List Token) → list_all is_whole ts ≡ true → list_any is_open ts ≡ false
+whole-shut [] whole = refl
+whole-shut (t ∷ ts) whole =
+    let both = and_parts (is_whole t) (list_all is_whole ts) whole in
+    or_from _ _ (not-true _ (and_parts (not (is_open t)) (not (is_semicolon t)) both.0).0) (whole-shut ts both.1)
+
+pub balanced_closed : (text : List ℕ) → balanced text ≡ true → closed text ≡ true
+balanced_closed text h = not_from_false _ (whole-shut (tokens text) (and_parts (list_all is_whole (tokens text)) _ (even_text text h)).0)

@@ -226,7 +226,7 @@ offset_in-some : (c : CallText) → IfSome (offset_in c) Inside
 offset_in-some (call.Offset offset) = raw-inside offset
 offset_in-some _ = tt
 
-clauses-parts : (start : StartText) (calls : List CallText) → Parts (clauses start calls)
+pub clauses-parts : (start : StartText) (calls : List CallText) → Parts (clauses start calls)
 clauses-parts start calls =
     let tables = all-flat table_in table_in-inside table_in-behind calls in
     record {

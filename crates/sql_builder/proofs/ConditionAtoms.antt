@@ -14,7 +14,7 @@ use Rattle.sql_builder.proofs.Each.{map-all}
 use Rattle.sql_builder.proofs.CalmClauses.{calm-list, calm-raw}
 use Rattle.sql_builder.proofs.Handing.{Each, listed}
 use Rattle.sql_builder.proofs.OwnSections.{Calm}
-use Rattle.sql_builder.proofs.OwnWords.{shape-even}
+use Rattle.sql_builder.proofs.OwnWords.{shape-even, fragments_closed}
 use Rattle.sql_builder.proofs.WhereGroups.{pieces_tokens-brackets}
 use Rattle.sql_builder.proofs.WhereTokens.{and_word, between_word, in_word, not_word}
 use Rattle.sql_builder.specs.Fitting.{has_balanced_fragments}
@@ -23,7 +23,6 @@ use Rattle.sql_builder.specs.Truths.{IsAtom}
 use Rattle.sql_parts.proofs.Walks.{has_outer, is_even, is_operand, is_operand-is}
 use Rattle.sql_parts.specs.Fragments.{is_joining, operand, balanced}
 use Rattle.sql_builder.proofs.ClauseShapes.{adds, condition_keeps}
-use Rattle.sql_builder.proofs.Nesting.{fragments_closed}
 use Rattle.sql_builder.specs.Builder.{ClauseTexts, condition_bytes, with_condition, with_condition_text}
 use Rattle.sql_builder.specs.Calls.{condition_pieces}
 use Rattle.sql_builder.specs.declared.calls.Family.{Family}

@@ -12,7 +12,7 @@ use Rattle.sql_builder.specs.Calls.{CallText, FinishText, StartText, Sql, Query,
 use Rattle.sql_builder.specs.Clauses.{Clauses}
 use Rattle.sql_builder.specs.Conditions.{not_text}
 use Rattle.sql_builder.specs.Filters.{until}
-use Rattle.sql_builder.specs.Fitting.{Bare, Enclosed, are_fit, are_fit_to_union, begins_union, call_texts, finish_texts, has_balanced_fragments, has_fit_conditions, has_fit_fragments, has_fit_texts, is_fit, own, own_tokens, start_texts}
+use Rattle.sql_builder.specs.Fitting.{Bare, Enclosed, are_fit, has_fit_fragments, begins_union, call_texts, finish_texts, has_balanced_fragments, has_fit_conditions, has_fit_texts, is_fit, own, own_tokens, start_texts}
 use Rattle.sql_builder.specs.Laws.{FitTextsMakeBalancedFragments, FitTextsMakeFitConditions, FitTextsMakeFitFragments}
 use Rattle.sql_builder.specs.Layout.{Section, concat_sections, fields_or_star, group_by_sections, insert_sections, insert_target, list_sections, optional_section, order_by_sections, query, query_sections, range_sections, returning_sections, statement_sections, union_sections, values_sections, where_sections}
 use Rattle.sql_builder.specs.Meaning.{is_unenclosed}
@@ -26,15 +26,16 @@ use Rattle.sql_builder.proofs.Balance.{is_even-append}
 use Rattle.sql_builder.proofs.CalmClauses.{calm-append, calm-brackets, calm-none, calm-raw}
 use Rattle.sql_builder.proofs.Each.{append-all}
 use Rattle.sql_builder.proofs.Handing.{Each, Joins, PartsAre, Takes, before-each, clauses-kept, condition-kept, joined, listed}
-use Rattle.sql_builder.proofs.Nesting.{fragments_closed}
+use Rattle.sql_builder.proofs.OwnWords.{are_fit-is, are_fit_from, even-ends, or_so}
 use Rattle.sql_builder.proofs.OwnLayouts.{Kept, Split, bare_query-split, bare_values-split, sql-split}
 use Rattle.sql_builder.proofs.OwnSections.{AllOpen, Calm, Opens, section_pieces, sections-front, until-behind}
 use Rattle.sql_builder.proofs.OwnWords as own_words
-use Rattle.sql_builder.proofs.OwnWords.{are_fit-is, are_fit_from, even-ends, or_so}
 use Rattle.sql_builder.proofs.Placing.{at_end-append}
 use Rattle.sql_builder.proofs.ReadBack.{layout}
 use Rattle.sql_builder.proofs.WhereTokens.{has_clause}
 use Rattle.sql_builder.proofs.BalancedPieces.{Balanced, balanced-append, balanced-joins, quoteds-balanced, raw-balanced, raws-balanced, within}
+use Rattle.sql_builder.proofs.Layouts as layouts
+use Rattle.sql_builder.proofs.ClauseShapes.{clauses-parts}
 
 fit-both : (l : ℤ) (x y : Pieces) → are_fit_from l x ≡ true → are_fit_from (at_end l (own x)) y ≡ true → are_fit_from l (x ++ y) ≡ true
 fit-both l [] y one other = other
@@ -135,20 +136,20 @@ sections-fit (s ∷ sections) all =
     (subst (λ l. are_fit_from l s.body ≡ true) (sym (even-ends 0 (tokens s.opening) all.0.front.even)) (all.0.body.fits 0))
     (subst (λ l. are_fit_from l rest ≡ true) (sym (section-ends s all.0)) (sections-fit sections all.1))
 
-split-fits : {printed : Pieces} {bodies : List (List Token)} → Split Fit printed bodies → are_fit_to_union printed ≡ true
+split-fits : {printed : Pieces} {bodies : List (List Token)} → Split Fit printed bodies → has_fit_fragments printed ≡ true
 split-fits split =
     let front = concat_sections fixed_piece split.front in
-    ap are_fit_to_union split.is
+    ap has_fit_fragments split.is
     ∙ ap are_fit (until-behind front split.rest (sections-front Fit split.front split.laid.opens).no_union)
     ∙ are_fit-is (front ++ until begins_union split.rest)
     ∙ fit-both (pos 0) front (until begins_union split.rest) (sections-fit split.front split.laid.opens) (split.ending.until_fits (at_end (pos 0) (own front)))
 
-layout-fits : (finish : FinishText) (r : Clauses Pieces) → PartsAre Fit Calm r → is_unenclosed finish ≡ true → are_fit_to_union (layout finish r) ≡ true
-layout-fits Sql r parts bare = split-fits (sql-split Fit fit-kept r parts)
-layout-fits Query r parts bare = split-fits (bare_query-split Fit fit-kept r parts)
-layout-fits QueryValues r parts bare = split-fits (bare_values-split Fit fit-kept r parts)
-layout-fits Subquery r parts bare = absurd (false≢true bare)
-layout-fits (SubqueryAs name) r parts bare = absurd (false≢true bare)
+layout-fits : (finish : FinishText) (r : Clauses Pieces) → PartsAre Fit Calm r → layouts.Parts r → is_unenclosed finish ≡ true → has_fit_fragments (layout finish r) ≡ true
+layout-fits Sql r parts good bare = split-fits (sql-split Fit fit-kept r parts good)
+layout-fits Query r parts good bare = split-fits (bare_query-split Fit fit-kept r parts good)
+layout-fits QueryValues r parts good bare = split-fits (bare_values-split Fit fit-kept r parts good)
+layout-fits Subquery r parts good bare = absurd (false≢true bare)
+layout-fits (SubqueryAs name) r parts good bare = absurd (false≢true bare)
 
 -- ---- all that is printed is balanced
 
@@ -294,9 +295,7 @@ module _ (start : StartText) (calls : List CallText) (finish : FinishText) (all 
   all-balanced = layout-balanced (clauses start calls) (clauses-kept is_fit Balanced Balanced balanced-takes start calls told.0 told.1) finish told.2
 
   all-fit : is_unenclosed finish ≡ true → has_fit_fragments (layout finish (clauses start calls)) ≡ true
-  all-fit bare =
-      and_from _ _ (fragments_closed (layout finish (clauses start calls)) all-balanced)
-      (layout-fits finish (clauses start calls) (clauses-kept is_fit Fit Calm fit-takes start calls told.0 told.1) bare)
+  all-fit bare = layout-fits finish (clauses start calls) (clauses-kept is_fit Fit Calm fit-takes start calls told.0 told.1) (clauses-parts start calls) bare
 
 unless : (refusal : Option SqlBuilderError) (printed : Pieces) (test : Pieces → Bool) → test printed ≡ true → IfOk (unless_refused refusal printed) (λ ps. IsTrue (test ps))
 unless None printed test h = h

@@ -124,7 +124,7 @@ table-inside r parts =
     let joins = before-each (codes " ") (record { is_closed = refl; plain = refl; begins = refl; ends = refl }) r.joins parts.joins in
     inside-inside r.table (flat_map (λ (join : Pieces). fixed_piece (codes " ") ++ join) r.joins) parts.table joins.1 joins.0
 
-query-inside : (r : Clauses Pieces) → Parts r → Inside (concat_sections fixed_piece (query_sections fixed_piece r))
+pub query-inside : (r : Clauses Pieces) → Parts r → Inside (concat_sections fixed_piece (query_sections fixed_piece r))
 query-inside r parts = by r.distinct
   where
     more : List (Section Piece)
@@ -146,7 +146,7 @@ query-inside r parts = by r.distinct
     by true = first-section (codes "SELECT DISTINCT ") (fields_or_star fixed_piece r.fields) (section (codes " FROM ") (table_and_joins fixed_piece r.table r.joins) ∷ more) (record { is_closed = refl; plain = refl }) refl (fields-inside r.fields parts.fields) from-good
     by false = first-section (codes "SELECT ") (fields_or_star fixed_piece r.fields) (section (codes " FROM ") (table_and_joins fixed_piece r.table r.joins) ∷ more) (record { is_closed = refl; plain = refl }) refl (fields-inside r.fields parts.fields) from-good
 
-values-inside : (r : Clauses Pieces) → Parts r → Inside (concat_sections fixed_piece (values_sections fixed_piece r))
+pub values-inside : (r : Clauses Pieces) → Parts r → Inside (concat_sections fixed_piece (values_sections fixed_piece r))
 values-inside r parts = first-section (codes "SELECT ") (comma_list fixed_piece r.fields) [] (record { is_closed = refl; plain = refl }) refl (items-inside r.fields parts.fields) tt
 
 target-inside : (r : Clauses Pieces) → Parts r → Inside (insert_target fixed_piece r)
@@ -156,7 +156,7 @@ target-inside r parts =
     (ended-inside (fixed_piece (codes " (")) fields (words-ended (codes " (") (record { is_closed = refl; plain = refl }) refl)
     (inside-inside (comma_list fixed_piece r.fields) (fixed_piece (codes ")")) (items-inside r.fields parts.fields) (words-behind (codes ")") [] refl) (words-inside (codes ")") (record { is_closed = refl; plain = refl }))))
 
-insert-inside : (query : Option Pieces) (r : Clauses Pieces) → Parts r → IfSome query Inside → Inside (concat_sections fixed_piece (insert_sections fixed_piece query r))
+pub insert-inside : (query : Option Pieces) (r : Clauses Pieces) → Parts r → IfSome query Inside → Inside (concat_sections fixed_piece (insert_sections fixed_piece query r))
 insert-inside None r parts inside =
     first-section (codes "INSERT INTO ") (insert_target fixed_piece r) (section (codes " VALUES ") (comma_list fixed_piece r.rows) ∷ returning_sections r) (record { is_closed = refl; plain = refl }) refl (target-inside r parts)
     (record { words = record { is_closed = refl; plain = refl; begins = refl; ends = refl }; body = items-inside r.rows parts.rows }, returning-good r parts)
@@ -166,14 +166,14 @@ insert-inside (Some rows) r parts inside =
     (ended-inside (fixed_piece (codes " ")) rows (words-ended (codes " ") (record { is_closed = refl; plain = refl }) refl) inside))
     tt
 
-update-inside : (r : Clauses Pieces) → Parts r → Inside (concat_sections fixed_piece (update_sections fixed_piece r))
+pub update-inside : (r : Clauses Pieces) → Parts r → Inside (concat_sections fixed_piece (update_sections fixed_piece r))
 update-inside r parts =
     first-section (codes "UPDATE ") r.table (section (codes " SET ") (comma_list fixed_piece r.sets) ∷ (where_sections fixed_piece r.groups ++ returning_sections r)) (record { is_closed = refl; plain = refl }) refl parts.table (
       record { words = record { is_closed = refl; plain = refl; begins = refl; ends = refl }; body = items-inside r.sets parts.sets },
       all-append _ _ (where-good r.groups parts.groups) (returning-good r parts),
     )
 
-delete-inside : (r : Clauses Pieces) → Parts r → Inside (concat_sections fixed_piece (delete_sections fixed_piece r))
+pub delete-inside : (r : Clauses Pieces) → Parts r → Inside (concat_sections fixed_piece (delete_sections fixed_piece r))
 delete-inside r parts = first-section (codes "DELETE FROM ") r.table (where_sections fixed_piece r.groups) (record { is_closed = refl; plain = refl }) refl parts.table (where-good r.groups parts.groups)
 
 statement-inside : (kind : Kind) (r : Clauses Pieces) → Parts r → Inside (concat_sections fixed_piece (statement_sections fixed_piece kind r))

@@ -1,44 +1,25 @@
 -- Queries whose fragments are balanced serve as fragments.
 use Rattle.std.proofs.Common.{◌≡◌, refl, sym, ◌∙◌, ap, false, true, not, Bool, List, [], ◌∷◌, ◌++◌, ℕ, codes, append_assoc}
-use Rattle.std.specs.List.{list_all, list_any}
 use Rattle.std.proofs.lemmas.List.Folds.{list_all-append}
-use Rattle.std.proofs.lemmas.Bool.{and_parts, and_from, not-true, not_from_false, or_from}
-use Rattle.sql_parts.specs.Tokens.{Token, Word, Symbol, closed, is_open, is_semicolon, tokens, is_empty}
+use Rattle.std.proofs.lemmas.Bool.{and_parts, and_from, not_from_false}
+use Rattle.sql_parts.specs.Tokens.{Token, Word, Symbol, tokens, is_empty}
 use Rattle.sql_builder.specs.Calls.{FinishText, Sql, Query, QueryValues, Subquery, SubqueryAs}
 use Rattle.sql_builder.specs.Clauses.{Clauses}
 use Rattle.sql_builder.specs.Layout.{query, select_opening, subquery, subquery_as}
-use Rattle.sql_builder.specs.Shape.{HasShape, has_closed_fragments, pieces_tokens}
+use Rattle.sql_builder.specs.Shape.{HasShape, pieces_tokens}
 use Rattle.sql_builder.specs.Statement.{layout_at}
-use Rattle.sql_builder.specs.Text.{Pieces, Fixed, Quoted, Raw, fixed_piece, raw_piece}
-use Rattle.sql_builder.proofs.Balance.{is_even-append, is_even-brackets, is_operand-brackets, no_clause-brackets, even_text}
+use Rattle.sql_builder.specs.Text.{Pieces, fixed_piece, raw_piece}
+use Rattle.sql_builder.proofs.Balance.{is_even-append, is_even-brackets, is_operand-brackets, no_clause-brackets}
 use Rattle.sql_builder.proofs.OwnLayouts.{query-even}
 use Rattle.sql_builder.specs.Fitting.{own, has_balanced_fragments, is_balanced_piece}
-use Rattle.sql_builder.proofs.OwnWords.{own-append, shape-even}
+use Rattle.sql_builder.proofs.OwnWords.{own-append, shape-even, fragments_closed}
 use Rattle.sql_builder.proofs.WhereGroups.{pieces_tokens-brackets}
 use Rattle.sql_builder.specs.WhereTokens as where_tokens
 use Rattle.sql_builder.proofs.WhereTokens.{has_clause}
 use Rattle.sql_builder.specs.Meaning.{Nests}
 use Rattle.sql_parts.proofs.Walks.{is_balanced, is_even, is_operand, has_outer-is, is_balanced-is, is_operand-is}
-use Rattle.sql_parts.specs.Fragments.{is_whole, balanced, is_clause_word}
+use Rattle.sql_parts.specs.Fragments.{is_clause_word}
 use Rattle.sql_builder.proofs.CalmClauses.{CalmParts}
-
--- what is balanced is closed
-whole-shut : (ts : List Token) → list_all is_whole ts ≡ true → list_any is_open ts ≡ false
-whole-shut [] whole = refl
-whole-shut (t ∷ ts) whole =
-    let both = and_parts (is_whole t) (list_all is_whole ts) whole in
-    or_from _ _ (not-true _ (and_parts (not (is_open t)) (not (is_semicolon t)) both.0).0) (whole-shut ts both.1)
-
-pub balanced_closed : (text : List ℕ) → balanced text ≡ true → closed text ≡ true
-balanced_closed text h = not_from_false _ (whole-shut (tokens text) (and_parts (list_all is_whole (tokens text)) _ (even_text text h)).0)
-
-pub fragments_closed : (ps : Pieces) → has_balanced_fragments ps ≡ true → has_closed_fragments ps ≡ true
-fragments_closed [] all = refl
-fragments_closed (Fixed text ∷ ps) all = fragments_closed ps all
-fragments_closed (Quoted text ∷ ps) all = fragments_closed ps all
-fragments_closed (Raw text ∷ ps) all =
-    let both = and_parts (balanced text) (list_all is_balanced_piece ps) all in
-    and_from _ _ (balanced_closed text both.0) (fragments_closed ps both.1)
 
 -- a query has a first token
 some-select : (distinct : Bool) (ts : List Token) → not (is_empty (tokens (select_opening distinct) ++ ts)) ≡ true

@@ -10,18 +10,20 @@ use Rattle.sql_builder.specs.Clauses.{Clauses}
 use Rattle.sql_builder.specs.Layout.{Section, concat_sections, delete_sections, fields_or_star, group_by_sections, insert_sections, insert_target, list_sections, optional_section, order_by_sections, query, query_sections, query_values, range_sections, returning_sections, section, select_opening, sql, statement_sections, table_and_joins, union_opening, union_sections, update_sections, values_sections, where_sections}
 use Rattle.sql_builder.specs.Phrases.{comma_list, in_brackets}
 use Rattle.sql_builder.specs.Shape.{pieces_tokens}
-use Rattle.sql_builder.specs.Text.{Piece, Pieces, Fixed, fixed_piece}
+use Rattle.sql_builder.specs.Text.{Piece, Pieces, Fixed, fixed_piece, pieces_text}
 use Rattle.sql_builder.specs.declared.clauses.Kind.{Kind}
 use Rattle.sql_builder.specs.declared.clauses.Kind.TheVariants.{SelectFrom, SelectValues, InsertInto, UpdateTable, DeleteFrom}
 use Rattle.sql_builder.proofs.Balance.{is_even-append}
 use Rattle.sql_builder.proofs.OwnSections.{AllOpen, Calm, Ending, Front, clauses_in, clauses-sections, ending-none, ending-semicolon, ending-union, list-back, opening_clauses, read-back, section-clauses, section_pieces, sections-front, with_last}
 use Rattle.sql_builder.proofs.OwnWords.{own-append, laid_from}
-use Rattle.sql_builder.specs.Fitting.{own, are_fit_to_union}
+use Rattle.sql_builder.specs.Fitting.{own, has_fit_fragments}
 use Rattle.sql_builder.specs.Reading.{Clause, piece_clauses, read, stand_with, is_union}
 use Rattle.sql_parts.proofs.Walks.{is_even}
 use Rattle.sql_parts.specs.Fragments.{is_clause_word}
 use Rattle.sql_builder.proofs.Handing.{Each, Joins, PartsAre, before-each, joined, listed}
 use Rattle.sql_builder.proofs.CalmClauses.{CalmParts, calm-brackets, calm-joins, calm-target}
+use Rattle.sql_builder.proofs.Layouts as layouts
+use Rattle.sql_builder.proofs.Shapes.{Inside}
 
 -- a property of pieces that each layout keeps
 pub record Kept (P : Pieces → Type 0) : Type 0 where
@@ -97,14 +99,15 @@ pub record Split (P : Pieces → Type 0) (printed : Pieces) (bodies : List (List
   pub rest : Pieces
   pub is : printed ≡ concat_sections fixed_piece front ++ rest
   pub laid : Laid P front bodies
+  pub inside : Inside (concat_sections fixed_piece front)
   pub ending : Ending rest
 
 -- a statement reads back as its clauses
-pub split-reads : {P : Pieces → Type 0} {printed : Pieces} {bodies : List (List Token)} → Split P printed bodies → are_fit_to_union printed ≡ true → read (pieces_tokens printed) ≡ piece_clauses printed
+pub split-reads : {P : Pieces → Type 0} {printed : Pieces} {bodies : List (List Token)} → Split P printed bodies → has_fit_fragments printed ≡ true → read (tokens (pieces_text printed)) ≡ piece_clauses printed
 split-reads {P = P} split fit =
     let front = concat_sections fixed_piece split.front in
-    ap (λ ps. read (pieces_tokens ps)) split.is
-    ∙ read-back front split.rest (sections-front P split.front split.laid.opens) split.ending (ap are_fit_to_union (sym split.is) ∙ fit)
+    ap (λ ps. read (tokens (pieces_text ps))) split.is
+    ∙ read-back front split.rest (sections-front P split.front split.laid.opens) split.ending split.inside (ap has_fit_fragments (sym split.is) ∙ fit)
     ∙ ap piece_clauses (sym split.is)
 
 pub split-wheres : {P : Pieces → Type 0} {printed : Pieces} {bodies : List (List Token)} → Split P printed bodies → stand_with (codes "WHERE") (piece_clauses printed) ≡ bodies
@@ -173,21 +176,22 @@ module _ (P : Pieces → Type 0) (kept : Kept P) where
   -- ---- statements
 
   -- sections, and the `;` or nothing
-  plain-split : (sections : List (Section Piece)) (tail : Pieces) {bodies : List (List Token)} → Laid P sections bodies → Ending tail → Split P (concat_sections fixed_piece sections ++ tail) bodies
-  plain-split sections tail laid ending = record { front = sections; rest = tail; is = refl; laid = laid; ending = ending }
+  plain-split : (sections : List (Section Piece)) (tail : Pieces) {bodies : List (List Token)} → Laid P sections bodies → Inside (concat_sections fixed_piece sections) → Ending tail → Split P (concat_sections fixed_piece sections ++ tail) bodies
+  plain-split sections tail laid inside ending = record { front = sections; rest = tail; is = refl; laid = laid; inside = inside; ending = ending }
 
   -- DELETE
-  pub delete-split : (tail : Pieces) (r : Clauses Pieces) → PartsAre P Calm r → Ending tail → Split P (concat_sections fixed_piece (delete_sections fixed_piece r) ++ tail) (where_bodies r.groups)
-  delete-split tail r parts ending =
+  pub delete-split : (tail : Pieces) (r : Clauses Pieces) → PartsAre P Calm r → layouts.Parts r → Ending tail → Split P (concat_sections fixed_piece (delete_sections fixed_piece r) ++ tail) (where_bodies r.groups)
+  delete-split tail r parts good ending =
       plain-split (delete_sections fixed_piece r) tail
       (before (section (codes "DELETE FROM ") r.table ∷ []) (where_sections fixed_piece r.groups)
       (one-section (codes "DELETE FROM ") r.table (opening refl (λ ts. refl)) parts.table)
       (where-laid r.groups parts.groups))
+      (layouts.delete-inside r good)
       ending
 
   -- UPDATE
-  pub update-split : (tail : Pieces) (r : Clauses Pieces) → PartsAre P Calm r → Ending tail → Split P (concat_sections fixed_piece (update_sections fixed_piece r) ++ tail) (where_bodies r.groups)
-  update-split tail r parts ending =
+  pub update-split : (tail : Pieces) (r : Clauses Pieces) → PartsAre P Calm r → layouts.Parts r → Ending tail → Split P (concat_sections fixed_piece (update_sections fixed_piece r) ++ tail) (where_bodies r.groups)
+  update-split tail r parts good ending =
       let set = section (codes " SET ") (comma_list fixed_piece r.sets) in
       plain-split (update_sections fixed_piece r) tail
       (before (section (codes "UPDATE ") r.table ∷ []) (set ∷ (where_sections fixed_piece r.groups ++ returning_sections r))
@@ -195,13 +199,15 @@ module _ (P : Pieces → Type 0) (kept : Kept P) where
       (before (set ∷ []) (where_sections fixed_piece r.groups ++ returning_sections r)
       (one-section (codes " SET ") (comma_list fixed_piece r.sets) (opening refl (λ ts. refl)) (listed P kept.joins r.sets parts.sets))
       (behind (where_sections fixed_piece r.groups) (returning_sections r) (where-laid r.groups parts.groups) (returning-laid r parts))))
+      (layouts.update-inside r good)
       ending
 
   -- SELECT of values
-  pub values-split : (tail : Pieces) (r : Clauses Pieces) → PartsAre P Calm r → Ending tail → Split P (concat_sections fixed_piece (values_sections fixed_piece r) ++ tail) []
-  values-split tail r parts ending =
+  pub values-split : (tail : Pieces) (r : Clauses Pieces) → PartsAre P Calm r → layouts.Parts r → Ending tail → Split P (concat_sections fixed_piece (values_sections fixed_piece r) ++ tail) []
+  values-split tail r parts good ending =
       plain-split (values_sections fixed_piece r) tail
       (one-section (codes "SELECT ") (comma_list fixed_piece r.fields) (opening refl (λ ts. refl)) (listed P kept.joins r.fields parts.fields))
+      (layouts.values-inside r good)
       ending
 
   -- INSERT
@@ -210,19 +216,21 @@ module _ (P : Pieces → Type 0) (kept : Kept P) where
       kept.joins.append r.table (fixed_piece (codes " (") ++ (comma_list fixed_piece r.fields ++ fixed_piece (codes ")"))) parts.table
       (kept.target (comma_list fixed_piece r.fields) (listed P kept.joins r.fields parts.fields))
 
-  pub insert-split : (tail : Pieces) (given : Option Pieces) (r : Clauses Pieces) → PartsAre P Calm r → IfSome given P → Ending tail → Split P (concat_sections fixed_piece (insert_sections fixed_piece given r) ++ tail) []
-  insert-split tail None r parts calm ending =
+  pub insert-split : (tail : Pieces) (given : Option Pieces) (r : Clauses Pieces) → PartsAre P Calm r → IfSome given P → layouts.Parts r → IfSome given Inside → Ending tail → Split P (concat_sections fixed_piece (insert_sections fixed_piece given r) ++ tail) []
+  insert-split tail None r parts calm good given ending =
       plain-split (insert_sections fixed_piece None r) tail
       (before (section (codes "INSERT INTO ") (insert_target fixed_piece r) ∷ []) (section (codes " VALUES ") (comma_list fixed_piece r.rows) ∷ returning_sections r)
       (one-section (codes "INSERT INTO ") (insert_target fixed_piece r) (opening refl (λ ts. refl)) (target-kept r parts))
       (before (section (codes " VALUES ") (comma_list fixed_piece r.rows) ∷ []) (returning_sections r)
       (one-section (codes " VALUES ") (comma_list fixed_piece r.rows) (opening refl (λ ts. refl)) (listed P kept.joins r.rows parts.rows))
       (returning-laid r parts)))
+      (layouts.insert-inside None r good given)
       ending
-  insert-split tail (Some rows) r parts calm ending =
+  insert-split tail (Some rows) r parts calm good given ending =
       plain-split (insert_sections fixed_piece (Some rows) r) tail
       (one-section (codes "INSERT INTO ") (insert_target fixed_piece r ++ (fixed_piece (codes " ") ++ rows)) (opening refl (λ ts. refl))
       (kept.joins.append (insert_target fixed_piece r) (fixed_piece (codes " ") ++ rows) (target-kept r parts) (kept.joins.append (fixed_piece (codes " ")) rows (kept.joins.words (codes " ") (record { even = refl; no_word = refl })) calm)))
+      (layouts.insert-inside (Some rows) r good given)
       ending
 
   -- SELECT of a table
@@ -261,9 +269,9 @@ module _ (P : Pieces → Type 0) (kept : Kept P) where
     groups-laid = group_by-laid r.group_fields r.having parts.group_fields parts.having
 
     -- up to the first union
-    at_union : (tail : Pieces) (union : Bool × Pieces) (more : List (Section Piece))
+    at_union : Inside (concat_sections fixed_piece (select ∷ from ∷ grouped)) → (tail : Pieces) (union : Bool × Pieces) (more : List (Section Piece))
         → Split P (concat_sections fixed_piece (select ∷ from ∷ (where_sections fixed_piece r.groups ++ (group_by_sections fixed_piece r.group_fields r.having ++ (section (union_opening union.0) union.1 ∷ more)))) ++ tail) (where_bodies r.groups)
-    at_union tail union more =
+    at_union inside tail union more =
         let front = select ∷ from ∷ grouped in
         let behind_front = section (union_opening union.0) union.1 ∷ more in
         record {
@@ -274,11 +282,28 @@ module _ (P : Pieces → Type 0) (kept : Kept P) where
               ∙ ap (λ ps. ps ++ tail) (flat_map-append section_pieces front behind_front)
               ∙ append_assoc (concat_sections fixed_piece front) (concat_sections fixed_piece behind_front) tail;
           laid = first-laid grouped (behind (where_sections fixed_piece r.groups) (group_by_sections fixed_piece r.group_fields r.having) wheres-laid groups-laid);
+          inside = inside;
           ending = ending-union union.0 ((union.1 ++ concat_sections fixed_piece more) ++ tail);
         }
 
-    pub query-split : (tail : Pieces) → Ending tail → Split P (concat_sections fixed_piece (query_sections fixed_piece r) ++ tail) (where_bodies r.groups)
-    query-split tail ending = by r.unions
+    -- what stands before the first union, and a query without one
+    front-inside : layouts.Parts r → Inside (concat_sections fixed_piece (select ∷ from ∷ grouped))
+    front-inside good =
+        subst (λ gs. Inside (concat_sections fixed_piece (select ∷ from ∷ (where_sections fixed_piece r.groups ++ gs)))) (append-nil (group_by_sections fixed_piece r.group_fields r.having))
+        (layouts.query-inside (record r { unions = []; order_fields = []; limit = None; offset = None }) (record {
+          table = good.table; joins = good.joins; fields = good.fields; sets = good.sets; rows = good.rows; query = good.query; returning = good.returning;
+          group_fields = good.group_fields; having = good.having; groups = good.groups; unions = tt; order_fields = tt; limit = tt; offset = tt;
+        }))
+
+    whole-inside : layouts.Parts r → Inside (concat_sections fixed_piece (select ∷ from ∷ (where_sections fixed_piece r.groups ++ (group_by_sections fixed_piece r.group_fields r.having ++ (order_by_sections fixed_piece [] r.order_fields ++ range_sections r)))))
+    whole-inside good =
+        layouts.query-inside (record r { unions = [] }) (record {
+          table = good.table; joins = good.joins; fields = good.fields; sets = good.sets; rows = good.rows; query = good.query; returning = good.returning;
+          group_fields = good.group_fields; having = good.having; groups = good.groups; unions = tt; order_fields = good.order_fields; limit = good.limit; offset = good.offset;
+        })
+
+    pub query-split : layouts.Parts r → (tail : Pieces) → Ending tail → Split P (concat_sections fixed_piece (query_sections fixed_piece r) ++ tail) (where_bodies r.groups)
+    query-split good tail ending = by r.unions
       where
         by : (unions : List (Bool × Pieces))
             → Split P (concat_sections fixed_piece (select ∷ from ∷ (where_sections fixed_piece r.groups ++ (group_by_sections fixed_piece r.group_fields r.having ++ (union_sections unions ++ (order_by_sections fixed_piece unions r.order_fields ++ range_sections r))))) ++ tail) (where_bodies r.groups)
@@ -290,28 +315,29 @@ module _ (P : Pieces → Type 0) (kept : Kept P) where
             (behind (where_sections fixed_piece r.groups) more wheres-laid
             (before (group_by_sections fixed_piece r.group_fields r.having) (order ++ range_sections r) groups-laid
             (before order (range_sections r) (list-laid (codes " ORDER BY ") r.order_fields (opening refl (λ ts. refl)) parts.order_fields) (range-laid r parts)))))
+            (whole-inside good)
             ending
-        by (u ∷ us) = at_union tail u (union_sections us ++ (order_by_sections fixed_piece (u ∷ us) r.order_fields ++ range_sections r))
+        by (u ∷ us) = at_union (front-inside good) tail u (union_sections us ++ (order_by_sections fixed_piece (u ∷ us) r.order_fields ++ range_sections r))
 
-  statement-split : (kind : Kind) (tail : Pieces) (r : Clauses Pieces) → PartsAre P Calm r → Ending tail → Split P (concat_sections fixed_piece (statement_sections fixed_piece kind r) ++ tail) (kind_bodies kind r)
-  statement-split SelectFrom tail r parts ending = query-split r parts tail ending
-  statement-split SelectValues tail r parts ending = values-split tail r parts ending
-  statement-split InsertInto tail r parts ending = insert-split tail r.query r parts parts.query ending
-  statement-split UpdateTable tail r parts ending = update-split tail r parts ending
-  statement-split DeleteFrom tail r parts ending = delete-split tail r parts ending
+  statement-split : (kind : Kind) (tail : Pieces) (r : Clauses Pieces) → PartsAre P Calm r → layouts.Parts r → Ending tail → Split P (concat_sections fixed_piece (statement_sections fixed_piece kind r) ++ tail) (kind_bodies kind r)
+  statement-split SelectFrom tail r parts good ending = query-split r parts good tail ending
+  statement-split SelectValues tail r parts good ending = values-split tail r parts good ending
+  statement-split InsertInto tail r parts good ending = insert-split tail r.query r parts parts.query good good.query ending
+  statement-split UpdateTable tail r parts good ending = update-split tail r parts good ending
+  statement-split DeleteFrom tail r parts good ending = delete-split tail r parts good ending
 
   -- what `sql`, `query` and `query_values` print
-  pub sql-split : (r : Clauses Pieces) → PartsAre P Calm r → Split P (sql fixed_piece r) (kind_bodies r.kind r)
-  sql-split r parts = statement-split r.kind (fixed_piece (codes ";")) r parts ending-semicolon
+  pub sql-split : (r : Clauses Pieces) → PartsAre P Calm r → layouts.Parts r → Split P (sql fixed_piece r) (kind_bodies r.kind r)
+  sql-split r parts good = statement-split r.kind (fixed_piece (codes ";")) r parts good ending-semicolon
 
   bare-split : (printed : Pieces) (bodies : List (List Token)) → Split P (printed ++ []) bodies → Split P printed bodies
   bare-split printed bodies split = subst (λ ps. Split P ps bodies) (append-nil printed) split
 
-  pub bare_query-split : (r : Clauses Pieces) → PartsAre P Calm r → Split P (query fixed_piece r) (where_bodies r.groups)
-  bare_query-split r parts = bare-split (query fixed_piece r) (where_bodies r.groups) (query-split r parts [] ending-none)
+  pub bare_query-split : (r : Clauses Pieces) → PartsAre P Calm r → layouts.Parts r → Split P (query fixed_piece r) (where_bodies r.groups)
+  bare_query-split r parts good = bare-split (query fixed_piece r) (where_bodies r.groups) (query-split r parts good [] ending-none)
 
-  pub bare_values-split : (r : Clauses Pieces) → PartsAre P Calm r → Split P (query_values fixed_piece r) []
-  bare_values-split r parts = bare-split (query_values fixed_piece r) [] (values-split [] r parts ending-none)
+  pub bare_values-split : (r : Clauses Pieces) → PartsAre P Calm r → layouts.Parts r → Split P (query_values fixed_piece r) []
+  bare_values-split r parts good = bare-split (query_values fixed_piece r) [] (values-split [] r parts good ending-none)
 
 -- ---- the whole of a query, its unions too
 

@@ -1,5 +1,5 @@
 -- Pieces whose own words are laid as those of a statement are read back as their clauses.
-use Rattle.std.proofs.Common.{◌≡◌, refl, sym, ◌∙◌, ap, subst, ℕ, Bool, true, false, not, ◌&&◌, ◌||◌, List, [], ◌∷◌, ◌++◌, map, ℤ, pos, codes, append-nil}
+use Rattle.std.proofs.Common.{◌≡◌, refl, sym, ◌∙◌, ap, subst, ℕ, Bool, true, false, not, ◌&&◌, ◌||◌, List, [], ◌∷◌, ◌++◌, map, ℤ, pos, codes, append-nil, inl, inr}
 use Rattle.std.specs.Prelude.{flat_map}
 use Rattle.std.specs.List.{AllByRecursion, list_all, list_any}
 use Rattle.std.proofs.lemmas.Bool.{and_parts, and_from, or_parts, or_from, false≢true, not-true}
@@ -9,14 +9,14 @@ use Rattle.sql_parts.specs.Tokens.{Token, Word, is_open, is_semicolon, tokens, b
 use Rattle.sql_builder.specs.Filters.{until}
 use Rattle.sql_builder.specs.Layout.{Section, concat_sections, union_opening}
 use Rattle.sql_builder.specs.Shape.{pieces_tokens}
-use Rattle.sql_builder.specs.Text.{Piece, Pieces, Fixed, Quoted, Raw, fixed_piece}
+use Rattle.sql_builder.specs.Text.{Piece, Pieces, Fixed, Quoted, Raw, fixed_piece, pieces_text}
 use Rattle.sql_builder.proofs.Balance.{even_closes, is_even-append}
 use Rattle.sql_builder.proofs.Joining.{placed-then}
-use Rattle.sql_builder.specs.Fitting.{own, begins_union, are_fit_to_union, own_tokens}
-use Rattle.sql_builder.proofs.OwnWords.{fit-balanced, fit-marks, laid-both, laid-plain, laid_from, Mark, marks, own-append, same-parts, shape-even, stays-closes, are_fit_from, is_fit, are_fit-is}
+use Rattle.sql_builder.specs.Fitting.{own, begins_union, has_fit_fragments, own_tokens}
+use Rattle.sql_builder.proofs.OwnWords.{fit-balanced, fit-marks, laid-both, laid-plain, laid_from, Mark, marks, own-append, same-parts, shape-even, stays-closes, are_fit_from, is_fit, are_fit-is, fragments_closed}
 use Rattle.sql_builder.proofs.Placing.{at_end-closes}
 use Rattle.sql_builder.proofs.ReadTokens.{not_union, semicolon-later, semicolon-none, semicolon-one}
-use Rattle.sql_builder.proofs.Shapes.{pieces_tokens-append}
+use Rattle.sql_builder.proofs.Shapes.{Follows, Inside, text-append}
 use Rattle.sql_builder.specs.Parts.{Parts, before_outer, parts_at, with_front}
 use Rattle.sql_builder.specs.Reading.{Clause, piece_clauses, ends_clauses, is_union, own_placed, read, without_semicolon}
 use Rattle.sql_parts.proofs.Walks.{at_end, closes_from, has_outer, is_even, placed, placed-is}
@@ -142,12 +142,14 @@ until-behind (Raw text ∷ a) b none = ap (λ ps. Raw text ∷ ps) (until-behind
 
 -- what stands behind the clauses that are read: nothing, the `;`, or a UNION and whatever follows it
 pub record Ending (rest : Pieces) : Type 0 where
-  pub cut : (a : List Token) → list_all is_whole a ≡ true → (r : List Token) × (without_semicolon (a ++ pieces_tokens rest) ≡ a ++ r) × (before_outer is_union (placed r) ≡ [])
+  pub follows : Follows (pieces_text rest)
+  pub cut : (a : List Token) → list_all is_whole a ≡ true → (r : List Token) × (without_semicolon (a ++ tokens (pieces_text rest)) ≡ a ++ r) × (before_outer is_union (placed r) ≡ [])
   pub ends : before_outer ends_clauses (flat_map own_placed rest) ≡ []
   pub until_fits : (l : ℤ) → are_fit_from l (until begins_union rest) ≡ true
 
 pub ending-none : Ending []
 ending-none = record {
+  follows = inl refl;
   cut = λ a whole. ([], ap without_semicolon (append-nil a) ∙ semicolon-none a whole ∙ sym (append-nil a), refl);
   ends = refl;
   until_fits = λ l. refl;
@@ -155,6 +157,7 @@ ending-none = record {
 
 pub ending-semicolon : Ending (fixed_piece (codes ";"))
 ending-semicolon = record {
+  follows = inr refl;
   cut = λ a whole. ([], semicolon-one a ∙ sym (append-nil a), refl);
   ends = refl;
   until_fits = λ l. refl;
@@ -162,12 +165,14 @@ ending-semicolon = record {
 
 pub ending-union : (all : Bool) (more : Pieces) → Ending (Fixed (union_opening all) ∷ more)
 ending-union true more = record {
-  cut = λ a whole. let found = semicolon-later a (Word (codes "UNION")) (Word (codes "ALL") ∷ pieces_tokens more) refl in (Word (codes "UNION") ∷ found.0, found.1, refl);
+  follows = inr refl;
+  cut = λ a whole. let found = semicolon-later a (Word (codes "UNION")) (Word (codes "ALL") ∷ tokens (pieces_text more)) refl in (Word (codes "UNION") ∷ found.0, found.1, refl);
   ends = refl;
   until_fits = λ l. refl;
 }
 ending-union false more = record {
-  cut = λ a whole. let found = semicolon-later a (Word (codes "UNION")) (pieces_tokens more) refl in (Word (codes "UNION") ∷ found.0, found.1, refl);
+  follows = inr refl;
+  cut = λ a whole. let found = semicolon-later a (Word (codes "UNION")) (tokens (pieces_text more)) refl in (Word (codes "UNION") ∷ found.0, found.1, refl);
   ends = refl;
   until_fits = λ l. refl;
 }
@@ -186,12 +191,12 @@ module _ (front rest : Pieces) (is : Front (own front)) (ending : Ending rest) w
       (before-append ends_clauses (flat_map own_placed front) (flat_map own_placed rest) (own-outer ends_clauses front ∙ none-ends (own front) whole is.no_union)
       ∙ ap (λ ms. flat_map own_placed front ++ ms) ending.ends ∙ append-nil (flat_map own_placed front))
 
-  fit-front : are_fit_to_union (front ++ rest) ≡ true → are_fit_from (pos 0) front ≡ true
+  fit-front : has_fit_fragments (front ++ rest) ≡ true → are_fit_from (pos 0) front ≡ true
   fit-front fit =
       fit-left (pos 0) front (until begins_union rest)
       (ap (are_fit_from (pos 0)) (sym (until-behind front rest is.no_union)) ∙ sym (are_fit-is (until begins_union (front ++ rest))) ∙ fit)
 
-  read-front : are_fit_from (pos 0) front ≡ true → read (pieces_tokens (front ++ rest)) ≡ clauses_in front
+  read-front : are_fit_from (pos 0) front ≡ true → read (pieces_tokens front ++ tokens (pieces_text rest)) ≡ clauses_in front
   unfolding read
   read-front fit =
       let same = fit-marks (pos 0) front refl fit is.laid in
@@ -199,7 +204,7 @@ module _ (front rest : Pieces) (is : Front (own front)) (ending : Ending rest) w
       let both = and_parts (list_all is_whole (pieces_tokens front)) (closes_from (pos 0) (pieces_tokens front)) even in
       let found = ending.cut (pieces_tokens front) both.0 in
       let no_union : has_outer is_union (pieces_tokens front) ≡ false = union-marks (placed (pieces_tokens front)) ∙ ap any_union same ∙ sym (union-marks (flat_map own_placed front)) ∙ own-outer is_union front ∙ is.no_union in
-      ap (λ us. (parts_at is_clause_word (before_outer is_union (fragments.placed us))).rest) (ap without_semicolon (pieces_tokens-append front rest) ∙ found.1)
+      ap (λ us. (parts_at is_clause_word (before_outer is_union (fragments.placed us))).rest) found.1
       ∙ ap (λ ms. (parts_at is_clause_word (before_outer is_union ms)).rest) (placed-is (pieces_tokens front ++ found.0))
       ∙ ap (λ ms. (parts_at is_clause_word (before_outer is_union ms)).rest) (placed-then (pieces_tokens front) found.0 (at_end-closes (pos 0) (pieces_tokens front) both.1))
       ∙ ap (λ ms. (parts_at is_clause_word ms).rest)
@@ -208,8 +213,11 @@ module _ (front rest : Pieces) (is : Front (own front)) (ending : Ending rest) w
       ∙ ap (λ (ps : Parts). ps.rest) (same-parts (placed (pieces_tokens front)) (flat_map own_placed front) same)
 
   -- what is printed reads back as its clauses
-  pub read-back : are_fit_to_union (front ++ rest) ≡ true → read (pieces_tokens (front ++ rest)) ≡ piece_clauses (front ++ rest)
-  read-back fit = read-front (fit-front fit) ∙ sym list-back
+  pub read-back : Inside front → has_fit_fragments (front ++ rest) ≡ true → read (tokens (pieces_text (front ++ rest))) ≡ piece_clauses (front ++ rest)
+  read-back inside fit =
+      let fits = fit-front fit in
+      let shut = fragments_closed front (fit-balanced (pos 0) front fits) in
+      ap read (ap tokens (text-append front rest) ∙ inside.reads shut (pieces_text rest) ending.follows) ∙ read-front fits ∙ sym list-back
 
 -- ---- sections
 

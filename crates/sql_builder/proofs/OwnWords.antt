@@ -7,13 +7,13 @@ use Rattle.std.proofs.lemmas.Grind.{flat_map-append}
 use Rattle.std.proofs.lemmas.List.Folds.{list_all-append}
 use Rattle.std.proofs.Math.IntN.{suc_ℤ}
 use Rattle.sql_parts.specs.Tokens.{Token, Str, tokens}
-use Rattle.sql_builder.specs.Shape.{pieces_tokens}
+use Rattle.sql_builder.specs.Shape.{pieces_tokens, has_closed_fragments}
 use Rattle.sql_builder.specs.Text.{Pieces, Fixed, Quoted, Raw, Piece}
 use Rattle.sql_builder.proofs.Placing.{after-suc, at_end-append, at_end-closes, at_end-suc, placed_from-append}
 use Rattle.sql_builder.proofs.Splitting.{tokens-placed_from}
-use Rattle.sql_builder.proofs.Balance.{high, balanced_even, even_text}
+use Rattle.sql_builder.proofs.Balance.{high, balanced_even, even_text, balanced_closed}
 use Rattle.sql_builder.proofs.WhereTokens.{has_clause}
-use Rattle.sql_builder.specs.Fitting.{is_balanced_piece, own_tokens, are_fit, are_fit_behind, is_fit_behind, own}
+use Rattle.sql_builder.specs.Fitting.{is_balanced_piece, own_tokens, are_fit, are_fit_behind, is_fit_behind, own, has_balanced_fragments}
 use Rattle.sql_builder.specs.Parts.{Parts, parts_at, with_front}
 use Rattle.sql_builder.specs.Reading.{own_placed}
 use Rattle.sql_parts.proofs.Walks.{after, at_end, closes_from, is_at_least_0, is_balanced, is_even, is_zero, placed, placed_from, end-is, has_outer-is, is_balanced-is}
@@ -276,3 +276,12 @@ shape-even ps all even =
     let both = and_parts (list_all is_whole (own ps)) (closes_from (pos 0) (own ps)) even in
     let levels = shape-levels (pos 0) ps refl all (stays-closes (pos 0) (own ps) both.1) in
     and_from _ _ (shape-whole ps all both.0) (closes-stays (pos 0) (pieces_tokens ps) levels.0 (levels.1 ∙ at_end-closes (pos 0) (own ps) both.1))
+
+-- each fragment is closed
+pub fragments_closed : (ps : Pieces) → has_balanced_fragments ps ≡ true → has_closed_fragments ps ≡ true
+fragments_closed [] all = refl
+fragments_closed (Fixed text ∷ ps) all = fragments_closed ps all
+fragments_closed (Quoted text ∷ ps) all = fragments_closed ps all
+fragments_closed (Raw text ∷ ps) all =
+    let both = and_parts (balanced text) (list_all is_balanced_piece ps) all in
+    and_from _ _ (balanced_closed text both.0) (fragments_closed ps both.1)

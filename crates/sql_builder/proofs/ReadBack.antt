@@ -1,22 +1,22 @@
 -- What is printed reads back, and its WHERE is true as the conditions make it.
 use Rattle.std.proofs.Common.{◌≡◌, refl, ◌∙◌, ap, true, List, ℕ, Option, None, Some, Result, Ok, Err, IfOk, String, string_bytes, codes, map, sym}
-use Rattle.std.proofs.lemmas.Bool.{false≢true, and_parts}
+use Rattle.std.proofs.lemmas.Bool.{false≢true}
 use Rattle.sql_parts.specs.declared.error.SqlBuilderError.{SqlBuilderError}
 use Rattle.sql_builder.specs.Builder.{ClauseTexts}
 use Rattle.sql_builder.specs.Calls.{CallText, FinishText, StartText, Sql, Query, QueryValues, Subquery, SubqueryAs, clauses, kind_of}
 use Rattle.sql_builder.specs.Clauses.{Clauses, map_clauses}
 use Rattle.sql_builder.specs.Layout.{byte_atoms, query, query_values, sql, subquery, subquery_as}
-use Rattle.sql_builder.specs.Shape.{HasShape, as_fragments, pieces_tokens, has_closed_fragments}
-use Rattle.sql_builder.specs.Statement.{layout_at, pieces, refusal_at, statement, unless_refused, text_unless_refused}
+use Rattle.sql_builder.specs.Shape.{HasShape, as_fragments}
+use Rattle.sql_builder.specs.Statement.{layout_at, pieces, refusal_at, statement, unless_refused, text_unless_refused, text_at}
 use Rattle.sql_builder.specs.Text.{Pieces, fixed_piece, pieces_text, raw_piece}
 use Rattle.sql_builder.specs.declared.clauses.Kind.{Kind}
 use Rattle.sql_builder.specs.declared.clauses.Kind.TheVariants.{SelectFrom, SelectValues, InsertInto, UpdateTable, DeleteFrom}
-use Rattle.sql_builder.proofs.ClauseShapes.{printed-shaped}
-use Rattle.sql_builder.proofs.Layouts.{query_shape, query_values_shape, sql_shape, subquery_as_shape, subquery_shape}
+use Rattle.sql_builder.proofs.ClauseShapes.{printed-shaped, clauses-parts}
+use Rattle.sql_builder.proofs.Layouts.{query_shape, subquery_as_shape, subquery_shape, fragments-printed, raw-parts}
 use Rattle.sql_builder.proofs.CalmClauses.{clauses-calm, raw-calm, CalmParts}
 use Rattle.sql_builder.proofs.OwnLayouts.{calm-kept, bare_query-split, bare_values-split, kind_bodies, split-reads, split-wheres, sql-split, where_bodies}
 use Rattle.sql_builder.proofs.WhereGroups.{calls-true, texts-true}
-use Rattle.sql_builder.specs.Fitting.{are_fit_to_union, has_fit_fragments, has_fit_conditions, has_balanced_fragments}
+use Rattle.sql_builder.specs.Fitting.{has_fit_fragments, has_fit_conditions, has_balanced_fragments}
 use Rattle.sql_builder.specs.Meaning.{HasTruthOfGroups, is_unenclosed, prints_where, HasBalancedFragments, HasFitFragments, IsTrueAs, Nests, ReadsBack, condition_groups, is_nested}
 use Rattle.sql_builder.specs.Reading.{piece_clauses, read, stand_with, clause_list}
 use Rattle.sql_builder.specs.Truths.{truth}
@@ -26,19 +26,20 @@ use Rattle.sql_builder.proofs.Nesting.{nests}
 use Rattle.sql_parts.specs.Tokens.{tokens}
 use Rattle.sql_builder.proofs.OwnSections.{Calm}
 use Rattle.sql_builder.specs.Laws.{StatementsReadBack}
+use Rattle.sql_builder.proofs.Layouts as layouts
 
 -- the pieces that a finish prints
 abbrev pub layout : FinishText → Clauses Pieces → Pieces
 layout finish r = layout_at fixed_piece raw_piece finish r
 
 -- they read back as their clauses
-pub layout-reads : (finish : FinishText) (r : Clauses Pieces) → CalmParts r → is_unenclosed finish ≡ true → are_fit_to_union (layout finish r) ≡ true
-    → read (pieces_tokens (layout finish r)) ≡ piece_clauses (layout finish r)
-layout-reads Sql r parts bare fit = split-reads (sql-split Calm calm-kept r parts) fit
-layout-reads Query r parts bare fit = split-reads (bare_query-split Calm calm-kept r parts) fit
-layout-reads QueryValues r parts bare fit = split-reads (bare_values-split Calm calm-kept r parts) fit
-layout-reads Subquery r parts bare fit = absurd (false≢true bare)
-layout-reads (SubqueryAs name) r parts bare fit = absurd (false≢true bare)
+pub layout-reads : (finish : FinishText) (r : Clauses Pieces) → CalmParts r → layouts.Parts r → is_unenclosed finish ≡ true → has_fit_fragments (layout finish r) ≡ true
+    → read (tokens (pieces_text (layout finish r))) ≡ piece_clauses (layout finish r)
+layout-reads Sql r parts good bare fit = split-reads (sql-split Calm calm-kept r parts good) fit
+layout-reads Query r parts good bare fit = split-reads (bare_query-split Calm calm-kept r parts good) fit
+layout-reads QueryValues r parts good bare fit = split-reads (bare_values-split Calm calm-kept r parts good) fit
+layout-reads Subquery r parts good bare fit = absurd (false≢true bare)
+layout-reads (SubqueryAs name) r parts good bare fit = absurd (false≢true bare)
 
 -- what stands with WHERE there
 kind-wheres : (kind : Kind) (r : Clauses Pieces) → prints_where Sql kind ≡ true → kind_bodies kind r ≡ where_bodies r.groups
@@ -55,28 +56,22 @@ sql-bare QueryValues kind prints = refl
 sql-bare Subquery kind prints = absurd (false≢true prints)
 sql-bare (SubqueryAs name) kind prints = absurd (false≢true prints)
 
-pub layout-wheres : (finish : FinishText) (r : Clauses Pieces) → CalmParts r → prints_where finish r.kind ≡ true
+pub layout-wheres : (finish : FinishText) (r : Clauses Pieces) → CalmParts r → layouts.Parts r → prints_where finish r.kind ≡ true
     → stand_with (codes "WHERE") (piece_clauses (layout finish r)) ≡ where_bodies r.groups
-layout-wheres Sql r parts prints = split-wheres (sql-split Calm calm-kept r parts) ∙ kind-wheres r.kind r prints
-layout-wheres Query r parts prints = split-wheres (bare_query-split Calm calm-kept r parts)
-layout-wheres QueryValues r parts prints = absurd (false≢true prints)
-layout-wheres Subquery r parts prints = absurd (false≢true prints)
-layout-wheres (SubqueryAs name) r parts prints = absurd (false≢true prints)
+layout-wheres Sql r parts good prints = split-wheres (sql-split Calm calm-kept r parts good) ∙ kind-wheres r.kind r prints
+layout-wheres Query r parts good prints = split-wheres (bare_query-split Calm calm-kept r parts good)
+layout-wheres QueryValues r parts good prints = absurd (false≢true prints)
+layout-wheres Subquery r parts good prints = absurd (false≢true prints)
+layout-wheres (SubqueryAs name) r parts good prints = absurd (false≢true prints)
 
-layout-true : (finish : FinishText) (r : Clauses Pieces) → CalmParts r → prints_where finish r.kind ≡ true → are_fit_to_union (layout finish r) ≡ true
-    → stand_with (codes "WHERE") (read (pieces_tokens (layout finish r))) ≡ where_bodies r.groups
-layout-true finish r parts prints fit = ap (stand_with (codes "WHERE")) (layout-reads finish r parts (sql-bare finish r.kind prints) fit) ∙ layout-wheres finish r parts prints
+-- ---- a text of the pieces
 
--- ---- a text that has the tokens of the pieces
-
-module _ (finish : FinishText) (r : Clauses Pieces) (parts : CalmParts r) (text : List ℕ) (shaped : HasShape (layout finish r) text) where
+module _ (finish : FinishText) (r : Clauses Pieces) (parts : CalmParts r) (good : layouts.Parts r) (text : List ℕ) (is : text ≡ pieces_text (layout finish r)) where
   text-reads : is_unenclosed finish ≡ true → ReadsBack (layout finish r) text
-  text-reads bare fit =
-      let both = and_parts (has_closed_fragments (layout finish r)) (are_fit_to_union (layout finish r)) fit in
-      ap read (shaped both.0) ∙ layout-reads finish r parts bare both.1
+  text-reads bare fit = ap read (ap tokens is) ∙ layout-reads finish r parts good bare fit
 
   text-wheres : prints_where finish r.kind ≡ true → has_fit_fragments (layout finish r) ≡ true → stand_with (codes "WHERE") (read (tokens text)) ≡ where_bodies r.groups
-  text-wheres prints fit = ap (stand_with (codes "WHERE")) (text-reads (sql-bare finish r.kind prints) fit) ∙ layout-wheres finish r parts prints
+  text-wheres prints fit = ap (stand_with (codes "WHERE")) (text-reads (sql-bare finish r.kind prints) fit) ∙ layout-wheres finish r parts good prints
 
 -- ---- a list of calls
 
@@ -90,20 +85,23 @@ module _ (start : StartText) (calls : List CallText) (finish : FinishText) where
   abbrev refused : Option SqlBuilderError
   refused = refusal_at finish (map_clauses pieces_text said)
 
-  pub printed-tokens : (text : List ℕ) → text_unless_refused (Ok (layout finish said)) ≡ Ok text → HasShape (layout finish said) text
+  text-is : (text : List ℕ) → text_unless_refused (Ok (layout finish said)) ≡ Ok text → text ≡ pieces_text (layout finish said)
+  text-is text is = let same : pieces_text (layout finish said) ≡ text = cc is in sym same
+
+  printed-tokens : (text : List ℕ) → text_unless_refused (Ok (layout finish said)) ≡ Ok text → HasShape (layout finish said) text
   printed-tokens text is = let same : pieces_text (layout finish said) ≡ text = cc is in λ all. ap tokens (sym same) ∙ (printed-shaped start calls finish).shape_is all
 
   any-reads : (refusal : Option SqlBuilderError) (text : List ℕ) → text_unless_refused (printed refusal) ≡ Ok text
       → is_unenclosed finish ≡ true → IfOk (printed refusal) (λ ps. IsTrue (has_fit_fragments ps))
       → result_map_both piece_clauses (λ e. e) (printed refusal) ≡ Ok (read (tokens text))
-  any-reads None text is bare fit = ap Ok (sym (text-reads finish said (clauses-calm start calls) text (printed-tokens text is) bare fit))
+  any-reads None text is bare fit = ap Ok (sym (text-reads finish said (clauses-calm start calls) (clauses-parts start calls) text (text-is text is) bare fit))
   any-reads (Some refusal) text is bare fit = cc is
 
   any-true : (refusal : Option SqlBuilderError) (text : List ℕ) → text_unless_refused (printed refusal) ≡ Ok text
       → prints_where finish (kind_of start) ≡ true → IfOk (printed refusal) (λ ps. IsTrue (has_fit_fragments ps)) → has_fit_conditions calls ≡ true
       → IsTrueAs (condition_groups calls) text
   any-true None text is prints fit fit_conditions = λ facts.
-      ap (map (truth facts)) (text-wheres finish said (clauses-calm start calls) text (printed-tokens text is) prints fit) ∙ calls-true facts calls fit_conditions
+      ap (map (truth facts)) (text-wheres finish said (clauses-calm start calls) (clauses-parts start calls) text (text-is text is) prints fit) ∙ calls-true facts calls fit_conditions
   any-true (Some refusal) text is prints fit fit_conditions = λ facts. cc is
 
   any-nests : (refusal : Option SqlBuilderError) (text : List ℕ) → text_unless_refused (printed refusal) ≡ Ok text
@@ -142,27 +140,33 @@ module _ (r : ClauseTexts) (text : List ℕ) where
   abbrev told : FinishText → Pieces
   told finish = layout finish (as_fragments r)
 
-  builder-true : (finish : FinishText) → HasShape (told finish) text → HasTruthOfGroups finish r (told finish) text
-  builder-true finish shaped = λ prints fit fit_groups facts.
-      ap (map (truth facts)) (text-wheres finish (as_fragments r) (raw-calm r) text shaped prints fit) ∙ texts-true facts r fit_groups
+  builder-is : (finish : FinishText) → text ≡ text_at finish r → text ≡ pieces_text (told finish)
+  builder-is finish is = is ∙ sym (fragments-printed finish r)
+
+  builder-reads : (finish : FinishText) → is_unenclosed finish ≡ true → text ≡ text_at finish r → ReadsBack (told finish) text
+  builder-reads finish bare is = text-reads finish (as_fragments r) (raw-calm r) (raw-parts r) text (builder-is finish is) bare
+
+  builder-true : (finish : FinishText) → text ≡ text_at finish r → HasTruthOfGroups finish r (told finish) text
+  builder-true finish is = λ prints fit fit_groups facts.
+      ap (map (truth facts)) (text-wheres finish (as_fragments r) (raw-calm r) (raw-parts r) text (builder-is finish is) prints fit) ∙ texts-true facts r fit_groups
 
   pub sql_clauses : text ≡ sql byte_atoms r → ReadsBack (sql fixed_piece (as_fragments r)) text
-  sql_clauses is = text-reads Sql (as_fragments r) (raw-calm r) text (sql_shape r text is) refl
+  sql_clauses is = builder-reads Sql refl is
 
   pub sql_truth : text ≡ sql byte_atoms r → HasTruthOfGroups Sql r (sql fixed_piece (as_fragments r)) text
-  sql_truth is = builder-true Sql (sql_shape r text is)
+  sql_truth is = builder-true Sql is
 
   pub query_clauses : text ≡ query byte_atoms r → ReadsBack (query fixed_piece (as_fragments r)) text
-  query_clauses is = text-reads Query (as_fragments r) (raw-calm r) text (query_shape r text is) refl
+  query_clauses is = builder-reads Query refl is
 
   pub query_truth : text ≡ query byte_atoms r → HasTruthOfGroups Query r (query fixed_piece (as_fragments r)) text
-  query_truth is = builder-true Query (query_shape r text is)
+  query_truth is = builder-true Query is
 
   pub query_nests : text ≡ query byte_atoms r → Nests Query (query fixed_piece (as_fragments r)) text
   query_nests is = nests (as_fragments r) (raw-calm r) Query text (query_shape r text is)
 
   pub query_values_clauses : text ≡ query_values byte_atoms r → ReadsBack (query_values fixed_piece (as_fragments r)) text
-  query_values_clauses is = text-reads QueryValues (as_fragments r) (raw-calm r) text (query_values_shape r text is) refl
+  query_values_clauses is = builder-reads QueryValues refl is
 
   pub subquery_nests : text ≡ subquery byte_atoms r → Nests Subquery (subquery fixed_piece (as_fragments r)) text
   subquery_nests is = nests (as_fragments r) (raw-calm r) Subquery text (subquery_shape r text is)

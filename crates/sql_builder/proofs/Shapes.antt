@@ -49,7 +49,7 @@ pub record Ended (ps : Pieces) : Type 0 where
 pub record Behind (ps : Pieces) : Type 0 where
   pub follows : (text : List ℕ) → Follows text → Follows (pieces_text ps ++ text)
 
-text-append : (x y : Pieces) → pieces_text (x ++ y) ≡ pieces_text x ++ pieces_text y
+pub text-append : (x y : Pieces) → pieces_text (x ++ y) ≡ pieces_text x ++ pieces_text y
 text-append x y = flat_map-append piece_text x y
 
 pub pieces_tokens-append : (x y : Pieces) → pieces_tokens (x ++ y) ≡ pieces_tokens x ++ pieces_tokens y

@@ -9,7 +9,6 @@ use Rattle.sql_builder.specs.Calls.{CallText, FinishText, StartText, condition_i
 use Rattle.sql_builder.specs.Conditions.{ConditionText, Raw, Compare, Like, IsNull, IsNotNull, InList, InQuoted, InQuery, Between}
 use Rattle.sql_builder.specs.Filters.{until}
 use Rattle.sql_builder.specs.Reading.{is_union}
-use Rattle.sql_builder.specs.Shape.{has_closed_fragments}
 use Rattle.sql_builder.specs.Text as text
 use Rattle.sql_builder.specs.Text.{Piece, Pieces, Fixed, raw_piece}
 
@@ -47,12 +46,8 @@ begins_union (Fixed text) = list_any is_union (tokens text)
 begins_union _ = false
 
 -- each fragment before the first UNION is fit
-abbrev pub are_fit_to_union : Pieces → Bool
-are_fit_to_union printed = are_fit (until begins_union printed)
-
--- each fragment is closed, and before the first UNION fit
 abbrev pub has_fit_fragments : Pieces → Bool
-has_fit_fragments printed = has_closed_fragments printed && are_fit_to_union printed
+has_fit_fragments printed = are_fit (until begins_union printed)
 
 -- the fragments of each condition are fit, by the brackets that the condition itself has
 abbrev pub has_fit_conditions : List CallText → Bool

@@ -24,11 +24,11 @@ is_unenclosed Subquery = false
 is_unenclosed (SubqueryAs name) = false
 is_unenclosed _ = true
 
--- where its fragments are closed, and before the first UNION fit, a text reads back as the clauses of these pieces
+-- where its fragments before the first UNION are fit, a text reads back as the clauses of these pieces
 abbrev pub ReadsBack : Pieces → List ℕ → Type 0
 ReadsBack printed text = IsTrue (has_fit_fragments printed) → read (tokens text) ≡ piece_clauses printed
 
--- each fragment that is printed is closed, and before the first UNION fit
+-- each fragment that is printed before the first UNION is fit
 abbrev pub HasFitFragments : StartText → List CallText → FinishText → Type 0
 HasFitFragments start calls finish = IfOk (pieces start calls finish) (λ printed. IsTrue (has_fit_fragments printed))
 
