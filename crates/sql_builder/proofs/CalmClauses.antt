@@ -7,7 +7,8 @@ use Rattle.std.proofs.lemmas.List.Folds.{list_any-append}
 use Rattle.sql_parts.specs.Fragments.{is_clause_word}
 use Rattle.sql_parts.specs.Tokens.{Token}
 use Rattle.sql_parts.proofs.Walks.{is_even}
-use Rattle.sql_builder.specs.Calls.{CallText, StartText, clauses, condition_pieces}
+use Rattle.sql_builder.specs.Calls as call
+use Rattle.sql_builder.specs.Calls.{CallText, StartText, clauses, condition_pieces, start_fields}
 use Rattle.sql_builder.specs.Clauses.{Clauses, map_clauses}
 use Rattle.sql_builder.specs.Conditions.{ConditionText, not_text}
 use Rattle.sql_builder.specs.Fitting.{Handed, call_texts, condition_texts, own, start_texts}
@@ -66,7 +67,7 @@ raws texts = map-all Calm raw_piece calm-raw texts
 abbrev any : Handed → Bool
 any text = true
 
-calm-takes : Takes any Calm Calm
+calm-takes : Takes false any Calm Calm Calm
 calm-takes = record {
   joins = calm-joins;
   bare = λ text h. calm-raw text;
@@ -75,6 +76,7 @@ calm-takes = record {
   in_list = λ negated values h. calm-in negated (comma_list fixed_piece (map raw_piece values)) (calm-list (map raw_piece values) (raws values));
   in_quoted = λ negated values. calm-in negated (comma_list fixed_piece (map quoted_piece values)) (calm-list (map quoted_piece values) (map-all Calm quoted_piece calm-quoted values));
   in_query = λ negated query h. calm-in negated (raw_piece query) (calm-raw query);
+  field = λ field h. calm-raw field;
   count = λ field h. record { even = refl; no_word = refl };
   count_as = λ field name h k. record { even = refl; no_word = refl };
   union = λ query h. calm-raw query;
@@ -84,18 +86,18 @@ all-any : (texts : List Handed) → list_all any texts ≡ true
 all-any [] = refl
 all-any (text ∷ texts) = all-any texts
 
-calls-any : (calls : List CallText) → list_all (λ c. list_all any (call_texts c)) calls ≡ true
+calls-any : (calls : List CallText) → list_all (λ c. list_all any (call_texts false c)) calls ≡ true
 calls-any [] = refl
-calls-any (c ∷ calls) = and_from _ _ (all-any (call_texts c)) (calls-any calls)
+calls-any (c ∷ calls) = and_from _ _ (all-any (call_texts false c)) (calls-any calls)
 
 pub condition-calm : (condition : ConditionText) → Calm (condition_pieces condition)
-condition-calm condition = condition-kept any Calm Calm calm-takes condition (all-any (condition_texts condition))
+condition-calm condition = condition-kept false any Calm Calm Calm calm-takes condition (all-any (condition_texts condition))
 
 abbrev pub CalmParts : Clauses Pieces → Type 0
-CalmParts r = PartsAre Calm Calm r
+CalmParts r = PartsAre Calm Calm Calm r
 
 pub clauses-calm : (start : StartText) (calls : List CallText) → CalmParts (clauses start calls)
-clauses-calm start calls = clauses-kept any Calm Calm calm-takes start calls (all-any (start_texts start)) (calls-any calls)
+clauses-calm start calls = clauses-kept false any Calm Calm Calm calm-takes start calls (all-any (start_texts start)) (all-any (call_texts false (call.SetFields (start_fields start)))) (calls-any calls)
 
 -- the clauses of a builder
 some-raw : (text : Option (List ℕ)) → IfSome (option_map raw_piece text) Calm

@@ -8,11 +8,11 @@ use Rattle.sql_parts.specs.Fragments.{balanced, has_clause_word, is_clause_word}
 use Rattle.sql_parts.specs.Tokens.{Token, tokens}
 use Rattle.sql_parts.specs.declared.error.SqlBuilderError.{SqlBuilderError}
 use Rattle.sql_parts.proofs.Walks.{at_end, has_outer-is, is_balanced, is_balanced-is, is_zero}
-use Rattle.sql_builder.specs.Calls.{CallText, FinishText, StartText, Sql, Query, QueryValues, Subquery, SubqueryAs, Cond, clauses, condition_pieces}
+use Rattle.sql_builder.specs.Calls.{CallText, FinishText, StartText, SelectFrom, SelectValues, InsertInto, UpdateTable, DeleteFrom, Sql, Query, QueryValues, Subquery, SubqueryAs, Cond, SetFields, clauses, condition_pieces, start_fields}
 use Rattle.sql_builder.specs.Clauses.{Clauses}
 use Rattle.sql_builder.specs.Conditions.{not_text}
 use Rattle.sql_builder.specs.Filters.{until}
-use Rattle.sql_builder.specs.Fitting.{Bare, Enclosed, are_fit, has_fit_fragments, begins_union, call_texts, finish_texts, has_balanced_fragments, has_fit_conditions, has_fit_texts, is_fit, own, own_tokens, start_texts}
+use Rattle.sql_builder.specs.Fitting.{Bare, Enclosed, are_fit, has_fit_fragments, begins_union, call_texts, encloses_fields, field_text, finish_texts, has_balanced_fragments, has_fit_conditions, has_fit_texts, is_fit, own, own_tokens, start_texts}
 use Rattle.sql_builder.specs.Laws.{FitTextsMakeBalancedFragments, FitTextsMakeFitConditions, FitTextsMakeFitFragments}
 use Rattle.sql_builder.specs.Layout.{Section, concat_sections, fields_or_star, group_by_sections, insert_sections, insert_target, list_sections, optional_section, order_by_sections, query, query_sections, range_sections, returning_sections, statement_sections, union_sections, values_sections, where_sections}
 use Rattle.sql_builder.specs.Meaning.{is_unenclosed}
@@ -21,14 +21,14 @@ use Rattle.sql_builder.specs.Statement.{unless_refused}
 use Rattle.sql_builder.specs.Text as printed
 use Rattle.sql_builder.specs.Text.{Piece, Pieces, fixed_piece, quoted_piece, raw_piece}
 use Rattle.sql_builder.specs.declared.clauses.Kind.{Kind}
-use Rattle.sql_builder.specs.declared.clauses.Kind.TheVariants.{SelectFrom, SelectValues, InsertInto, UpdateTable, DeleteFrom}
+use Rattle.sql_builder.specs.declared.clauses.Kind.TheVariants as kind
 use Rattle.sql_builder.proofs.Balance.{is_even-append}
 use Rattle.sql_builder.proofs.CalmClauses.{calm-append, calm-brackets, calm-none, calm-raw}
 use Rattle.sql_builder.proofs.Each.{append-all}
 use Rattle.sql_builder.proofs.Handing.{Each, Joins, PartsAre, Takes, before-each, clauses-kept, condition-kept, joined, listed}
 use Rattle.sql_builder.proofs.OwnWords.{are_fit-is, are_fit_from, even-ends, or_so}
-use Rattle.sql_builder.proofs.OwnLayouts.{Kept, Split, bare_query-split, bare_values-split, sql-split}
-use Rattle.sql_builder.proofs.OwnSections.{AllOpen, Calm, Opens, section_pieces, sections-front, until-behind}
+use Rattle.sql_builder.proofs.OwnLayouts.{Kept, Split, bare_query-split, bare_values-split, sql-split, insert-split}
+use Rattle.sql_builder.proofs.OwnSections.{AllOpen, Calm, Opens, section_pieces, sections-front, until-behind, ending-semicolon}
 use Rattle.sql_builder.proofs.OwnWords as own_words
 use Rattle.sql_builder.proofs.Placing.{at_end-append}
 use Rattle.sql_builder.proofs.ReadBack.{layout}
@@ -100,7 +100,7 @@ in-enclosed : (negated : Bool) (x : Pieces) → Inner x → Fit (fixed_piece (no
 in-enclosed true x inner = let made = enclosed x inner in record { calm = record { even = made.calm.even; no_word = made.calm.no_word }; fits = made.fits }
 in-enclosed false x inner = let made = enclosed x inner in record { calm = record { even = made.calm.even; no_word = made.calm.no_word }; fits = made.fits }
 
-pub fit-takes : Takes is_fit Fit Calm
+fit-takes : Takes false is_fit Fit Fit Calm
 fit-takes = record {
   joins = fit-joins (λ n. n);
   bare = λ text h. record { calm = calm-raw text; fits = λ n. and_from _ _ (bare-at n text h) refl };
@@ -109,19 +109,36 @@ fit-takes = record {
   in_list = λ negated values all. in-enclosed negated (comma_list fixed_piece (map raw_piece values)) (listed Inner (fit-joins suc) (map raw_piece values) (inner-all values all));
   in_quoted = λ negated values. in-enclosed negated (comma_list fixed_piece (map quoted_piece values)) (listed Inner (fit-joins suc) (map quoted_piece values) (quoted-all values));
   in_query = λ negated query h. in-enclosed negated (raw_piece query) (inner-text query h);
+  field = λ field h. record { calm = calm-raw field; fits = λ n. and_from _ _ (bare-at n field h) refl };
   count = λ field h. record { calm = record { even = refl; no_word = refl }; fits = λ n. and_from _ _ (inner-at n field h) refl };
   count_as = λ field name h k. record { calm = record { even = refl; no_word = refl }; fits = λ n. and_from _ _ (inner-at n field h) (and_from _ _ (bare-at n name k) refl) };
   union = λ query h. calm-raw query;
 }
 
+-- the same, of an INSERT
+insert-takes : Takes true is_fit Fit Inner Calm
+insert-takes = record {
+  joins = fit-takes.joins;
+  bare = fit-takes.bare;
+  quoted = fit-takes.quoted;
+  row = fit-takes.row;
+  in_list = fit-takes.in_list;
+  in_quoted = fit-takes.in_quoted;
+  in_query = fit-takes.in_query;
+  field = inner-text;
+  count = λ field h. record { calm = record { even = refl; no_word = refl }; fits = λ n. and_from _ _ (inner-at (suc n) field h) refl };
+  count_as = λ field name h k. record { calm = record { even = refl; no_word = refl }; fits = λ n. and_from _ _ (inner-at (suc n) field h) (and_from _ _ (inner-at n name k) refl) };
+  union = fit-takes.union;
+}
+
 inner-of : (x : Pieces) → Fit x → Inner x
 inner-of x fit = record { calm = fit.calm; fits = λ n. fit.fits (suc n) }
 
-target : (x : Pieces) → Fit x → Fit (fixed_piece (codes " (") ++ (x ++ fixed_piece (codes ")")))
-target x fit = let made = enclosed x (inner-of x fit) in record { calm = record { even = made.calm.even; no_word = made.calm.no_word }; fits = made.fits }
+target : (x : Pieces) → Inner x → Fit (fixed_piece (codes " (") ++ (x ++ fixed_piece (codes ")")))
+target x inner = let made = enclosed x inner in record { calm = record { even = made.calm.even; no_word = made.calm.no_word }; fits = made.fits }
 
 fit-kept : Kept Fit
-fit-kept = record { joins = fit-joins (λ n. n); brackets = λ x fit. enclosed x (inner-of x fit); target = target; calm = λ x fit. fit.calm }
+fit-kept = record { joins = fit-joins (λ n. n); brackets = λ x fit. enclosed x (inner-of x fit); target = λ x fit. target x (inner-of x fit); calm = λ x fit. fit.calm }
 
 -- ---- what is printed up to the first UNION
 
@@ -144,7 +161,7 @@ split-fits split =
     ∙ are_fit-is (front ++ until begins_union split.rest)
     ∙ fit-both (pos 0) front (until begins_union split.rest) (sections-fit split.front split.laid.opens) (split.ending.until_fits (at_end (pos 0) (own front)))
 
-layout-fits : (finish : FinishText) (r : Clauses Pieces) → PartsAre Fit Calm r → layouts.Parts r → is_unenclosed finish ≡ true → has_fit_fragments (layout finish r) ≡ true
+layout-fits : (finish : FinishText) (r : Clauses Pieces) → PartsAre Fit Fit Calm r → layouts.Parts r → is_unenclosed finish ≡ true → has_fit_fragments (layout finish r) ≡ true
 layout-fits Sql r parts good bare = split-fits (sql-split Fit fit-kept r parts good)
 layout-fits Query r parts good bare = split-fits (bare_query-split Fit fit-kept r parts good)
 layout-fits QueryValues r parts good bare = split-fits (bare_values-split Fit fit-kept r parts good)
@@ -156,8 +173,12 @@ layout-fits (SubqueryAs name) r parts good bare = absurd (false≢true bare)
 bare-balanced : (text : List ℕ) → is_fit (Bare text) ≡ true → balanced text ≡ true
 bare-balanced text h = (and_parts (balanced text) (not (has_clause_word text)) h).0
 
-balanced-takes : Takes is_fit Balanced Balanced
-balanced-takes = record {
+field-balanced : (enclosed : Bool) (field : List ℕ) → is_fit (field_text enclosed field) ≡ true → balanced field ≡ true
+field-balanced true field h = h
+field-balanced false field h = bare-balanced field h
+
+balanced-takes : (enclosed : Bool) → Takes enclosed is_fit Balanced Balanced Balanced
+balanced-takes enclosed = record {
   joins = balanced-joins;
   bare = λ text h. raw-balanced text (bare-balanced text h);
   quoted = λ text. refl;
@@ -165,8 +186,9 @@ balanced-takes = record {
   in_list = λ negated values all. within (not_text negated ++ codes " IN (") (comma_list fixed_piece (map raw_piece values)) (codes ")") (listed Balanced balanced-joins (map raw_piece values) (raws-balanced values (sym (list_all-map is_fit Enclosed values) ∙ all)));
   in_quoted = λ negated values. within (not_text negated ++ codes " IN (") (comma_list fixed_piece (map quoted_piece values)) (codes ")") (listed Balanced balanced-joins (map quoted_piece values) (quoteds-balanced values));
   in_query = λ negated query h. within (not_text negated ++ codes " IN (") (raw_piece query) (codes ")") (raw-balanced query h);
+  field = λ field h. raw-balanced field (field-balanced enclosed field h);
   count = λ field h. within (codes "COUNT(") (raw_piece field) (codes ")") (raw-balanced field h);
-  count_as = λ field name h k. and_from _ _ h (and_from _ _ (bare-balanced name k) refl);
+  count_as = λ field name h k. and_from _ _ h (and_from _ _ (field-balanced enclosed name k) refl);
   union = λ query h. raw-balanced query h;
 }
 
@@ -215,7 +237,7 @@ fields-balanced : (fields : List Pieces) → Each Balanced fields → Balanced (
 fields-balanced [] all = refl
 fields-balanced (field ∷ fields) all = listed Balanced balanced-joins (field ∷ fields) all
 
-module _ (r : Clauses Pieces) (parts : PartsAre Balanced Balanced r) where
+module _ (r : Clauses Pieces) (parts : PartsAre Balanced Balanced Balanced r) where
   wheres : Bodies (where_sections fixed_piece r.groups)
   wheres = where-bodies r.groups parts.groups
 
@@ -251,13 +273,13 @@ module _ (r : Clauses Pieces) (parts : PartsAre Balanced Balanced r) where
   insert-bodies None h = (target-balanced, (listed Balanced balanced-joins r.rows parts.rows, returned))
   insert-bodies (Some query) h = (balanced-append (insert_target fixed_piece r) (fixed_piece (codes " ") ++ query) target-balanced h, tt)
 
-  statement-bodies : (kind : Kind) → Bodies (statement_sections fixed_piece kind r)
-  statement-bodies SelectFrom = query-bodies
-  statement-bodies SelectValues = values-bodies
-  statement-bodies InsertInto = insert-bodies r.query parts.query
-  statement-bodies UpdateTable =
+  statement-bodies : (k : Kind) → Bodies (statement_sections fixed_piece k r)
+  statement-bodies kind.SelectFrom = query-bodies
+  statement-bodies kind.SelectValues = values-bodies
+  statement-bodies kind.InsertInto = insert-bodies r.query parts.query
+  statement-bodies kind.UpdateTable =
       (parts.table, (listed Balanced balanced-joins r.sets parts.sets, bodies-append (where_sections fixed_piece r.groups) (returning_sections r) wheres returned))
-  statement-bodies DeleteFrom = (parts.table, wheres)
+  statement-bodies kind.DeleteFrom = (parts.table, wheres)
 
   query-balanced : Balanced (query fixed_piece r)
   query-balanced = sections-balanced (query_sections fixed_piece r) query-bodies
@@ -273,29 +295,67 @@ module _ (r : Clauses Pieces) (parts : PartsAre Balanced Balanced r) where
 
 -- ---- what the texts that are handed in make
 
-conditions-fit : (calls : List CallText) → list_all (λ c. list_all is_fit (call_texts c)) calls ≡ true → has_fit_conditions calls ≡ true
-conditions-fit [] all = refl
-conditions-fit (c ∷ calls) all =
-    let both = and_parts (list_all is_fit (call_texts c)) (list_all (λ (d : CallText). list_all is_fit (call_texts d)) calls) all in
-    by c both.0 (conditions-fit calls both.1)
+conditions-fit : (enclosed : Bool) (calls : List CallText) → list_all (λ c. list_all is_fit (call_texts enclosed c)) calls ≡ true → has_fit_conditions calls ≡ true
+conditions-fit enclosed [] all = refl
+conditions-fit enclosed (c ∷ calls) all =
+    let both = and_parts (list_all is_fit (call_texts enclosed c)) (list_all (λ (d : CallText). list_all is_fit (call_texts enclosed d)) calls) all in
+    by c both.0 (conditions-fit enclosed calls both.1)
   where
-    by : (c : CallText) → list_all is_fit (call_texts c) ≡ true → has_fit_conditions calls ≡ true → has_fit_conditions (c ∷ calls) ≡ true
+    by : (c : CallText) → list_all is_fit (call_texts enclosed c) ≡ true → has_fit_conditions calls ≡ true → has_fit_conditions (c ∷ calls) ≡ true
     by (Cond family condition) here rest =
-        and_from _ _ (are_fit-is (condition_pieces condition) ∙ (condition-kept is_fit Fit Calm fit-takes condition here).fits 0) rest
+        and_from _ _ (are_fit-is (condition_pieces condition) ∙ (condition-kept false is_fit Fit Fit Calm fit-takes condition here).fits 0) rest
     by _ here rest = rest
 
+-- the start's fields, which an INSERT doesn't have
+first-fields : (start : StartText) (finish : FinishText) → list_all is_fit (start_texts start) ≡ true → list_all is_fit (call_texts (encloses_fields start finish) (SetFields (start_fields start))) ≡ true
+first-fields (SelectFrom table) finish all = refl
+first-fields (SelectValues values) finish all = all
+first-fields (InsertInto table) finish all = refl
+first-fields (UpdateTable table) finish all = refl
+first-fields (DeleteFrom table) finish all = refl
+
 module _ (start : StartText) (calls : List CallText) (finish : FinishText) (all : has_fit_texts start calls finish ≡ true) where
-  told : (list_all is_fit (start_texts start) ≡ true) × (list_all (λ c. list_all is_fit (call_texts c)) calls ≡ true) × (list_all is_fit (finish_texts finish) ≡ true)
+  abbrev calls_fit : Bool
+  calls_fit = list_all (λ (c : CallText). list_all is_fit (call_texts (encloses_fields start finish) c)) calls
+
+  told : (list_all is_fit (start_texts start) ≡ true) × (calls_fit ≡ true) × (list_all is_fit (finish_texts finish) ≡ true)
   told =
-      let both = and_parts (list_all is_fit (start_texts start) && list_all (λ (c : CallText). list_all is_fit (call_texts c)) calls) (list_all is_fit (finish_texts finish)) all in
-      let first = and_parts (list_all is_fit (start_texts start)) (list_all (λ (c : CallText). list_all is_fit (call_texts c)) calls) both.0 in
+      let both = and_parts (list_all is_fit (start_texts start) && calls_fit) (list_all is_fit (finish_texts finish)) all in
+      let first = and_parts (list_all is_fit (start_texts start)) calls_fit both.0 in
       (first.0, first.1, both.1)
 
   all-balanced : Balanced (layout finish (clauses start calls))
-  all-balanced = layout-balanced (clauses start calls) (clauses-kept is_fit Balanced Balanced balanced-takes start calls told.0 told.1) finish told.2
+  all-balanced =
+      let enclosed = encloses_fields start finish in
+      layout-balanced (clauses start calls) (clauses-kept enclosed is_fit Balanced Balanced Balanced (balanced-takes enclosed) start calls told.0 (first-fields start finish told.0) told.1) finish told.2
 
-  all-fit : is_unenclosed finish ≡ true → has_fit_fragments (layout finish (clauses start calls)) ≡ true
-  all-fit bare = layout-fits finish (clauses start calls) (clauses-kept is_fit Fit Calm fit-takes start calls told.0 told.1) (clauses-parts start calls) bare
+-- fields that nothing encloses
+bare-fit : (start : StartText) (calls : List CallText) (finish : FinishText) → encloses_fields start finish ≡ false → has_fit_texts start calls finish ≡ true → is_unenclosed finish ≡ true
+    → has_fit_fragments (layout finish (clauses start calls)) ≡ true
+bare-fit start calls finish plain all bare =
+    let facts = told start calls finish all in
+    layout-fits finish (clauses start calls)
+    (clauses-kept false is_fit Fit Fit Calm fit-takes start calls facts.0
+    (ap (λ (b : Bool). list_all is_fit (call_texts b (SetFields (start_fields start)))) (sym plain) ∙ first-fields start finish facts.0)
+    (ap (λ (b : Bool). list_all (λ (c : CallText). list_all is_fit (call_texts b c)) calls) (sym plain) ∙ facts.1))
+    (clauses-parts start calls) bare
+
+all-fit : (start : StartText) (calls : List CallText) (finish : FinishText) → has_fit_texts start calls finish ≡ true → is_unenclosed finish ≡ true
+    → has_fit_fragments (layout finish (clauses start calls)) ≡ true
+all-fit (SelectFrom table) calls finish all bare = bare-fit (SelectFrom table) calls finish refl all bare
+all-fit (SelectValues values) calls finish all bare = bare-fit (SelectValues values) calls finish refl all bare
+all-fit (UpdateTable table) calls finish all bare = bare-fit (UpdateTable table) calls finish refl all bare
+all-fit (DeleteFrom table) calls finish all bare = bare-fit (DeleteFrom table) calls finish refl all bare
+all-fit (InsertInto table) calls Sql all bare =
+    let start = InsertInto table in
+    let facts = told start calls Sql all in
+    let parts = clauses-kept true is_fit Fit Inner Calm insert-takes start calls facts.0 refl facts.1 in
+    let good = clauses-parts start calls in
+    split-fits (insert-split Fit Inner fit-kept (fit-joins suc) target (fixed_piece (codes ";")) (clauses start calls).query (clauses start calls) parts parts.query good good.query ending-semicolon)
+all-fit (InsertInto table) calls Query all bare = bare-fit (InsertInto table) calls Query refl all bare
+all-fit (InsertInto table) calls QueryValues all bare = bare-fit (InsertInto table) calls QueryValues refl all bare
+all-fit (InsertInto table) calls Subquery all bare = absurd (false≢true bare)
+all-fit (InsertInto table) calls (SubqueryAs name) all bare = absurd (false≢true bare)
 
 unless : (refusal : Option SqlBuilderError) (printed : Pieces) (test : Pieces → Bool) → test printed ≡ true → IfOk (unless_refused refusal printed) (λ ps. IsTrue (test ps))
 unless None printed test h = h
@@ -305,7 +365,7 @@ pub fit_fragments : FitTextsMakeFitFragments
 fit_fragments start calls finish bare all = unless _ (layout finish (clauses start calls)) has_fit_fragments (all-fit start calls finish all bare)
 
 pub fit_conditions : FitTextsMakeFitConditions
-fit_conditions start calls finish all = conditions-fit calls (told start calls finish all).1
+fit_conditions start calls finish all = conditions-fit (encloses_fields start finish) calls (told start calls finish all).1
 
 pub balanced_fragments : FitTextsMakeBalancedFragments
 balanced_fragments start calls finish h = unless _ (layout finish (clauses start calls)) has_balanced_fragments (all-balanced start calls finish h)

@@ -9,7 +9,7 @@ use Rattle.sql_builder.specs.Calls.{CallText, StartText, clauses, condition_in, 
 use Rattle.sql_builder.specs.Clauses.{Clauses}
 use Rattle.sql_builder.specs.Conditions.{ConditionText, Raw, Compare, Like, IsNull, IsNotNull, InList, InQuoted, InQuery, Between, mask_text, not_text, relation_text}
 use Rattle.sql_builder.specs.Filters.{Group, cut, in_place, last_said, since, until}
-use Rattle.sql_builder.specs.Fitting.{Handed, Bare, Enclosed, call_texts, condition_texts, start_texts}
+use Rattle.sql_builder.specs.Fitting.{Handed, Bare, Enclosed, call_texts, condition_texts, field_text, start_texts}
 use Rattle.sql_builder.specs.Phrases.{comma_list, count, count_as, equation, join_words, order, row}
 use Rattle.sql_builder.specs.Text.{Pieces, fixed_piece, quoted_piece, raw_piece}
 use Rattle.sql_builder.specs.declared.calls.Family.{Family}
@@ -45,8 +45,9 @@ module _ (P : Pieces → Type 0) (joins : Joins P) where
   pub listed : (items : List Pieces) → Each P items → P (comma_list fixed_piece items)
   listed items all = joined (codes ", ") (record { even = refl; no_word = refl }) items all
 
--- What a call may do: P is kept of what it makes, U of a union's query, and `ok` is asked of each text that it is handed.
-pub record Takes (ok : Handed → Bool) (P U : Pieces → Type 0) : Type 0 where
+-- What a call may do: P is kept of what it makes, F of fields and U of a union's query, and `ok` is asked of each text that it
+-- is handed.
+pub record Takes (enclosed : Bool) (ok : Handed → Bool) (P F U : Pieces → Type 0) : Type 0 where
   pub joins : Joins P
   pub bare : (text : List ℕ) → ok (Bare text) ≡ true → P (raw_piece text)
   pub quoted : (text : List ℕ) → P (quoted_piece text)
@@ -57,15 +58,16 @@ pub record Takes (ok : Handed → Bool) (P U : Pieces → Type 0) : Type 0 where
       → P (fixed_piece (not_text negated ++ codes " IN (") ++ (comma_list fixed_piece (map quoted_piece values) ++ fixed_piece (codes ")")))
   pub in_query : (negated : Bool) (query : List ℕ) → ok (Enclosed query) ≡ true
       → P (fixed_piece (not_text negated ++ codes " IN (") ++ (raw_piece query ++ fixed_piece (codes ")")))
-  pub count : (field : List ℕ) → ok (Enclosed field) ≡ true → P (count fixed_piece (raw_piece field))
-  pub count_as : (field name : List ℕ) → ok (Enclosed field) ≡ true → ok (Bare name) ≡ true → P (count_as fixed_piece (raw_piece field) (raw_piece name))
+  pub field : (field : List ℕ) → ok (field_text enclosed field) ≡ true → F (raw_piece field)
+  pub count : (field : List ℕ) → ok (Enclosed field) ≡ true → F (count fixed_piece (raw_piece field))
+  pub count_as : (field name : List ℕ) → ok (Enclosed field) ≡ true → ok (field_text enclosed name) ≡ true → F (count_as fixed_piece (raw_piece field) (raw_piece name))
   pub union : (query : List ℕ) → ok (Enclosed query) ≡ true → U (raw_piece query)
 
 -- what holds of each clause's pieces
-pub record PartsAre (P U : Pieces → Type 0) (r : Clauses Pieces) : Type 0 where
+pub record PartsAre (P F U : Pieces → Type 0) (r : Clauses Pieces) : Type 0 where
   pub table : P r.table
   pub joins : Each P r.joins
-  pub fields : Each P r.fields
+  pub fields : Each F r.fields
   pub sets : Each P r.sets
   pub rows : Each P r.rows
   pub query : IfSome r.query P
@@ -112,8 +114,8 @@ join-calm false (Some operator.Inner) = record { even = refl; no_word = refl }
 join-calm false (Some operator.Cross) = record { even = refl; no_word = refl }
 
 -- lists of calls that are all fit
-abbrev fine : (Handed → Bool) → CallText → Bool
-fine ok c = list_all ok (call_texts c)
+abbrev fine : Bool → (Handed → Bool) → CallText → Bool
+fine enclosed ok c = list_all ok (call_texts enclosed c)
 
 since-all : {X : Type 0} (ok p : X → Bool) (xs : List X) → list_all ok xs ≡ true → list_all ok (since p xs) ≡ true
 since-all ok p [] all = refl
@@ -131,13 +133,16 @@ until-all ok p (x ∷ xs) all = let both = and_parts (ok x) (list_all ok xs) all
     by true here rest = refl
     by false here rest = and_from _ _ here rest
 
-module _ (ok : Handed → Bool) (P U : Pieces → Type 0) (takes : Takes ok P U) where
+module _ (enclosed : Bool) (ok : Handed → Bool) (P F U : Pieces → Type 0) (takes : Takes enclosed ok P F U) where
   -- texts one by one
-  bare-all : (texts : List (List ℕ)) → list_all ok (map Bare texts) ≡ true → Each P (map raw_piece texts)
-  bare-all [] all = tt
-  bare-all (text ∷ texts) all =
-      let both = and_parts (ok (Bare text)) (list_all ok (map Bare texts)) all in
-      (takes.bare text both.0, bare-all texts both.1)
+  fields-all : (fields : List (List ℕ)) → list_all ok (map (field_text enclosed) fields) ≡ true → Each F (map raw_piece fields)
+  fields-all [] all = tt
+  fields-all (field ∷ fields) all =
+      let both = and_parts (ok (field_text enclosed field)) (list_all ok (map (field_text enclosed) fields)) all in
+      (takes.field field both.0, fields-all fields both.1)
+
+  one-field : (field : List ℕ) → (ok (field_text enclosed field) && true) ≡ true → F (raw_piece field)
+  one-field field all = takes.field field (and_parts (ok (field_text enclosed field)) true all).0
 
   one : (text : List ℕ) → (ok (Bare text) && true) ≡ true → P (raw_piece text)
   one text all = takes.bare text (and_parts (ok (Bare text)) true all).0
@@ -181,43 +186,36 @@ module _ (ok : Handed → Bool) (P U : Pieces → Type 0) (takes : Takes ok P U)
   start_table-kept (call.UpdateTable table) all = one table all
   start_table-kept (call.DeleteFrom table) all = one table all
 
-  start_fields-kept : (start : StartText) → list_all ok (start_texts start) ≡ true → fine ok (call.SetFields (start_fields start)) ≡ true
-  start_fields-kept (call.SelectFrom table) all = refl
-  start_fields-kept (call.SelectValues values) all = all
-  start_fields-kept (call.InsertInto table) all = refl
-  start_fields-kept (call.UpdateTable table) all = refl
-  start_fields-kept (call.DeleteFrom table) all = refl
-
-  table_in-kept : (c : CallText) → fine ok c ≡ true → P (table_in c)
+  table_in-kept : (c : CallText) → fine enclosed ok c ≡ true → P (table_in c)
   table_in-kept (call.AndTable table) all = takes.joins.append (fixed_piece (codes ", ")) (raw_piece table) (takes.joins.words (codes ", ") (record { even = refl; no_word = refl })) (one table all)
   table_in-kept _ all = takes.joins.none
 
-  constraint_in-kept : (c : CallText) → fine ok c ≡ true → P (constraint_in c)
+  constraint_in-kept : (c : CallText) → fine enclosed ok c ≡ true → P (constraint_in c)
   constraint_in-kept (call.On condition) all = takes.joins.append (fixed_piece (codes " ON ")) (raw_piece condition) (takes.joins.words (codes " ON ") (record { even = refl; no_word = refl })) (one condition all)
   constraint_in-kept (call.OnEq left right) all = takes.joins.append (fixed_piece (codes " ON ")) _ (takes.joins.words (codes " ON ") (record { even = refl; no_word = refl })) (equation-kept left right all)
   constraint_in-kept _ all = takes.joins.none
 
-  fields_in-kept : (c : CallText) → fine ok c ≡ true → Each P (fields_in c)
-  fields_in-kept (call.Fields fields) all = bare-all fields all
-  fields_in-kept (call.SetFields fields) all = bare-all fields all
-  fields_in-kept (call.Field field) all = (one field all, tt)
-  fields_in-kept (call.SetField field) all = (one field all, tt)
+  fields_in-kept : (c : CallText) → fine enclosed ok c ≡ true → Each F (fields_in c)
+  fields_in-kept (call.Fields fields) all = fields-all fields all
+  fields_in-kept (call.SetFields fields) all = fields-all fields all
+  fields_in-kept (call.Field field) all = (one-field field all, tt)
+  fields_in-kept (call.SetField field) all = (one-field field all, tt)
   fields_in-kept (call.Count field) all = (takes.count field (and_parts (ok (Enclosed field)) true all).0, tt)
   fields_in-kept (call.CountAs field name) all =
-      let both = and_parts (ok (Enclosed field)) (ok (Bare name) && true) all in
-      (takes.count_as field name both.0 (and_parts (ok (Bare name)) true both.1).0, tt)
+      let both = and_parts (ok (Enclosed field)) (ok (field_text enclosed name) && true) all in
+      (takes.count_as field name both.0 (and_parts (ok (field_text enclosed name)) true both.1).0, tt)
   fields_in-kept _ all = tt
 
-  sets_in-kept : (c : CallText) → fine ok c ≡ true → Each P (sets_in c)
+  sets_in-kept : (c : CallText) → fine enclosed ok c ≡ true → Each P (sets_in c)
   sets_in-kept (call.SetTo field value) all = (equation-kept field value all, tt)
   sets_in-kept (call.SetStr field value) all = (between (codes " = ") (raw_piece field) (quoted_piece value) (record { even = refl; no_word = refl }) (one field all) (takes.quoted value), tt)
   sets_in-kept _ all = tt
 
-  rows_in-kept : (c : CallText) → fine ok c ≡ true → Each P (rows_in c)
+  rows_in-kept : (c : CallText) → fine enclosed ok c ≡ true → Each P (rows_in c)
   rows_in-kept (call.Values values) all = (takes.row values all, tt)
   rows_in-kept _ all = tt
 
-  group_fields_in-kept : (c : CallText) → fine ok c ≡ true → Each P (group_fields_in c)
+  group_fields_in-kept : (c : CallText) → fine enclosed ok c ≡ true → Each P (group_fields_in c)
   group_fields_in-kept (call.GroupBy field) all = (one field all, tt)
   group_fields_in-kept _ all = tt
 
@@ -225,57 +223,57 @@ module _ (ok : Handed → Bool) (P U : Pieces → Type 0) (takes : Takes ok P U)
   order-kept true field all = takes.joins.append (raw_piece field) (fixed_piece (codes " DESC")) (one field all) (takes.joins.words (codes " DESC") (record { even = refl; no_word = refl }))
   order-kept false field all = one field all
 
-  order_fields_in-kept : (c : CallText) → fine ok c ≡ true → Each P (order_fields_in c)
+  order_fields_in-kept : (c : CallText) → fine enclosed ok c ≡ true → Each P (order_fields_in c)
   order_fields_in-kept (call.OrderBy field descending) all = (order-kept descending field all, tt)
   order_fields_in-kept (call.OrderAsc field) all = (one field all, tt)
   order_fields_in-kept (call.OrderDesc field) all = (order-kept true field all, tt)
   order_fields_in-kept _ all = tt
 
-  unions_in-kept : (c : CallText) → fine ok c ≡ true → AllByRecursion (λ (union : Bool × Pieces). U union.1) (unions_in c)
+  unions_in-kept : (c : CallText) → fine enclosed ok c ≡ true → AllByRecursion (λ (union : Bool × Pieces). U union.1) (unions_in c)
   unions_in-kept (call.Union query) all = (takes.union query (and_parts (ok (Enclosed query)) true all).0, tt)
   unions_in-kept (call.UnionAll query) all = (takes.union query (and_parts (ok (Enclosed query)) true all).0, tt)
   unions_in-kept _ all = tt
 
-  query_in-kept : (c : CallText) → fine ok c ≡ true → IfSome (query_in c) P
+  query_in-kept : (c : CallText) → fine enclosed ok c ≡ true → IfSome (query_in c) P
   query_in-kept (call.Select query) all = one query all
   query_in-kept _ all = tt
 
-  returning_in-kept : (c : CallText) → fine ok c ≡ true → IfSome (returning_in c) P
+  returning_in-kept : (c : CallText) → fine enclosed ok c ≡ true → IfSome (returning_in c) P
   returning_in-kept (call.Returning fields) all = one fields all
   returning_in-kept call.ReturningId all = takes.joins.words (codes "id") (record { even = refl; no_word = refl })
   returning_in-kept _ all = tt
 
-  having_in-kept : (c : CallText) → fine ok c ≡ true → IfSome (having_in c) P
+  having_in-kept : (c : CallText) → fine enclosed ok c ≡ true → IfSome (having_in c) P
   having_in-kept (call.Having condition) all = one condition all
   having_in-kept _ all = tt
 
-  limit_in-kept : (c : CallText) → fine ok c ≡ true → IfSome (limit_in c) P
+  limit_in-kept : (c : CallText) → fine enclosed ok c ≡ true → IfSome (limit_in c) P
   limit_in-kept (call.Limit limit) all = one limit all
   limit_in-kept _ all = tt
 
-  offset_in-kept : (c : CallText) → fine ok c ≡ true → IfSome (offset_in c) P
+  offset_in-kept : (c : CallText) → fine enclosed ok c ≡ true → IfSome (offset_in c) P
   offset_in-kept (call.Offset offset) all = one offset all
   offset_in-kept _ all = tt
 
   -- the same of whole lists
-  each-kept : {Y : Type 0} (R : Y → Type 0) (f : CallText → List Y) → ((c : CallText) → fine ok c ≡ true → AllByRecursion R (f c))
-      → (calls : List CallText) → list_all (fine ok) calls ≡ true → AllByRecursion R (flat_map f calls)
+  each-kept : {Y : Type 0} (R : Y → Type 0) (f : CallText → List Y) → ((c : CallText) → fine enclosed ok c ≡ true → AllByRecursion R (f c))
+      → (calls : List CallText) → list_all (fine enclosed ok) calls ≡ true → AllByRecursion R (flat_map f calls)
   each-kept R f each [] all = tt
   each-kept R f each (c ∷ calls) all =
-      let both = and_parts (fine ok c) (list_all (fine ok) calls) all in
+      let both = and_parts (fine enclosed ok c) (list_all (fine enclosed ok) calls) all in
       append-all R (f c) (flat_map f calls) (each c both.0) (each-kept R f each calls both.1)
 
-  flat-kept : (f : CallText → Pieces) → ((c : CallText) → fine ok c ≡ true → P (f c)) → (calls : List CallText) → list_all (fine ok) calls ≡ true → P (flat_map f calls)
+  flat-kept : (f : CallText → Pieces) → ((c : CallText) → fine enclosed ok c ≡ true → P (f c)) → (calls : List CallText) → list_all (fine enclosed ok) calls ≡ true → P (flat_map f calls)
   flat-kept f each [] all = takes.joins.none
   flat-kept f each (c ∷ calls) all =
-      let both = and_parts (fine ok c) (list_all (fine ok) calls) all in
+      let both = and_parts (fine enclosed ok c) (list_all (fine enclosed ok) calls) all in
       takes.joins.append (f c) (flat_map f calls) (each c both.0) (flat-kept f each calls both.1)
 
-  last-kept : (f : CallText → Option Pieces) → ((c : CallText) → fine ok c ≡ true → IfSome (f c) P) → (calls : List CallText) → list_all (fine ok) calls ≡ true
+  last-kept : (f : CallText → Option Pieces) → ((c : CallText) → fine enclosed ok c ≡ true → IfSome (f c) P) → (calls : List CallText) → list_all (fine enclosed ok) calls ≡ true
       → (before : Option Pieces) → IfSome before P → IfSome (last_or before (filter_map f calls)) P
   last-kept f each [] all before holds = holds
   last-kept f each (c ∷ calls) all before holds =
-      let both = and_parts (fine ok c) (list_all (fine ok) calls) all in
+      let both = and_parts (fine enclosed ok c) (list_all (fine enclosed ok) calls) all in
       by (f c) (each c both.0) (λ said keeps. last-kept f each calls both.1 said keeps)
     where
       by : (said : Option Pieces) → IfSome said P → ((next : Option Pieces) → IfSome next P → IfSome (last_or next (filter_map f calls)) P)
@@ -283,36 +281,36 @@ module _ (ok : Handed → Bool) (P U : Pieces → Type 0) (takes : Takes ok P U)
       by None keeps rest = rest before holds
       by (Some printed) keeps rest = rest (Some printed) keeps
 
-  said-kept : (f : CallText → Option Pieces) → ((c : CallText) → fine ok c ≡ true → IfSome (f c) P) → (calls : List CallText) → list_all (fine ok) calls ≡ true → IfSome (last_said f calls) P
+  said-kept : (f : CallText → Option Pieces) → ((c : CallText) → fine enclosed ok c ≡ true → IfSome (f c) P) → (calls : List CallText) → list_all (fine enclosed ok) calls ≡ true → IfSome (last_said f calls) P
   said-kept f each calls all = last-kept f each calls all None tt
 
-  join_in-kept : (before : List CallText) (c : CallText) (after : List CallText) → fine ok c ≡ true → list_all (fine ok) after ≡ true → Each P (join_in before c after)
+  join_in-kept : (before : List CallText) (c : CallText) (after : List CallText) → fine enclosed ok c ≡ true → list_all (fine enclosed ok) after ≡ true → Each P (join_in before c after)
   join_in-kept before (call.Join table) after here all = (
     takes.joins.append (join_after before table) (flat_map constraint_in (until is_join after))
         (takes.joins.append (fixed_piece (join_words (natural_of before) (operator_of before))) (raw_piece table)
         (takes.joins.words (join_words (natural_of before) (operator_of before)) (join-calm (natural_of before) (operator_of before))) (one table here))
-        (flat-kept constraint_in constraint_in-kept (until is_join after) (until-all (fine ok) is_join after all)),
+        (flat-kept constraint_in constraint_in-kept (until is_join after) (until-all (fine enclosed ok) is_join after all)),
     tt,
   )
   join_in-kept before _ after here all = tt
 
-  joins-kept : (before calls : List CallText) → list_all (fine ok) calls ≡ true → Each P (in_place join_in before calls)
+  joins-kept : (before calls : List CallText) → list_all (fine enclosed ok) calls ≡ true → Each P (in_place join_in before calls)
   joins-kept before [] all = tt
   joins-kept before (c ∷ calls) all =
-      let both = and_parts (fine ok c) (list_all (fine ok) calls) all in
+      let both = and_parts (fine enclosed ok c) (list_all (fine enclosed ok) calls) all in
       append-all P (join_in before c calls) (in_place join_in (before ++ c ∷ []) calls) (join_in-kept before c calls both.0 both.1) (joins-kept (before ++ c ∷ []) calls both.1)
 
   -- the groups of conditions
   abbrev said_fine : Family × ConditionText → Bool
   said_fine c = list_all ok (condition_texts c.1)
 
-  said-all : (calls : List CallText) → list_all (fine ok) calls ≡ true → list_all said_fine (filter_map condition_in calls) ≡ true
+  said-all : (calls : List CallText) → list_all (fine enclosed ok) calls ≡ true → list_all said_fine (filter_map condition_in calls) ≡ true
   said-all [] all = refl
   said-all (c ∷ calls) all =
-      let both = and_parts (fine ok c) (list_all (fine ok) calls) all in
+      let both = and_parts (fine enclosed ok c) (list_all (fine enclosed ok) calls) all in
       by c both.0 (said-all calls both.1)
     where
-      by : (c : CallText) → fine ok c ≡ true → list_all said_fine (filter_map condition_in calls) ≡ true → list_all said_fine (cons_option (condition_in c) (filter_map condition_in calls)) ≡ true
+      by : (c : CallText) → fine enclosed ok c ≡ true → list_all said_fine (filter_map condition_in calls) ≡ true → list_all said_fine (cons_option (condition_in c) (filter_map condition_in calls)) ≡ true
       by (call.Cond family condition) here rest = and_from _ _ here rest
       by _ here rest = rest
 
@@ -333,16 +331,16 @@ module _ (ok : Handed → Bool) (P U : Pieces → Type 0) (takes : Takes ok P U)
       (group-kept (conditions_of group) (list_all-map (λ (c : ConditionText). list_all ok (condition_texts c)) (λ (c : Family × ConditionText). c.1) (group.0 ∷ group.1) ∙ both.0), groups-kept found both.1)
 
   -- the clauses of a list of calls
-  pub clauses-kept : (start : StartText) (calls : List CallText) → list_all ok (start_texts start) ≡ true → list_all (fine ok) calls ≡ true → PartsAre P U (clauses start calls)
-  clauses-kept start calls here all = record {
+  pub clauses-kept : (start : StartText) (calls : List CallText) → list_all ok (start_texts start) ≡ true → fine enclosed ok (call.SetFields (start_fields start)) ≡ true → list_all (fine enclosed ok) calls ≡ true → PartsAre P F U (clauses start calls)
+  clauses-kept start calls here first all = record {
     table = takes.joins.append (start_table start) (flat_map table_in calls) (start_table-kept start here) (flat-kept table_in table_in-kept calls all);
     joins = joins-kept [] calls all;
     fields =
         let told = call.SetFields (start_fields start) ∷ calls in
-        each-kept P fields_in fields_in-kept (since drops_fields told) (since-all (fine ok) drops_fields told (and_from _ _ (start_fields-kept start here) all));
+        each-kept F fields_in fields_in-kept (since drops_fields told) (since-all (fine enclosed ok) drops_fields told (and_from _ _ first all));
     sets = each-kept P sets_in sets_in-kept calls all;
-    rows = each-kept P rows_in rows_in-kept (since is_select calls) (since-all (fine ok) is_select calls all);
-    query = said-kept query_in query_in-kept (since is_values calls) (since-all (fine ok) is_values calls all);
+    rows = each-kept P rows_in rows_in-kept (since is_select calls) (since-all (fine enclosed ok) is_select calls all);
+    query = said-kept query_in query_in-kept (since is_values calls) (since-all (fine enclosed ok) is_values calls all);
     returning = said-kept returning_in returning_in-kept calls all;
     group_fields = each-kept P group_fields_in group_fields_in-kept calls all;
     having = said-kept having_in having_in-kept calls all;

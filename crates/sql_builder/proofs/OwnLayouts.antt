@@ -164,13 +164,13 @@ module _ (P : Pieces → Type 0) (kept : Kept P) where
       (one-section (codes " GROUP BY ") (comma_list fixed_piece (field ∷ fields)) (opening refl (λ ts. refl)) (listed P kept.joins (field ∷ fields) all))
       (optional-laid (codes " HAVING ") having (opening refl (λ ts. refl)) calm)
 
-  range-laid : (r : Clauses Pieces) → PartsAre P Calm r → Laid P (range_sections r) []
+  range-laid : (r : Clauses Pieces) → PartsAre P P Calm r → Laid P (range_sections r) []
   range-laid r parts =
       before (optional_section (codes " LIMIT ") r.limit) (optional_section (codes " OFFSET ") r.offset)
       (optional-laid (codes " LIMIT ") r.limit (opening refl (λ ts. refl)) parts.limit)
       (optional-laid (codes " OFFSET ") r.offset (opening refl (λ ts. refl)) parts.offset)
 
-  returning-laid : (r : Clauses Pieces) → PartsAre P Calm r → Laid P (returning_sections r) []
+  returning-laid : (r : Clauses Pieces) → PartsAre P P Calm r → Laid P (returning_sections r) []
   returning-laid r parts = optional-laid (codes " RETURNING ") r.returning (opening refl (λ ts. refl)) parts.returning
 
   -- ---- statements
@@ -180,7 +180,7 @@ module _ (P : Pieces → Type 0) (kept : Kept P) where
   plain-split sections tail laid inside ending = record { front = sections; rest = tail; is = refl; laid = laid; inside = inside; ending = ending }
 
   -- DELETE
-  pub delete-split : (tail : Pieces) (r : Clauses Pieces) → PartsAre P Calm r → layouts.Parts r → Ending tail → Split P (concat_sections fixed_piece (delete_sections fixed_piece r) ++ tail) (where_bodies r.groups)
+  pub delete-split : (tail : Pieces) (r : Clauses Pieces) → PartsAre P P Calm r → layouts.Parts r → Ending tail → Split P (concat_sections fixed_piece (delete_sections fixed_piece r) ++ tail) (where_bodies r.groups)
   delete-split tail r parts good ending =
       plain-split (delete_sections fixed_piece r) tail
       (before (section (codes "DELETE FROM ") r.table ∷ []) (where_sections fixed_piece r.groups)
@@ -190,7 +190,7 @@ module _ (P : Pieces → Type 0) (kept : Kept P) where
       ending
 
   -- UPDATE
-  pub update-split : (tail : Pieces) (r : Clauses Pieces) → PartsAre P Calm r → layouts.Parts r → Ending tail → Split P (concat_sections fixed_piece (update_sections fixed_piece r) ++ tail) (where_bodies r.groups)
+  pub update-split : (tail : Pieces) (r : Clauses Pieces) → PartsAre P P Calm r → layouts.Parts r → Ending tail → Split P (concat_sections fixed_piece (update_sections fixed_piece r) ++ tail) (where_bodies r.groups)
   update-split tail r parts good ending =
       let set = section (codes " SET ") (comma_list fixed_piece r.sets) in
       plain-split (update_sections fixed_piece r) tail
@@ -203,36 +203,38 @@ module _ (P : Pieces → Type 0) (kept : Kept P) where
       ending
 
   -- SELECT of values
-  pub values-split : (tail : Pieces) (r : Clauses Pieces) → PartsAre P Calm r → layouts.Parts r → Ending tail → Split P (concat_sections fixed_piece (values_sections fixed_piece r) ++ tail) []
+  pub values-split : (tail : Pieces) (r : Clauses Pieces) → PartsAre P P Calm r → layouts.Parts r → Ending tail → Split P (concat_sections fixed_piece (values_sections fixed_piece r) ++ tail) []
   values-split tail r parts good ending =
       plain-split (values_sections fixed_piece r) tail
       (one-section (codes "SELECT ") (comma_list fixed_piece r.fields) (opening refl (λ ts. refl)) (listed P kept.joins r.fields parts.fields))
       (layouts.values-inside r good)
       ending
 
-  -- INSERT
-  target-kept : (r : Clauses Pieces) → PartsAre P Calm r → P (insert_target fixed_piece r)
+-- an INSERT, whose fields have a property that its brackets turn to that of the rest
+module _ (P F : Pieces → Type 0) (kept : Kept P) (field_joins : Joins F) (target : (x : Pieces) → F x → P (fixed_piece (codes " (") ++ (x ++ fixed_piece (codes ")")))) where
+  target-kept : (r : Clauses Pieces) → PartsAre P F Calm r → P (insert_target fixed_piece r)
   target-kept r parts =
       kept.joins.append r.table (fixed_piece (codes " (") ++ (comma_list fixed_piece r.fields ++ fixed_piece (codes ")"))) parts.table
-      (kept.target (comma_list fixed_piece r.fields) (listed P kept.joins r.fields parts.fields))
+      (target (comma_list fixed_piece r.fields) (listed F field_joins r.fields parts.fields))
 
-  pub insert-split : (tail : Pieces) (given : Option Pieces) (r : Clauses Pieces) → PartsAre P Calm r → IfSome given P → layouts.Parts r → IfSome given Inside → Ending tail → Split P (concat_sections fixed_piece (insert_sections fixed_piece given r) ++ tail) []
+  pub insert-split : (tail : Pieces) (given : Option Pieces) (r : Clauses Pieces) → PartsAre P F Calm r → IfSome given P → layouts.Parts r → IfSome given Inside → Ending tail → Split P (concat_sections fixed_piece (insert_sections fixed_piece given r) ++ tail) []
   insert-split tail None r parts calm good given ending =
-      plain-split (insert_sections fixed_piece None r) tail
+      plain-split P kept (insert_sections fixed_piece None r) tail
       (before (section (codes "INSERT INTO ") (insert_target fixed_piece r) ∷ []) (section (codes " VALUES ") (comma_list fixed_piece r.rows) ∷ returning_sections r)
-      (one-section (codes "INSERT INTO ") (insert_target fixed_piece r) (opening refl (λ ts. refl)) (target-kept r parts))
+      (one-section P kept (codes "INSERT INTO ") (insert_target fixed_piece r) (opening refl (λ ts. refl)) (target-kept r parts))
       (before (section (codes " VALUES ") (comma_list fixed_piece r.rows) ∷ []) (returning_sections r)
-      (one-section (codes " VALUES ") (comma_list fixed_piece r.rows) (opening refl (λ ts. refl)) (listed P kept.joins r.rows parts.rows))
-      (returning-laid r parts)))
+      (one-section P kept (codes " VALUES ") (comma_list fixed_piece r.rows) (opening refl (λ ts. refl)) (listed P kept.joins r.rows parts.rows))
+      (optional-laid P kept (codes " RETURNING ") r.returning (opening refl (λ ts. refl)) parts.returning)))
       (layouts.insert-inside None r good given)
       ending
   insert-split tail (Some rows) r parts calm good given ending =
-      plain-split (insert_sections fixed_piece (Some rows) r) tail
-      (one-section (codes "INSERT INTO ") (insert_target fixed_piece r ++ (fixed_piece (codes " ") ++ rows)) (opening refl (λ ts. refl))
+      plain-split P kept (insert_sections fixed_piece (Some rows) r) tail
+      (one-section P kept (codes "INSERT INTO ") (insert_target fixed_piece r ++ (fixed_piece (codes " ") ++ rows)) (opening refl (λ ts. refl))
       (kept.joins.append (insert_target fixed_piece r) (fixed_piece (codes " ") ++ rows) (target-kept r parts) (kept.joins.append (fixed_piece (codes " ")) rows (kept.joins.words (codes " ") (record { even = refl; no_word = refl })) calm)))
       (layouts.insert-inside (Some rows) r good given)
       ending
 
+module _ (P : Pieces → Type 0) (kept : Kept P) where
   -- SELECT of a table
   fields-kept : (fields : List Pieces) → Each P fields → P (fields_or_star fixed_piece fields)
   fields-kept [] all = kept.joins.words (codes "*") (record { even = refl; no_word = refl })
@@ -242,7 +244,7 @@ module _ (P : Pieces → Type 0) (kept : Kept P) where
   select-opening true = opening refl (λ ts. refl)
   select-opening false = opening refl (λ ts. refl)
 
-  module _ (r : Clauses Pieces) (parts : PartsAre P Calm r) where
+  module _ (r : Clauses Pieces) (parts : PartsAre P P Calm r) where
     abbrev select : Section Piece
     select = section (select_opening r.distinct) (fields_or_star fixed_piece r.fields)
 
@@ -254,19 +256,19 @@ module _ (P : Pieces → Type 0) (kept : Kept P) where
 
     from-laid : Laid P (from ∷ []) []
     from-laid =
-        one-section (codes " FROM ") (table_and_joins fixed_piece r.table r.joins) (opening refl (λ ts. refl))
+        one-section P kept (codes " FROM ") (table_and_joins fixed_piece r.table r.joins) (opening refl (λ ts. refl))
         (kept.joins.append r.table (flat_map (λ (join : Pieces). fixed_piece (codes " ") ++ join) r.joins) parts.table (before-each P kept.joins (codes " ") (record { even = refl; no_word = refl }) r.joins parts.joins))
 
     first-laid : (more : List (Section Piece)) → Laid P more (where_bodies r.groups) → Laid P (select ∷ from ∷ more) (where_bodies r.groups)
     first-laid more laid =
-        before (select ∷ []) (from ∷ more) (one-section (select_opening r.distinct) (fields_or_star fixed_piece r.fields) (select-opening r.distinct) (fields-kept r.fields parts.fields))
+        before (select ∷ []) (from ∷ more) (one-section P kept (select_opening r.distinct) (fields_or_star fixed_piece r.fields) (select-opening r.distinct) (fields-kept r.fields parts.fields))
         (before (from ∷ []) more from-laid laid)
 
     wheres-laid : Laid P (where_sections fixed_piece r.groups) (where_bodies r.groups)
-    wheres-laid = where-laid r.groups parts.groups
+    wheres-laid = where-laid P kept r.groups parts.groups
 
     groups-laid : Laid P (group_by_sections fixed_piece r.group_fields r.having) []
-    groups-laid = group_by-laid r.group_fields r.having parts.group_fields parts.having
+    groups-laid = group_by-laid P kept r.group_fields r.having parts.group_fields parts.having
 
     -- up to the first union
     at_union : Inside (concat_sections fixed_piece (select ∷ from ∷ grouped)) → (tail : Pieces) (union : Bool × Pieces) (more : List (Section Piece))
@@ -291,15 +293,39 @@ module _ (P : Pieces → Type 0) (kept : Kept P) where
     front-inside good =
         subst (λ gs. Inside (concat_sections fixed_piece (select ∷ from ∷ (where_sections fixed_piece r.groups ++ gs)))) (append-nil (group_by_sections fixed_piece r.group_fields r.having))
         (layouts.query-inside (record r { unions = []; order_fields = []; limit = None; offset = None }) (record {
-          table = good.table; joins = good.joins; fields = good.fields; sets = good.sets; rows = good.rows; query = good.query; returning = good.returning;
-          group_fields = good.group_fields; having = good.having; groups = good.groups; unions = tt; order_fields = tt; limit = tt; offset = tt;
+          table = good.table;
+          joins = good.joins;
+          fields = good.fields;
+          sets = good.sets;
+          rows = good.rows;
+          query = good.query;
+          returning = good.returning;
+          group_fields = good.group_fields;
+          having = good.having;
+          groups = good.groups;
+          unions = tt;
+          order_fields = tt;
+          limit = tt;
+          offset = tt;
         }))
 
     whole-inside : layouts.Parts r → Inside (concat_sections fixed_piece (select ∷ from ∷ (where_sections fixed_piece r.groups ++ (group_by_sections fixed_piece r.group_fields r.having ++ (order_by_sections fixed_piece [] r.order_fields ++ range_sections r)))))
     whole-inside good =
         layouts.query-inside (record r { unions = [] }) (record {
-          table = good.table; joins = good.joins; fields = good.fields; sets = good.sets; rows = good.rows; query = good.query; returning = good.returning;
-          group_fields = good.group_fields; having = good.having; groups = good.groups; unions = tt; order_fields = good.order_fields; limit = good.limit; offset = good.offset;
+          table = good.table;
+          joins = good.joins;
+          fields = good.fields;
+          sets = good.sets;
+          rows = good.rows;
+          query = good.query;
+          returning = good.returning;
+          group_fields = good.group_fields;
+          having = good.having;
+          groups = good.groups;
+          unions = tt;
+          order_fields = good.order_fields;
+          limit = good.limit;
+          offset = good.offset;
         })
 
     pub query-split : layouts.Parts r → (tail : Pieces) → Ending tail → Split P (concat_sections fixed_piece (query_sections fixed_piece r) ++ tail) (where_bodies r.groups)
@@ -310,34 +336,34 @@ module _ (P : Pieces → Type 0) (kept : Kept P) where
         by [] =
             let order = order_by_sections fixed_piece [] r.order_fields in
             let more = group_by_sections fixed_piece r.group_fields r.having ++ (order ++ range_sections r) in
-            plain-split (select ∷ from ∷ (where_sections fixed_piece r.groups ++ more)) tail
+            plain-split P kept (select ∷ from ∷ (where_sections fixed_piece r.groups ++ more)) tail
             (first-laid (where_sections fixed_piece r.groups ++ more)
             (behind (where_sections fixed_piece r.groups) more wheres-laid
             (before (group_by_sections fixed_piece r.group_fields r.having) (order ++ range_sections r) groups-laid
-            (before order (range_sections r) (list-laid (codes " ORDER BY ") r.order_fields (opening refl (λ ts. refl)) parts.order_fields) (range-laid r parts)))))
+            (before order (range_sections r) (list-laid P kept (codes " ORDER BY ") r.order_fields (opening refl (λ ts. refl)) parts.order_fields) (range-laid P kept r parts)))))
             (whole-inside good)
             ending
         by (u ∷ us) = at_union (front-inside good) tail u (union_sections us ++ (order_by_sections fixed_piece (u ∷ us) r.order_fields ++ range_sections r))
 
-  statement-split : (kind : Kind) (tail : Pieces) (r : Clauses Pieces) → PartsAre P Calm r → layouts.Parts r → Ending tail → Split P (concat_sections fixed_piece (statement_sections fixed_piece kind r) ++ tail) (kind_bodies kind r)
+  statement-split : (kind : Kind) (tail : Pieces) (r : Clauses Pieces) → PartsAre P P Calm r → layouts.Parts r → Ending tail → Split P (concat_sections fixed_piece (statement_sections fixed_piece kind r) ++ tail) (kind_bodies kind r)
   statement-split SelectFrom tail r parts good ending = query-split r parts good tail ending
-  statement-split SelectValues tail r parts good ending = values-split tail r parts good ending
-  statement-split InsertInto tail r parts good ending = insert-split tail r.query r parts parts.query good good.query ending
-  statement-split UpdateTable tail r parts good ending = update-split tail r parts good ending
-  statement-split DeleteFrom tail r parts good ending = delete-split tail r parts good ending
+  statement-split SelectValues tail r parts good ending = values-split P kept tail r parts good ending
+  statement-split InsertInto tail r parts good ending = insert-split P P kept kept.joins kept.target tail r.query r parts parts.query good good.query ending
+  statement-split UpdateTable tail r parts good ending = update-split P kept tail r parts good ending
+  statement-split DeleteFrom tail r parts good ending = delete-split P kept tail r parts good ending
 
   -- what `sql`, `query` and `query_values` print
-  pub sql-split : (r : Clauses Pieces) → PartsAre P Calm r → layouts.Parts r → Split P (sql fixed_piece r) (kind_bodies r.kind r)
+  pub sql-split : (r : Clauses Pieces) → PartsAre P P Calm r → layouts.Parts r → Split P (sql fixed_piece r) (kind_bodies r.kind r)
   sql-split r parts good = statement-split r.kind (fixed_piece (codes ";")) r parts good ending-semicolon
 
   bare-split : (printed : Pieces) (bodies : List (List Token)) → Split P (printed ++ []) bodies → Split P printed bodies
   bare-split printed bodies split = subst (λ ps. Split P ps bodies) (append-nil printed) split
 
-  pub bare_query-split : (r : Clauses Pieces) → PartsAre P Calm r → layouts.Parts r → Split P (query fixed_piece r) (where_bodies r.groups)
+  pub bare_query-split : (r : Clauses Pieces) → PartsAre P P Calm r → layouts.Parts r → Split P (query fixed_piece r) (where_bodies r.groups)
   bare_query-split r parts good = bare-split (query fixed_piece r) (where_bodies r.groups) (query-split r parts good [] ending-none)
 
-  pub bare_values-split : (r : Clauses Pieces) → PartsAre P Calm r → layouts.Parts r → Split P (query_values fixed_piece r) []
-  bare_values-split r parts good = bare-split (query_values fixed_piece r) [] (values-split [] r parts good ending-none)
+  pub bare_values-split : (r : Clauses Pieces) → PartsAre P P Calm r → layouts.Parts r → Split P (query_values fixed_piece r) []
+  bare_values-split r parts good = bare-split (query_values fixed_piece r) [] (values-split P kept [] r parts good ending-none)
 
 -- ---- the whole of a query, its unions too
 

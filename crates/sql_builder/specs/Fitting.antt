@@ -68,8 +68,8 @@ has_balanced_fragments printed = list_all is_balanced_piece printed
 
 -- ---- the same, of the texts that are handed in
 
--- A text that is handed in to be printed as it stands: bare, or where clause words may stand, which is between brackets
--- that the call writes, or behind UNION.
+-- A text that is handed in to be printed as it stands: bare, or where outer clause words change nothing, which is between
+-- brackets of the builder's own, and behind UNION.
 pub data Handed : Type 0 where
   Bare : List ℕ → Handed
   Enclosed : List ℕ → Handed
@@ -99,34 +99,44 @@ start_texts (call.InsertInto table) = Bare table ∷ []
 start_texts (call.UpdateTable table) = Bare table ∷ []
 start_texts (call.DeleteFrom table) = Bare table ∷ []
 
--- the texts of a call
-abbrev pub call_texts : CallText → List Handed
-call_texts (call.AndTable table) = Bare table ∷ []
-call_texts (call.Join table) = Bare table ∷ []
-call_texts (call.On condition) = Bare condition ∷ []
-call_texts (call.OnEq left right) = Bare left ∷ Bare right ∷ []
-call_texts (call.Fields fields) = map Bare fields
-call_texts (call.SetFields fields) = map Bare fields
-call_texts (call.Field field) = Bare field ∷ []
-call_texts (call.SetField field) = Bare field ∷ []
-call_texts (call.Count field) = Enclosed field ∷ []
-call_texts (call.CountAs field name) = Enclosed field ∷ Bare name ∷ []
-call_texts (call.SetTo field value) = Bare field ∷ Bare value ∷ []
-call_texts (call.SetStr field value) = Bare field ∷ []
-call_texts (call.Values values) = map Enclosed values
-call_texts (call.Select query) = Bare query ∷ []
-call_texts (call.Returning fields) = Bare fields ∷ []
-call_texts (call.GroupBy field) = Bare field ∷ []
-call_texts (call.Having condition) = Bare condition ∷ []
-call_texts (call.Cond family condition) = condition_texts condition
-call_texts (call.Union query) = Enclosed query ∷ []
-call_texts (call.UnionAll query) = Enclosed query ∷ []
-call_texts (call.OrderBy field descending) = Bare field ∷ []
-call_texts (call.OrderAsc field) = Bare field ∷ []
-call_texts (call.OrderDesc field) = Bare field ∷ []
-call_texts (call.Limit limit) = Bare limit ∷ []
-call_texts (call.Offset offset) = Bare offset ∷ []
-call_texts _ = []
+-- a field, which `sql` of an INSERT encloses
+abbrev pub field_text : Bool → List ℕ → Handed
+field_text true field = Enclosed field
+field_text false field = Bare field
+
+-- whether the finish prints fields between brackets
+abbrev pub encloses_fields : StartText → FinishText → Bool
+encloses_fields (call.InsertInto table) call.Sql = true
+encloses_fields _ _ = false
+
+-- the texts of a call, where fields are enclosed or not
+abbrev pub call_texts : Bool → CallText → List Handed
+call_texts enclosed (call.AndTable table) = Bare table ∷ []
+call_texts enclosed (call.Join table) = Bare table ∷ []
+call_texts enclosed (call.On condition) = Bare condition ∷ []
+call_texts enclosed (call.OnEq left right) = Bare left ∷ Bare right ∷ []
+call_texts enclosed (call.Fields fields) = map (field_text enclosed) fields
+call_texts enclosed (call.SetFields fields) = map (field_text enclosed) fields
+call_texts enclosed (call.Field field) = field_text enclosed field ∷ []
+call_texts enclosed (call.SetField field) = field_text enclosed field ∷ []
+call_texts enclosed (call.Count field) = Enclosed field ∷ []
+call_texts enclosed (call.CountAs field name) = Enclosed field ∷ field_text enclosed name ∷ []
+call_texts enclosed (call.SetTo field value) = Bare field ∷ Bare value ∷ []
+call_texts enclosed (call.SetStr field value) = Bare field ∷ []
+call_texts enclosed (call.Values values) = map Enclosed values
+call_texts enclosed (call.Select query) = Bare query ∷ []
+call_texts enclosed (call.Returning fields) = Bare fields ∷ []
+call_texts enclosed (call.GroupBy field) = Bare field ∷ []
+call_texts enclosed (call.Having condition) = Bare condition ∷ []
+call_texts enclosed (call.Cond family condition) = condition_texts condition
+call_texts enclosed (call.Union query) = Enclosed query ∷ []
+call_texts enclosed (call.UnionAll query) = Enclosed query ∷ []
+call_texts enclosed (call.OrderBy field descending) = Bare field ∷ []
+call_texts enclosed (call.OrderAsc field) = Bare field ∷ []
+call_texts enclosed (call.OrderDesc field) = Bare field ∷ []
+call_texts enclosed (call.Limit limit) = Bare limit ∷ []
+call_texts enclosed (call.Offset offset) = Bare offset ∷ []
+call_texts enclosed _ = []
 
 -- the text of a finish, a name behind the brackets
 abbrev pub finish_texts : FinishText → List Handed
@@ -136,4 +146,5 @@ finish_texts _ = []
 -- each text that is handed in is fit
 abbrev pub has_fit_texts : StartText → List CallText → FinishText → Bool
 has_fit_texts start calls finish =
-    list_all is_fit (start_texts start) && list_all (λ c. list_all is_fit (call_texts c)) calls && list_all is_fit (finish_texts finish)
+    list_all is_fit (start_texts start) && list_all (λ c. list_all is_fit (call_texts (encloses_fields start finish) c)) calls
+    && list_all is_fit (finish_texts finish)

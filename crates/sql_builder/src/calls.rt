@@ -330,10 +330,10 @@ fn print(builder: &SqlBuilder, finish: &Finish) -> Result<String, SqlBuilderErro
 /// means, or its refusal. Want of memory may come in place of either.
 ///
 /// The fragments are the texts that it prints as they stand. Where each is closed, the text has
-/// their tokens, and one token for each text that is quoted. Where, besides, each before the first
-/// UNION is balanced, and has no outer word that begins a clause unless brackets of the builder's
-/// own stand round it, what `sql`, `query` and `query_values` print reads back, up to that UNION,
-/// as the clauses that the calls say. Where this holds of the fragments of each condition too, by
+/// their tokens, and one token for each text that is quoted. Where each before the first UNION is
+/// balanced, and has no outer word that begins a clause unless brackets of the builder's own stand
+/// round it, what `sql`, `query` and `query_values` print reads back, up to that UNION, as the
+/// clauses that the calls say. Where this holds of the fragments of each condition too, by
 /// the condition's own brackets, the truth of the WHERE of a query, and of what `sql` prints of a
 /// SELECT from a table, an UPDATE or a DELETE, is the least over the groups of the greatest over a
 /// group's conditions. Where each fragment is balanced, those behind a UNION too, what `query` and

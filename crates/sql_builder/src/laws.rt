@@ -60,15 +60,16 @@ pub fn only_the_end_is_a_semicolon()
 {}
 
 /// What `sql`, `query` and `query_values` print of a list of calls reads back as the clauses that
-/// the list says, where its fragments are closed, and before the first UNION fit.
+/// the list says, where its fragments before the first UNION are fit.
 #[tactic(auto, using(crate::proofs::ReadBack::statements_read_back))]
 pub fn statements_read_back()
     ensures { StatementsReadBack }
 {}
 
 /// Where each text that a list of calls hands in is balanced, and has no outer clause word (which
-/// may stand in what a call puts between brackets, and in a query behind UNION), the fragments
-/// that are printed are fit: what `run` asks of them for clauses, for WHERE and for nesting.
+/// may stand in what a call puts between brackets, in a field of an INSERT that `sql` prints, and
+/// in a query behind UNION), the fragments that are printed are fit: what `run` asks of them for
+/// clauses, for WHERE and for nesting.
 #[tactic(auto, using(crate::proofs::FitTexts::fit_fragments, crate::proofs::FitTexts::fit_conditions, crate::proofs::FitTexts::balanced_fragments))]
 pub fn fit_texts_make_fit_fragments()
     ensures fragments { FitTextsMakeFitFragments }

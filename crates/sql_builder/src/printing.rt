@@ -385,9 +385,9 @@ impl SqlBuilder {
     /// rows nor a query, or a SELECT of values no value, and with `NoSetFields` where an UPDATE
     /// sets nothing; each whether there is memory or not, and else only for want of memory.
     ///
-    /// Where the builder's texts are closed, and before the first UNION balanced and, but between
-    /// brackets, without an outer word that begins a clause, it reads back as the builder's
-    /// clauses, and the truth of a WHERE is the least over the builder's groups.
+    /// Where the builder's texts before the first UNION are balanced and, but between brackets,
+    /// without an outer word that begins a clause, it reads back as the builder's clauses, and the
+    /// truth of a WHERE is the least over the builder's groups.
     #[tactic(auto, using(crate::proofs::Layouts::sql_shape, crate::proofs::Layouts::sql_closed, crate::proofs::ReadBack::sql_clauses, crate::proofs::ReadBack::sql_truth))]
     pub fn sql(&self) -> Result<String, SqlBuilderError>
         ensures text { IfOk result (λ s. string_bytes s ≡ sql byte_atoms self.now) }
