@@ -1,7 +1,7 @@
 //! What a caller knows who asks the tests of fragments before it hands a text in.
 ghost use Rattle.std.specs.Prelude.{◌≡◌, ◌&&◌, [], ◌∷◌, IfOk, IfSome, is_some, string_bytes};
 ghost use Rattle.sql_builder.specs.Fitting.{Bare, is_fit};
-ghost use Rattle.sql_builder.specs.Meaning.{IsTrueAs};
+ghost use Rattle.sql_builder.specs.Meaning.{HasTruthOf};
 ghost use Rattle.sql_parts.specs.Tokens.{tokens};
 
 use sql_builder::SqlBuilderError;
@@ -16,7 +16,7 @@ use std::test::Fail;
 fn books_where(alloc: Global, one: &str, other: &str) -> Result<Option<String>, SqlBuilderError>
     ensures asked { IfOk result (λ found. is_some found
         ≡ (is_fit (Bare one.now) && is_fit (Bare other.now))) }
-    ensures truth { IfOk result (λ found. IfSome found (λ statement. IsTrueAs
+    ensures truth { IfOk result (λ found. IfSome found (λ statement. HasTruthOf
         ((tokens one.now ∷ []) ∷ (tokens other.now ∷ []) ∷ []) (string_bytes statement))) }
 {
     if !is_balanced(one) || has_clause_word(one) || !is_balanced(other) || has_clause_word(other) {

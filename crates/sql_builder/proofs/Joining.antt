@@ -1,5 +1,5 @@
 -- The truth of what is joined by OR and AND, and of what stands in brackets.
-use Rattle.std.proofs.Common.{◌≡◌, refl, sym, ◌∙◌, ap, subst, Bool, true, false, List, [], ◌∷◌, ◌++◌, map, pos, ℤ, negsuc, append-nil}
+use Rattle.std.proofs.Common.{◌≡◌, refl, sym, ◌∙◌, ap, subst, Bool, true, false, List, [], ◌∷◌, ◌++◌, map, pos, ℤ, negsuc, append-nil, ◌||◌}
 use Rattle.std.proofs.Math.IntN.{suc_ℤ}
 use Rattle.std.proofs.lemmas.Bool.{and_parts, and_from, or_parts, or_from, false≢true, cond-true, cond-false, not_from_false}
 use Rattle.std.specs.List.{list_any}
@@ -7,10 +7,10 @@ use Rattle.sql_parts.specs.Tokens.{Token, ends_with}
 use Rattle.sql_builder.specs.WhereTokens.{in_brackets}
 use Rattle.sql_builder.proofs.WhereTokens.{and_word, has_clause, left_bracket, not_word, or_word, right_bracket}
 use Rattle.sql_builder.proofs.Placing.{placed_from-append, at_end-closes, placed_from-suc, after-suc, at_end-suc, at_end-append}
-use Rattle.sql_builder.proofs.Splitting.{pieces-separator, parts-none, tokens-placed_from, tokens-without_owned, without_owned-plain, none-inner, none-append, none_narrower}
+use Rattle.sql_builder.proofs.Splitting.{pieces-separator, parts-none, tokens-placed_from, tokens-without_owned, without_owned-plain, none-inner, none-append, none_narrower, without_owned-append}
 use Rattle.sql_builder.proofs.Fuel.{truth_is, is_bracketed, placed_ands}
 use Rattle.sql_builder.specs.Parts.{but_last, pieces_at, pieces_of}
-use Rattle.sql_builder.specs.Truths.{Fact, False, True, Truth, Unknown, exchange, greater, greatest, is_and, is_or, least, lesser, truth, truth_by, value_in, without_owned}
+use Rattle.sql_builder.specs.Truths.{False, True, Truth, Unknown, exchange, greater, greatest, is_and, is_or, least, lesser, truth, truth_by, value_in, without_owned, Valuation, is_between, owns_next}
 use Rattle.sql_parts.proofs.Walks.{after, at_end, closes_from, has_outer, is_at_least_0, is_at_least_1, placed, placed_from, stays_inside}
 use Rattle.sql_parts.specs.Fragments.{Inner, Outer, Placed, is_joining, is_outer, is_symbol}
 
@@ -58,7 +58,7 @@ one_piece_and : (ts : List Token) → list_any (is_outer is_and) (placed_ands ts
 one_piece_and ts h = ap pieces_of (parts-none is_and (placed_ands ts) h) ∙ ap (λ us. us ∷ []) (tokens-without_owned false (placed ts) ∙ tokens-placed_from (pos 0) ts)
 
 -- the greatest over the pieces between the outer ORs, also where there is none
-pub truth_any : (facts : List Fact) (ts : List Token) → truth facts ts ≡ greatest (map (truth facts) (pieces_at is_or (placed ts)))
+pub truth_any : (facts : Valuation) (ts : List Token) → truth facts ts ≡ greatest (map (truth facts) (pieces_at is_or (placed ts)))
 truth_any facts ts = by (has_outer is_or ts) refl
   where
     by : (b : Bool) → has_outer is_or ts ≡ b → truth facts ts ≡ greatest (map (truth facts) (pieces_at is_or (placed ts)))
@@ -66,7 +66,7 @@ truth_any facts ts = by (has_outer is_or ts) refl
     by false e = sym (ap (λ ps. greatest (map (truth facts) ps)) (one_piece is_or ts e) ∙ greater-False (truth facts ts))
 
 -- the same of the outer ANDs, where there is no outer OR
-pub truth_all : (facts : List Fact) (ts : List Token) → has_outer is_or ts ≡ false → truth facts ts ≡ least (map (truth facts) (pieces_at is_and (placed_ands ts)))
+pub truth_all : (facts : Valuation) (ts : List Token) → has_outer is_or ts ≡ false → truth facts ts ≡ least (map (truth facts) (pieces_at is_and (placed_ands ts)))
 truth_all facts ts h = by (list_any (is_outer is_and) (placed_ands ts)) refl
   where
     by : (b : Bool) → list_any (is_outer is_and) (placed_ands ts) ≡ b → truth facts ts ≡ least (map (truth facts) (pieces_at is_and (placed_ands ts)))
@@ -78,7 +78,7 @@ pub placed-then : (a b : List Token) → at_end (pos 0) a ≡ pos 0 → placed (
 placed-then a b h = placed_from-append (pos 0) a b ∙ ap (λ l. placed a ++ placed_from l b) h
 
 -- the truth of an OR
-pub truth_or : (facts : List Fact) (a b : List Token) → at_end (pos 0) a ≡ pos 0 → truth facts (a ++ or_word ∷ b) ≡ greater (truth facts a) (truth facts b)
+pub truth_or : (facts : Valuation) (a b : List Token) → at_end (pos 0) a ≡ pos 0 → truth facts (a ++ or_word ∷ b) ≡ greater (truth facts a) (truth facts b)
 truth_or facts a b h =
     truth_any facts (a ++ or_word ∷ b)
     ∙ ap (λ ms. greatest (map (truth facts) (pieces_at is_or ms))) (placed-then a (or_word ∷ b) h)
@@ -98,17 +98,29 @@ pub without_owned-all : (a : List Placed) → list_any (is_outer is_joining) a �
 without_owned-all a h = subst (λ ms. without_owned false ms ≡ ms) (append-nil a) (without_owned-plain false a [] h)
 
 -- the truth of an AND
-pub truth_and : (facts : List Fact) (a b : List Token) → at_end (pos 0) a ≡ pos 0 → has_outer is_joining a ≡ false → has_outer is_or b ≡ false → truth facts (a ++ and_word ∷ b) ≡ lesser (truth facts a) (truth facts b)
-truth_and facts a b h plain no_or_b =
+pub truth_and : (facts : Valuation) (a b : List Token) → at_end (pos 0) a ≡ pos 0 → has_outer is_or a ≡ false → owns_next false (placed a) ≡ false → has_outer is_or b ≡ false
+    → truth facts (a ++ and_word ∷ b) ≡ lesser (truth facts a) (truth facts b)
+truth_and facts a b h no_or_a free no_or_b =
     let both : placed (a ++ and_word ∷ b) ≡ placed a ++ Outer and_word ∷ placed b = placed-then a (and_word ∷ b) h in
-    truth_all facts (a ++ and_word ∷ b) (ap (list_any (is_outer is_or)) both ∙ none-append is_or (placed a) (Outer and_word ∷ placed b) (no_or (placed a) plain) no_or_b)
+    truth_all facts (a ++ and_word ∷ b) (ap (list_any (is_outer is_or)) both ∙ none-append is_or (placed a) (Outer and_word ∷ placed b) no_or_a no_or_b)
     ∙ ap (λ ms. least (map (truth facts) (pieces_at is_and (without_owned false ms)))) both
-    ∙ ap (λ ms. least (map (truth facts) (pieces_at is_and ms))) (without_owned-plain false (placed a) (Outer and_word ∷ placed b) plain)
-    ∙ ap (λ ps. least (map (truth facts) ps)) (pieces-separator is_and (placed a) and_word (placed_ands b) refl)
-    ∙ least-append (truth facts) (pieces_at is_and (placed a)) (pieces_at is_and (placed_ands b))
-    ∙ ap (λ ms. lesser (least (map (truth facts) (pieces_at is_and ms))) (least (map (truth facts) (pieces_at is_and (placed_ands b))))) (sym (without_owned-all (placed a) plain))
-    ∙ ap (λ x. lesser x (least (map (truth facts) (pieces_at is_and (placed_ands b))))) (sym (truth_all facts a (no_or (placed a) plain)))
+    ∙ ap (λ ms. least (map (truth facts) (pieces_at is_and ms)))
+    (without_owned-append false (placed a) (Outer and_word ∷ placed b) ∙ ap (λ owned. placed_ands a ++ without_owned owned (Outer and_word ∷ placed b)) free)
+    ∙ ap (λ ps. least (map (truth facts) ps)) (pieces-separator is_and (placed_ands a) and_word (placed_ands b) refl)
+    ∙ least-append (truth facts) (pieces_at is_and (placed_ands a)) (pieces_at is_and (placed_ands b))
+    ∙ ap (λ x. lesser x (least (map (truth facts) (pieces_at is_and (placed_ands b))))) (sym (truth_all facts a no_or_a))
     ∙ ap (lesser (truth facts a)) (sym (truth_all facts b no_or_b))
+
+-- what has no outer OR, AND or BETWEEN owns nothing
+pub plain-owns : (ms : List Placed) → list_any (is_outer is_joining) ms ≡ false → owns_next false ms ≡ false
+plain-owns [] h = refl
+plain-owns (Inner t ∷ ms) h = plain-owns ms h
+plain-owns (Outer t ∷ ms) h =
+    let here = or_parts (is_joining t) (list_any (is_outer is_joining) ms) h in
+    let words = or_parts (is_or t) (is_and t || (is_between t || false)) here.0 in
+    let ands = or_parts (is_and t) (is_between t || false) words.1 in
+    let between = (or_parts (is_between t) false ands.1).0 in
+    ap (λ owned. owns_next owned ms) (cond-false _ _ _ between ∙ cond-false _ _ _ (or_from _ _ ands.0 words.0)) ∙ plain-owns ms here.1
 
 -- ---- brackets
 
@@ -159,7 +171,7 @@ bracketed ts h no_clause =
     (not_from_false _ (ap has_clause (but_last-push ts right_bracket) ∙ no_clause)))
 
 -- The truth of what stands in brackets. The inside must not be a query: else the whole is an atom.
-pub truth_brackets : (facts : List Fact) (ts : List Token) → closes_from (pos 0) ts ≡ true → has_clause ts ≡ false → truth facts (in_brackets ts) ≡ truth facts ts
+pub truth_brackets : (facts : Valuation) (ts : List Token) → closes_from (pos 0) ts ≡ true → has_clause ts ≡ false → truth facts (in_brackets ts) ≡ truth facts ts
 unfolding in_brackets
 truth_brackets facts ts h no_clause =
     truth_is facts (in_brackets ts)
@@ -170,7 +182,7 @@ truth_brackets facts ts h no_clause =
     ∙ ap (truth facts) (but_last-push ts right_bracket)
 
 -- the truth of a NOT
-pub truth_not : (facts : List Fact) (ts : List Token) → has_outer is_or ts ≡ false → list_any (is_outer is_and) (placed_ands ts) ≡ false → truth facts (not_word ∷ ts) ≡ exchange (truth facts ts)
+pub truth_not : (facts : Valuation) (ts : List Token) → has_outer is_or ts ≡ false → list_any (is_outer is_and) (placed_ands ts) ≡ false → truth facts (not_word ∷ ts) ≡ exchange (truth facts ts)
 truth_not facts ts no_ors no_ands =
     truth_is facts (not_word ∷ ts)
     ∙ ap (truth_by (truth facts) (value_in facts (not_word ∷ ts))) (cond-false _ _ _ no_ors ∙ cond-false _ _ _ no_ands)

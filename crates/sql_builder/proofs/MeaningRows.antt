@@ -2,13 +2,13 @@
 use Rattle.std.specs.Prelude.{◌≡◌, [], ◌∷◌, codes, false, refl, true, ℕ, List, map}
 use Rattle.sql_parts.specs.Tokens.{Word, tokens}
 use Rattle.sql_builder.specs.Calls as call
-use Rattle.sql_builder.specs.Calls.{clauses}
+use Rattle.sql_builder.specs.Calls.{clauses, CallText}
 use Rattle.sql_builder.specs.Conditions.{InQuery, Raw}
 use Rattle.sql_builder.specs.Layout.{sql}
 use Rattle.sql_builder.specs.Shape.{pieces_tokens}
 use Rattle.sql_builder.specs.Text.{Pieces, fixed_piece}
 use Rattle.sql_builder.specs.declared.calls.Family.TheVariants.{And, Or}
-use Rattle.sql_builder.specs.Fitting.{has_fit_conditions, has_fit_fragments}
+use Rattle.sql_builder.specs.Fitting.{has_fit_conditions, has_fit_fragments, has_fit_texts}
 use Rattle.sql_builder.specs.Reading.{piece_clauses, read, stand_with}
 use Rattle.sql_builder.specs.Truths.{False, True, Unknown, truth, Truth, Valuation}
 use Rattle.sql_builder.specs.Laws.{IsValued, brackets_and_not, range_and_case, a_without_c}
@@ -133,3 +133,13 @@ group-fit = refl
 
 group-unfit : has_fit_conditions (call.Cond And (Raw (codes "x FROM y")) ∷ call.Cond And (Raw (codes "p")) ∷ []) ≡ false
 group-unfit = refl
+
+-- a field of an INSERT may hold clause words, where `sql` prints it; the same field of a query may not
+abbrev inserted : List CallText
+inserted = call.Field (codes "a FROM b") ∷ call.Values (codes "1" ∷ []) ∷ []
+
+insert-fit : has_fit_texts (call.InsertInto (codes "t")) inserted call.Sql ≡ true
+insert-fit = refl
+
+query-unfit : has_fit_texts (call.InsertInto (codes "t")) inserted call.Query ≡ false
+query-unfit = refl

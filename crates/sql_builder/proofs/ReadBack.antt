@@ -17,7 +17,7 @@ use Rattle.sql_builder.proofs.CalmClauses.{clauses-calm, raw-calm, CalmParts}
 use Rattle.sql_builder.proofs.OwnLayouts.{calm-kept, bare_query-split, bare_values-split, kind_bodies, split-reads, split-wheres, sql-split, where_bodies}
 use Rattle.sql_builder.proofs.WhereGroups.{calls-true, texts-true}
 use Rattle.sql_builder.specs.Fitting.{has_fit_fragments, has_fit_conditions, has_balanced_fragments}
-use Rattle.sql_builder.specs.Meaning.{HasTruthOfGroups, is_unenclosed, prints_where, HasBalancedFragments, HasFitFragments, IsTrueAs, Nests, ReadsBack, condition_groups, is_nested}
+use Rattle.sql_builder.specs.Meaning.{HasTruthOfGroups, is_unenclosed, prints_where, HasBalancedFragments, HasFitFragments, HasTruthOf, Nests, ReadsBack, condition_groups, is_nested}
 use Rattle.sql_builder.specs.Reading.{piece_clauses, read, stand_with, clause_list}
 use Rattle.sql_builder.specs.Truths.{truth}
 use Rattle.std.specs.Result.{result_map_both}
@@ -99,7 +99,7 @@ module _ (start : StartText) (calls : List CallText) (finish : FinishText) where
 
   any-true : (refusal : Option SqlBuilderError) (text : List ℕ) → text_unless_refused (printed refusal) ≡ Ok text
       → prints_where finish (kind_of start) ≡ true → IfOk (printed refusal) (λ ps. IsTrue (has_fit_fragments ps)) → has_fit_conditions calls ≡ true
-      → IsTrueAs (condition_groups calls) text
+      → HasTruthOf (condition_groups calls) text
   any-true None text is prints fit fit_conditions = λ facts.
       ap (map (truth facts)) (text-wheres finish said (clauses-calm start calls) (clauses-parts start calls) text (text-is text is) prints fit) ∙ calls-true facts calls fit_conditions
   any-true (Some refusal) text is prints fit fit_conditions = λ facts. cc is
@@ -117,7 +117,7 @@ module _ {Z : Type 0} (start : StartText) (calls : List CallText) (finish : Fini
 
   pub statement_truth : (result : Result (String Z) SqlBuilderError) → IfOk result (λ s. statement start calls finish ≡ Ok (string_bytes s))
       → IsTrue (prints_where finish (kind_of start)) → HasFitFragments start calls finish → IsTrue (has_fit_conditions calls)
-      → IfOk result (λ s. IsTrueAs (condition_groups calls) (string_bytes s))
+      → IfOk result (λ s. HasTruthOf (condition_groups calls) (string_bytes s))
   statement_truth (Err e) is prints fit fit_conditions = tt
   statement_truth (Ok s) is prints fit fit_conditions = any-true start calls finish (refused start calls finish) (string_bytes s) is prints fit fit_conditions
 

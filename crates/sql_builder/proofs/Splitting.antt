@@ -4,7 +4,7 @@ use Rattle.std.proofs.lemmas.Bool.{or_parts, or_from, true≢false}
 use Rattle.std.specs.List.{list_any}
 use Rattle.sql_parts.specs.Tokens.{Token}
 use Rattle.sql_builder.specs.Parts.{Parts, parts_at, pieces_at, pieces_of, with_front}
-use Rattle.sql_builder.specs.Truths.{is_and, is_between, is_between_last, is_or, without_owned}
+use Rattle.sql_builder.specs.Truths.{is_and, is_between, is_between_last, is_or, owns_next, without_owned}
 use Rattle.sql_parts.proofs.Walks.{after, is_zero, placed_from}
 use Rattle.sql_parts.specs.Fragments.{as_placed, Inner, Outer, Placed, is_joining, is_outer, token_of}
 
@@ -100,6 +100,12 @@ without_owned-plain owned (Outer t ∷ a) b h =
     kept false false true between e f g k = absurd (true≢false f)
     kept false false false true e f g k = absurd (true≢false g)
     kept false false false false e f g k = ap (λ ms. Outer t ∷ ms) k
+
+-- what stands behind tokens is read by whether a BETWEEN of theirs owns the next AND
+pub without_owned-append : (owned : Bool) (a b : List Placed) → without_owned owned (a ++ b) ≡ without_owned owned a ++ without_owned (owns_next owned a) b
+without_owned-append owned [] b = refl
+without_owned-append owned (Inner t ∷ a) b = ap (λ ms. Inner t ∷ ms) (without_owned-append owned a b)
+without_owned-append owned (Outer t ∷ a) b = ap (λ ms. cond (owned && is_and t) (Inner t) (Outer t) ∷ ms) (without_owned-append (is_between_last owned t) a b)
 
 -- a test that implies another
 pub none_narrower : (test wider : Token → Bool) → ((t : Token) → wider t ≡ false → test t ≡ false) → (a : List Placed) → list_any (is_outer wider) a ≡ false → list_any (is_outer test) a ≡ false

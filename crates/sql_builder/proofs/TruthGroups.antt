@@ -8,7 +8,7 @@ use Rattle.sql_builder.proofs.WhereTokens.{is_condition, is_group, are_groups, a
 use Rattle.sql_builder.proofs.Placing.{at_end-closes}
 use Rattle.sql_builder.proofs.ConditionTokens.{is_condition-group}
 use Rattle.sql_builder.proofs.Splitting.{none-append}
-use Rattle.sql_builder.proofs.Joining.{truth_or, truth_and, truth_brackets, none-brackets, at_end-brackets, placed-then, greater-False, lesser-True}
+use Rattle.sql_builder.proofs.Joining.{truth_or, truth_and, truth_brackets, none-brackets, at_end-brackets, placed-then, greater-False, lesser-True, plain-owns}
 use Rattle.sql_builder.specs.Truths.{Fact, greater, greatest, is_or, least, lesser, truth}
 use Rattle.sql_parts.proofs.Walks.{closes_from, has_outer, is_balanced, placed}
 use Rattle.sql_parts.specs.Fragments.{is_joining, is_outer}
@@ -54,7 +54,8 @@ truth_joined facts g [] h = truth_one facts g (and_parts (is_group g) true h).0 
 truth_joined facts g (k ∷ gs) h =
     let both = and_parts (is_group g) (list_all is_group (k ∷ gs)) h in
     let closes = is_group_closes g both.0 in
-    truth_and facts (in_brackets (group_tokens g)) (joined and_word (bracketed_groups (k ∷ gs))) (at_end-brackets (group_tokens g) closes) (none-brackets is_joining (group_tokens g) refl closes) (joined_no_or k gs both.1)
+    truth_and facts (in_brackets (group_tokens g)) (joined and_word (bracketed_groups (k ∷ gs))) (at_end-brackets (group_tokens g) closes) (none-brackets is_or (group_tokens g) refl closes)
+    (plain-owns (placed (in_brackets (group_tokens g))) (none-brackets is_joining (group_tokens g) refl closes)) (joined_no_or k gs both.1)
     ∙ ap (λ x. lesser x (truth facts (joined and_word (bracketed_groups (k ∷ gs))))) (truth_one facts g both.0)
     ∙ ap (lesser (greatest (map (truth facts) g))) (truth_joined facts k gs both.1)
 

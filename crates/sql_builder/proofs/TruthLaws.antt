@@ -5,9 +5,9 @@ use Rattle.std.proofs.lemmas.Bool.{and_parts, and_from, false≢true, not-true, 
 use Rattle.sql_parts.specs.Fragments as fragments
 use Rattle.sql_parts.specs.Fragments.{is_clause_word, is_joining, is_outer}
 use Rattle.sql_parts.specs.Tokens.{Token, is_empty}
-use Rattle.sql_parts.proofs.Walks.{closes_from, has_outer, has_outer-is, is_balanced-is, is_even, is_operand-is, placed}
+use Rattle.sql_parts.proofs.Walks.{closes_from, has_outer, has_outer-is, is_balanced-is, is_even, is_operand-is, placed, placed-is}
 use Rattle.sql_builder.specs.Laws.{BracketsMakeOperands, TruthOfAnd, TruthOfBrackets, TruthOfNot, TruthOfOr, TruthOfWhere, is_fit_group}
-use Rattle.sql_builder.specs.Truths.{is_and, is_or}
+use Rattle.sql_builder.specs.Truths.{is_and, is_or, owns_next}
 use Rattle.sql_builder.specs.WhereTokens.{in_brackets}
 use Rattle.sql_builder.proofs.Balance.{balanced_even, even_closes, is_operand-brackets, no_clause-brackets}
 use Rattle.sql_builder.proofs.Joining.{no_and, no_or, truth_and, truth_brackets, truth_not, truth_or, without_owned-all}
@@ -29,8 +29,10 @@ of_or facts one other h = truth_or facts one other (at_end-closes (pos 0) one (c
 
 pub of_and : TruthOfAnd
 of_and facts one other h k =
-    let both = and_parts (fragments.is_balanced one) (not (fragments.has_outer is_joining one)) h in
-    truth_and facts one other (at_end-closes (pos 0) one (closes one both.0)) (none is_joining one both.1) (none is_or other k)
+    let both = and_parts (fragments.is_balanced one && not (fragments.has_outer is_or one)) (not (owns_next false (fragments.placed one))) h in
+    let first = and_parts (fragments.is_balanced one) (not (fragments.has_outer is_or one)) both.0 in
+    truth_and facts one other (at_end-closes (pos 0) one (closes one first.0)) (none is_or one first.1)
+    (ap (owns_next false) (sym (placed-is one)) ∙ not-true _ both.1) (none is_or other k)
 
 pub of_not : TruthOfNot
 of_not facts negated h =

@@ -1,7 +1,7 @@
 -- Laws of lists of calls, of clauses and of truth.
-use Rattle.std.specs.Prelude.{◌≡◌, ◌&&◌, IfOk, Ok, ℕ, Bool, List, [], ◌∷◌, ◌++◌, IsTrue, Option, codes, is_some, map, not, true}
+use Rattle.std.specs.Prelude.{◌≡◌, ◌&&◌, IfOk, Ok, false, ℕ, Bool, List, [], ◌∷◌, ◌++◌, IsTrue, Option, codes, is_some, map, not, true}
 use Rattle.std.specs.List.{list_all}
-use Rattle.sql_parts.specs.Fragments.{has_outer, is_balanced, is_clause_word, is_joining, is_operand}
+use Rattle.sql_parts.specs.Fragments.{has_outer, is_balanced, is_clause_word, is_joining, is_operand, placed}
 use Rattle.sql_parts.specs.Quoting.{quoted}
 use Rattle.sql_parts.specs.Tokens.{Token, Word, is_empty, tokens}
 use Rattle.sql_builder.specs.Builder.{ClauseTexts, condition_bytes}
@@ -12,7 +12,7 @@ use Rattle.sql_builder.specs.Fitting.{has_fit_conditions, has_fit_texts}
 use Rattle.sql_builder.specs.Meaning.{HasBalancedFragments, HasFitFragments, IsAtomIfOperands, is_unenclosed}
 use Rattle.sql_builder.specs.Phrases.{count_as, equation}
 use Rattle.sql_builder.specs.Shape.{EndsInOneSemicolon, KeepsTokens, as_fragments, cond_tokens, has_closed_fragments, has_no_semicolons}
-use Rattle.sql_builder.specs.Truths.{Fact, False, True, Truth, Valuation, exchange, greater, greatest, is_or, least, lesser, truth}
+use Rattle.sql_builder.specs.Truths.{Fact, False, True, Truth, Valuation, exchange, greater, greatest, is_or, least, lesser, owns_next, truth}
 use Rattle.sql_builder.specs.WhereTokens.{in_brackets, where_tokens}
 use Rattle.sql_builder.specs.Reading.{clause_list, read}
 use Rattle.sql_builder.specs.Statement.{statement}
@@ -64,9 +64,9 @@ abbrev pub TruthOfOr : Type 0
 TruthOfOr = (facts : Valuation) (one other : List Token) → IsTrue (is_balanced one)
     → truth facts (one ++ Word (codes "OR") ∷ other) ≡ greater (truth facts one) (truth facts other)
 
--- the truth of `one AND other`, where the one has no outer OR, AND or BETWEEN, and the other no outer OR
+-- the truth of `one AND other`, where neither has an outer OR, and no BETWEEN of the one owns the AND
 abbrev pub TruthOfAnd : Type 0
-TruthOfAnd = (facts : Valuation) (one other : List Token) → IsTrue (is_balanced one && not (has_outer is_joining one))
+TruthOfAnd = (facts : Valuation) (one other : List Token) → IsTrue (is_balanced one && not (has_outer is_or one) && not (owns_next false (placed one)))
     → IsTrue (not (has_outer is_or other))
     → truth facts (one ++ Word (codes "AND") ∷ other) ≡ lesser (truth facts one) (truth facts other)
 

@@ -56,15 +56,15 @@ where_truths facts [] = []
 where_truths facts (group ∷ groups) = least (map (λ conditions. greatest (map (truth facts) conditions)) (group ∷ groups)) ∷ []
 
 -- whatever is known of atoms, what stands with WHERE in a text has the truth of these groups
-abbrev pub IsTrueAs : List (List (List Token)) → List ℕ → Type 0
-IsTrueAs groups text =
+abbrev pub HasTruthOf : List (List (List Token)) → List ℕ → Type 0
+HasTruthOf groups text =
     (facts : Valuation) → map (truth facts) (stand_with (codes "WHERE") (read (tokens text))) ≡ where_truths facts groups
 
 -- where the statement has a WHERE, if there is a condition, and fragments and groups are fit, what stands with WHERE in a text
 -- has the truth of the groups
 abbrev pub HasTruthOfGroups : FinishText → ClauseTexts → Pieces → List ℕ → Type 0
 HasTruthOfGroups finish r printed text =
-    IsTrue (prints_where finish r.kind) → IsTrue (has_fit_fragments printed) → IsTrue (has_fit_groups r) → IsTrueAs (text_groups r) text
+    IsTrue (prints_where finish r.kind) → IsTrue (has_fit_fragments printed) → IsTrue (has_fit_groups r) → HasTruthOf (text_groups r) text
 
 -- ---- nesting
 

@@ -3,30 +3,30 @@ use Rattle.std.specs.Prelude.{Bool, true, false, List, [], ◌∷◌, if◌then�
 use Rattle.sql_parts.specs.Fragments.{Placed, is_outer, token_of}
 use Rattle.sql_parts.specs.Tokens.{Token}
 
--- The tokens before the first separator, and each separator with the tokens up to the next.
+-- The tokens before the first divider, and each divider with the tokens up to the next.
 pub record Parts : Type 0 where
   pub lead : List Token
   pub rest : List (Token × List Token)
 
--- one more token in front, a separator or not
+-- one more token in front, a divider or not
 abbrev pub with_front : Bool → Token → Parts → Parts
 with_front true token parts = record { lead = []; rest = (token, parts.lead) ∷ parts.rest }
 with_front false token parts = record { lead = token ∷ parts.lead; rest = parts.rest }
 
--- the separators are the outer tokens that pass the test
+-- the dividers are the outer tokens that pass the test
 abbrev pub parts_at : (Token → Bool) → List Placed → Parts
 parts_at test [] = record { lead = []; rest = [] }
 parts_at test (found ∷ more) = with_front (is_outer test found) (token_of found) (parts_at test more)
 
--- what stands before the first separator, between each and the next, and behind the last
+-- what stands before the first divider, between each and the next, and behind the last
 abbrev pub pieces_of : Parts → List (List Token)
 pieces_of parts = parts.lead ∷ map (λ part. part.1) parts.rest
 
--- the pieces between the separators
+-- the pieces between the dividers
 abbrev pub pieces_at : (Token → Bool) → List Placed → List (List Token)
 pieces_at test ms = pieces_of (parts_at test ms)
 
--- what stands before the first separator, with its places
+-- what stands before the first divider, with its places
 abbrev pub before_outer : (Token → Bool) → List Placed → List Placed
 before_outer test [] = []
 before_outer test (found ∷ more) = if is_outer test found then [] else found ∷ before_outer test more

@@ -100,6 +100,12 @@ without_owned owned (Inner token ∷ more) = Inner token ∷ without_owned owned
 without_owned owned (Outer token ∷ more) =
     (if owned && is_and token then Inner token else Outer token) ∷ without_owned (is_between_last owned token) more
 
+-- whether a BETWEEN would own an outer AND behind these tokens
+abbrev pub owns_next : Bool → List Placed → Bool
+owns_next owned [] = owned
+owns_next owned (Inner token ∷ more) = owns_next owned more
+owns_next owned (Outer token ∷ more) = owns_next (is_between_last owned token) more
+
 -- the level is at least 1 behind each token
 abbrev pub is_inside : List Token → Bool
 is_inside ts = list_all (λ place. int_le (pos 1) (level ts (suc place))) (places any_token ts)

@@ -6,7 +6,7 @@ ghost use Rattle.sql_builder.specs.Builder.{condition_bytes, with_condition};
 ghost use Rattle.sql_builder.specs.Steps.{with_call};
 ghost use Rattle.sql_builder.specs.Calls.{clauses, kind_of, operator_in};
 ghost use Rattle.sql_builder.specs.Clauses.{map_clauses};
-ghost use Rattle.sql_builder.specs.Meaning.{HasBalancedFragments, HasFitFragments, IsTrueAs, condition_groups, is_nested, is_unenclosed, prints_where};
+ghost use Rattle.sql_builder.specs.Meaning.{HasBalancedFragments, HasFitFragments, HasTruthOf, condition_groups, is_nested, is_unenclosed, prints_where};
 ghost use Rattle.sql_builder.specs.Fitting.{has_fit_conditions};
 ghost use Rattle.sql_builder.specs.Reading.{clause_list, read};
 ghost use Rattle.sql_builder.specs.Shape.{HasClosedFragments, shape};
@@ -362,7 +362,7 @@ pub fn run(
         → HasFitFragments (start_text start.now) (map call_text calls.now)
         (finish_text finish.now) → IsTrue (has_fit_conditions (map call_text calls.now))
         → IfOk result (λ s.
-        IsTrueAs (condition_groups (map call_text calls.now)) (string_bytes s)) }
+        HasTruthOf (condition_groups (map call_text calls.now)) (string_bytes s)) }
     ensures nests { HasBalancedFragments (start_text start.now) (map call_text calls.now)
         (finish_text finish.now) → IfOk result (λ s.
         IsTrue (is_nested (finish_text finish.now) (string_bytes s))) }

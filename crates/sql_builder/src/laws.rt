@@ -78,8 +78,8 @@ pub fn fit_texts_make_fit_fragments()
 {}
 
 /// The truth of a condition by how it is made: of an OR whose left side is balanced the greater;
-/// of an AND the lesser, where the left side is balanced and has no outer OR, AND or BETWEEN, and
-/// the right side no outer OR; of a NOT the exchange, where no outer OR, AND or BETWEEN is behind
+/// of an AND the lesser, where the left side is balanced, neither side has an outer OR, and no
+/// BETWEEN on the left owns the AND; of a NOT the exchange, where no outer OR, AND or BETWEEN is behind
 /// it; of brackets round what is balanced and has no outer clause word that of the inside; of a
 /// WHERE of such conditions the least over its groups of the greatest over a group's conditions.
 #[tactic(auto, using(crate::proofs::TruthLaws::of_or, crate::proofs::TruthLaws::of_and, crate::proofs::TruthLaws::of_not, crate::proofs::TruthLaws::of_brackets, crate::proofs::TruthLaws::of_where))]

@@ -5,7 +5,7 @@ use Rattle.sql_builder.specs.Answers.{call_text}
 use Rattle.sql_builder.specs.Calls.{CallText, Cond, SelectFrom, Sql}
 use Rattle.sql_builder.specs.Conditions.{Raw}
 use Rattle.sql_builder.specs.Fitting.{Bare, has_fit_texts, is_fit}
-use Rattle.sql_builder.specs.Meaning.{IsTrueAs, condition_groups}
+use Rattle.sql_builder.specs.Meaning.{HasTruthOf, condition_groups}
 use Rattle.sql_builder.specs.declared.calls.Family.TheVariants.{And}
 use Rattle.sql_parts.specs.Tokens.{Token, tokens}
 use Rattle.builder_tests.proofs.callers.books_where.Goals as goal
@@ -34,5 +34,5 @@ returns-clause-truth c =
     let start = SelectFrom (string_bytes c.in_ok-from_str.field-0) in
     let told = map call_text c.deref.result.now in
     let law = c.fit_texts_make_fit_fragments.ensures in
-    subst (λ groups. IsTrueAs groups (string_bytes c.in_ok-run.field-0)) (ap condition_groups calls ∙ groups_are one other)
+    subst (λ groups. HasTruthOf groups (string_bytes c.in_ok-run.field-0)) (ap condition_groups calls ∙ groups_are one other)
     (c.in_ok-run.ensures.truth refl (law.fragments start told Sql refl fit) (law.conditions start told Sql fit))
