@@ -1,6 +1,6 @@
 //! What a caller knows who asks the tests of fragments before it hands a text in.
 ghost use Rattle.std.specs.Prelude.{◌≡◌, ◌&&◌, [], ◌∷◌, IfOk, IfSome, is_some, string_bytes};
-ghost use Rattle.sql_builder.specs.Fitting.{Bare, is_fit};
+ghost use Rattle.sql_builder.specs.Handed.{Bare, is_fit};
 ghost use Rattle.sql_builder.specs.Meaning.{HasTruthOf};
 ghost use Rattle.sql_parts.specs.Tokens.{tokens};
 

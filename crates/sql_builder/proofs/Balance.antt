@@ -5,7 +5,7 @@ use Rattle.std.proofs.lemmas.Bool.{and_parts, and_from, or_from, false≢true, n
 use Rattle.std.proofs.lemmas.List.Folds.{list_all-append}
 use Rattle.std.specs.List.{list_any, list_all}
 use Rattle.sql_parts.specs.Tokens.{Token, is_empty, tokens, closed, is_open, is_semicolon}
-use Rattle.sql_builder.specs.WhereTokens.{in_brackets, joined}
+use Rattle.sql_builder.specs.WhereTokens.{in_brackets}
 use Rattle.sql_builder.proofs.WhereTokens.{is_condition, has_clause, right_bracket}
 use Rattle.sql_builder.proofs.Placing.{closes_from-append, at_end-closes, after-suc}
 use Rattle.sql_builder.proofs.Splitting.{none-append, any-append}

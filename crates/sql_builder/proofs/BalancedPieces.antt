@@ -6,7 +6,7 @@ use Rattle.std.proofs.lemmas.List.Folds.{list_all-append}
 use Rattle.sql_parts.specs.Fragments.{balanced}
 use Rattle.sql_builder.specs.Fitting.{has_balanced_fragments, is_balanced_piece}
 use Rattle.sql_builder.specs.Text.{Pieces, fixed_piece, quoted_piece, raw_piece}
-use Rattle.sql_builder.proofs.Handing.{Each, Joins}
+use Rattle.sql_builder.proofs.Takes.{Each, Joins}
 
 abbrev pub Balanced : Pieces → Type 0
 Balanced ps = has_balanced_fragments ps ≡ true

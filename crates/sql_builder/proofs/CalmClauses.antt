@@ -1,4 +1,7 @@
 -- What calls write of their own has no clause word, and its brackets close, whatever texts they are handed.
+use Rattle.sql_builder.specs.Handed.{Handed}
+use Rattle.sql_builder.proofs.ConditionPieces.{condition-kept}
+use Rattle.sql_builder.proofs.Takes.{Each, Joins, Takes, listed}
 use Rattle.std.proofs.Common.{◌≡◌, refl, ◌∙◌, ap, ℕ, Bool, true, false, List, [], ◌∷◌, ◌++◌, Option, None, Some, map, codes}
 use Rattle.std.specs.Prelude.{IfSome, option_map}
 use Rattle.std.specs.List.{AllByRecursion, list_all, list_any}
@@ -8,16 +11,16 @@ use Rattle.sql_parts.specs.Fragments.{is_clause_word}
 use Rattle.sql_parts.specs.Tokens.{Token}
 use Rattle.sql_parts.proofs.Walks.{is_even}
 use Rattle.sql_builder.specs.Calls as call
-use Rattle.sql_builder.specs.Calls.{CallText, StartText, clauses, condition_pieces, start_fields}
+use Rattle.sql_builder.specs.Calls.{CallText, StartText, clauses, start_fields}
 use Rattle.sql_builder.specs.Clauses.{Clauses, map_clauses}
-use Rattle.sql_builder.specs.Conditions.{ConditionText, not_text}
-use Rattle.sql_builder.specs.Fitting.{Handed, call_texts, condition_texts, own, start_texts}
+use Rattle.sql_builder.specs.Condition.{ConditionText, not_text, condition_pieces, condition_handed}
+use Rattle.sql_builder.specs.Fitting.{call_handed, own, start_handed}
 use Rattle.sql_builder.specs.Phrases.{comma_list, in_brackets}
 use Rattle.sql_builder.specs.Text.{Pieces, fixed_piece, quoted_piece, raw_piece}
 use Rattle.sql_builder.specs.WhereTokens as where_tokens
 use Rattle.sql_builder.proofs.Balance.{is_even-append, is_even-brackets}
 use Rattle.sql_builder.proofs.Each.{map-all}
-use Rattle.sql_builder.proofs.Handing.{Each, Joins, PartsAre, Takes, clauses-kept, condition-kept, listed}
+use Rattle.sql_builder.proofs.Handing.{PartsAre, clauses-kept}
 use Rattle.sql_builder.proofs.OwnSections.{Calm}
 use Rattle.sql_builder.proofs.OwnWords.{own-append}
 
@@ -86,18 +89,18 @@ all-any : (texts : List Handed) → list_all any texts ≡ true
 all-any [] = refl
 all-any (text ∷ texts) = all-any texts
 
-calls-any : (calls : List CallText) → list_all (λ c. list_all any (call_texts false c)) calls ≡ true
+calls-any : (calls : List CallText) → list_all (λ c. list_all any (call_handed false c)) calls ≡ true
 calls-any [] = refl
-calls-any (c ∷ calls) = and_from _ _ (all-any (call_texts false c)) (calls-any calls)
+calls-any (c ∷ calls) = and_from _ _ (all-any (call_handed false c)) (calls-any calls)
 
 pub condition-calm : (condition : ConditionText) → Calm (condition_pieces condition)
-condition-calm condition = condition-kept false any Calm Calm Calm calm-takes condition (all-any (condition_texts condition))
+condition-calm condition = condition-kept false any Calm Calm Calm calm-takes condition (all-any (condition_handed condition))
 
 abbrev pub CalmParts : Clauses Pieces → Type 0
 CalmParts r = PartsAre Calm Calm Calm r
 
 pub clauses-calm : (start : StartText) (calls : List CallText) → CalmParts (clauses start calls)
-clauses-calm start calls = clauses-kept false any Calm Calm Calm calm-takes start calls (all-any (start_texts start)) (all-any (call_texts false (call.SetFields (start_fields start)))) (calls-any calls)
+clauses-calm start calls = clauses-kept false any Calm Calm Calm calm-takes start calls (all-any (start_handed start)) (all-any (call_handed false (call.SetFields (start_fields start)))) (calls-any calls)
 
 -- the clauses of a builder
 some-raw : (text : Option (List ℕ)) → IfSome (option_map raw_piece text) Calm

@@ -2,52 +2,36 @@
 use Rattle.std.proofs.Common.{◌≡◌, ℕ, Bool, true, false, List, [], ◌∷◌, ◌++◌, Option, None, Some, map, codes, refl, flat_map, subst, Result, Ok, Err, IfOk, String, string_bytes, ap, sym, ◌∙◌}
 use Rattle.std.specs.Prelude.{IfSome, IsTrue}
 use Rattle.std.specs.Result.{result_map_both}
-use Rattle.sql_builder.specs.Builder.{ClauseTexts, condition_bytes, with_fields, with_on, with_set}
+use Rattle.sql_builder.specs.Builder.{ClauseTexts, with_fields, with_on, with_set}
 use Rattle.std.specs.List.{AllByRecursion}
 use Rattle.sql_parts.specs.Tokens.{closed, ends_with, is_edge, tokens}
 use Rattle.sql_parts.specs.declared.error.SqlBuilderError.{SqlBuilderError}
 use Rattle.sql_parts.specs.Quoting.{quoted}
 use Rattle.sql_builder.specs.Layout.{byte_atoms, sql}
-use Rattle.sql_builder.specs.Calls.{StartText, CallText, FinishText, clauses, condition_pieces, constraint_in, fields_in, group_fields_in, group_pieces, groups, having_in, is_join, join_after, join_in, limit_in, offset_in, order_fields_in, query_in, returning_in, rows_in, sets_in, start_table, table_in, unions_in, drops_fields, is_select, is_values, start_fields, natural_of, operator_of}
+use Rattle.sql_builder.specs.Calls.{StartText, CallText, FinishText, clauses, constraint_in, fields_in, group_fields_in, group_pieces, groups, having_in, is_join, join_after, join_in, limit_in, offset_in, order_fields_in, query_in, returning_in, rows_in, sets_in, start_table, table_in, unions_in, drops_fields, is_select, is_values, start_fields, natural_of, operator_of}
 use Rattle.sql_builder.specs.Calls as call
-use Rattle.sql_builder.specs.Conditions.{ConditionText, Raw, Compare, Like, IsNull, IsNotNull, InList, InQuoted, InQuery, Between, mask_text, not_text, relation_text}
+use Rattle.sql_builder.specs.Condition.{ConditionText, condition_bytes, condition_pieces}
 use Rattle.sql_builder.specs.Filters.{Group, in_place, last_said, since, until}
 use Rattle.sql_builder.specs.Phrases.{comma_list, count, count_as, equation, join_words, order}
 use Rattle.sql_builder.specs.Clauses.{Clauses, map_clauses}
 use Rattle.sql_builder.specs.Shape.{EndsInOneSemicolon, has_closed_fragments, has_no_semicolons, AddsText, HasClosedFragments, KeepsTokens, as_fragments, pieces_tokens, shape}
 use Rattle.sql_builder.specs.Statement.{layout_at, pieces, refusal_at, statement, text_unless_refused, unless_refused}
 use Rattle.sql_builder.specs.Text.{Pieces, fixed_piece, pieces_text, quoted_piece, raw_piece}
-use Rattle.sql_builder.specs.Steps.{AddsPair, with_pair}
-use Rattle.sql_builder.specs.declared.steps.PairClause.{PairClause}
-use Rattle.sql_builder.specs.declared.steps.PairClause.TheVariants as pair
+use Rattle.sql_builder.specs.Steps.{AddsBinary, with_binary}
+use Rattle.sql_builder.specs.declared.steps.BinaryClause.{BinaryClause}
+use Rattle.sql_builder.specs.declared.steps.BinaryClause.TheVariants as binary
 use Rattle.std.proofs.lemmas.List.{append-nil}
-use Rattle.sql_builder.proofs.Runs.{condition_printed}
-use Rattle.sql_builder.specs.declared.calls.Relation.{Relation}
-use Rattle.sql_builder.specs.declared.calls.Relation.TheVariants.{Eq, Ne, Gt, Ge, Lt, Le}
+use Rattle.sql_builder.proofs.ConditionPieces.{condition_printed}
 use Rattle.sql_builder.specs.declared.clauses.JoinOperator.{JoinOperator}
 use Rattle.sql_builder.specs.declared.clauses.JoinOperator.TheVariants as operator
-use Rattle.sql_builder.proofs.Layouts.{sql-semicolon, Parts, fragments-printed, items-inside, layout-shaped, raw-all, raw-parts}
+use Rattle.sql_builder.proofs.Layouts.{sql-semicolon, Parts, fragments-printed, layout-shaped, raw-parts}
 use Rattle.sql_builder.proofs.Each.{append-all, flat-all, last-some, map-all}
-use Rattle.sql_parts.proofs.JoinedTokens.{Edged}
-use Rattle.sql_builder.proofs.Shapes.{AllInside, Behind, Inside, Shaped, Whole, all-flat, brackets-inside, ended-inside, inside-inside, joined-inside, none-behind, none-inside, quoted-inside, raw-inside, shape_closed, shaped, whole, words-behind, words-ended, words-inside}
+use Rattle.sql_builder.proofs.Shapes.{AllInside, Behind, Inside, Shaped, Whole, all-flat, brackets-inside, inside-inside, joined-inside, none-behind, none-inside, quoted-inside, raw-inside, shape_closed, shaped, words-behind, words-inside, items-inside, raw-all}
+use Rattle.sql_builder.proofs.ConditionPieces.{condition-inside}
+use Rattle.sql_builder.proofs.Shapes.{closing-last, words-between, words-first, words-last}
 
 said-last : (f : CallText → Option Pieces) → ((c : CallText) → IfSome (f c) Inside) → (calls : List CallText) → IfSome (last_said f calls) Inside
 said-last f each calls = last-some Inside f each calls None tt
-
--- phrases
-words-between : (words : List ℕ) (one other : Pieces) → Edged words → Inside one → Inside other → Inside (one ++ (fixed_piece words ++ other))
-words-between words one other edged first last =
-    inside-inside one (fixed_piece words ++ other) first (words-behind words other edged.begins)
-    (ended-inside (fixed_piece words) other (words-ended words (whole edged) edged.ends) last)
-
-words-last : (words : List ℕ) (one : Pieces) → Whole words → Behind (fixed_piece words ++ []) → Inside one → Inside (one ++ fixed_piece words)
-words-last words one is behind first = inside-inside one (fixed_piece words) first behind (words-inside words is)
-
-closing-last : (one : Pieces) → Inside one → Inside (one ++ fixed_piece (codes ")"))
-closing-last one first = words-last (codes ")") one (record { is_closed = refl; plain = refl }) (words-behind (codes ")") [] refl) first
-
-words-first : (words : List ℕ) (one : Pieces) → Whole words → ends_with is_edge words ≡ true → Inside one → Inside (fixed_piece words ++ one)
-words-first words one is ends last = ended-inside (fixed_piece words) one (words-ended words is ends) last
 
 equation-inside : (left right : Pieces) → Inside left → Inside right → Inside (equation fixed_piece left right)
 equation-inside left right one other = words-between (codes " = ") left right (record { is_closed = refl; plain = refl; begins = refl; ends = refl }) one other
@@ -55,45 +39,6 @@ equation-inside left right one other = words-between (codes " = ") left right (r
 order-inside : (descending : Bool) (field : Pieces) → Inside field → Inside (order fixed_piece descending field)
 order-inside true field inside = words-last (codes " DESC") field (record { is_closed = refl; plain = refl }) (words-behind (codes " DESC") [] refl) inside
 order-inside false field inside = inside
-
--- conditions
-not-edged : (negated : Bool) (words : List ℕ) → Edged words → Edged (codes " NOT" ++ words) → Edged (not_text negated ++ words)
-not-edged true words bare with_not = with_not
-not-edged false words bare with_not = bare
-
-relation-edged : (relation : Relation) → Edged (relation_text relation)
-relation-edged Eq = record { is_closed = refl; plain = refl; begins = refl; ends = refl }
-relation-edged Ne = record { is_closed = refl; plain = refl; begins = refl; ends = refl }
-relation-edged Gt = record { is_closed = refl; plain = refl; begins = refl; ends = refl }
-relation-edged Ge = record { is_closed = refl; plain = refl; begins = refl; ends = refl }
-relation-edged Lt = record { is_closed = refl; plain = refl; begins = refl; ends = refl }
-relation-edged Le = record { is_closed = refl; plain = refl; begins = refl; ends = refl }
-
-in-edged : (negated : Bool) → Edged (not_text negated ++ codes " IN (")
-in-edged negated = not-edged negated (codes " IN (") (record { is_closed = refl; plain = refl; begins = refl; ends = refl }) (record { is_closed = refl; plain = refl; begins = refl; ends = refl })
-
-list-inside : (negated : Bool) (field : List ℕ) (items : List Pieces) → AllInside items
-    → Inside (raw_piece field ++ (fixed_piece (not_text negated ++ codes " IN (") ++ (comma_list fixed_piece items ++ fixed_piece (codes ")"))))
-list-inside negated field items all =
-    words-between (not_text negated ++ codes " IN (") (raw_piece field) (comma_list fixed_piece items ++ fixed_piece (codes ")")) (in-edged negated) (raw-inside field)
-    (closing-last (comma_list fixed_piece items) (items-inside items all))
-
-pub condition-inside : (condition : ConditionText) → Inside (condition_pieces condition)
-condition-inside (Raw condition) = raw-inside condition
-condition-inside (Compare relation field value) = words-between (relation_text relation) (raw_piece field) (raw_piece value) (relation-edged relation) (raw-inside field) (raw-inside value)
-condition-inside (Like negated percent field mask) =
-    words-between (not_text negated ++ codes " LIKE ") (raw_piece field) (quoted_piece (mask_text percent mask))
-    (not-edged negated (codes " LIKE ") (record { is_closed = refl; plain = refl; begins = refl; ends = refl }) (record { is_closed = refl; plain = refl; begins = refl; ends = refl })) (raw-inside field) (quoted-inside (mask_text percent mask))
-condition-inside (IsNull field) = words-last (codes " IS NULL") (raw_piece field) (record { is_closed = refl; plain = refl }) (words-behind (codes " IS NULL") [] refl) (raw-inside field)
-condition-inside (IsNotNull field) = words-last (codes " IS NOT NULL") (raw_piece field) (record { is_closed = refl; plain = refl }) (words-behind (codes " IS NOT NULL") [] refl) (raw-inside field)
-condition-inside (InList negated field values) = list-inside negated field (map raw_piece values) (raw-all values)
-condition-inside (InQuoted negated field values) = list-inside negated field (map quoted_piece values) (map-all Inside quoted_piece quoted-inside values)
-condition-inside (InQuery negated field query) =
-    words-between (not_text negated ++ codes " IN (") (raw_piece field) (raw_piece query ++ fixed_piece (codes ")")) (in-edged negated) (raw-inside field) (closing-last (raw_piece query) (raw-inside query))
-condition-inside (Between negated field least greatest) =
-    words-between (not_text negated ++ codes " BETWEEN ") (raw_piece field) (raw_piece least ++ (fixed_piece (codes " AND ") ++ raw_piece greatest))
-    (not-edged negated (codes " BETWEEN ") (record { is_closed = refl; plain = refl; begins = refl; ends = refl }) (record { is_closed = refl; plain = refl; begins = refl; ends = refl })) (raw-inside field)
-    (words-between (codes " AND ") (raw_piece least) (raw_piece greatest) (record { is_closed = refl; plain = refl; begins = refl; ends = refl }) (raw-inside least) (raw-inside greatest))
 
 group-inside : (group : Group ConditionText) → Inside (group_pieces group)
 group-inside group =
@@ -298,14 +243,14 @@ count_as_keeps field name = keeps (count_as fixed_piece (raw_piece field) (raw_p
 pub adds : (adding : List ℕ → ClauseTexts) (text : List ℕ) (printed : Pieces) (new : ClauseTexts) → KeepsTokens printed text → new ≡ adding text → AddsText adding text printed new
 adds adding text printed new keeps is = (is, keeps.0, keeps.1)
 
-pub adds_pair : (clause : PairClause) (one other : List ℕ) (old new : ClauseTexts) → new ≡ with_pair clause one other old → AddsPair clause one other old new
-adds_pair pair.OnEq left right old new is =
+pub adds_binary : (clause : BinaryClause) (one other : List ℕ) (old new : ClauseTexts) → new ≡ with_binary clause one other old → AddsBinary clause one other old new
+adds_binary binary.OnEq left right old new is =
     adds (λ added. with_on added old) (equation byte_atoms left right) (equation fixed_piece (raw_piece left) (raw_piece right)) new (equation_keeps left right) is
-adds_pair pair.CountAs field name old new is =
+adds_binary binary.CountAs field name old new is =
     adds (λ added. with_fields (added ∷ []) old) (count_as byte_atoms field name) (count_as fixed_piece (raw_piece field) (raw_piece name)) new (count_as_keeps field name) is
-adds_pair pair.SetTo field value old new is =
+adds_binary binary.SetTo field value old new is =
     adds (λ added. with_set added old) (equation byte_atoms field value) (equation fixed_piece (raw_piece field) (raw_piece value)) new (equation_keeps field value) is
-adds_pair pair.SetStr field value old new is =
+adds_binary binary.SetStr field value old new is =
     adds (λ added. with_set added old) (equation byte_atoms field (quoted value)) (equation fixed_piece (raw_piece field) (quoted_piece value)) new (quoted_equation_keeps field value) is
 
 -- the `;` of what a builder prints

@@ -3,30 +3,30 @@ use Rattle.std.proofs.Common.{◌≡◌, refl, sym, ◌∙◌, ap, subst, ℕ, B
 use Rattle.std.specs.List.{list_all}
 use Rattle.std.proofs.lemmas.Bool.{and_parts, and_from, false≢true}
 use Rattle.sql_parts.specs.Tokens.{Symbol, tokens}
-use Rattle.sql_builder.specs.Conditions.{ConditionText, Raw, Compare, Like, IsNull, IsNotNull, InList, InQuoted, InQuery, Between, mask_text, not_text}
+use Rattle.sql_builder.specs.Condition.{ConditionText, Raw, Compare, Like, IsNull, IsNotNull, InList, InQuoted, InQuery, Between, mask_text, not_text, has_operands, condition_bytes, condition_pieces}
 use Rattle.sql_builder.specs.Phrases.{comma_list}
 use Rattle.sql_builder.specs.Shape.{pieces_tokens, cond_tokens}
 use Rattle.sql_builder.specs.Text.{Pieces, fixed_piece, quoted_piece, raw_piece}
-use Rattle.sql_builder.specs.declared.calls.Relation.{Relation}
-use Rattle.sql_builder.specs.declared.calls.Relation.TheVariants.{Eq, Ne, Gt, Ge, Lt, Le}
+use Rattle.sql_builder.specs.declared.condition.Relation.{Relation}
+use Rattle.sql_builder.specs.declared.condition.Relation.TheVariants.{Eq, Ne, Gt, Ge, Lt, Le}
 use Rattle.sql_builder.proofs.Atoms.{atom_between, atom_in, atom_like, atom_not_between, atom_not_in, atom_not_like, atom_not_null, atom_null, atom_plain, operand_plain}
 use Rattle.sql_builder.proofs.Each.{map-all}
 use Rattle.sql_builder.proofs.CalmClauses.{calm-list, calm-raw}
-use Rattle.sql_builder.proofs.Handing.{Each, listed}
+use Rattle.sql_builder.proofs.Takes.{Each, listed}
 use Rattle.sql_builder.proofs.OwnSections.{Calm}
 use Rattle.sql_builder.proofs.OwnWords.{shape-even, fragments_closed}
 use Rattle.sql_builder.proofs.WhereGroups.{pieces_tokens-brackets}
 use Rattle.sql_builder.proofs.WhereTokens.{and_word, between_word, in_word, not_word}
 use Rattle.sql_builder.specs.Fitting.{has_balanced_fragments}
-use Rattle.sql_builder.specs.Meaning.{IsAtomIfOperands, AddsCondition, has_operands}
+use Rattle.sql_builder.specs.Meaning.{IsAtomIfOperands, AddsCondition}
 use Rattle.sql_builder.specs.Truths.{IsAtom}
 use Rattle.sql_parts.proofs.Walks.{has_outer, is_even, is_operand, is_operand-is}
 use Rattle.sql_parts.specs.Fragments.{is_joining, operand, balanced}
 use Rattle.sql_builder.proofs.ClauseShapes.{adds, condition_keeps}
-use Rattle.sql_builder.specs.Builder.{ClauseTexts, condition_bytes, with_condition, with_condition_text}
-use Rattle.sql_builder.specs.Calls.{condition_pieces}
-use Rattle.sql_builder.specs.declared.calls.Family.{Family}
+use Rattle.sql_builder.specs.Builder.{ClauseTexts, with_condition, with_condition_text}
+use Rattle.sql_builder.specs.declared.condition.Family.{Family}
 use Rattle.sql_builder.proofs.BalancedPieces.{Balanced, balanced-joins, quoteds-balanced, raws-balanced, within}
+use Rattle.sql_builder.specs.Steps.{ConditionAdded}
 
 walked : (f : List ℕ) → operand f ≡ true → is_operand (tokens f) ≡ true
 walked f h = sym (is_operand-is (tokens f)) ∙ h
@@ -108,6 +108,10 @@ text_atom : (condition : ConditionText) → IsAtomIfOperands condition (tokens (
 text_atom condition = λ h.
     subst IsAtom (sym ((condition_keeps condition).0 (fragments_closed (condition_pieces condition) (operands_balanced condition h)))) (condition_atom condition h)
 
-pub adds_condition : (family : Family) (condition : ConditionText) (old new : ClauseTexts) → new ≡ with_condition family condition old → AddsCondition family condition old new
+adds_condition : (family : Family) (condition : ConditionText) (old new : ClauseTexts) → new ≡ with_condition family condition old → AddsCondition family condition old new
 adds_condition family condition old new is =
     (adds (λ added. with_condition_text family added old) (condition_bytes condition) (condition_pieces condition) new (condition_keeps condition) is, text_atom condition)
+
+pub condition_added : (family : Family) (condition : ConditionText) (old new : ClauseTexts) → new ≡ with_condition family condition old → ConditionAdded family condition old new
+unfolding ConditionAdded
+condition_added family condition old new is = adds_condition family condition old new is

@@ -1,13 +1,12 @@
 -- Worked rows of conditions and groups: what the definitions give, by computing.
 use Rattle.std.specs.Prelude.{◌≡◌, [], ◌∷◌, Ok, codes, refl, true, false}
-use Rattle.sql_builder.specs.Calls.{SelectFrom, UpdateTable, DeleteFrom, Cond, Limit, Offset, OrderAsc, OrderDesc, Returning, ReturningId, SetTo, SetStr, Sql, condition_pieces}
-use Rattle.sql_builder.specs.Conditions.{Raw, Compare, Like, IsNull, IsNotNull, InList, InQuoted, InQuery, Between}
-use Rattle.sql_builder.specs.Builder.{condition_bytes}
+use Rattle.sql_builder.specs.Calls.{SelectFrom, UpdateTable, DeleteFrom, Cond, Limit, Offset, OrderAsc, OrderDesc, Returning, ReturningId, SetTo, SetStr, Sql}
+use Rattle.sql_builder.specs.Condition.{Raw, Compare, Like, IsNull, IsNotNull, InList, InQuoted, InQuery, Between, condition_pieces, condition_bytes}
 use Rattle.sql_builder.specs.Statement.{statement}
 use Rattle.sql_builder.specs.Text as piece
-use Rattle.sql_builder.specs.declared.calls.Family.TheVariants.{And, Or}
-use Rattle.sql_builder.specs.declared.calls.Percent.TheVariants.{Plain, Right, Left, Any}
-use Rattle.sql_builder.specs.declared.calls.Relation.TheVariants.{Eq, Ne, Gt, Ge, Lt, Le}
+use Rattle.sql_builder.specs.declared.condition.Family.TheVariants.{And, Or}
+use Rattle.sql_builder.specs.declared.condition.Percent.TheVariants.{Plain, Right, Left, Any}
+use Rattle.sql_builder.specs.declared.condition.Relation.TheVariants.{Eq, Ne, Gt, Ge, Lt, Le}
 
 bare : condition_bytes (Raw (codes "f")) ≡ codes "f"
 bare = refl

@@ -1,11 +1,11 @@
 -- What is made of conditions is a condition: balanced, with no outer clause word.
-use Rattle.std.proofs.Common.{◌≡◌, refl, ◌∙◌, ap, true, false, not, List, [], ◌∷◌, map, pos}
-use Rattle.std.proofs.lemmas.Bool.{and_parts, and_from, or_from, false≢true, not-true, not_from_false}
+use Rattle.std.proofs.Common.{◌≡◌, refl, ◌∙◌, ap, true, false, not, List, [], ◌∷◌, pos}
+use Rattle.std.proofs.lemmas.Bool.{and_parts, and_from, or_from, false≢true, not-true}
 use Rattle.std.specs.List.{list_any, list_all}
 use Rattle.sql_parts.specs.Tokens.{Token}
-use Rattle.sql_builder.specs.WhereTokens.{in_brackets, joined, group_tokens, where_tokens}
-use Rattle.sql_builder.proofs.WhereTokens.{is_condition, is_group, are_groups, and_word, has_clause, or_word}
-use Rattle.sql_builder.proofs.Balance.{is_condition-append, balanced_even, is_balanced-brackets, no_clause-brackets}
+use Rattle.sql_builder.specs.WhereTokens.{joined, group_tokens}
+use Rattle.sql_builder.proofs.WhereTokens.{is_condition, is_group, has_clause, or_word}
+use Rattle.sql_builder.proofs.Balance.{is_condition-append, balanced_even}
 use Rattle.sql_parts.proofs.Walks.{after, closes_from, is_at_least_0, is_balanced, is_even, placed_from}
 use Rattle.sql_parts.specs.Fragments.{is_clause_word, is_outer, is_whole}
 
@@ -34,28 +34,6 @@ is_condition-joined s c (d ∷ cs) plain h =
 or_plain : IsPlain or_word
 or_plain = record { flat = refl; whole = refl; no_clause = refl }
 
-and_plain : IsPlain and_word
-and_plain = record { flat = refl; whole = refl; no_clause = refl }
-
-pub is_condition-brackets : (ts : List Token) → is_even ts ≡ true → is_condition (in_brackets ts) ≡ true
-is_condition-brackets ts h = and_from _ _ (is_balanced-brackets ts h) (not_from_false _ (no_clause-brackets ts h))
-
 pub is_condition-group : (g : List (List Token)) → is_group g ≡ true → is_condition (group_tokens g) ≡ true
 is_condition-group [] h = absurd (false≢true h)
 is_condition-group (c ∷ cs) h = is_condition-joined or_word c cs or_plain h
-
-bracketed_group : (g : List (List Token)) → is_group g ≡ true → is_condition (in_brackets (group_tokens g)) ≡ true
-bracketed_group g h = is_condition-brackets (group_tokens g) (balanced_even (group_tokens g) (and_parts (is_balanced (group_tokens g)) (not (has_clause (group_tokens g))) (is_condition-group g h)).0)
-
-bracketed_groups : (gs : List (List (List Token))) → list_all is_group gs ≡ true → list_all is_condition (map (λ g. in_brackets (group_tokens g)) gs) ≡ true
-bracketed_groups [] h = refl
-bracketed_groups (g ∷ gs) h =
-    let both = and_parts (is_group g) (list_all is_group gs) h in
-    and_from _ _ (bracketed_group g both.0) (bracketed_groups gs both.1)
-
--- a WHERE is a condition itself, and so a clause's body
-pub is_condition-where : (groups : List (List (List Token))) → are_groups groups ≡ true → is_condition (where_tokens groups) ≡ true
-unfolding are_groups where_tokens
-is_condition-where [] h = absurd (false≢true h)
-is_condition-where (g ∷ []) h = is_condition-group g (and_parts (is_group g) true h).0
-is_condition-where (g ∷ k ∷ gs) h = is_condition-joined and_word (in_brackets (group_tokens g)) (map (λ j. in_brackets (group_tokens j)) (k ∷ gs)) and_plain (bracketed_groups (g ∷ k ∷ gs) h)

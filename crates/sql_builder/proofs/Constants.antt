@@ -2,99 +2,104 @@
 use Rattle.sql_parts.proofs.Walking.{refl}
 use Rattle.sql_parts.proofs.Loans.{Variant}
 use Rattle.sql_parts.proofs.Variants.{variant}
-use Rattle.sql_builder.specs.contracts.steps.TextClause as text_clause
-use Rattle.sql_builder.proofs.steps.TextClause.TheLaws as text_clause_laws
-use Rattle.sql_builder.specs.declared.steps.TextClause.TheVariants as text_clause_case
-use Rattle.sql_builder.specs.contracts.steps.PairClause as pair_clause
-use Rattle.sql_builder.proofs.steps.PairClause.TheLaws as pair_clause_laws
-use Rattle.sql_builder.specs.declared.steps.PairClause.TheVariants as pair_clause_case
-use Rattle.sql_builder.specs.contracts.steps.ListClause as list_clause
-use Rattle.sql_builder.proofs.steps.ListClause.TheLaws as list_clause_laws
-use Rattle.sql_builder.specs.declared.steps.ListClause.TheVariants as list_clause_case
-use Rattle.sql_builder.specs.contracts.calls.Family as family
-use Rattle.sql_builder.proofs.calls.Family.TheLaws as family_laws
-use Rattle.sql_builder.specs.declared.calls.Family.TheVariants as family_case
-use Rattle.sql_builder.specs.contracts.steps.UnaryCondition as unary
-use Rattle.sql_builder.proofs.steps.UnaryCondition.TheLaws as unary_laws
-use Rattle.sql_builder.specs.declared.steps.UnaryCondition.TheVariants as unary_case
-use Rattle.sql_builder.specs.contracts.steps.BinaryCondition as binary
-use Rattle.sql_builder.proofs.steps.BinaryCondition.TheLaws as binary_laws
-use Rattle.sql_builder.specs.declared.steps.BinaryCondition.TheVariants as binary_case
-use Rattle.sql_builder.specs.contracts.steps.ListCondition as list
-use Rattle.sql_builder.proofs.steps.ListCondition.TheLaws as list_laws
-use Rattle.sql_builder.specs.declared.steps.ListCondition.TheVariants as list_case
-use Rattle.sql_builder.specs.contracts.steps.RangeCondition as range
-use Rattle.sql_builder.proofs.steps.RangeCondition.TheLaws as range_laws
-use Rattle.sql_builder.specs.declared.steps.RangeCondition.TheVariants as range_case
+use Rattle.sql_builder.specs.contracts.steps.UnaryClause as unary_clause
+use Rattle.sql_builder.proofs.steps.UnaryClause.TheLaws as unary_clause_laws
+use Rattle.sql_builder.specs.declared.steps.UnaryClause.TheVariants as unary_clause_case
+use Rattle.sql_builder.specs.contracts.steps.BinaryClause as binary_clause
+use Rattle.sql_builder.proofs.steps.BinaryClause.TheLaws as binary_clause_laws
+use Rattle.sql_builder.specs.declared.steps.BinaryClause.TheVariants as binary_clause_case
+use Rattle.sql_builder.specs.contracts.steps.VariadicClause as variadic_clause
+use Rattle.sql_builder.proofs.steps.VariadicClause.TheLaws as variadic_clause_laws
+use Rattle.sql_builder.specs.declared.steps.VariadicClause.TheVariants as variadic_clause_case
+use Rattle.sql_builder.specs.contracts.condition.Family as family
+use Rattle.sql_builder.proofs.condition.Family.TheLaws as family_laws
+use Rattle.sql_builder.specs.declared.condition.Family.TheVariants as family_case
+use Rattle.sql_builder.specs.contracts.condition.Relation as relation
+use Rattle.sql_builder.proofs.condition.Relation.TheLaws as relation_laws
+use Rattle.sql_builder.specs.declared.condition.Relation.TheVariants as relation_case
+use Rattle.sql_builder.specs.contracts.condition.Percent as percent
+use Rattle.sql_builder.proofs.condition.Percent.TheLaws as percent_laws
+use Rattle.sql_builder.specs.declared.condition.Percent.TheVariants as percent_case
+use Rattle.sql_builder.specs.contracts.where_calls.Sense as sense
+use Rattle.sql_builder.proofs.where_calls.Sense.TheLaws as sense_laws
+use Rattle.sql_builder.specs.declared.where_calls.Sense.TheVariants as sense_case
+use denote.Enum.Declared.{Declared, variants}
+use denote.Enum.Enum.{Plainss}
 
-abbrev pub text_clause-and_table : Variant text_clause.the_type
-text_clause-and_table = variant text_clause.the_type text_clause_laws.the_laws text_clause_case.AndTable 0 tt tt tt refl
+-- a variant, with its enum
+pub record Choice : Type 2 where
+  pub type : Declared
+  pub plain : Plainss (variants type)
+  pub variant : Variant type
 
-abbrev pub text_clause-join : Variant text_clause.the_type
-text_clause-join = variant text_clause.the_type text_clause_laws.the_laws text_clause_case.Join 1 tt tt tt refl
+abbrev pub unary_clause-and_table : Variant unary_clause.the_type
+unary_clause-and_table = variant unary_clause.the_type unary_clause_laws.the_laws unary_clause_case.AndTable 0 tt tt tt refl
 
-abbrev pub text_clause-on : Variant text_clause.the_type
-text_clause-on = variant text_clause.the_type text_clause_laws.the_laws text_clause_case.On 2 tt tt tt refl
+abbrev pub unary_clause-join : Variant unary_clause.the_type
+unary_clause-join = variant unary_clause.the_type unary_clause_laws.the_laws unary_clause_case.Join 1 tt tt tt refl
 
-abbrev pub text_clause-field : Variant text_clause.the_type
-text_clause-field = variant text_clause.the_type text_clause_laws.the_laws text_clause_case.Field 3 tt tt tt refl
+abbrev pub unary_clause-on : Variant unary_clause.the_type
+unary_clause-on = variant unary_clause.the_type unary_clause_laws.the_laws unary_clause_case.On 2 tt tt tt refl
 
-abbrev pub text_clause-set_field : Variant text_clause.the_type
-text_clause-set_field = variant text_clause.the_type text_clause_laws.the_laws text_clause_case.SetField 4 tt tt tt refl
+abbrev pub unary_clause-field : Variant unary_clause.the_type
+unary_clause-field = variant unary_clause.the_type unary_clause_laws.the_laws unary_clause_case.Field 3 tt tt tt refl
 
-abbrev pub text_clause-count : Variant text_clause.the_type
-text_clause-count = variant text_clause.the_type text_clause_laws.the_laws text_clause_case.Count 5 tt tt tt refl
+abbrev pub unary_clause-set_field : Variant unary_clause.the_type
+unary_clause-set_field = variant unary_clause.the_type unary_clause_laws.the_laws unary_clause_case.SetField 4 tt tt tt refl
 
-abbrev pub text_clause-select : Variant text_clause.the_type
-text_clause-select = variant text_clause.the_type text_clause_laws.the_laws text_clause_case.Select 6 tt tt tt refl
+abbrev pub unary_clause-count : Variant unary_clause.the_type
+unary_clause-count = variant unary_clause.the_type unary_clause_laws.the_laws unary_clause_case.Count 5 tt tt tt refl
 
-abbrev pub text_clause-returning : Variant text_clause.the_type
-text_clause-returning = variant text_clause.the_type text_clause_laws.the_laws text_clause_case.Returning 7 tt tt tt refl
+abbrev pub unary_clause-select : Variant unary_clause.the_type
+unary_clause-select = variant unary_clause.the_type unary_clause_laws.the_laws unary_clause_case.Select 6 tt tt tt refl
 
-abbrev pub text_clause-group_by : Variant text_clause.the_type
-text_clause-group_by = variant text_clause.the_type text_clause_laws.the_laws text_clause_case.GroupBy 8 tt tt tt refl
+abbrev pub unary_clause-returning : Variant unary_clause.the_type
+unary_clause-returning = variant unary_clause.the_type unary_clause_laws.the_laws unary_clause_case.Returning 7 tt tt tt refl
 
-abbrev pub text_clause-having : Variant text_clause.the_type
-text_clause-having = variant text_clause.the_type text_clause_laws.the_laws text_clause_case.Having 9 tt tt tt refl
+abbrev pub unary_clause-group_by : Variant unary_clause.the_type
+unary_clause-group_by = variant unary_clause.the_type unary_clause_laws.the_laws unary_clause_case.GroupBy 8 tt tt tt refl
 
-abbrev pub text_clause-union : Variant text_clause.the_type
-text_clause-union = variant text_clause.the_type text_clause_laws.the_laws text_clause_case.Union 10 tt tt tt refl
+abbrev pub unary_clause-having : Variant unary_clause.the_type
+unary_clause-having = variant unary_clause.the_type unary_clause_laws.the_laws unary_clause_case.Having 9 tt tt tt refl
 
-abbrev pub text_clause-union_all : Variant text_clause.the_type
-text_clause-union_all = variant text_clause.the_type text_clause_laws.the_laws text_clause_case.UnionAll 11 tt tt tt refl
+abbrev pub unary_clause-union : Variant unary_clause.the_type
+unary_clause-union = variant unary_clause.the_type unary_clause_laws.the_laws unary_clause_case.Union 10 tt tt tt refl
 
-abbrev pub text_clause-order_asc : Variant text_clause.the_type
-text_clause-order_asc = variant text_clause.the_type text_clause_laws.the_laws text_clause_case.OrderAsc 12 tt tt tt refl
+abbrev pub unary_clause-union_all : Variant unary_clause.the_type
+unary_clause-union_all = variant unary_clause.the_type unary_clause_laws.the_laws unary_clause_case.UnionAll 11 tt tt tt refl
 
-abbrev pub text_clause-order_desc : Variant text_clause.the_type
-text_clause-order_desc = variant text_clause.the_type text_clause_laws.the_laws text_clause_case.OrderDesc 13 tt tt tt refl
+abbrev pub unary_clause-order_asc : Variant unary_clause.the_type
+unary_clause-order_asc = variant unary_clause.the_type unary_clause_laws.the_laws unary_clause_case.OrderAsc 12 tt tt tt refl
 
-abbrev pub text_clause-limit : Variant text_clause.the_type
-text_clause-limit = variant text_clause.the_type text_clause_laws.the_laws text_clause_case.Limit 14 tt tt tt refl
+abbrev pub unary_clause-order_desc : Variant unary_clause.the_type
+unary_clause-order_desc = variant unary_clause.the_type unary_clause_laws.the_laws unary_clause_case.OrderDesc 13 tt tt tt refl
 
-abbrev pub text_clause-offset : Variant text_clause.the_type
-text_clause-offset = variant text_clause.the_type text_clause_laws.the_laws text_clause_case.Offset 15 tt tt tt refl
+abbrev pub unary_clause-limit : Variant unary_clause.the_type
+unary_clause-limit = variant unary_clause.the_type unary_clause_laws.the_laws unary_clause_case.Limit 14 tt tt tt refl
 
-abbrev pub pair_clause-on_eq : Variant pair_clause.the_type
-pair_clause-on_eq = variant pair_clause.the_type pair_clause_laws.the_laws pair_clause_case.OnEq 0 tt tt tt refl
+abbrev pub unary_clause-offset : Variant unary_clause.the_type
+unary_clause-offset = variant unary_clause.the_type unary_clause_laws.the_laws unary_clause_case.Offset 15 tt tt tt refl
 
-abbrev pub pair_clause-count_as : Variant pair_clause.the_type
-pair_clause-count_as = variant pair_clause.the_type pair_clause_laws.the_laws pair_clause_case.CountAs 1 tt tt tt refl
+abbrev pub binary_clause-on_eq : Variant binary_clause.the_type
+binary_clause-on_eq = variant binary_clause.the_type binary_clause_laws.the_laws binary_clause_case.OnEq 0 tt tt tt refl
 
-abbrev pub pair_clause-set_to : Variant pair_clause.the_type
-pair_clause-set_to = variant pair_clause.the_type pair_clause_laws.the_laws pair_clause_case.SetTo 2 tt tt tt refl
+abbrev pub binary_clause-count_as : Variant binary_clause.the_type
+binary_clause-count_as = variant binary_clause.the_type binary_clause_laws.the_laws binary_clause_case.CountAs 1 tt tt tt refl
 
-abbrev pub pair_clause-set_str : Variant pair_clause.the_type
-pair_clause-set_str = variant pair_clause.the_type pair_clause_laws.the_laws pair_clause_case.SetStr 3 tt tt tt refl
+abbrev pub binary_clause-set_to : Variant binary_clause.the_type
+binary_clause-set_to = variant binary_clause.the_type binary_clause_laws.the_laws binary_clause_case.SetTo 2 tt tt tt refl
 
-abbrev pub list_clause-fields : Variant list_clause.the_type
-list_clause-fields = variant list_clause.the_type list_clause_laws.the_laws list_clause_case.Fields 0 tt tt tt refl
+abbrev pub binary_clause-set_str : Variant binary_clause.the_type
+binary_clause-set_str = variant binary_clause.the_type binary_clause_laws.the_laws binary_clause_case.SetStr 3 tt tt tt refl
 
-abbrev pub list_clause-set_fields : Variant list_clause.the_type
-list_clause-set_fields = variant list_clause.the_type list_clause_laws.the_laws list_clause_case.SetFields 1 tt tt tt refl
+abbrev pub variadic_clause-fields : Variant variadic_clause.the_type
+variadic_clause-fields = variant variadic_clause.the_type variadic_clause_laws.the_laws variadic_clause_case.Fields 0 tt tt tt refl
 
-abbrev pub list_clause-values : Variant list_clause.the_type
-list_clause-values = variant list_clause.the_type list_clause_laws.the_laws list_clause_case.Values 2 tt tt tt refl
+abbrev pub variadic_clause-set_fields : Variant variadic_clause.the_type
+variadic_clause-set_fields = variant variadic_clause.the_type variadic_clause_laws.the_laws variadic_clause_case.SetFields 1 tt tt tt refl
+
+abbrev pub variadic_clause-values : Variant variadic_clause.the_type
+variadic_clause-values = variant variadic_clause.the_type variadic_clause_laws.the_laws variadic_clause_case.Values 2 tt tt tt refl
 
 abbrev pub family-and : Variant family.the_type
 family-and = variant family.the_type family_laws.the_laws family_case.And 0 tt tt tt refl
@@ -102,77 +107,38 @@ family-and = variant family.the_type family_laws.the_laws family_case.And 0 tt t
 abbrev pub family-or : Variant family.the_type
 family-or = variant family.the_type family_laws.the_laws family_case.Or 1 tt tt tt refl
 
-abbrev pub unary-bare : Variant unary.the_type
-unary-bare = variant unary.the_type unary_laws.the_laws unary_case.Bare 0 tt tt tt refl
+abbrev pub relation-eq : Choice
+relation-eq = record { type = relation.the_type; plain = relation_laws.the_plain; variant = variant relation.the_type relation_laws.the_laws relation_case.Eq 0 tt tt tt refl }
 
-abbrev pub unary-is_null : Variant unary.the_type
-unary-is_null = variant unary.the_type unary_laws.the_laws unary_case.IsNull 1 tt tt tt refl
+abbrev pub relation-ne : Choice
+relation-ne = record { type = relation.the_type; plain = relation_laws.the_plain; variant = variant relation.the_type relation_laws.the_laws relation_case.Ne 1 tt tt tt refl }
 
-abbrev pub unary-is_not_null : Variant unary.the_type
-unary-is_not_null = variant unary.the_type unary_laws.the_laws unary_case.IsNotNull 2 tt tt tt refl
+abbrev pub relation-gt : Choice
+relation-gt = record { type = relation.the_type; plain = relation_laws.the_plain; variant = variant relation.the_type relation_laws.the_laws relation_case.Gt 2 tt tt tt refl }
 
-abbrev pub binary-eq : Variant binary.the_type
-binary-eq = variant binary.the_type binary_laws.the_laws binary_case.Eq 0 tt tt tt refl
+abbrev pub relation-ge : Choice
+relation-ge = record { type = relation.the_type; plain = relation_laws.the_plain; variant = variant relation.the_type relation_laws.the_laws relation_case.Ge 3 tt tt tt refl }
 
-abbrev pub binary-ne : Variant binary.the_type
-binary-ne = variant binary.the_type binary_laws.the_laws binary_case.Ne 1 tt tt tt refl
+abbrev pub relation-lt : Choice
+relation-lt = record { type = relation.the_type; plain = relation_laws.the_plain; variant = variant relation.the_type relation_laws.the_laws relation_case.Lt 4 tt tt tt refl }
 
-abbrev pub binary-gt : Variant binary.the_type
-binary-gt = variant binary.the_type binary_laws.the_laws binary_case.Gt 2 tt tt tt refl
+abbrev pub relation-le : Choice
+relation-le = record { type = relation.the_type; plain = relation_laws.the_plain; variant = variant relation.the_type relation_laws.the_laws relation_case.Le 5 tt tt tt refl }
 
-abbrev pub binary-ge : Variant binary.the_type
-binary-ge = variant binary.the_type binary_laws.the_laws binary_case.Ge 3 tt tt tt refl
+abbrev pub percent-plain : Choice
+percent-plain = record { type = percent.the_type; plain = percent_laws.the_plain; variant = variant percent.the_type percent_laws.the_laws percent_case.Plain 0 tt tt tt refl }
 
-abbrev pub binary-lt : Variant binary.the_type
-binary-lt = variant binary.the_type binary_laws.the_laws binary_case.Lt 4 tt tt tt refl
+abbrev pub percent-right : Choice
+percent-right = record { type = percent.the_type; plain = percent_laws.the_plain; variant = variant percent.the_type percent_laws.the_laws percent_case.Right 1 tt tt tt refl }
 
-abbrev pub binary-le : Variant binary.the_type
-binary-le = variant binary.the_type binary_laws.the_laws binary_case.Le 5 tt tt tt refl
+abbrev pub percent-left : Choice
+percent-left = record { type = percent.the_type; plain = percent_laws.the_plain; variant = variant percent.the_type percent_laws.the_laws percent_case.Left 2 tt tt tt refl }
 
-abbrev pub binary-like : Variant binary.the_type
-binary-like = variant binary.the_type binary_laws.the_laws binary_case.Like 6 tt tt tt refl
+abbrev pub percent-any : Choice
+percent-any = record { type = percent.the_type; plain = percent_laws.the_plain; variant = variant percent.the_type percent_laws.the_laws percent_case.Any 3 tt tt tt refl }
 
-abbrev pub binary-like_right : Variant binary.the_type
-binary-like_right = variant binary.the_type binary_laws.the_laws binary_case.LikeRight 7 tt tt tt refl
+abbrev pub sense-plain : Choice
+sense-plain = record { type = sense.the_type; plain = sense_laws.the_plain; variant = variant sense.the_type sense_laws.the_laws sense_case.Plain 0 tt tt tt refl }
 
-abbrev pub binary-like_left : Variant binary.the_type
-binary-like_left = variant binary.the_type binary_laws.the_laws binary_case.LikeLeft 8 tt tt tt refl
-
-abbrev pub binary-like_any : Variant binary.the_type
-binary-like_any = variant binary.the_type binary_laws.the_laws binary_case.LikeAny 9 tt tt tt refl
-
-abbrev pub binary-not_like : Variant binary.the_type
-binary-not_like = variant binary.the_type binary_laws.the_laws binary_case.NotLike 10 tt tt tt refl
-
-abbrev pub binary-not_like_right : Variant binary.the_type
-binary-not_like_right = variant binary.the_type binary_laws.the_laws binary_case.NotLikeRight 11 tt tt tt refl
-
-abbrev pub binary-not_like_left : Variant binary.the_type
-binary-not_like_left = variant binary.the_type binary_laws.the_laws binary_case.NotLikeLeft 12 tt tt tt refl
-
-abbrev pub binary-not_like_any : Variant binary.the_type
-binary-not_like_any = variant binary.the_type binary_laws.the_laws binary_case.NotLikeAny 13 tt tt tt refl
-
-abbrev pub binary-in_query : Variant binary.the_type
-binary-in_query = variant binary.the_type binary_laws.the_laws binary_case.InQuery 14 tt tt tt refl
-
-abbrev pub binary-not_in_query : Variant binary.the_type
-binary-not_in_query = variant binary.the_type binary_laws.the_laws binary_case.NotInQuery 15 tt tt tt refl
-
-abbrev pub list-in : Variant list.the_type
-list-in = variant list.the_type list_laws.the_laws list_case.In 0 tt tt tt refl
-
-abbrev pub list-in_quoted : Variant list.the_type
-list-in_quoted = variant list.the_type list_laws.the_laws list_case.InQuoted 1 tt tt tt refl
-
-abbrev pub list-not_in : Variant list.the_type
-list-not_in = variant list.the_type list_laws.the_laws list_case.NotIn 2 tt tt tt refl
-
-abbrev pub list-not_in_quoted : Variant list.the_type
-list-not_in_quoted = variant list.the_type list_laws.the_laws list_case.NotInQuoted 3 tt tt tt refl
-
-abbrev pub range-between : Variant range.the_type
-range-between = variant range.the_type range_laws.the_laws range_case.Between 0 tt tt tt refl
-
-abbrev pub range-not_between : Variant range.the_type
-range-not_between = variant range.the_type range_laws.the_laws range_case.NotBetween 1 tt tt tt refl
+abbrev pub sense-negated : Choice
+sense-negated = record { type = sense.the_type; plain = sense_laws.the_plain; variant = variant sense.the_type sense_laws.the_laws sense_case.Negated 1 tt tt tt refl }

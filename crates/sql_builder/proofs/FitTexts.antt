@@ -1,4 +1,7 @@
 -- Texts that are fit, one by one, make fragments that are fit.
+use Rattle.sql_builder.specs.Handed.{Bare, Enclosed, is_fit}
+use Rattle.sql_builder.proofs.ConditionPieces.{condition-kept}
+use Rattle.sql_builder.proofs.Takes.{Each, Joins, Takes, before-each, joined, listed}
 use Rattle.std.proofs.Common.{◌≡◌, refl, sym, ◌∙◌, ap, subst, ℕ, suc, ℤ, Bool, true, false, not, ◌&&◌, List, [], ◌∷◌, ◌++◌, Option, None, Some, IfOk, map, pos, codes}
 use Rattle.std.specs.Prelude.{IfSome, IsTrue}
 use Rattle.std.specs.List.{AllByRecursion, list_all}
@@ -8,11 +11,11 @@ use Rattle.sql_parts.specs.Fragments.{balanced, has_clause_word, is_clause_word}
 use Rattle.sql_parts.specs.Tokens.{Token, tokens}
 use Rattle.sql_parts.specs.declared.error.SqlBuilderError.{SqlBuilderError}
 use Rattle.sql_parts.proofs.Walks.{at_end, has_outer-is, is_balanced, is_balanced-is, is_zero}
-use Rattle.sql_builder.specs.Calls.{CallText, FinishText, StartText, SelectFrom, SelectValues, InsertInto, UpdateTable, DeleteFrom, Sql, Query, QueryValues, Subquery, SubqueryAs, Cond, SetFields, clauses, condition_pieces, start_fields}
+use Rattle.sql_builder.specs.Calls.{CallText, FinishText, StartText, SelectFrom, SelectValues, InsertInto, UpdateTable, DeleteFrom, Sql, Query, QueryValues, Subquery, SubqueryAs, Cond, SetFields, clauses, start_fields}
 use Rattle.sql_builder.specs.Clauses.{Clauses}
-use Rattle.sql_builder.specs.Conditions.{not_text}
+use Rattle.sql_builder.specs.Condition.{not_text, condition_pieces}
 use Rattle.sql_builder.specs.Filters.{until}
-use Rattle.sql_builder.specs.Fitting.{Bare, Enclosed, are_fit, has_fit_fragments, begins_union, call_texts, encloses_fields, field_text, finish_texts, has_balanced_fragments, has_fit_conditions, has_fit_texts, is_fit, own, own_tokens, start_texts}
+use Rattle.sql_builder.specs.Fitting.{are_fit, has_fit_fragments, begins_union, call_handed, encloses_fields, field_text, finish_handed, has_balanced_fragments, has_fit_conditions, has_fit_texts, own, own_tokens, start_handed}
 use Rattle.sql_builder.specs.Laws.{FitTextsMakeBalancedFragments, FitTextsMakeFitConditions, FitTextsMakeFitFragments}
 use Rattle.sql_builder.specs.Layout.{Section, concat_sections, fields_or_star, group_by_sections, insert_sections, insert_target, list_sections, optional_section, order_by_sections, query, query_sections, range_sections, returning_sections, statement_sections, union_sections, values_sections, where_sections}
 use Rattle.sql_builder.specs.Meaning.{is_unenclosed}
@@ -25,7 +28,7 @@ use Rattle.sql_builder.specs.declared.clauses.Kind.TheVariants as kind
 use Rattle.sql_builder.proofs.Balance.{is_even-append}
 use Rattle.sql_builder.proofs.CalmClauses.{calm-append, calm-brackets, calm-none, calm-raw}
 use Rattle.sql_builder.proofs.Each.{append-all}
-use Rattle.sql_builder.proofs.Handing.{Each, Joins, PartsAre, Takes, before-each, clauses-kept, condition-kept, joined, listed}
+use Rattle.sql_builder.proofs.Handing.{PartsAre, clauses-kept}
 use Rattle.sql_builder.proofs.OwnWords.{are_fit-is, are_fit_from, even-ends, or_so}
 use Rattle.sql_builder.proofs.OwnLayouts.{Kept, Split, bare_query-split, bare_values-split, sql-split, insert-split}
 use Rattle.sql_builder.proofs.OwnSections.{AllOpen, Calm, Opens, section_pieces, sections-front, until-behind, ending-semicolon}
@@ -284,7 +287,7 @@ module _ (r : Clauses Pieces) (parts : PartsAre Balanced Balanced Balanced r) wh
   query-balanced : Balanced (query fixed_piece r)
   query-balanced = sections-balanced (query_sections fixed_piece r) query-bodies
 
-  layout-balanced : (finish : FinishText) → list_all is_fit (finish_texts finish) ≡ true → Balanced (layout finish r)
+  layout-balanced : (finish : FinishText) → list_all is_fit (finish_handed finish) ≡ true → Balanced (layout finish r)
   layout-balanced Sql h = balanced-append (concat_sections fixed_piece (statement_sections fixed_piece r.kind r)) (fixed_piece (codes ";")) (sections-balanced (statement_sections fixed_piece r.kind r) (statement-bodies r.kind)) refl
   layout-balanced Query h = query-balanced
   layout-balanced QueryValues h = sections-balanced (values_sections fixed_piece r) values-bodies
@@ -295,19 +298,19 @@ module _ (r : Clauses Pieces) (parts : PartsAre Balanced Balanced Balanced r) wh
 
 -- ---- what the texts that are handed in make
 
-conditions-fit : (enclosed : Bool) (calls : List CallText) → list_all (λ c. list_all is_fit (call_texts enclosed c)) calls ≡ true → has_fit_conditions calls ≡ true
+conditions-fit : (enclosed : Bool) (calls : List CallText) → list_all (λ c. list_all is_fit (call_handed enclosed c)) calls ≡ true → has_fit_conditions calls ≡ true
 conditions-fit enclosed [] all = refl
 conditions-fit enclosed (c ∷ calls) all =
-    let both = and_parts (list_all is_fit (call_texts enclosed c)) (list_all (λ (d : CallText). list_all is_fit (call_texts enclosed d)) calls) all in
+    let both = and_parts (list_all is_fit (call_handed enclosed c)) (list_all (λ (d : CallText). list_all is_fit (call_handed enclosed d)) calls) all in
     by c both.0 (conditions-fit enclosed calls both.1)
   where
-    by : (c : CallText) → list_all is_fit (call_texts enclosed c) ≡ true → has_fit_conditions calls ≡ true → has_fit_conditions (c ∷ calls) ≡ true
+    by : (c : CallText) → list_all is_fit (call_handed enclosed c) ≡ true → has_fit_conditions calls ≡ true → has_fit_conditions (c ∷ calls) ≡ true
     by (Cond family condition) here rest =
         and_from _ _ (are_fit-is (condition_pieces condition) ∙ (condition-kept false is_fit Fit Fit Calm fit-takes condition here).fits 0) rest
     by _ here rest = rest
 
 -- the start's fields, which an INSERT doesn't have
-first-fields : (start : StartText) (finish : FinishText) → list_all is_fit (start_texts start) ≡ true → list_all is_fit (call_texts (encloses_fields start finish) (SetFields (start_fields start))) ≡ true
+first-fields : (start : StartText) (finish : FinishText) → list_all is_fit (start_handed start) ≡ true → list_all is_fit (call_handed (encloses_fields start finish) (SetFields (start_fields start))) ≡ true
 first-fields (SelectFrom table) finish all = refl
 first-fields (SelectValues values) finish all = all
 first-fields (InsertInto table) finish all = refl
@@ -316,12 +319,12 @@ first-fields (DeleteFrom table) finish all = refl
 
 module _ (start : StartText) (calls : List CallText) (finish : FinishText) (all : has_fit_texts start calls finish ≡ true) where
   abbrev calls_fit : Bool
-  calls_fit = list_all (λ (c : CallText). list_all is_fit (call_texts (encloses_fields start finish) c)) calls
+  calls_fit = list_all (λ (c : CallText). list_all is_fit (call_handed (encloses_fields start finish) c)) calls
 
-  told : (list_all is_fit (start_texts start) ≡ true) × (calls_fit ≡ true) × (list_all is_fit (finish_texts finish) ≡ true)
+  told : (list_all is_fit (start_handed start) ≡ true) × (calls_fit ≡ true) × (list_all is_fit (finish_handed finish) ≡ true)
   told =
-      let both = and_parts (list_all is_fit (start_texts start) && calls_fit) (list_all is_fit (finish_texts finish)) all in
-      let first = and_parts (list_all is_fit (start_texts start)) calls_fit both.0 in
+      let both = and_parts (list_all is_fit (start_handed start) && calls_fit) (list_all is_fit (finish_handed finish)) all in
+      let first = and_parts (list_all is_fit (start_handed start)) calls_fit both.0 in
       (first.0, first.1, both.1)
 
   all-balanced : Balanced (layout finish (clauses start calls))
@@ -336,8 +339,8 @@ bare-fit start calls finish plain all bare =
     let facts = told start calls finish all in
     layout-fits finish (clauses start calls)
     (clauses-kept false is_fit Fit Fit Calm fit-takes start calls facts.0
-    (ap (λ (b : Bool). list_all is_fit (call_texts b (SetFields (start_fields start)))) (sym plain) ∙ first-fields start finish facts.0)
-    (ap (λ (b : Bool). list_all (λ (c : CallText). list_all is_fit (call_texts b c)) calls) (sym plain) ∙ facts.1))
+    (ap (λ (b : Bool). list_all is_fit (call_handed b (SetFields (start_fields start)))) (sym plain) ∙ first-fields start finish facts.0)
+    (ap (λ (b : Bool). list_all (λ (c : CallText). list_all is_fit (call_handed b c)) calls) (sym plain) ∙ facts.1))
     (clauses-parts start calls) bare
 
 all-fit : (start : StartText) (calls : List CallText) (finish : FinishText) → has_fit_texts start calls finish ≡ true → is_unenclosed finish ≡ true

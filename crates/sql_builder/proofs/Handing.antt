@@ -1,67 +1,25 @@
 -- What calls make of the texts that they are handed, for any property of pieces that each step keeps.
+use Rattle.sql_builder.specs.Handed.{Handed, Bare, Enclosed}
 use Rattle.std.proofs.Common.{◌≡◌, refl, ℕ, Bool, true, false, ◌&&◌, List, [], ◌∷◌, ◌++◌, Option, None, Some, map, codes, cond, ◌∙◌}
 use Rattle.std.specs.Prelude.{IfSome, filter_map, flat_map}
 use Rattle.std.specs.List.{AllByRecursion, cons_option, last_or, list_all, list_any}
 use Rattle.std.proofs.lemmas.Bool.{and_parts, and_from}
-use Rattle.sql_parts.specs.Text.{join_with}
 use Rattle.sql_builder.specs.Calls as call
-use Rattle.sql_builder.specs.Calls.{CallText, StartText, clauses, condition_in, condition_pieces, conditions_of, constraint_in, drops_fields, fields_in, group_fields_in, group_pieces, groups, having_in, is_join, is_select, is_values, join_after, join_in, limit_in, natural_of, offset_in, opens_group, operator_of, order_fields_in, query_in, returning_in, rows_in, sets_in, start_fields, start_table, table_in, unions_in}
+use Rattle.sql_builder.specs.Calls.{CallText, StartText, clauses, condition_in, conditions_of, constraint_in, drops_fields, fields_in, group_fields_in, group_pieces, groups, having_in, is_join, is_select, is_values, join_after, join_in, limit_in, natural_of, offset_in, opens_group, operator_of, order_fields_in, query_in, returning_in, rows_in, sets_in, start_fields, start_table, table_in, unions_in}
 use Rattle.sql_builder.specs.Clauses.{Clauses}
-use Rattle.sql_builder.specs.Conditions.{ConditionText, Raw, Compare, Like, IsNull, IsNotNull, InList, InQuoted, InQuery, Between, mask_text, not_text, relation_text}
+use Rattle.sql_builder.specs.Condition.{ConditionText, condition_pieces, condition_handed}
 use Rattle.sql_builder.specs.Filters.{Group, cut, in_place, last_said, since, until}
-use Rattle.sql_builder.specs.Fitting.{Handed, Bare, Enclosed, call_texts, condition_texts, field_text, start_texts}
-use Rattle.sql_builder.specs.Phrases.{comma_list, count, count_as, equation, join_words, order, row}
+use Rattle.sql_builder.specs.Fitting.{call_handed, field_text, start_handed}
+use Rattle.sql_builder.specs.Phrases.{equation, join_words, order}
 use Rattle.sql_builder.specs.Text.{Pieces, fixed_piece, quoted_piece, raw_piece}
-use Rattle.sql_builder.specs.declared.calls.Family.{Family}
-use Rattle.sql_builder.specs.declared.calls.Relation.{Relation}
-use Rattle.sql_builder.specs.declared.calls.Relation.TheVariants.{Eq, Ne, Gt, Ge, Lt, Le}
+use Rattle.sql_builder.specs.declared.condition.Family.{Family}
 use Rattle.sql_builder.specs.declared.clauses.JoinOperator.{JoinOperator}
 use Rattle.sql_builder.specs.declared.clauses.JoinOperator.TheVariants as operator
 use Rattle.sql_builder.proofs.Each.{append-all, cut-all}
 use Rattle.std.proofs.lemmas.List.Folds.{list_all-map}
 use Rattle.sql_builder.proofs.OwnSections.{Calm}
-
--- a property that pieces side by side keep, and words of the builder's own without brackets and clause words
-pub record Joins (P : Pieces → Type 0) : Type 0 where
-  pub none : P []
-  pub append : (x y : Pieces) → P x → P y → P (x ++ y)
-  pub words : (words : List ℕ) → Calm (fixed_piece words) → P (fixed_piece words)
-
-abbrev pub Each : (Pieces → Type 0) → List Pieces → Type 0
-Each P items = AllByRecursion P items
-
-module _ (P : Pieces → Type 0) (joins : Joins P) where
-  -- items with words before each
-  pub before-each : (words : List ℕ) → Calm (fixed_piece words) → (items : List Pieces) → Each P items → P (flat_map (λ item. fixed_piece words ++ item) items)
-  before-each words calm [] all = joins.none
-  before-each words calm (item ∷ items) all =
-      joins.append (fixed_piece words ++ item) (flat_map (λ (i : Pieces). fixed_piece words ++ i) items)
-      (joins.append (fixed_piece words) item (joins.words words calm) all.0) (before-each words calm items all.1)
-
-  pub joined : (words : List ℕ) → Calm (fixed_piece words) → (items : List Pieces) → Each P items → P (join_with (fixed_piece words) items)
-  joined words calm [] all = joins.none
-  joined words calm (item ∷ items) all = joins.append item (flat_map (λ (i : Pieces). fixed_piece words ++ i) items) all.0 (before-each words calm items all.1)
-
-  pub listed : (items : List Pieces) → Each P items → P (comma_list fixed_piece items)
-  listed items all = joined (codes ", ") (record { even = refl; no_word = refl }) items all
-
--- What a call may do: P is kept of what it makes, F of fields and U of a union's query, and `ok` is asked of each text that it
--- is handed.
-pub record Takes (enclosed : Bool) (ok : Handed → Bool) (P F U : Pieces → Type 0) : Type 0 where
-  pub joins : Joins P
-  pub bare : (text : List ℕ) → ok (Bare text) ≡ true → P (raw_piece text)
-  pub quoted : (text : List ℕ) → P (quoted_piece text)
-  pub row : (values : List (List ℕ)) → list_all ok (map Enclosed values) ≡ true → P (row fixed_piece (map raw_piece values))
-  pub in_list : (negated : Bool) (values : List (List ℕ)) → list_all ok (map Enclosed values) ≡ true
-      → P (fixed_piece (not_text negated ++ codes " IN (") ++ (comma_list fixed_piece (map raw_piece values) ++ fixed_piece (codes ")")))
-  pub in_quoted : (negated : Bool) (values : List (List ℕ))
-      → P (fixed_piece (not_text negated ++ codes " IN (") ++ (comma_list fixed_piece (map quoted_piece values) ++ fixed_piece (codes ")")))
-  pub in_query : (negated : Bool) (query : List ℕ) → ok (Enclosed query) ≡ true
-      → P (fixed_piece (not_text negated ++ codes " IN (") ++ (raw_piece query ++ fixed_piece (codes ")")))
-  pub field : (field : List ℕ) → ok (field_text enclosed field) ≡ true → F (raw_piece field)
-  pub count : (field : List ℕ) → ok (Enclosed field) ≡ true → F (count fixed_piece (raw_piece field))
-  pub count_as : (field name : List ℕ) → ok (Enclosed field) ≡ true → ok (field_text enclosed name) ≡ true → F (count_as fixed_piece (raw_piece field) (raw_piece name))
-  pub union : (query : List ℕ) → ok (Enclosed query) ≡ true → U (raw_piece query)
+use Rattle.sql_builder.proofs.Takes.{Takes, between, one, Each, joined}
+use Rattle.sql_builder.proofs.ConditionPieces.{condition-kept}
 
 -- what holds of each clause's pieces
 pub record PartsAre (P F U : Pieces → Type 0) (r : Clauses Pieces) : Type 0 where
@@ -79,23 +37,6 @@ pub record PartsAre (P F U : Pieces → Type 0) (r : Clauses Pieces) : Type 0 wh
   pub order_fields : Each P r.order_fields
   pub limit : IfSome r.limit P
   pub offset : IfSome r.offset P
-
--- words of conditions
-relation-calm : (relation : Relation) → Calm (fixed_piece (relation_text relation))
-relation-calm Eq = record { even = refl; no_word = refl }
-relation-calm Ne = record { even = refl; no_word = refl }
-relation-calm Gt = record { even = refl; no_word = refl }
-relation-calm Ge = record { even = refl; no_word = refl }
-relation-calm Lt = record { even = refl; no_word = refl }
-relation-calm Le = record { even = refl; no_word = refl }
-
-like-calm : (negated : Bool) → Calm (fixed_piece (not_text negated ++ codes " LIKE "))
-like-calm true = record { even = refl; no_word = refl }
-like-calm false = record { even = refl; no_word = refl }
-
-between-calm : (negated : Bool) → Calm (fixed_piece (not_text negated ++ codes " BETWEEN "))
-between-calm true = record { even = refl; no_word = refl }
-between-calm false = record { even = refl; no_word = refl }
 
 join-calm : (natural : Bool) (chosen : Option JoinOperator) → Calm (fixed_piece (join_words natural chosen))
 join-calm true None = record { even = refl; no_word = refl }
@@ -115,7 +56,7 @@ join-calm false (Some operator.Cross) = record { even = refl; no_word = refl }
 
 -- lists of calls that are all fit
 abbrev fine : Bool → (Handed → Bool) → CallText → Bool
-fine enclosed ok c = list_all ok (call_texts enclosed c)
+fine enclosed ok c = list_all ok (call_handed enclosed c)
 
 since-all : {X : Type 0} (ok p : X → Bool) (xs : List X) → list_all ok xs ≡ true → list_all ok (since p xs) ≡ true
 since-all ok p [] all = refl
@@ -144,54 +85,25 @@ module _ (enclosed : Bool) (ok : Handed → Bool) (P F U : Pieces → Type 0) (t
   one-field : (field : List ℕ) → (ok (field_text enclosed field) && true) ≡ true → F (raw_piece field)
   one-field field all = takes.field field (and_parts (ok (field_text enclosed field)) true all).0
 
-  one : (text : List ℕ) → (ok (Bare text) && true) ≡ true → P (raw_piece text)
-  one text all = takes.bare text (and_parts (ok (Bare text)) true all).0
-
-  -- a text, words and another text
-  between : (words : List ℕ) (left right : Pieces) → Calm (fixed_piece words) → P left → P right → P (left ++ (fixed_piece words ++ right))
-  between words left right calm before after = takes.joins.append left (fixed_piece words ++ right) before (takes.joins.append (fixed_piece words) right (takes.joins.words words calm) after)
-
-  pub condition-kept : (condition : ConditionText) → list_all ok (condition_texts condition) ≡ true → P (condition_pieces condition)
-  condition-kept (Raw condition) all = one condition all
-  condition-kept (Compare relation field value) all =
-      let both = and_parts (ok (Bare field)) (ok (Bare value) && true) all in
-      between (relation_text relation) (raw_piece field) (raw_piece value) (relation-calm relation) (takes.bare field both.0) (one value both.1)
-  condition-kept (Like negated percent field mask) all =
-      between (not_text negated ++ codes " LIKE ") (raw_piece field) (quoted_piece (mask_text percent mask)) (like-calm negated) (one field all) (takes.quoted (mask_text percent mask))
-  condition-kept (IsNull field) all = takes.joins.append (raw_piece field) (fixed_piece (codes " IS NULL")) (one field all) (takes.joins.words (codes " IS NULL") (record { even = refl; no_word = refl }))
-  condition-kept (IsNotNull field) all = takes.joins.append (raw_piece field) (fixed_piece (codes " IS NOT NULL")) (one field all) (takes.joins.words (codes " IS NOT NULL") (record { even = refl; no_word = refl }))
-  condition-kept (InList negated field values) all =
-      let both = and_parts (ok (Bare field)) (list_all ok (map Enclosed values)) all in
-      takes.joins.append (raw_piece field) _ (takes.bare field both.0) (takes.in_list negated values both.1)
-  condition-kept (InQuoted negated field values) all = takes.joins.append (raw_piece field) _ (one field all) (takes.in_quoted negated values)
-  condition-kept (InQuery negated field query) all =
-      let both = and_parts (ok (Bare field)) (ok (Enclosed query) && true) all in
-      takes.joins.append (raw_piece field) _ (takes.bare field both.0) (takes.in_query negated query (and_parts (ok (Enclosed query)) true both.1).0)
-  condition-kept (Between negated field least greatest) all =
-      let both = and_parts (ok (Bare field)) (ok (Bare least) && (ok (Bare greatest) && true)) all in
-      let ends = and_parts (ok (Bare least)) (ok (Bare greatest) && true) both.1 in
-      between (not_text negated ++ codes " BETWEEN ") (raw_piece field) (raw_piece least ++ (fixed_piece (codes " AND ") ++ raw_piece greatest)) (between-calm negated) (takes.bare field both.0)
-      (between (codes " AND ") (raw_piece least) (raw_piece greatest) (record { even = refl; no_word = refl }) (takes.bare least ends.0) (one greatest ends.1))
-
   equation-kept : (left right : List ℕ) → (ok (Bare left) && (ok (Bare right) && true)) ≡ true → P (equation fixed_piece (raw_piece left) (raw_piece right))
   equation-kept left right all =
       let both = and_parts (ok (Bare left)) (ok (Bare right) && true) all in
-      between (codes " = ") (raw_piece left) (raw_piece right) (record { even = refl; no_word = refl }) (takes.bare left both.0) (one right both.1)
+      between takes (codes " = ") (raw_piece left) (raw_piece right) (record { even = refl; no_word = refl }) (takes.bare left both.0) (one takes right both.1)
 
   -- what each call hands to each clause
-  start_table-kept : (start : StartText) → list_all ok (start_texts start) ≡ true → P (start_table start)
-  start_table-kept (call.SelectFrom table) all = one table all
+  start_table-kept : (start : StartText) → list_all ok (start_handed start) ≡ true → P (start_table start)
+  start_table-kept (call.SelectFrom table) all = one takes table all
   start_table-kept (call.SelectValues values) all = takes.joins.none
-  start_table-kept (call.InsertInto table) all = one table all
-  start_table-kept (call.UpdateTable table) all = one table all
-  start_table-kept (call.DeleteFrom table) all = one table all
+  start_table-kept (call.InsertInto table) all = one takes table all
+  start_table-kept (call.UpdateTable table) all = one takes table all
+  start_table-kept (call.DeleteFrom table) all = one takes table all
 
   table_in-kept : (c : CallText) → fine enclosed ok c ≡ true → P (table_in c)
-  table_in-kept (call.AndTable table) all = takes.joins.append (fixed_piece (codes ", ")) (raw_piece table) (takes.joins.words (codes ", ") (record { even = refl; no_word = refl })) (one table all)
+  table_in-kept (call.AndTable table) all = takes.joins.append (fixed_piece (codes ", ")) (raw_piece table) (takes.joins.words (codes ", ") (record { even = refl; no_word = refl })) (one takes table all)
   table_in-kept _ all = takes.joins.none
 
   constraint_in-kept : (c : CallText) → fine enclosed ok c ≡ true → P (constraint_in c)
-  constraint_in-kept (call.On condition) all = takes.joins.append (fixed_piece (codes " ON ")) (raw_piece condition) (takes.joins.words (codes " ON ") (record { even = refl; no_word = refl })) (one condition all)
+  constraint_in-kept (call.On condition) all = takes.joins.append (fixed_piece (codes " ON ")) (raw_piece condition) (takes.joins.words (codes " ON ") (record { even = refl; no_word = refl })) (one takes condition all)
   constraint_in-kept (call.OnEq left right) all = takes.joins.append (fixed_piece (codes " ON ")) _ (takes.joins.words (codes " ON ") (record { even = refl; no_word = refl })) (equation-kept left right all)
   constraint_in-kept _ all = takes.joins.none
 
@@ -208,7 +120,7 @@ module _ (enclosed : Bool) (ok : Handed → Bool) (P F U : Pieces → Type 0) (t
 
   sets_in-kept : (c : CallText) → fine enclosed ok c ≡ true → Each P (sets_in c)
   sets_in-kept (call.SetTo field value) all = (equation-kept field value all, tt)
-  sets_in-kept (call.SetStr field value) all = (between (codes " = ") (raw_piece field) (quoted_piece value) (record { even = refl; no_word = refl }) (one field all) (takes.quoted value), tt)
+  sets_in-kept (call.SetStr field value) all = (between takes (codes " = ") (raw_piece field) (quoted_piece value) (record { even = refl; no_word = refl }) (one takes field all) (takes.quoted value), tt)
   sets_in-kept _ all = tt
 
   rows_in-kept : (c : CallText) → fine enclosed ok c ≡ true → Each P (rows_in c)
@@ -216,16 +128,16 @@ module _ (enclosed : Bool) (ok : Handed → Bool) (P F U : Pieces → Type 0) (t
   rows_in-kept _ all = tt
 
   group_fields_in-kept : (c : CallText) → fine enclosed ok c ≡ true → Each P (group_fields_in c)
-  group_fields_in-kept (call.GroupBy field) all = (one field all, tt)
+  group_fields_in-kept (call.GroupBy field) all = (one takes field all, tt)
   group_fields_in-kept _ all = tt
 
   order-kept : (descending : Bool) (field : List ℕ) → (ok (Bare field) && true) ≡ true → P (order fixed_piece descending (raw_piece field))
-  order-kept true field all = takes.joins.append (raw_piece field) (fixed_piece (codes " DESC")) (one field all) (takes.joins.words (codes " DESC") (record { even = refl; no_word = refl }))
-  order-kept false field all = one field all
+  order-kept true field all = takes.joins.append (raw_piece field) (fixed_piece (codes " DESC")) (one takes field all) (takes.joins.words (codes " DESC") (record { even = refl; no_word = refl }))
+  order-kept false field all = one takes field all
 
   order_fields_in-kept : (c : CallText) → fine enclosed ok c ≡ true → Each P (order_fields_in c)
   order_fields_in-kept (call.OrderBy field descending) all = (order-kept descending field all, tt)
-  order_fields_in-kept (call.OrderAsc field) all = (one field all, tt)
+  order_fields_in-kept (call.OrderAsc field) all = (one takes field all, tt)
   order_fields_in-kept (call.OrderDesc field) all = (order-kept true field all, tt)
   order_fields_in-kept _ all = tt
 
@@ -235,24 +147,24 @@ module _ (enclosed : Bool) (ok : Handed → Bool) (P F U : Pieces → Type 0) (t
   unions_in-kept _ all = tt
 
   query_in-kept : (c : CallText) → fine enclosed ok c ≡ true → IfSome (query_in c) P
-  query_in-kept (call.Select query) all = one query all
+  query_in-kept (call.Select query) all = one takes query all
   query_in-kept _ all = tt
 
   returning_in-kept : (c : CallText) → fine enclosed ok c ≡ true → IfSome (returning_in c) P
-  returning_in-kept (call.Returning fields) all = one fields all
+  returning_in-kept (call.Returning fields) all = one takes fields all
   returning_in-kept call.ReturningId all = takes.joins.words (codes "id") (record { even = refl; no_word = refl })
   returning_in-kept _ all = tt
 
   having_in-kept : (c : CallText) → fine enclosed ok c ≡ true → IfSome (having_in c) P
-  having_in-kept (call.Having condition) all = one condition all
+  having_in-kept (call.Having condition) all = one takes condition all
   having_in-kept _ all = tt
 
   limit_in-kept : (c : CallText) → fine enclosed ok c ≡ true → IfSome (limit_in c) P
-  limit_in-kept (call.Limit limit) all = one limit all
+  limit_in-kept (call.Limit limit) all = one takes limit all
   limit_in-kept _ all = tt
 
   offset_in-kept : (c : CallText) → fine enclosed ok c ≡ true → IfSome (offset_in c) P
-  offset_in-kept (call.Offset offset) all = one offset all
+  offset_in-kept (call.Offset offset) all = one takes offset all
   offset_in-kept _ all = tt
 
   -- the same of whole lists
@@ -288,7 +200,7 @@ module _ (enclosed : Bool) (ok : Handed → Bool) (P F U : Pieces → Type 0) (t
   join_in-kept before (call.Join table) after here all = (
     takes.joins.append (join_after before table) (flat_map constraint_in (until is_join after))
         (takes.joins.append (fixed_piece (join_words (natural_of before) (operator_of before))) (raw_piece table)
-        (takes.joins.words (join_words (natural_of before) (operator_of before)) (join-calm (natural_of before) (operator_of before))) (one table here))
+        (takes.joins.words (join_words (natural_of before) (operator_of before)) (join-calm (natural_of before) (operator_of before))) (one takes table here))
         (flat-kept constraint_in constraint_in-kept (until is_join after) (until-all (fine enclosed ok) is_join after all)),
     tt,
   )
@@ -302,7 +214,7 @@ module _ (enclosed : Bool) (ok : Handed → Bool) (P F U : Pieces → Type 0) (t
 
   -- the groups of conditions
   abbrev said_fine : Family × ConditionText → Bool
-  said_fine c = list_all ok (condition_texts c.1)
+  said_fine c = list_all ok (condition_handed c.1)
 
   said-all : (calls : List CallText) → list_all (fine enclosed ok) calls ≡ true → list_all said_fine (filter_map condition_in calls) ≡ true
   said-all [] all = refl
@@ -314,24 +226,24 @@ module _ (enclosed : Bool) (ok : Handed → Bool) (P F U : Pieces → Type 0) (t
       by (call.Cond family condition) here rest = and_from _ _ here rest
       by _ here rest = rest
 
-  group-kept : (group : Group ConditionText) → list_all (λ (c : ConditionText). list_all ok (condition_texts c)) (group.0 ∷ group.1) ≡ true → P (group_pieces group)
+  group-kept : (group : Group ConditionText) → list_all (λ (c : ConditionText). list_all ok (condition_handed c)) (group.0 ∷ group.1) ≡ true → P (group_pieces group)
   group-kept group all = joined P takes.joins (codes " OR ") (record { even = refl; no_word = refl }) (map condition_pieces (group.0 ∷ group.1)) (conditions (group.0 ∷ group.1) all)
     where
-      conditions : (cs : List ConditionText) → list_all (λ (c : ConditionText). list_all ok (condition_texts c)) cs ≡ true → Each P (map condition_pieces cs)
+      conditions : (cs : List ConditionText) → list_all (λ (c : ConditionText). list_all ok (condition_handed c)) cs ≡ true → Each P (map condition_pieces cs)
       conditions [] all = tt
       conditions (c ∷ cs) all =
-          let both = and_parts (list_all ok (condition_texts c)) (list_all (λ (d : ConditionText). list_all ok (condition_texts d)) cs) all in
-          (condition-kept c both.0, conditions cs both.1)
+          let both = and_parts (list_all ok (condition_handed c)) (list_all (λ (d : ConditionText). list_all ok (condition_handed d)) cs) all in
+          (condition-kept enclosed ok P F U takes c both.0, conditions cs both.1)
 
   groups-kept : (found : List (Group (Family × ConditionText))) → list_all (λ (group : Group (Family × ConditionText)). list_all said_fine (group.0 ∷ group.1)) found ≡ true
       → Each P (map group_pieces (map conditions_of found))
   groups-kept [] all = tt
   groups-kept (group ∷ found) all =
       let both = and_parts (list_all said_fine (group.0 ∷ group.1)) (list_all (λ (g : Group (Family × ConditionText)). list_all said_fine (g.0 ∷ g.1)) found) all in
-      (group-kept (conditions_of group) (list_all-map (λ (c : ConditionText). list_all ok (condition_texts c)) (λ (c : Family × ConditionText). c.1) (group.0 ∷ group.1) ∙ both.0), groups-kept found both.1)
+      (group-kept (conditions_of group) (list_all-map (λ (c : ConditionText). list_all ok (condition_handed c)) (λ (c : Family × ConditionText). c.1) (group.0 ∷ group.1) ∙ both.0), groups-kept found both.1)
 
   -- the clauses of a list of calls
-  pub clauses-kept : (start : StartText) (calls : List CallText) → list_all ok (start_texts start) ≡ true → fine enclosed ok (call.SetFields (start_fields start)) ≡ true → list_all (fine enclosed ok) calls ≡ true → PartsAre P F U (clauses start calls)
+  pub clauses-kept : (start : StartText) (calls : List CallText) → list_all ok (start_handed start) ≡ true → fine enclosed ok (call.SetFields (start_fields start)) ≡ true → list_all (fine enclosed ok) calls ≡ true → PartsAre P F U (clauses start calls)
   clauses-kept start calls here first all = record {
     table = takes.joins.append (start_table start) (flat_map table_in calls) (start_table-kept start here) (flat-kept table_in table_in-kept calls all);
     joins = joins-kept [] calls all;

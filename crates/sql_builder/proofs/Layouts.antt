@@ -14,7 +14,7 @@ use Rattle.sql_builder.specs.Text.{Piece, Pieces, fixed_piece, pieces_text, raw_
 use Rattle.sql_builder.specs.declared.clauses.Kind.{Kind}
 use Rattle.sql_builder.specs.declared.clauses.Kind.TheVariants.{SelectFrom, SelectValues, InsertInto, UpdateTable, DeleteFrom}
 use Rattle.sql_parts.proofs.JoinedTokens.{Edged}
-use Rattle.sql_builder.proofs.Shapes.{AllInside, Behind, Inside, Shaped, Whole, before-each, behind-append, brackets-inside, comma, ended-inside, ends_in_semicolon, inside-inside, joined-inside, none-behind, none-inside, raw-inside, shape_closed, shaped, statement-shaped, words-behind, words-ended, words-inside, words-item}
+use Rattle.sql_builder.proofs.Shapes.{AllInside, Behind, Inside, Shaped, Whole, before-each, behind-append, brackets-inside, ended-inside, ends_in_semicolon, inside-inside, joined-inside, none-behind, none-inside, raw-inside, shape_closed, shaped, statement-shaped, words-behind, words-ended, words-inside, words-item, items-inside, raw-all}
 use Rattle.sql_builder.proofs.Runs.{text_of_layout}
 
 -- each clause is made of such pieces
@@ -64,9 +64,6 @@ first-section words body sections is ends inside good =
 optional-good : (words : List ℕ) (body : Option Pieces) → Edged words → IfSome body Inside → AllGood (optional_section words body)
 optional-good words None edges inside = tt
 optional-good words (Some body) edges inside = (record { words = edges; body = inside }, tt)
-
-pub items-inside : (items : List Pieces) → AllInside items → Inside (comma_list fixed_piece items)
-items-inside items all = joined-inside (codes ", ") comma items all
 
 list-good : (words : List ℕ) (items : List Pieces) → Edged words → AllInside items → AllGood (list_sections fixed_piece words items)
 list-good words [] edges all = tt
@@ -202,10 +199,6 @@ pub sql-semicolon : (r : Clauses Pieces) → Parts r → has_closed_fragments (s
 sql-semicolon r parts is plain = ends_in_semicolon (concat_sections fixed_piece (statement_sections fixed_piece r.kind r)) (statement-inside r.kind r parts) is plain
 
 -- clauses whose texts are fragments
-pub raw-all : (texts : List (List ℕ)) → AllInside (map raw_piece texts)
-raw-all [] = tt
-raw-all (text ∷ texts) = (raw-inside text, raw-all texts)
-
 raw-some : (text : Option (List ℕ)) → IfSome (option_map raw_piece text) Inside
 raw-some None = tt
 raw-some (Some text) = raw-inside text

@@ -3,8 +3,8 @@ use Rattle.std.proofs.Common.{◌≡◌, ℕ, List, ◌++◌, Bool, true, false,
 use Rattle.std.proofs.lemmas.List.{append-nil}
 use Rattle.std.proofs.lemmas.Grind.{flat_map-append}
 use Rattle.sql_parts.specs.Quoting.{escaped, quoted}
-use Rattle.sql_builder.specs.Conditions.{is_behind, is_in_front, mask_text, percent_sign}
-use Rattle.sql_builder.specs.declared.calls.Percent.{Percent}
+use Rattle.sql_builder.specs.Condition.{is_behind, is_in_front, mask_text, percent_sign}
+use Rattle.sql_builder.specs.declared.condition.Percent.{Percent}
 
 -- a percent sign is no quote, so it is not doubled
 signed_mask : (front behind : Bool) (mask : List ℕ)

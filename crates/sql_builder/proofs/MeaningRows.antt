@@ -3,11 +3,11 @@ use Rattle.std.specs.Prelude.{◌≡◌, [], ◌∷◌, codes, false, refl, true
 use Rattle.sql_parts.specs.Tokens.{Word, tokens}
 use Rattle.sql_builder.specs.Calls as call
 use Rattle.sql_builder.specs.Calls.{clauses, CallText}
-use Rattle.sql_builder.specs.Conditions.{InQuery, Raw}
+use Rattle.sql_builder.specs.Condition.{InQuery, Raw}
 use Rattle.sql_builder.specs.Layout.{sql}
 use Rattle.sql_builder.specs.Shape.{pieces_tokens}
 use Rattle.sql_builder.specs.Text.{Pieces, fixed_piece}
-use Rattle.sql_builder.specs.declared.calls.Family.TheVariants.{And, Or}
+use Rattle.sql_builder.specs.declared.condition.Family.TheVariants.{And, Or}
 use Rattle.sql_builder.specs.Fitting.{has_fit_conditions, has_fit_fragments, has_fit_texts}
 use Rattle.sql_builder.specs.Reading.{piece_clauses, read, stand_with}
 use Rattle.sql_builder.specs.Truths.{False, True, Unknown, truth, Truth, Valuation}

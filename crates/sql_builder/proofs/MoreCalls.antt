@@ -8,13 +8,13 @@ use Rattle.std.specs.List.{cons_option}
 use Rattle.std.specs.Option.{option_or}
 use Rattle.sql_builder.specs.Builder.{extend_last, join_last}
 use Rattle.sql_builder.specs.Calls as call
-use Rattle.sql_builder.specs.Calls.{StartText, CallText, clauses, condition_in, condition_pieces, conditions_of, fields_in, group_fields_in, group_pieces, groups, having_in, is_distinct, is_join, is_natural, is_select, is_values, limit_in, offset_in, opens_group, operator_in, order_fields_in, query_in, returning_in, rows_in, drops_fields, sets_in, start_fields, table_in, table_of, start_table, unions_in}
+use Rattle.sql_builder.specs.Calls.{StartText, CallText, clauses, condition_in, conditions_of, fields_in, group_fields_in, group_pieces, groups, having_in, is_distinct, is_join, is_natural, is_select, is_values, limit_in, offset_in, opens_group, operator_in, order_fields_in, query_in, returning_in, rows_in, drops_fields, sets_in, start_fields, table_in, table_of, start_table, unions_in}
 use Rattle.sql_builder.specs.Clauses.{Clauses}
-use Rattle.sql_builder.specs.Conditions.{ConditionText}
+use Rattle.sql_builder.specs.Condition.{ConditionText, condition_pieces}
 use Rattle.sql_builder.specs.Filters.{Group, cut}
 use Rattle.sql_builder.specs.Text.{Pieces, fixed_piece}
-use Rattle.sql_builder.specs.declared.calls.Family.{Family}
-use Rattle.sql_builder.specs.declared.calls.Family.TheVariants.{And, Or}
+use Rattle.sql_builder.specs.declared.condition.Family.{Family}
+use Rattle.sql_builder.specs.declared.condition.Family.TheVariants.{And, Or}
 use Rattle.sql_builder.proofs.Joins.{joins-snoc, joins_after}
 use Rattle.sql_builder.proofs.Snoc.{add, add_is, any-snoc, any_unfollowed-snoc, cut-snoc, flat-snoc, flat_since-snoc, last-snoc, last_since-snoc, into_last, put_in}
 

@@ -1,5 +1,6 @@
 -- The product's own words in each statement: what is read back, and what stands with WHERE.
 use Rattle.std.proofs.Common.{◌≡◌, refl, sym, ◌∙◌, ap, subst, ℕ, Bool, true, false, List, [], ◌∷◌, ◌++◌, Option, None, Some, map, codes, append-nil, append_assoc, not, ◌&&◌, pos}
+use Rattle.sql_builder.proofs.Takes.{Each, Joins, before-each, joined, listed}
 use Rattle.std.specs.Prelude.{IfSome, flat_map}
 use Rattle.std.specs.List.{AllByRecursion, list_any}
 use Rattle.std.proofs.lemmas.Bool.{and_parts, not-true}
@@ -20,7 +21,7 @@ use Rattle.sql_builder.specs.Fitting.{own, has_fit_fragments}
 use Rattle.sql_builder.specs.Reading.{Clause, piece_clauses, read, stand_with, is_union}
 use Rattle.sql_parts.proofs.Walks.{is_even}
 use Rattle.sql_parts.specs.Fragments.{is_clause_word}
-use Rattle.sql_builder.proofs.Handing.{Each, Joins, PartsAre, before-each, joined, listed}
+use Rattle.sql_builder.proofs.Handing.{PartsAre}
 use Rattle.sql_builder.proofs.CalmClauses.{CalmParts, calm-brackets, calm-joins, calm-target}
 use Rattle.sql_builder.proofs.Layouts as layouts
 use Rattle.sql_builder.proofs.Shapes.{Inside}

@@ -22,6 +22,7 @@ use Rattle.sql_builder.specs.Reading.{Clause, piece_clauses, ends_clauses, is_un
 use Rattle.sql_parts.proofs.Walks.{at_end, closes_from, has_outer, is_even, placed, placed-is}
 use Rattle.sql_parts.specs.Fragments.{Inner, Outer, Placed, is_clause_word, is_outer, is_whole, token_of}
 use Rattle.sql_parts.specs.Fragments as fragments
+use Rattle.sql_builder.proofs.Splitting.{none-inner, parts-none}
 
 -- the product's own words before the first UNION
 pub record Front (ts : List Token) : Type 0 where
@@ -60,10 +61,6 @@ outer-all : (test : Token → Bool) (ts : List Token) → list_any (is_outer tes
 outer-all test [] = refl
 outer-all test (t ∷ ts) = ap (λ (b : Bool). test t || b) (outer-all test ts)
 
-inner-none : (test : Token → Bool) (ts : List Token) → list_any (is_outer test) (map Inner ts) ≡ false
-inner-none test [] = refl
-inner-none test (t ∷ ts) = inner-none test ts
-
 pub own-outer : (test : Token → Bool) (ps : Pieces) → list_any (is_outer test) (flat_map own_placed ps) ≡ list_any test (own ps)
 own-outer test [] = refl
 own-outer test (Fixed text ∷ ps) =
@@ -74,7 +71,7 @@ own-outer test (Fixed text ∷ ps) =
 own-outer test (Quoted text ∷ ps) = own-outer test ps
 own-outer test (Raw text ∷ ps) =
     list_any-append (is_outer test) (map Inner (tokens text)) (flat_map own_placed ps)
-    ∙ ap (λ (b : Bool). b || list_any (is_outer test) (flat_map own_placed ps)) (inner-none test (tokens text))
+    ∙ ap (λ (b : Bool). b || list_any (is_outer test) (flat_map own_placed ps)) (none-inner test (tokens text))
     ∙ own-outer test ps
 
 back-outer : (ts : List Token) → map token_of (map Outer ts) ≡ ts
@@ -289,14 +286,8 @@ on-front true t ts lead (c ∷ cs) = refl
 on-front false t ts lead [] = refl
 on-front false t ts lead (c ∷ cs) = refl
 
-parts-none_behind : (test : Token → Bool) (b : List Placed) → list_any (is_outer test) b ≡ false → parts_at test b ≡ record { lead = map token_of b; rest = [] }
-parts-none_behind test [] none = refl
-parts-none_behind test (m ∷ b) none =
-    let both = or_parts (is_outer test m) (list_any (is_outer test) b) none in
-    rw (both.0, parts-none_behind test b both.1)
-
 parts-on : (test : Token → Bool) (a b : List Placed) → list_any (is_outer test) b ≡ false → parts_at test (a ++ b) ≡ on (map token_of b) (parts_at test a)
-parts-on test [] b none = parts-none_behind test b none
+parts-on test [] b none = parts-none test b none
 parts-on test (m ∷ a) b none =
     ap (with_front (is_outer test m) (token_of m)) (parts-on test a b none)
     ∙ on-front (is_outer test m) (token_of m) (map token_of b) (parts_at test a).lead (parts_at test a).rest

@@ -7,7 +7,7 @@ use Rattle.sql_builder.specs.Calls.{CallText, FinishText, StartText, Sql, Query,
 use Rattle.sql_builder.specs.Clauses.{Clauses, map_clauses}
 use Rattle.sql_builder.specs.Layout.{byte_atoms, query, query_values, sql, subquery, subquery_as}
 use Rattle.sql_builder.specs.Shape.{HasShape, as_fragments}
-use Rattle.sql_builder.specs.Statement.{layout_at, pieces, refusal_at, statement, unless_refused, text_unless_refused, text_at}
+use Rattle.sql_builder.specs.Statement.{layout_at, refusal_at, statement, unless_refused, text_unless_refused, text_at}
 use Rattle.sql_builder.specs.Text.{Pieces, fixed_piece, pieces_text, raw_piece}
 use Rattle.sql_builder.specs.declared.clauses.Kind.{Kind}
 use Rattle.sql_builder.specs.declared.clauses.Kind.TheVariants.{SelectFrom, SelectValues, InsertInto, UpdateTable, DeleteFrom}

@@ -2,12 +2,12 @@
 use Rattle.std.specs.Prelude.{◌≡◌, [], ◌∷◌, ◌++◌, Ok, Err, codes, refl, true, false}
 use Rattle.sql_parts.specs.declared.error.SqlBuilderError.TheVariants.{NoTableName, NoValues, NoSetFields}
 use Rattle.sql_builder.specs.Calls.{SelectFrom, SelectValues, InsertInto, UpdateTable, DeleteFrom, Natural, Left, LeftOuter, Right, RightOuter, Inner, Cross, Distinct, AndTable, Join, On, OnEq, Fields, SetFields, Field, SetField, Count, CountAs, SetTo, SetStr, Values, Select, Returning, ReturningId, GroupBy, Having, Union, UnionAll, OrderBy, OrderAsc, OrderDesc, Limit, Offset, Cond, Sql, Query, QueryValues, Subquery, SubqueryAs}
-use Rattle.sql_builder.specs.Conditions.{Raw, Compare}
+use Rattle.sql_builder.specs.Condition.{Raw, Compare}
 use Rattle.sql_builder.specs.Statement.{pieces, statement}
 use Rattle.sql_builder.specs.Text as piece
 use Rattle.sql_parts.specs.Quoting.{quoted}
-use Rattle.sql_builder.specs.declared.calls.Family.TheVariants.{And}
-use Rattle.sql_builder.specs.declared.calls.Relation.TheVariants.{Gt}
+use Rattle.sql_builder.specs.declared.condition.Family.TheVariants.{And}
+use Rattle.sql_builder.specs.declared.condition.Relation.TheVariants.{Gt}
 
 no_table : statement (SelectFrom []) [] Sql ≡ Err NoTableName
 no_table = refl

@@ -1,77 +1,34 @@
 -- A list of calls with one more, and the statement of the calls that were made.
 use Rattle.std.proofs.Common.{◌≡◌, ℕ, ◌+◌, ◌<◌, List, [], ◌∷◌, ◌++◌, Option, None, Some, true, false, codes, map, take, get_or, length, String, string_bytes, Result, Ok, Err, IfOk, IfErr, refl, ap, sym, ◌∙◌, inl, inr}
 use Rattle.std.proofs.lemmas.List.{take_more, map-append, append-nil}
-use Rattle.std.proofs.lemmas.Grind.{flat_map-append}
 use Rattle.std.specs.Prelude.{IfSome, IsNone, ◌⊎◌}
-use Rattle.sql_builder.specs.Answers.{call_text}
-use Rattle.sql_builder.specs.Builder.{ClauseTexts, condition_bytes, extend_last, join_last, started}
+use Rattle.sql_builder.specs.Views.{call_view}
+use Rattle.sql_builder.specs.Builder.{ClauseTexts, extend_last, join_last, started}
 use Rattle.sql_builder.specs.Steps.{with_call}
 use Rattle.sql_builder.specs.Calls as call
-use Rattle.sql_builder.specs.Calls.{StartText, CallText, FinishText, clauses, condition_pieces}
+use Rattle.sql_builder.specs.Calls.{StartText, CallText, FinishText, clauses}
 use Rattle.sql_builder.specs.Clauses.{Clauses, map_clauses}
-use Rattle.sql_builder.specs.Conditions.{ConditionText, Raw, Compare, Like, IsNull, IsNotNull, InList, InQuoted, InQuery, Between, not_text}
+use Rattle.sql_builder.specs.Condition.{ConditionText, condition_bytes, condition_pieces}
 use Rattle.sql_builder.specs.Layout.{byte_atoms}
-use Rattle.sql_builder.specs.Phrases.{comma_list, row}
+use Rattle.sql_builder.specs.Phrases.{row}
 use Rattle.sql_builder.specs.Statement.{layout_at, pieces_at, refusal_at, text_at, text_unless_refused, unless_refused}
-use Rattle.sql_builder.specs.Text.{Pieces, fixed_piece, piece_text, pieces_text, quoted_piece, raw_piece}
+use Rattle.sql_builder.specs.Text.{Pieces, fixed_piece, pieces_text, raw_piece}
 use Rattle.sql_builder.specs.declared.calls.Call.{Call}
-use Rattle.sql_builder.specs.declared.calls.Family.TheVariants.{And, Or}
+use Rattle.sql_builder.specs.declared.condition.Family.TheVariants.{And, Or}
 use Rattle.sql_parts.specs.Error.{FailsOnlyByMemory, IsMemory}
-use Rattle.sql_parts.specs.Quoting.{quoted}
 use Rattle.sql_parts.specs.declared.error.SqlBuilderError.{SqlBuilderError}
 use Rattle.sql_builder.proofs.MoreCalls.{clauses_after, one_more_clauses, or_pieces}
-use Rattle.sql_builder.proofs.Forms.{joined_in_form, layout_in_form, row_in_form}
+use Rattle.sql_builder.proofs.Forms.{layout_in_form, row_in_form}
 use Rattle.sql_builder.proofs.Snoc.{add, add_is}
+use Rattle.sql_builder.proofs.Shapes.{text-append, texts_of_raw}
+use Rattle.sql_builder.proofs.ConditionPieces.{condition_printed}
 
 -- the texts of pieces
-
-pieces_text-append : (x y : Pieces) → pieces_text (x ++ y) ≡ pieces_text x ++ pieces_text y
-pieces_text-append x y = flat_map-append piece_text x y
-
-texts_of_raw : (ts : List (List ℕ)) → map pieces_text (map raw_piece ts) ≡ ts
-texts_of_raw [] = refl
-texts_of_raw (t ∷ ts) = simp (append-nil, texts_of_raw ts)
-
-map_bytes : (values : List (List ℕ)) → map byte_atoms values ≡ values
-map_bytes [] = refl
-map_bytes (value ∷ values) = ap (λ (vs : List (List ℕ)). value ∷ vs) (map_bytes values)
-
-texts_of_quoted : (values : List (List ℕ))
-    → map pieces_text (map quoted_piece values) ≡ map quoted values
-texts_of_quoted [] = refl
-texts_of_quoted (value ∷ values) = simp (append-nil, texts_of_quoted values)
-
--- a list of values behind a field and words, printed
-listed : (field words : List ℕ) (printed : List Pieces)
-    → pieces_text (raw_piece field ++ (fixed_piece words ++ (comma_list fixed_piece printed ++ fixed_piece (codes ")"))))
-    ≡ field ++ (words ++ (comma_list byte_atoms (map pieces_text printed) ++ codes ")"))
-listed field words printed =
-    ap (λ (rest : List ℕ). field ++ (words ++ rest))
-    (pieces_text-append (comma_list fixed_piece printed) (fixed_piece (codes ")"))
-    ∙ ap (λ (list : List ℕ). list ++ codes ")")
-    (joined_in_form fixed_piece byte_atoms pieces_text refl pieces_text-append append-nil (codes ", ") printed))
-
-pub condition_printed : (c : ConditionText) → pieces_text (condition_pieces c) ≡ condition_bytes c
-condition_printed (Raw condition) = append-nil condition
-condition_printed (Compare relation field value) = simp append-nil
-condition_printed (Like negated percent field mask) = simp append-nil
-condition_printed (IsNull field) = simp append-nil
-condition_printed (IsNotNull field) = simp append-nil
-condition_printed (InList negated field values) =
-    let words = not_text negated ++ codes " IN (" in
-    listed field words (map raw_piece values)
-    ∙ ap (λ (vs : List (List ℕ)). field ++ (words ++ (comma_list byte_atoms vs ++ codes ")"))) (texts_of_raw values ∙ sym (map_bytes values))
-condition_printed (InQuoted negated field values) =
-    let words = not_text negated ++ codes " IN (" in
-    listed field words (map quoted_piece values)
-    ∙ ap (λ (vs : List (List ℕ)). field ++ (words ++ (comma_list byte_atoms vs ++ codes ")"))) (texts_of_quoted values)
-condition_printed (InQuery negated field query) = simp append-nil
-condition_printed (Between negated field least greatest) = simp append-nil
 
 row_printed : (values : List (List ℕ))
     → pieces_text (row fixed_piece (map raw_piece values)) ≡ row byte_atoms values
 row_printed values =
-    row_in_form fixed_piece byte_atoms pieces_text refl pieces_text-append append-nil (map raw_piece values)
+    row_in_form fixed_piece byte_atoms pieces_text refl text-append append-nil (map raw_piece values)
     ∙ ap (row byte_atoms) (texts_of_raw values)
 
 added_texts : (ts : List Pieces) (more : List (List ℕ))
@@ -83,7 +40,7 @@ added_texts ts more =
 extended_texts : (t : Pieces) (ts : List Pieces)
     → map pieces_text (extend_last t ts) ≡ extend_last (pieces_text t) (map pieces_text ts)
 extended_texts t [] = refl
-extended_texts t (x ∷ []) = ap (λ (y : List ℕ). y ∷ []) (pieces_text-append x t)
+extended_texts t (x ∷ []) = ap (λ (y : List ℕ). y ∷ []) (text-append x t)
 extended_texts t (x ∷ y ∷ ts) =
     ap (λ (rest : List (List ℕ)). pieces_text x ∷ rest) (extended_texts t (y ∷ ts))
 
@@ -108,7 +65,7 @@ clauses_printed call.RightOuter r = refl
 clauses_printed call.Inner r = refl
 clauses_printed call.Cross r = refl
 clauses_printed call.Distinct r = refl
-clauses_printed (call.AndTable table) r = simp (pieces_text-append, append-nil)
+clauses_printed (call.AndTable table) r = simp (text-append, append-nil)
 clauses_printed (call.Join table) r = simp (map-append, append-nil)
 clauses_printed (call.On condition) r = simp (extended_texts, append-nil)
 clauses_printed (call.OnEq left right) r = simp (extended_texts, append-nil)
@@ -159,18 +116,18 @@ clauses-snoc start calls c =
 
 pub one_more_call : (start : StartText) (calls : List Call) (i : ℕ) (c : Call) → i < length calls
     → c ≡ get_or calls i c
-    → told_by start (map call_text (take (i + 1) calls))
-    ≡ with_call (call_text c) (told_by start (map call_text (take i calls)))
+    → told_by start (map call_view (take (i + 1) calls))
+    ≡ with_call (call_view c) (told_by start (map call_view (take i calls)))
 one_more_call start calls i c l e =
-    rw (take_more calls i c l) (rw (sym e) (rw (map-append call_text (take i calls) (c ∷ []))
-    (clauses-snoc start (map call_text (take i calls)) (call_text c))))
+    rw (take_more calls i c l) (rw (sym e) (rw (map-append call_view (take i calls) (c ∷ []))
+    (clauses-snoc start (map call_view (take i calls)) (call_view c))))
 
 -- the statement
 
 pub text_of_layout : (f : FinishText) (r : Clauses Pieces)
     → pieces_text (layout_at fixed_piece raw_piece f r) ≡ text_at f (map_clauses pieces_text r)
 text_of_layout f r =
-    layout_in_form fixed_piece byte_atoms pieces_text refl pieces_text-append append-nil
+    layout_in_form fixed_piece byte_atoms pieces_text refl text-append append-nil
     raw_piece byte_atoms append-nil f r
 
 -- what the builder prints is the statement of the pieces

@@ -4,12 +4,12 @@ use Rattle.std.specs.Prelude.{◌≡◌, [], ◌∷◌, Ok, codes, false, refl, 
 use Rattle.sql_parts.specs.Tokens.{Word, Str, Symbol}
 use Rattle.sql_builder.specs.Calls as call
 use Rattle.sql_builder.specs.Calls.{clauses}
-use Rattle.sql_builder.specs.Conditions.{Like, Raw}
+use Rattle.sql_builder.specs.Condition.{Like, Raw}
 use Rattle.sql_builder.specs.Layout.{sql}
 use Rattle.sql_builder.specs.Shape.{cond_tokens, has_closed_fragments, shape}
 use Rattle.sql_builder.specs.Text.{fixed_piece}
-use Rattle.sql_builder.specs.declared.calls.Family.TheVariants.{And}
-use Rattle.sql_builder.specs.declared.calls.Percent.TheVariants.{Any}
+use Rattle.sql_builder.specs.declared.condition.Family.TheVariants.{And}
+use Rattle.sql_builder.specs.declared.condition.Percent.TheVariants.{Any}
 
 shape-mask : cond_tokens (Like false Any (codes "t") (codes "50%'")) ≡ Word (codes "t") ∷ Word (codes "LIKE") ∷ Str (codes "%50%'%") ∷ []
 shape-mask = refl

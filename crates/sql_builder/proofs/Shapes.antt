@@ -1,5 +1,5 @@
 -- Pieces of a statement keep their tokens side by side, since the product's words between them end and begin with edges.
-use Rattle.std.proofs.Common.{◌≡◌, ℕ, Bool, true, false, not, List, [], ◌∷◌, ◌++◌, codes, refl, sym, ap, ◌∙◌, subst, inl, inr, ◌⊎◌, append_assoc}
+use Rattle.std.proofs.Common.{◌≡◌, ℕ, Bool, true, false, not, List, [], ◌∷◌, ◌++◌, codes, refl, sym, ap, ◌∙◌, subst, inl, inr, ◌⊎◌, append_assoc, map}
 use Rattle.std.proofs.lemmas.List.{append-nil}
 use Rattle.std.proofs.lemmas.Grind.{flat_map-append}
 use Rattle.std.proofs.lemmas.Bool.{and_parts, not-true, or_from, or_left, or_right}
@@ -12,7 +12,7 @@ use Rattle.sql_parts.specs.Tokens.{Symbol, Token, begins_with, clean, closed, en
 use Rattle.sql_parts.specs.declared.text.Quotes.TheVariants.{Single}
 use Rattle.sql_parts.proofs.JoinedTokens.{Edged, begins-append, clean-behind}
 use Rattle.sql_parts.proofs.TokenLaws.{between-tokens, between_closed, closed-shut, seam}
-use Rattle.sql_builder.specs.Phrases.{in_brackets}
+use Rattle.sql_builder.specs.Phrases.{in_brackets, comma_list}
 use Rattle.sql_builder.specs.Shape.{EndsInOneSemicolon, has_closed_fragments, has_no_semicolons, is_closed_piece, is_without_semicolon, piece_tokens, pieces_tokens}
 use Rattle.sql_builder.specs.Text.{Piece, Pieces, Fixed, Quoted, Raw, fixed_piece, piece_text, pieces_text, quoted_piece, raw_piece}
 
@@ -246,3 +246,31 @@ pub ends_in_semicolon : (ps : Pieces) → Inside ps → has_closed_fragments (wi
 ends_in_semicolon ps inside is plain =
     let both = and_parts _ _ (sym (list_all-append is_without_semicolon ps (fixed_piece (codes ";"))) ∙ plain) in
     (pieces_tokens ps, (statement-shaped ps inside).shape_is is ∙ shape-semicolon ps, inside.plain.none both.0)
+
+-- ---- phrases
+
+pub words-between : (words : List ℕ) (one other : Pieces) → Edged words → Inside one → Inside other → Inside (one ++ (fixed_piece words ++ other))
+words-between words one other edged first last =
+    inside-inside one (fixed_piece words ++ other) first (words-behind words other edged.begins)
+    (ended-inside (fixed_piece words) other (words-ended words (whole edged) edged.ends) last)
+
+pub words-last : (words : List ℕ) (one : Pieces) → Whole words → Behind (fixed_piece words ++ []) → Inside one → Inside (one ++ fixed_piece words)
+words-last words one is behind first = inside-inside one (fixed_piece words) first behind (words-inside words is)
+
+pub closing-last : (one : Pieces) → Inside one → Inside (one ++ fixed_piece (codes ")"))
+closing-last one first = words-last (codes ")") one (record { is_closed = refl; plain = refl }) (words-behind (codes ")") [] refl) first
+
+pub words-first : (words : List ℕ) (one : Pieces) → Whole words → ends_with is_edge words ≡ true → Inside one → Inside (fixed_piece words ++ one)
+words-first words one is ends last = ended-inside (fixed_piece words) one (words-ended words is ends) last
+
+pub items-inside : (items : List Pieces) → AllInside items → Inside (comma_list fixed_piece items)
+items-inside items all = joined-inside (codes ", ") comma items all
+
+pub raw-all : (texts : List (List ℕ)) → AllInside (map raw_piece texts)
+raw-all [] = tt
+raw-all (text ∷ texts) = (raw-inside text, raw-all texts)
+
+-- the texts of fragments
+pub texts_of_raw : (ts : List (List ℕ)) → map pieces_text (map raw_piece ts) ≡ ts
+texts_of_raw [] = refl
+texts_of_raw (t ∷ ts) = simp (append-nil, texts_of_raw ts)

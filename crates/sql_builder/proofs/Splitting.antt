@@ -23,15 +23,6 @@ pub none-inner : (test : Token → Bool) (a : List Token) → list_any (is_outer
 none-inner test [] = refl
 none-inner test (t ∷ a) = none-inner test a
 
-abbrev tokens_of : List Placed → List Token
-tokens_of ms = map token_of ms
-
-pub parts-clear : (test : Token → Bool) (a b : List Placed) → list_any (is_outer test) a ≡ false → parts_at test (a ++ b) ≡ record { lead = tokens_of a ++ (parts_at test b).lead; rest = (parts_at test b).rest }
-parts-clear test [] b h = refl
-parts-clear test (m ∷ a) b h =
-    let both = or_parts (is_outer test m) (list_any (is_outer test) a) h in
-    rw (both.0, parts-clear test a b both.1)
-
 -- parts, and further ones behind a separator
 pub parts_then : Parts → Token → Parts → Parts
 parts_then a t b = record { lead = a.lead; rest = a.rest ++ (t, b.lead) ∷ b.rest }

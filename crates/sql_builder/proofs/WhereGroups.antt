@@ -6,14 +6,14 @@ use Rattle.std.proofs.lemmas.Bool.{and_parts, and_from, false≢true, not_from_f
 use Rattle.sql_parts.specs.Text.{join_with}
 use Rattle.sql_parts.specs.Tokens.{Token, Symbol, tokens, is_empty}
 use Rattle.sql_builder.specs.Builder.{ClauseTexts}
-use Rattle.sql_builder.specs.Calls.{CallText, condition_in, condition_pieces, group_pieces, opens_group, conditions_of, groups}
-use Rattle.sql_builder.specs.Conditions.{ConditionText, Raw, Compare, Like, IsNull, IsNotNull, InList, InQuoted, InQuery, Between}
+use Rattle.sql_builder.specs.Calls.{CallText, condition_in, group_pieces, opens_group, conditions_of, groups}
+use Rattle.sql_builder.specs.Condition.{ConditionText, condition_pieces}
 use Rattle.sql_builder.specs.Filters.{Group, cut}
 use Rattle.sql_builder.specs.Phrases.{in_brackets}
 use Rattle.sql_builder.specs.Shape.{pieces_tokens, cond_tokens}
 use Rattle.sql_builder.specs.Text as text
 use Rattle.sql_builder.specs.Text.{Pieces, Fixed, fixed_piece, raw_piece}
-use Rattle.sql_builder.specs.declared.calls.Family.{Family}
+use Rattle.sql_builder.specs.declared.condition.Family.{Family}
 use Rattle.sql_builder.proofs.CalmClauses.{condition-calm, calm-raw}
 use Rattle.sql_builder.proofs.OwnLayouts.{where_bodies, where_body}
 use Rattle.sql_builder.proofs.OwnSections.{Calm, calm-front, own-outer}
@@ -31,6 +31,7 @@ use Rattle.sql_parts.proofs.Walks.{is_balanced, placed}
 use Rattle.sql_parts.specs.Fragments.{Placed, is_clause_word, is_outer}
 use Rattle.std.proofs.lemmas.List.Folds.{list_all-map}
 use Rattle.sql_builder.proofs.Each.{cut-all}
+use Rattle.sql_builder.proofs.ConditionPieces.{begins_raw}
 
 -- ---- one condition
 
@@ -59,18 +60,10 @@ fit-condition first ps calm are =
     (not_from_false _ (no_clause-tokens all calm fit))
 
 pub condition-fit : (condition : ConditionText) → are_fit (condition_pieces condition) ≡ true → is_condition (cond_tokens condition) ≡ true
-condition-fit condition fit = by condition (condition-calm condition) fit
-  where
-    by : (c : ConditionText) → Calm (condition_pieces c) → are_fit (condition_pieces c) ≡ true → is_condition (cond_tokens c) ≡ true
-    by (Raw condition) calm fit = fit-condition condition _ calm fit
-    by (Compare relation field value) calm fit = fit-condition field _ calm fit
-    by (Like negated percent field mask) calm fit = fit-condition field _ calm fit
-    by (IsNull field) calm fit = fit-condition field _ calm fit
-    by (IsNotNull field) calm fit = fit-condition field _ calm fit
-    by (InList negated field values) calm fit = fit-condition field _ calm fit
-    by (InQuoted negated field values) calm fit = fit-condition field _ calm fit
-    by (InQuery negated field query) calm fit = fit-condition field _ calm fit
-    by (Between negated field least greatest) calm fit = fit-condition field _ calm fit
+condition-fit condition fit =
+    let begins = begins_raw condition in
+    subst (λ ps. is_condition (pieces_tokens ps) ≡ true) (sym begins.2)
+    (fit-condition begins.0 begins.1 (subst Calm begins.2 (condition-calm condition)) (subst (λ ps. are_fit ps ≡ true) begins.2 fit))
 
 -- ---- tokens of what is joined
 

@@ -7,11 +7,10 @@ use Rattle.sql_builder.specs.Calls.{kind_of, StartText}
 use Rattle.sql_builder.specs.Clauses.{Clauses, new_clauses}
 use Rattle.sql_builder.specs.Layout.{byte_atoms}
 use Rattle.sql_builder.specs.Phrases.{constraint, further_table, join, order, row}
-use Rattle.sql_parts.specs.Quoting.{quoted}
 use Rattle.sql_parts.specs.Text.{texts}
-use Rattle.sql_builder.specs.declared.calls.Family.{Family}
-use Rattle.sql_builder.specs.declared.calls.Family.TheVariants.{And, Or}
-use Rattle.sql_builder.specs.Conditions.{ConditionText, condition_atoms}
+use Rattle.sql_builder.specs.declared.condition.Family.{Family}
+use Rattle.sql_builder.specs.declared.condition.Family.TheVariants.{And, Or}
+use Rattle.sql_builder.specs.Condition.{ConditionText, condition_bytes}
 use Rattle.sql_builder.specs.declared.clauses.Join.{Join}
 use Rattle.sql_builder.specs.declared.clauses.JoinOperator.{JoinOperator}
 use Rattle.sql_builder.specs.declared.clauses.Union.{Union}
@@ -137,10 +136,6 @@ join_last or condition (group ∷ groups) = extend_last (or ++ condition) (group
 -- the same of the groups of a builder
 abbrev pub with_alternative : List ℕ → ClauseTexts → ClauseTexts
 with_alternative condition r = record r { groups = join_last (codes " OR ") condition r.groups }
-
--- a condition's text
-abbrev pub condition_bytes : ConditionText → List ℕ
-condition_bytes condition = condition_atoms byte_atoms byte_atoms quoted condition
 
 -- a condition's text, of a call of this family
 abbrev pub with_condition_text : Family → List ℕ → ClauseTexts → ClauseTexts

@@ -2,13 +2,13 @@
 use Rattle.std.specs.Prelude.{ℕ, List, [], ◌∷◌, ◌++◌, Option, None, Some, Bool, true, false, map, codes, flat_map, filter_map}
 use Rattle.std.specs.List.{list_any}
 use Rattle.sql_builder.specs.Clauses.{Clauses}
-use Rattle.sql_builder.specs.Conditions.{ConditionText, condition_atoms}
+use Rattle.sql_builder.specs.Condition.{ConditionText, condition_pieces}
 use Rattle.sql_builder.specs.Filters.{any_unfollowed, cut, Group, in_place, last_said, since, until}
 use Rattle.sql_builder.specs.Phrases.{constraint, count, count_as, equation, further_table, join, order, row}
 use Rattle.sql_builder.specs.Text.{Pieces, fixed_piece, quoted_piece, raw_piece}
 use Rattle.sql_parts.specs.Text.{join_with}
-use Rattle.sql_builder.specs.declared.calls.Family.{Family}
-use Rattle.sql_builder.specs.declared.calls.Family.TheVariants.{And, Or}
+use Rattle.sql_builder.specs.declared.condition.Family.{Family}
+use Rattle.sql_builder.specs.declared.condition.Family.TheVariants.{And, Or}
 use Rattle.sql_builder.specs.declared.clauses.JoinOperator.{JoinOperator}
 use Rattle.sql_builder.specs.declared.clauses.JoinOperator.TheVariants as operator
 use Rattle.sql_builder.specs.declared.clauses.Kind.{Kind}
@@ -220,10 +220,6 @@ group_fields_in _ = []
 abbrev pub having_in : CallText → Option Pieces
 having_in (Having condition) = Some (raw_piece condition)
 having_in _ = None
-
--- a condition's pieces
-abbrev pub condition_pieces : ConditionText → Pieces
-condition_pieces condition = condition_atoms fixed_piece raw_piece quoted_piece condition
 
 -- the condition that a call adds, and its family
 abbrev pub condition_in : CallText → Option (Family × ConditionText)

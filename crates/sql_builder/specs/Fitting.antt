@@ -5,12 +5,13 @@ use Rattle.sql_parts.specs.Fragments.{balanced, has_clause_word, is_outer_place}
 use Rattle.sql_parts.specs.Tokens.{Token, tokens}
 use Rattle.sql_builder.specs.Builder.{ClauseTexts}
 use Rattle.sql_builder.specs.Calls as call
-use Rattle.sql_builder.specs.Calls.{CallText, FinishText, StartText, condition_in, condition_pieces}
-use Rattle.sql_builder.specs.Conditions.{ConditionText, Raw, Compare, Like, IsNull, IsNotNull, InList, InQuoted, InQuery, Between}
+use Rattle.sql_builder.specs.Calls.{CallText, FinishText, StartText, condition_in}
+use Rattle.sql_builder.specs.Condition.{condition_pieces, condition_handed}
 use Rattle.sql_builder.specs.Filters.{until}
 use Rattle.sql_builder.specs.Reading.{is_union}
 use Rattle.sql_builder.specs.Text as text
 use Rattle.sql_builder.specs.Text.{Piece, Pieces, Fixed, raw_piece}
+use Rattle.sql_builder.specs.Handed.{Handed, Bare, Enclosed, is_fit}
 
 -- the tokens of a piece, if it is of the builder's own
 abbrev pub own_tokens : Piece → List Token
@@ -68,36 +69,13 @@ has_balanced_fragments printed = list_all is_balanced_piece printed
 
 -- ---- the same, of the texts that are handed in
 
--- A text that is handed in to be printed as it stands: bare, or where outer clause words change nothing, which is between
--- brackets of the builder's own, and behind UNION.
-pub data Handed : Type 0 where
-  Bare : List ℕ → Handed
-  Enclosed : List ℕ → Handed
-
--- it is balanced, and has no outer clause word if it is bare
-abbrev pub is_fit : Handed → Bool
-is_fit (Bare text) = balanced text && not (has_clause_word text)
-is_fit (Enclosed text) = balanced text
-
--- the texts of a condition
-abbrev pub condition_texts : ConditionText → List Handed
-condition_texts (Raw condition) = Bare condition ∷ []
-condition_texts (Compare relation field value) = Bare field ∷ Bare value ∷ []
-condition_texts (Like negated percent field mask) = Bare field ∷ []
-condition_texts (IsNull field) = Bare field ∷ []
-condition_texts (IsNotNull field) = Bare field ∷ []
-condition_texts (InList negated field values) = Bare field ∷ map Enclosed values
-condition_texts (InQuoted negated field values) = Bare field ∷ []
-condition_texts (InQuery negated field query) = Bare field ∷ Enclosed query ∷ []
-condition_texts (Between negated field least greatest) = Bare field ∷ Bare least ∷ Bare greatest ∷ []
-
 -- the texts of a start
-abbrev pub start_texts : StartText → List Handed
-start_texts (call.SelectFrom table) = Bare table ∷ []
-start_texts (call.SelectValues values) = map Bare values
-start_texts (call.InsertInto table) = Bare table ∷ []
-start_texts (call.UpdateTable table) = Bare table ∷ []
-start_texts (call.DeleteFrom table) = Bare table ∷ []
+abbrev pub start_handed : StartText → List Handed
+start_handed (call.SelectFrom table) = Bare table ∷ []
+start_handed (call.SelectValues values) = map Bare values
+start_handed (call.InsertInto table) = Bare table ∷ []
+start_handed (call.UpdateTable table) = Bare table ∷ []
+start_handed (call.DeleteFrom table) = Bare table ∷ []
 
 -- a field, which `sql` of an INSERT encloses
 abbrev pub field_text : Bool → List ℕ → Handed
@@ -110,41 +88,41 @@ encloses_fields (call.InsertInto table) call.Sql = true
 encloses_fields _ _ = false
 
 -- the texts of a call, where fields are enclosed or not
-abbrev pub call_texts : Bool → CallText → List Handed
-call_texts enclosed (call.AndTable table) = Bare table ∷ []
-call_texts enclosed (call.Join table) = Bare table ∷ []
-call_texts enclosed (call.On condition) = Bare condition ∷ []
-call_texts enclosed (call.OnEq left right) = Bare left ∷ Bare right ∷ []
-call_texts enclosed (call.Fields fields) = map (field_text enclosed) fields
-call_texts enclosed (call.SetFields fields) = map (field_text enclosed) fields
-call_texts enclosed (call.Field field) = field_text enclosed field ∷ []
-call_texts enclosed (call.SetField field) = field_text enclosed field ∷ []
-call_texts enclosed (call.Count field) = Enclosed field ∷ []
-call_texts enclosed (call.CountAs field name) = Enclosed field ∷ field_text enclosed name ∷ []
-call_texts enclosed (call.SetTo field value) = Bare field ∷ Bare value ∷ []
-call_texts enclosed (call.SetStr field value) = Bare field ∷ []
-call_texts enclosed (call.Values values) = map Enclosed values
-call_texts enclosed (call.Select query) = Bare query ∷ []
-call_texts enclosed (call.Returning fields) = Bare fields ∷ []
-call_texts enclosed (call.GroupBy field) = Bare field ∷ []
-call_texts enclosed (call.Having condition) = Bare condition ∷ []
-call_texts enclosed (call.Cond family condition) = condition_texts condition
-call_texts enclosed (call.Union query) = Enclosed query ∷ []
-call_texts enclosed (call.UnionAll query) = Enclosed query ∷ []
-call_texts enclosed (call.OrderBy field descending) = Bare field ∷ []
-call_texts enclosed (call.OrderAsc field) = Bare field ∷ []
-call_texts enclosed (call.OrderDesc field) = Bare field ∷ []
-call_texts enclosed (call.Limit limit) = Bare limit ∷ []
-call_texts enclosed (call.Offset offset) = Bare offset ∷ []
-call_texts enclosed _ = []
+abbrev pub call_handed : Bool → CallText → List Handed
+call_handed enclosed (call.AndTable table) = Bare table ∷ []
+call_handed enclosed (call.Join table) = Bare table ∷ []
+call_handed enclosed (call.On condition) = Bare condition ∷ []
+call_handed enclosed (call.OnEq left right) = Bare left ∷ Bare right ∷ []
+call_handed enclosed (call.Fields fields) = map (field_text enclosed) fields
+call_handed enclosed (call.SetFields fields) = map (field_text enclosed) fields
+call_handed enclosed (call.Field field) = field_text enclosed field ∷ []
+call_handed enclosed (call.SetField field) = field_text enclosed field ∷ []
+call_handed enclosed (call.Count field) = Enclosed field ∷ []
+call_handed enclosed (call.CountAs field name) = Enclosed field ∷ field_text enclosed name ∷ []
+call_handed enclosed (call.SetTo field value) = Bare field ∷ Bare value ∷ []
+call_handed enclosed (call.SetStr field value) = Bare field ∷ []
+call_handed enclosed (call.Values values) = map Enclosed values
+call_handed enclosed (call.Select query) = Bare query ∷ []
+call_handed enclosed (call.Returning fields) = Bare fields ∷ []
+call_handed enclosed (call.GroupBy field) = Bare field ∷ []
+call_handed enclosed (call.Having condition) = Bare condition ∷ []
+call_handed enclosed (call.Cond family condition) = condition_handed condition
+call_handed enclosed (call.Union query) = Enclosed query ∷ []
+call_handed enclosed (call.UnionAll query) = Enclosed query ∷ []
+call_handed enclosed (call.OrderBy field descending) = Bare field ∷ []
+call_handed enclosed (call.OrderAsc field) = Bare field ∷ []
+call_handed enclosed (call.OrderDesc field) = Bare field ∷ []
+call_handed enclosed (call.Limit limit) = Bare limit ∷ []
+call_handed enclosed (call.Offset offset) = Bare offset ∷ []
+call_handed enclosed _ = []
 
 -- the text of a finish, a name behind the brackets
-abbrev pub finish_texts : FinishText → List Handed
-finish_texts (call.SubqueryAs name) = Bare name ∷ []
-finish_texts _ = []
+abbrev pub finish_handed : FinishText → List Handed
+finish_handed (call.SubqueryAs name) = Bare name ∷ []
+finish_handed _ = []
 
 -- each text that is handed in is fit
 abbrev pub has_fit_texts : StartText → List CallText → FinishText → Bool
 has_fit_texts start calls finish =
-    list_all is_fit (start_texts start) && list_all (λ c. list_all is_fit (call_texts (encloses_fields start finish) c)) calls
-    && list_all is_fit (finish_texts finish)
+    list_all is_fit (start_handed start) && list_all (λ c. list_all is_fit (call_handed (encloses_fields start finish) c)) calls
+    && list_all is_fit (finish_handed finish)

@@ -4,9 +4,9 @@ use Rattle.std.specs.List.{list_all}
 use Rattle.sql_parts.specs.Fragments.{has_outer, is_balanced, is_clause_word, is_joining, is_operand, placed}
 use Rattle.sql_parts.specs.Quoting.{quoted}
 use Rattle.sql_parts.specs.Tokens.{Token, Word, is_empty, tokens}
-use Rattle.sql_builder.specs.Builder.{ClauseTexts, condition_bytes}
-use Rattle.sql_builder.specs.Calls.{CallText, Fields, FinishText, StartText, clauses, condition_pieces}
-use Rattle.sql_builder.specs.Conditions.{ConditionText}
+use Rattle.sql_builder.specs.Builder.{ClauseTexts}
+use Rattle.sql_builder.specs.Calls.{CallText, Fields, FinishText, StartText, clauses}
+use Rattle.sql_builder.specs.Condition.{ConditionText, condition_bytes, condition_pieces}
 use Rattle.sql_builder.specs.Layout.{byte_atoms, sql}
 use Rattle.sql_builder.specs.Fitting.{has_fit_conditions, has_fit_texts}
 use Rattle.sql_builder.specs.Meaning.{HasBalancedFragments, HasFitFragments, IsAtomIfOperands, is_unenclosed}

@@ -1,11 +1,11 @@
-pub mod Answers
 pub mod Builder
 pub mod Calls
 pub mod Chaining
 pub mod Clauses
-pub mod Conditions
+pub mod Condition
 pub mod Filters
 pub mod Fitting
+pub mod Handed
 pub mod Laws
 pub mod Layout
 pub mod Meaning
@@ -17,6 +17,7 @@ pub mod Statement
 pub mod Steps
 pub mod Text
 pub mod Truths
+pub mod Views
 pub mod WhereTokens
 -- what the contracts here cite of the library below, for callers that list this one alone
 pub use Rattle.sql_parts.specs.Apart

@@ -1,18 +1,17 @@
 -- What a printed statement means: its clauses, the truth of its WHERE, and that queries serve as fragments.
 use Rattle.std.specs.Prelude.{◌≡◌, ℕ, Bool, true, false, not, ◌&&◌, IfOk, IsTrue, List, [], ◌∷◌, codes, map}
-use Rattle.std.specs.List.{list_all}
 use Rattle.sql_parts.specs.Fragments.{balanced, has_clause_word, operand}
 use Rattle.sql_parts.specs.Tokens.{Token, tokens}
-use Rattle.sql_builder.specs.Builder.{ClauseTexts, condition_bytes, with_condition_text}
-use Rattle.sql_builder.specs.Calls.{CallText, FinishText, StartText, Sql, Query, Subquery, SubqueryAs, condition_pieces, groups, kind_of}
-use Rattle.sql_builder.specs.Conditions.{ConditionText, Raw, Compare, Like, IsNull, IsNotNull, InList, InQuoted, InQuery, Between}
-use Rattle.sql_builder.specs.Fitting.{has_balanced_fragments, has_fit_conditions, has_fit_fragments, has_fit_groups}
+use Rattle.sql_builder.specs.Builder.{ClauseTexts, with_condition_text}
+use Rattle.sql_builder.specs.Calls.{CallText, FinishText, StartText, Sql, Query, Subquery, SubqueryAs, groups}
+use Rattle.sql_builder.specs.Condition.{ConditionText, condition_bytes, condition_pieces, has_operands}
+use Rattle.sql_builder.specs.Fitting.{has_balanced_fragments, has_fit_fragments, has_fit_groups}
 use Rattle.sql_builder.specs.Reading.{piece_clauses, read, stand_with}
 use Rattle.sql_builder.specs.Shape.{AddsText, cond_tokens}
 use Rattle.sql_builder.specs.Statement.{pieces}
 use Rattle.sql_builder.specs.Text.{Pieces}
 use Rattle.sql_builder.specs.Truths.{IsAtom, Truth, Valuation, greatest, least, truth}
-use Rattle.sql_builder.specs.declared.calls.Family.{Family}
+use Rattle.sql_builder.specs.declared.condition.Family.{Family}
 use Rattle.sql_builder.specs.declared.clauses.Kind.{Kind}
 use Rattle.sql_builder.specs.declared.clauses.Kind.TheVariants.{SelectFrom, UpdateTable, DeleteFrom}
 
@@ -84,18 +83,6 @@ abbrev pub HasBalancedFragments : StartText → List CallText → FinishText →
 HasBalancedFragments start calls finish = IfOk (pieces start calls finish) (λ printed. IsTrue (has_balanced_fragments printed))
 
 -- ---- conditions
-
--- the texts of a condition are operands; of IN the field is, and what stands in the brackets is balanced
-abbrev pub has_operands : ConditionText → Bool
-has_operands (Raw condition) = false
-has_operands (Compare relation field value) = operand field && operand value
-has_operands (Like negated percent field mask) = operand field
-has_operands (IsNull field) = operand field
-has_operands (IsNotNull field) = operand field
-has_operands (InList negated field values) = operand field && list_all balanced values
-has_operands (InQuoted negated field values) = operand field
-has_operands (InQuery negated field query) = operand field && balanced query
-has_operands (Between negated field least greatest) = operand field && (operand least && operand greatest)
 
 -- where the condition's texts are operands, these tokens are an atom: their truth is what is known of them
 abbrev pub IsAtomIfOperands : ConditionText → List Token → Type 0

@@ -6,9 +6,9 @@ use Rattle.std.specs.Result.{result_map_both}
 use Rattle.sql_parts.specs.declared.error.SqlBuilderError.{SqlBuilderError}
 use Rattle.sql_parts.specs.Tokens.{Token, Str, Symbol, closed, has_semicolon, is_semicolon, tokens}
 use Rattle.sql_builder.specs.Builder.{ClauseTexts}
-use Rattle.sql_builder.specs.Calls.{CallText, FinishText, StartText, condition_pieces}
+use Rattle.sql_builder.specs.Calls.{CallText, FinishText, StartText}
 use Rattle.sql_builder.specs.Clauses.{Clauses, map_clauses}
-use Rattle.sql_builder.specs.Conditions.{ConditionText}
+use Rattle.sql_builder.specs.Condition.{ConditionText, condition_pieces}
 use Rattle.sql_builder.specs.Statement.{pieces}
 use Rattle.sql_builder.specs.Text.{Piece, Pieces, Fixed, Quoted, Raw, raw_piece}
 

@@ -1,8 +1,9 @@
 //! Lists of calls, as values, and the statement that a list makes.
 ghost use Rattle.std.specs.Prelude.{◌≡◌, ◌⊎◌, [], map, IfErr, IfOk, IfSome, IsNone, IsTrue, Ok, OnOk, string_bytes};
 ghost use Rattle.sql_parts.specs.Error.{FailsOnlyByMemory, IsMemory};
-ghost use Rattle.sql_builder.specs.Answers.{call_text, condition_text, finish_text, start_text};
-ghost use Rattle.sql_builder.specs.Builder.{condition_bytes, with_condition};
+ghost use Rattle.sql_builder.specs.Views.{call_view, finish_view, start_view};
+ghost use Rattle.sql_builder.specs.Builder.{with_condition};
+ghost use Rattle.sql_builder.specs.Condition.{condition_view};
 ghost use Rattle.sql_builder.specs.Steps.{with_call};
 ghost use Rattle.sql_builder.specs.Calls.{clauses, kind_of, operator_in};
 ghost use Rattle.sql_builder.specs.Clauses.{map_clauses};
@@ -16,10 +17,9 @@ ghost use Rattle.sql_parts.specs.Tokens.{closed, tokens};
 
 use crate::builder::SqlBuilder;
 use crate::clauses::JoinOperator;
-use crate::condition_texts::{between, in_list, in_query, in_quoted, like, unary};
-use crate::phrases::comparison;
-use crate::steps::{ListClause, PairClause, TextClause, UnaryCondition};
-use sql_parts::{SqlBuilderError, ToText};
+pub use crate::condition::{Condition, Family, Percent, Relation};
+use crate::steps::{BinaryClause, UnaryClause, VariadicClause};
+use sql_parts::SqlBuilderError;
 use std::alloc::Global;
 
 /// How a list of calls begins.
@@ -35,68 +35,6 @@ pub enum Start {
     UpdateTable(String),
     /// `delete_from` of this table.
     DeleteFrom(String),
-}
-
-/// Which family a condition's call belongs to.
-#[derive(Clone, Copy)]
-pub enum Family {
-    /// The condition opens a group of its own.
-    And,
-    /// The condition joins the last group, and opens one only where there is none.
-    Or,
-}
-
-/// How two texts are compared.
-#[derive(Clone, Copy)]
-pub enum Relation {
-    /// Equal.
-    Eq,
-    /// Not equal.
-    Ne,
-    /// Greater than.
-    Gt,
-    /// Greater than or equal.
-    Ge,
-    /// Less than.
-    Lt,
-    /// Less than or equal.
-    Le,
-}
-
-/// Where percent signs stand beside a mask of LIKE.
-#[derive(Clone, Copy)]
-pub enum Percent {
-    /// Nowhere.
-    Plain,
-    /// In front of the mask, which the text so matches at its right end.
-    Right,
-    /// Behind the mask, which the text so matches at its left end.
-    Left,
-    /// On both sides.
-    Any,
-}
-
-/// A condition. A truth value says whether it is the NOT form.
-#[derive(Drop)]
-pub enum Condition {
-    /// A condition as it stands.
-    Raw(String),
-    /// A field compared with a value.
-    Compare(Relation, String, String),
-    /// A field that is like a mask, which is quoted with its percent signs.
-    Like(bool, Percent, String, String),
-    /// A field that is NULL.
-    IsNull(String),
-    /// A field that is not NULL.
-    IsNotNull(String),
-    /// A field that is one of a list of values.
-    InList(bool, String, Vec<String>),
-    /// A field that is one of a list of values, each of which is quoted.
-    InQuoted(bool, String, Vec<String>),
-    /// A field that is one of what a query gives.
-    InQuery(bool, String, String),
-    /// A field between a least and a greatest value.
-    Between(bool, String, String, String),
 }
 
 /// A call that changes a builder.
@@ -189,7 +127,7 @@ pub enum Finish {
 
 fn begin(alloc: Global, start: &Start) -> Result<SqlBuilder, SqlBuilderError>
     ensures made { IfOk result (λ b. b
-        ≡ map_clauses pieces_text (clauses (start_text start.now) [])) }
+        ≡ map_clauses pieces_text (clauses (start_view start.now) [])) }
     ensures memory { FailsOnlyByMemory result }
 {
     match start {
@@ -203,7 +141,7 @@ fn begin(alloc: Global, start: &Start) -> Result<SqlBuilder, SqlBuilderError>
 
 // The operator that a call chooses for the joins to come.
 fn operator_in(call: &Call) -> Option<JoinOperator>
-    ensures { result ≡ operator_in (call_text call.now) }
+    ensures { result ≡ operator_in (call_view call.now) }
 {
     match call {
         Call::Left => Some(JoinOperator::Left),
@@ -217,7 +155,7 @@ fn operator_in(call: &Call) -> Option<JoinOperator>
 }
 
 fn make(builder: &mut SqlBuilder, call: &Call) -> Result<(), SqlBuilderError>
-    ensures made { OnOk result (builder.new ≡ with_call (call_text call.now) builder.old) }
+    ensures made { OnOk result (builder.new ≡ with_call (call_view call.now) builder.old) }
     ensures memory { FailsOnlyByMemory result }
 {
     match call {
@@ -227,60 +165,37 @@ fn make(builder: &mut SqlBuilder, call: &Call) -> Result<(), SqlBuilderError>
                 builder.operator = operator_in(call);
             }
         Call::Distinct => builder.distinct = true,
-        Call::AndTable(table) => builder.push_text(TextClause::AndTable, table)?,
-        Call::Join(table) => builder.push_text(TextClause::Join, table)?,
-        Call::On(constraint) => builder.push_text(TextClause::On, constraint)?,
-        Call::Field(field) => builder.push_text(TextClause::Field, field)?,
-        Call::SetField(field) => builder.push_text(TextClause::SetField, field)?,
-        Call::Count(field) => builder.push_text(TextClause::Count, field)?,
-        Call::Select(query) => builder.push_text(TextClause::Select, query)?,
-        Call::Returning(fields) => builder.push_text(TextClause::Returning, fields)?,
-        Call::GroupBy(field) => builder.push_text(TextClause::GroupBy, field)?,
-        Call::Having(condition) => builder.push_text(TextClause::Having, condition)?,
-        Call::Union(query) => builder.push_text(TextClause::Union, query)?,
-        Call::UnionAll(query) => builder.push_text(TextClause::UnionAll, query)?,
-        Call::OrderAsc(field) => builder.push_text(TextClause::OrderAsc, field)?,
-        Call::OrderDesc(field) => builder.push_text(TextClause::OrderDesc, field)?,
-        Call::Limit(limit) => builder.push_text(TextClause::Limit, limit)?,
-        Call::Offset(offset) => builder.push_text(TextClause::Offset, offset)?,
-        Call::OnEq(left, right) => builder.push_pair(PairClause::OnEq, left, right)?,
-        Call::CountAs(field, name) => builder.push_pair(PairClause::CountAs, field, name)?,
-        Call::SetTo(field, value) => builder.push_pair(PairClause::SetTo, field, value)?,
-        Call::SetStr(field, value) => builder.push_pair(PairClause::SetStr, field, value)?,
-        Call::Fields(fields) => builder.push_texts(ListClause::Fields, fields.as_slice())?,
-        Call::SetFields(fields) => builder.push_texts(ListClause::SetFields, fields.as_slice())?,
-        Call::Values(values) => builder.push_texts(ListClause::Values, values.as_slice())?,
+        Call::AndTable(table) => builder.push_unary(UnaryClause::AndTable, table)?,
+        Call::Join(table) => builder.push_unary(UnaryClause::Join, table)?,
+        Call::On(constraint) => builder.push_unary(UnaryClause::On, constraint)?,
+        Call::Field(field) => builder.push_unary(UnaryClause::Field, field)?,
+        Call::SetField(field) => builder.push_unary(UnaryClause::SetField, field)?,
+        Call::Count(field) => builder.push_unary(UnaryClause::Count, field)?,
+        Call::Select(query) => builder.push_unary(UnaryClause::Select, query)?,
+        Call::Returning(fields) => builder.push_unary(UnaryClause::Returning, fields)?,
+        Call::GroupBy(field) => builder.push_unary(UnaryClause::GroupBy, field)?,
+        Call::Having(condition) => builder.push_unary(UnaryClause::Having, condition)?,
+        Call::Union(query) => builder.push_unary(UnaryClause::Union, query)?,
+        Call::UnionAll(query) => builder.push_unary(UnaryClause::UnionAll, query)?,
+        Call::OrderAsc(field) => builder.push_unary(UnaryClause::OrderAsc, field)?,
+        Call::OrderDesc(field) => builder.push_unary(UnaryClause::OrderDesc, field)?,
+        Call::Limit(limit) => builder.push_unary(UnaryClause::Limit, limit)?,
+        Call::Offset(offset) => builder.push_unary(UnaryClause::Offset, offset)?,
+        Call::OnEq(left, right) => builder.push_binary(BinaryClause::OnEq, left, right)?,
+        Call::CountAs(field, name) => builder.push_binary(BinaryClause::CountAs, field, name)?,
+        Call::SetTo(field, value) => builder.push_binary(BinaryClause::SetTo, field, value)?,
+        Call::SetStr(field, value) => builder.push_binary(BinaryClause::SetStr, field, value)?,
+        Call::Fields(fields) => builder.push_variadic(VariadicClause::Fields, fields.as_slice())?,
+        Call::SetFields(fields) => builder.push_variadic(
+            VariadicClause::SetFields,
+            fields.as_slice(),
+        )?,
+        Call::Values(values) => builder.push_variadic(VariadicClause::Values, values.as_slice())?,
         Call::ReturningId => builder.put_returning("id")?,
         Call::OrderBy(field, descending) => builder.push_order(*descending, field)?,
         Call::Cond(family, condition) => make_condition(builder, *family, condition)?,
     }
     Ok(())
-}
-
-fn text_of(alloc: Global, condition: &Condition) -> Result<String, SqlBuilderError>
-    ensures made { IfOk result (λ s. string_bytes s
-        ≡ condition_bytes (condition_text condition.now)) }
-    ensures memory { FailsOnlyByMemory result }
-{
-    match condition {
-        Condition::Raw(condition) => condition.to_text(alloc),
-        Condition::Compare(relation, field, value) => comparison(alloc, *relation, field, value),
-        Condition::Like(negated, percent, field, mask) => {
-            like(alloc, *negated, *percent, field, mask)
-        }
-        Condition::IsNull(field) => unary(alloc, UnaryCondition::IsNull, field),
-        Condition::IsNotNull(field) => unary(alloc, UnaryCondition::IsNotNull, field),
-        Condition::InList(negated, field, values) => {
-            in_list(alloc, *negated, field, values.as_slice())
-        }
-        Condition::InQuoted(negated, field, values) => {
-            in_quoted(alloc, *negated, field, values.as_slice())
-        }
-        Condition::InQuery(negated, field, query) => in_query(alloc, *negated, field, query),
-        Condition::Between(negated, field, least, greatest) => {
-            between(alloc, *negated, field, least, greatest)
-        }
-    }
 }
 
 fn make_condition(
@@ -289,17 +204,17 @@ fn make_condition(
     condition: &Condition,
 ) -> Result<(), SqlBuilderError>
     ensures made { OnOk result (builder.new
-        ≡ with_condition family (condition_text condition.now) builder.old) }
+        ≡ with_condition family (condition_view condition.now) builder.old) }
     ensures memory { FailsOnlyByMemory result }
 {
-    let text = text_of(builder.alloc, condition)?;
+    let text = condition.to_text(builder.alloc)?;
     builder.push_condition(family, text)
 }
 
 #[tactic(auto, using(crate::proofs::Runs::one_more_call))]
 fn build(alloc: Global, start: &Start, calls: &[Call]) -> Result<SqlBuilder, SqlBuilderError>
     ensures made { IfOk result (λ b. b ≡ map_clauses pieces_text
-        (clauses (start_text start.now) (map call_text calls.now))) }
+        (clauses (start_view start.now) (map call_view calls.now))) }
     ensures memory { FailsOnlyByMemory result }
 {
     let mut builder = begin(alloc, start)?;
@@ -311,10 +226,10 @@ fn build(alloc: Global, start: &Start, calls: &[Call]) -> Result<SqlBuilder, Sql
 
 fn print(builder: &SqlBuilder, finish: &Finish) -> Result<String, SqlBuilderError>
     ensures text { IfOk result (λ s. string_bytes s
-        ≡ text_at (finish_text finish.now) builder.now) }
-    ensures refused { IfSome (refusal_at (finish_text finish.now) builder.now)
+        ≡ text_at (finish_view finish.now) builder.now) }
+    ensures refused { IfSome (refusal_at (finish_view finish.now) builder.now)
         (λ refusal. result ≡ Err refusal) }
-    ensures memory { IsNone (refusal_at (finish_text finish.now) builder.now)
+    ensures memory { IsNone (refusal_at (finish_view finish.now) builder.now)
         → FailsOnlyByMemory result }
 {
     match finish {
@@ -345,27 +260,27 @@ pub fn run(
     calls: &[Call],
     finish: &Finish,
 ) -> Result<String, SqlBuilderError>
-    ensures text { IfOk result (λ s. statement (start_text start.now) (map call_text calls.now)
-        (finish_text finish.now) ≡ Ok (string_bytes s)) }
-    ensures refused { IfErr result (λ e. IsMemory e ⊎ (statement (start_text start.now)
-        (map call_text calls.now) (finish_text finish.now) ≡ Err e)) }
-    ensures shape { HasClosedFragments (start_text start.now) (map call_text calls.now)
-        (finish_text finish.now) → IfOk result (λ s. shape (start_text start.now)
-        (map call_text calls.now) (finish_text finish.now) ≡ Ok (tokens (string_bytes s))) }
-    ensures closed { HasClosedFragments (start_text start.now) (map call_text calls.now)
-        (finish_text finish.now) → IfOk result (λ s. IsTrue (closed (string_bytes s))) }
-    ensures clauses { IsTrue (is_unenclosed (finish_text finish.now))
-        → HasFitFragments (start_text start.now) (map call_text calls.now)
-        (finish_text finish.now) → IfOk result (λ s. clause_list (start_text start.now)
-        (map call_text calls.now) (finish_text finish.now) ≡ Ok (read (tokens (string_bytes s)))) }
-    ensures truth { IsTrue (prints_where (finish_text finish.now) (kind_of (start_text start.now)))
-        → HasFitFragments (start_text start.now) (map call_text calls.now)
-        (finish_text finish.now) → IsTrue (has_fit_conditions (map call_text calls.now))
+    ensures text { IfOk result (λ s. statement (start_view start.now) (map call_view calls.now)
+        (finish_view finish.now) ≡ Ok (string_bytes s)) }
+    ensures refused { IfErr result (λ e. IsMemory e ⊎ (statement (start_view start.now)
+        (map call_view calls.now) (finish_view finish.now) ≡ Err e)) }
+    ensures shape { HasClosedFragments (start_view start.now) (map call_view calls.now)
+        (finish_view finish.now) → IfOk result (λ s. shape (start_view start.now)
+        (map call_view calls.now) (finish_view finish.now) ≡ Ok (tokens (string_bytes s))) }
+    ensures closed { HasClosedFragments (start_view start.now) (map call_view calls.now)
+        (finish_view finish.now) → IfOk result (λ s. IsTrue (closed (string_bytes s))) }
+    ensures clauses { IsTrue (is_unenclosed (finish_view finish.now))
+        → HasFitFragments (start_view start.now) (map call_view calls.now)
+        (finish_view finish.now) → IfOk result (λ s. clause_list (start_view start.now)
+        (map call_view calls.now) (finish_view finish.now) ≡ Ok (read (tokens (string_bytes s)))) }
+    ensures truth { IsTrue (prints_where (finish_view finish.now) (kind_of (start_view start.now)))
+        → HasFitFragments (start_view start.now) (map call_view calls.now)
+        (finish_view finish.now) → IsTrue (has_fit_conditions (map call_view calls.now))
         → IfOk result (λ s.
-        HasTruthOf (condition_groups (map call_text calls.now)) (string_bytes s)) }
-    ensures nests { HasBalancedFragments (start_text start.now) (map call_text calls.now)
-        (finish_text finish.now) → IfOk result (λ s.
-        IsTrue (is_nested (finish_text finish.now) (string_bytes s))) }
+        HasTruthOf (condition_groups (map call_view calls.now)) (string_bytes s)) }
+    ensures nests { HasBalancedFragments (start_view start.now) (map call_view calls.now)
+        (finish_view finish.now) → IfOk result (λ s.
+        IsTrue (is_nested (finish_view finish.now) (string_bytes s))) }
 {
     let builder = build(alloc, start, calls)?;
     print(&builder, finish)

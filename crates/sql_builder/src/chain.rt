@@ -11,7 +11,7 @@ ghost use Rattle.sql_builder.specs.Phrases.{count, count_as, equation};
 
 use crate::builder::SqlBuilder;
 use crate::clauses::JoinOperator;
-use crate::steps::{ListClause, PairClause, TextClause, release};
+use crate::steps::{BinaryClause, UnaryClause, VariadicClause, release};
 use sql_parts::{SqlBuilderError, ToText};
 
 impl SqlBuilder {
@@ -26,7 +26,7 @@ impl SqlBuilder {
         ensures changed { IsChangedTo self.entry (with_table (S.text table) self.old) result }
         ensures memory { FailsOnlyByMemory result }
     {
-        release(self.hold_text(TextClause::AndTable, table))
+        release(self.hold_unary(UnaryClause::AndTable, table))
     }
 
     /// Adds a join with this table, with the operator in force, and NATURAL where `natural` waits
@@ -36,7 +36,7 @@ impl SqlBuilder {
         ensures changed { IsChangedTo self.entry (with_join (S.text table) self.old) result }
         ensures memory { FailsOnlyByMemory result }
     {
-        release(self.hold_text(TextClause::Join, table))
+        release(self.hold_unary(UnaryClause::Join, table))
     }
 
     /// Adds a constraint to the last join. Without a join it does nothing, and can't be refused.
@@ -45,7 +45,7 @@ impl SqlBuilder {
         ensures changed { IsChangedTo self.entry (with_on (S.text constraint) self.old) result }
         ensures memory { IfErr result (RefusesConstraint self.old) }
     {
-        release(self.hold_text(TextClause::On, constraint))
+        release(self.hold_unary(UnaryClause::On, constraint))
     }
 
     /// Adds the constraint `left = right` to the last join. Without a join it does nothing, and
@@ -61,7 +61,7 @@ impl SqlBuilder {
             (equation fixed_piece (raw_piece (S.text left)) (raw_piece (T.text right)))) result }
         ensures memory { IfErr result (RefusesConstraint self.old) }
     {
-        release(self.hold_pair(PairClause::OnEq, left, right))
+        release(self.hold_binary(BinaryClause::OnEq, left, right))
     }
 
     /// Appends fields.
@@ -71,7 +71,7 @@ impl SqlBuilder {
             (with_fields (map S.text fields.now) self.old) result }
         ensures memory { FailsOnlyByMemory result }
     {
-        release(self.hold_texts(ListClause::Fields, fields))
+        release(self.hold_variadic(VariadicClause::Fields, fields))
     }
 
     /// Puts these fields in the place of all others.
@@ -81,7 +81,7 @@ impl SqlBuilder {
             (with_fields_set (map S.text fields.now) self.old) result }
         ensures memory { FailsOnlyByMemory result }
     {
-        release(self.hold_texts(ListClause::SetFields, fields))
+        release(self.hold_variadic(VariadicClause::SetFields, fields))
     }
 
     /// Appends a field.
@@ -91,7 +91,7 @@ impl SqlBuilder {
             (with_fields (S.text field ∷ []) self.old) result }
         ensures memory { FailsOnlyByMemory result }
     {
-        release(self.hold_text(TextClause::Field, field))
+        release(self.hold_unary(UnaryClause::Field, field))
     }
 
     /// Puts this field in the place of all others.
@@ -101,7 +101,7 @@ impl SqlBuilder {
             (with_fields_set (S.text field ∷ []) self.old) result }
         ensures memory { FailsOnlyByMemory result }
     {
-        release(self.hold_text(TextClause::SetField, field))
+        release(self.hold_unary(UnaryClause::SetField, field))
     }
 
     /// Appends the field `COUNT(field)`.
@@ -111,7 +111,7 @@ impl SqlBuilder {
             (with_fields (count byte_atoms (S.text field) ∷ []) self.old) result }
         ensures memory { FailsOnlyByMemory result }
     {
-        release(self.hold_text(TextClause::Count, field))
+        release(self.hold_unary(UnaryClause::Count, field))
     }
 
     /// Appends the field `COUNT(field) AS name`.
@@ -127,7 +127,7 @@ impl SqlBuilder {
             (count_as fixed_piece (raw_piece (S.text field)) (raw_piece (T.text name)))) result }
         ensures memory { FailsOnlyByMemory result }
     {
-        release(self.hold_pair(PairClause::CountAs, field, name))
+        release(self.hold_binary(BinaryClause::CountAs, field, name))
     }
 
     /// Adds `field = value` to what UPDATE sets.
@@ -142,7 +142,7 @@ impl SqlBuilder {
             (equation fixed_piece (raw_piece (S.text field)) (raw_piece (T.text value)))) result }
         ensures memory { FailsOnlyByMemory result }
     {
-        release(self.hold_pair(PairClause::SetTo, field, value))
+        release(self.hold_binary(BinaryClause::SetTo, field, value))
     }
 
     /// Adds `field = 'value'` to what UPDATE sets, the value between single quotes as `quote`
@@ -159,7 +159,7 @@ impl SqlBuilder {
             result }
         ensures memory { FailsOnlyByMemory result }
     {
-        release(self.hold_pair(PairClause::SetStr, field, value))
+        release(self.hold_binary(BinaryClause::SetStr, field, value))
     }
 
     /// Adds a row to an INSERT, the values in brackets, and drops its query.
@@ -169,7 +169,7 @@ impl SqlBuilder {
             (with_row (map S.text values.now) self.old) result }
         ensures memory { FailsOnlyByMemory result }
     {
-        release(self.hold_texts(ListClause::Values, values))
+        release(self.hold_variadic(VariadicClause::Values, values))
     }
 
     /// Gives an INSERT this query, and drops all rows.
@@ -178,7 +178,7 @@ impl SqlBuilder {
         ensures changed { IsChangedTo self.entry (with_query (S.text query) self.old) result }
         ensures memory { FailsOnlyByMemory result }
     {
-        release(self.hold_text(TextClause::Select, query))
+        release(self.hold_unary(UnaryClause::Select, query))
     }
 
     /// What RETURNING returns, in an UPDATE and an INSERT of rows; the last call of `returning` or
@@ -189,7 +189,7 @@ impl SqlBuilder {
             (with_returning (S.text fields) self.old) result }
         ensures memory { FailsOnlyByMemory result }
     {
-        release(self.hold_text(TextClause::Returning, fields))
+        release(self.hold_unary(UnaryClause::Returning, fields))
     }
 
     /// RETURNING id, in an UPDATE and an INSERT of rows; the last call of `returning` or
@@ -209,7 +209,7 @@ impl SqlBuilder {
             (with_group_field (S.text field) self.old) result }
         ensures memory { FailsOnlyByMemory result }
     {
-        release(self.hold_text(TextClause::GroupBy, field))
+        release(self.hold_unary(UnaryClause::GroupBy, field))
     }
 
     /// The condition of HAVING, which stands behind GROUP BY alone; the last call counts.
@@ -219,7 +219,7 @@ impl SqlBuilder {
             (with_having (S.text condition) self.old) result }
         ensures memory { FailsOnlyByMemory result }
     {
-        release(self.hold_text(TextClause::Having, condition))
+        release(self.hold_unary(UnaryClause::Having, condition))
     }
 
     /// Appends UNION and the query.
@@ -229,7 +229,7 @@ impl SqlBuilder {
             (with_union false (S.text query) self.old) result }
         ensures memory { FailsOnlyByMemory result }
     {
-        release(self.hold_text(TextClause::Union, query))
+        release(self.hold_unary(UnaryClause::Union, query))
     }
 
     /// Appends UNION ALL and the query.
@@ -239,7 +239,7 @@ impl SqlBuilder {
             (with_union true (S.text query) self.old) result }
         ensures memory { FailsOnlyByMemory result }
     {
-        release(self.hold_text(TextClause::UnionAll, query))
+        release(self.hold_unary(UnaryClause::UnionAll, query))
     }
 
     /// Appends a field to ORDER BY, with DESC where it is descending. ORDER BY is left out beside
@@ -264,7 +264,7 @@ impl SqlBuilder {
             (with_order false (S.text field) self.old) result }
         ensures memory { FailsOnlyByMemory result }
     {
-        release(self.hold_text(TextClause::OrderAsc, field))
+        release(self.hold_unary(UnaryClause::OrderAsc, field))
     }
 
     /// Appends a field with DESC to ORDER BY, which is left out beside a union.
@@ -274,7 +274,7 @@ impl SqlBuilder {
             (with_order true (S.text field) self.old) result }
         ensures memory { FailsOnlyByMemory result }
     {
-        release(self.hold_text(TextClause::OrderDesc, field))
+        release(self.hold_unary(UnaryClause::OrderDesc, field))
     }
 
     /// The text of a query's LIMIT; the last call counts.
@@ -283,7 +283,7 @@ impl SqlBuilder {
         ensures changed { IsChangedTo self.entry (with_limit (S.text limit) self.old) result }
         ensures memory { FailsOnlyByMemory result }
     {
-        release(self.hold_text(TextClause::Limit, limit))
+        release(self.hold_unary(UnaryClause::Limit, limit))
     }
 
     /// The text of a query's OFFSET; the last call counts.
@@ -292,7 +292,7 @@ impl SqlBuilder {
         ensures changed { IsChangedTo self.entry (with_offset (S.text offset) self.old) result }
         ensures memory { FailsOnlyByMemory result }
     {
-        release(self.hold_text(TextClause::Offset, offset))
+        release(self.hold_unary(UnaryClause::Offset, offset))
     }
 }
 

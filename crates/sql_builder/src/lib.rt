@@ -5,13 +5,13 @@ mod builder;
 pub mod calls;
 mod chain;
 mod clauses;
-mod condition_texts;
-mod conditions;
+mod condition;
 pub mod laws;
 mod phrases;
 pub mod prelude;
 mod printing;
 mod steps;
+mod where_calls;
 
 pub use builder::SqlBuilder;
 pub use sql_parts::{

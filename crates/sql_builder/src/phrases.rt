@@ -1,46 +1,28 @@
 //! The texts that calls make of what they are handed.
 ghost use Rattle.std.specs.Prelude.{◌≡◌, ◌++◌, IfOk, OnOk, codes, map, string_bytes, flat_map};
 ghost use Rattle.sql_parts.specs.Error.{FailsOnlyByMemory};
-ghost use Rattle.sql_builder.specs.Builder.{condition_bytes};
-ghost use Rattle.sql_builder.specs.Conditions.{Compare, relation_text};
 ghost use Rattle.sql_builder.specs.Layout.{byte_atoms};
 ghost use Rattle.sql_builder.specs.Phrases.{comma_list, count, count_as, equation, order, row};
 ghost use Rattle.sql_parts.specs.Quoting.{quoted};
 
-use crate::calls::Relation;
 use sql_parts::text::Quotes;
 use sql_parts::{SqlBuilderError, ToText};
 use std::alloc::Global;
 
-impl Relation {
-    fn text(self) -> &'static str
-        ensures { result.now ≡ relation_text self }
-    {
-        match self {
-            Relation::Eq => " = ",
-            Relation::Ne => " <> ",
-            Relation::Gt => " > ",
-            Relation::Ge => " >= ",
-            Relation::Lt => " < ",
-            Relation::Le => " <= ",
-        }
-    }
-}
-
-/// A field compared with a value.
-pub(crate) fn comparison<S: ToText, T: ToText>(
+/// Two texts with words between them.
+pub(crate) fn infix<S: ToText, T: ToText>(
     alloc: Global,
-    relation: Relation,
-    field: S,
-    value: T,
+    left: S,
+    words: &str,
+    right: T,
 ) -> Result<String, SqlBuilderError>
     ensures made { IfOk result (λ s. string_bytes s
-        ≡ condition_bytes (Compare relation (S.text field) (T.text value))) }
+        ≡ S.text left ++ (words.now ++ T.text right)) }
     ensures memory { FailsOnlyByMemory result }
 {
-    let mut text = field.to_text(alloc)?;
-    text.push_str(relation.text())?;
-    value.push_to(alloc, &mut text)?;
+    let mut text = left.to_text(alloc)?;
+    text.push_str(words)?;
+    right.push_to(alloc, &mut text)?;
     Ok(text)
 }
 
@@ -54,7 +36,7 @@ pub(crate) fn equation<S: ToText, T: ToText>(
         ≡ equation byte_atoms (S.text left) (T.text right)) }
     ensures memory { FailsOnlyByMemory result }
 {
-    comparison(alloc, Relation::Eq, left, right)
+    infix(alloc, left, " = ", right)
 }
 
 /// Words, and a text between single quotes, each single quote in it doubled.

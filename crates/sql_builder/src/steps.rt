@@ -1,17 +1,15 @@
 //! The steps of the chain calls: one for each way to be handed texts, told by a constant which
-//! clause is meant.
+//! clause is meant, and one that adds a condition.
 ghost use Rattle.std.specs.Prelude.{◌≡◌, [], ◌∷◌, ◌++◌, map, codes, string_bytes, IfErr, OnOk, OnErr};
 ghost use Rattle.sql_parts.specs.Error.{FailsOnlyByMemory};
-ghost use Rattle.sql_builder.specs.Builder.{extend_last, with_condition, with_condition_text, with_order, with_returning};
-ghost use Rattle.sql_builder.specs.Meaning.{AddsCondition};
-ghost use Rattle.sql_builder.specs.Steps.{AddsPair, binary_condition, list_condition, range_condition, unary_condition, with_pair, with_text, with_texts, RefusesPair, RefusesText, Tells};
+ghost use Rattle.sql_builder.specs.Builder.{extend_last, with_condition_text, with_order, with_returning};
+ghost use Rattle.sql_builder.specs.Steps.{AddsBinary, RefusesBinary, RefusesUnary, Tells, with_binary, with_unary, with_variadic};
 ghost use Rattle.sql_parts.specs.Text.{texts};
 ghost use Rattle.std.specs.Result.{result_map_both};
 
 use crate::builder::SqlBuilder;
-use crate::calls::Family;
 use crate::clauses::{Join, Union, constrain_last};
-use crate::condition_texts::{among, binary, range, unary};
+use crate::condition::Family;
 use crate::phrases::{count, count_as, equation, order, quoted_equation, row};
 use sql_parts::text::copies;
 use sql_parts::{SqlBuilderError, ToText};
@@ -19,7 +17,7 @@ use std::alloc::AllocError;
 
 /// A call with one text.
 #[derive(Clone, Copy)]
-pub(crate) enum TextClause {
+pub(crate) enum UnaryClause {
     AndTable,
     Join,
     On,
@@ -40,7 +38,7 @@ pub(crate) enum TextClause {
 
 /// A call with two texts.
 #[derive(Clone, Copy)]
-pub(crate) enum PairClause {
+pub(crate) enum BinaryClause {
     OnEq,
     CountAs,
     SetTo,
@@ -49,61 +47,16 @@ pub(crate) enum PairClause {
 
 /// A call with a list of texts.
 #[derive(Clone, Copy)]
-pub(crate) enum ListClause {
+pub(crate) enum VariadicClause {
     Fields,
     SetFields,
     Values,
 }
 
-/// A condition with one text.
-#[derive(Clone, Copy)]
-pub(crate) enum UnaryCondition {
-    Bare,
-    IsNull,
-    IsNotNull,
-}
-
-/// A condition with two texts.
-#[derive(Clone, Copy)]
-pub(crate) enum BinaryCondition {
-    Eq,
-    Ne,
-    Gt,
-    Ge,
-    Lt,
-    Le,
-    Like,
-    LikeRight,
-    LikeLeft,
-    LikeAny,
-    NotLike,
-    NotLikeRight,
-    NotLikeLeft,
-    NotLikeAny,
-    InQuery,
-    NotInQuery,
-}
-
-/// A condition with a text and a list of texts.
-#[derive(Clone, Copy)]
-pub(crate) enum ListCondition {
-    In,
-    InQuoted,
-    NotIn,
-    NotInQuoted,
-}
-
-/// A condition with three texts.
-#[derive(Clone, Copy)]
-pub(crate) enum RangeCondition {
-    Between,
-    NotBetween,
-}
-
 // A builder that a step has changed. A call that lends the builder back is proved
 // to leave it alone where it is refused only if the loan comes in a struct.
 #[derive(Drop)]
-pub(crate) struct Held<'a>(&'a mut SqlBuilder);
+pub(crate) struct Held<'a>(pub(crate) &'a mut SqlBuilder);
 
 pub(crate) fn release(
     held: Result<Held<'_>, SqlBuilderError>,
@@ -279,72 +232,72 @@ impl SqlBuilder {
 }
 
 impl SqlBuilder {
-    pub(crate) fn push_text<S: ToText>(
+    pub(crate) fn push_unary<S: ToText>(
         &mut self,
-        clause: TextClause,
+        clause: UnaryClause,
         text: S,
     ) -> Result<(), SqlBuilderError>
-        ensures ok { OnOk result (self.new ≡ with_text clause (S.text text) self.old) }
+        ensures ok { OnOk result (self.new ≡ with_unary clause (S.text text) self.old) }
         ensures err { OnErr result (self.new ≡ self.old) }
-        ensures memory { IfErr result (RefusesText clause self.old) }
+        ensures memory { IfErr result (RefusesUnary clause self.old) }
     {
         let alloc = self.alloc;
         match clause {
-            TextClause::AndTable => self.push_table(text),
-            TextClause::Join => self.push_join(text),
-            TextClause::On if self.joins.is_empty() => Ok(()),
-            TextClause::On => self.push_constraint(text.to_text(alloc)?),
-            TextClause::Field => self.push_field(text.to_text(alloc)?),
-            TextClause::SetField => self.set_only_field(text),
-            TextClause::Count => self.push_field(count(alloc, text)?),
-            TextClause::Select => self.put_query(text),
-            TextClause::Returning => self.put_returning(text),
-            TextClause::GroupBy => self.push_group_field(text),
-            TextClause::Having => self.put_having(text),
-            TextClause::Union => self.push_union(false, text),
-            TextClause::UnionAll => self.push_union(true, text),
-            TextClause::OrderAsc => self.push_order(false, text),
-            TextClause::OrderDesc => self.push_order(true, text),
-            TextClause::Limit => self.put_limit(text),
-            TextClause::Offset => self.put_offset(text),
+            UnaryClause::AndTable => self.push_table(text),
+            UnaryClause::Join => self.push_join(text),
+            UnaryClause::On if self.joins.is_empty() => Ok(()),
+            UnaryClause::On => self.push_constraint(text.to_text(alloc)?),
+            UnaryClause::Field => self.push_field(text.to_text(alloc)?),
+            UnaryClause::SetField => self.set_only_field(text),
+            UnaryClause::Count => self.push_field(count(alloc, text)?),
+            UnaryClause::Select => self.put_query(text),
+            UnaryClause::Returning => self.put_returning(text),
+            UnaryClause::GroupBy => self.push_group_field(text),
+            UnaryClause::Having => self.put_having(text),
+            UnaryClause::Union => self.push_union(false, text),
+            UnaryClause::UnionAll => self.push_union(true, text),
+            UnaryClause::OrderAsc => self.push_order(false, text),
+            UnaryClause::OrderDesc => self.push_order(true, text),
+            UnaryClause::Limit => self.put_limit(text),
+            UnaryClause::Offset => self.put_offset(text),
         }
     }
 
-    pub(crate) fn push_pair<S: ToText, T: ToText>(
+    pub(crate) fn push_binary<S: ToText, T: ToText>(
         &mut self,
-        clause: PairClause,
+        clause: BinaryClause,
         first: S,
         second: T,
     ) -> Result<(), SqlBuilderError>
         ensures ok { OnOk result (self.new
-            ≡ with_pair clause (S.text first) (T.text second) self.old) }
+            ≡ with_binary clause (S.text first) (T.text second) self.old) }
         ensures err { OnErr result (self.new ≡ self.old) }
-        ensures memory { IfErr result (RefusesPair clause self.old) }
+        ensures memory { IfErr result (RefusesBinary clause self.old) }
     {
         let alloc = self.alloc;
         match clause {
-            PairClause::OnEq if self.joins.is_empty() => Ok(()),
-            PairClause::OnEq => self.push_constraint(equation(alloc, first, second)?),
-            PairClause::CountAs => self.push_field(count_as(alloc, first, second)?),
-            PairClause::SetTo => self.push_set(equation(alloc, first, second)?),
-            PairClause::SetStr => self.push_set(quoted_equation(alloc, first, second)?),
+            BinaryClause::OnEq if self.joins.is_empty() => Ok(()),
+            BinaryClause::OnEq => self.push_constraint(equation(alloc, first, second)?),
+            BinaryClause::CountAs => self.push_field(count_as(alloc, first, second)?),
+            BinaryClause::SetTo => self.push_set(equation(alloc, first, second)?),
+            BinaryClause::SetStr => self.push_set(quoted_equation(alloc, first, second)?),
         }
     }
 
-    pub(crate) fn push_texts<S: ToText>(
+    pub(crate) fn push_variadic<S: ToText>(
         &mut self,
-        clause: ListClause,
+        clause: VariadicClause,
         items: &[S],
     ) -> Result<(), SqlBuilderError>
-        ensures { Tells result self.old self.new (with_texts clause (map S.text items.now)) }
+        ensures { Tells result self.old self.new (with_variadic clause (map S.text items.now)) }
     {
         match clause {
-            ListClause::Fields => {
+            VariadicClause::Fields => {
                 let mut fields = copies(self.alloc, items)?;
                 self.fields.append(&mut fields)?;
             }
-            ListClause::SetFields => self.fields = copies(self.alloc, items)?,
-            ListClause::Values => {
+            VariadicClause::SetFields => self.fields = copies(self.alloc, items)?,
+            VariadicClause::Values => {
                 self.rows.push(row(self.alloc, items)?)?;
                 self.query = None;
             }
@@ -357,17 +310,17 @@ impl SqlBuilder {
     ghost use Rattle.std.specs.Borrow.{sem};
     ghost use Rattle.sql_builder.specs.Chaining.{IsUnchangedIfHeldErr, IsHeldChangedSoThat, IsHeldChangedTo};
 
-    pub(crate) fn hold_text<S: ToText>(
+    pub(crate) fn hold_unary<S: ToText>(
         &mut self,
-        clause: TextClause,
+        clause: UnaryClause,
         text: S,
     ) -> Result<Held<'_>, SqlBuilderError>
         ensures* refused { sem 𝓛 (IsUnchangedIfHeldErr self.entry result) }
         ensures changed { IsHeldChangedTo self.entry
-            (with_text clause (S.text text) self.old) result }
-        ensures memory { IfErr result (RefusesText clause self.old) }
+            (with_unary clause (S.text text) self.old) result }
+        ensures memory { IfErr result (RefusesUnary clause self.old) }
     {
-        self.push_text(clause, text)?;
+        self.push_unary(clause, text)?;
         Ok(Held(self))
     }
 
@@ -380,33 +333,33 @@ impl SqlBuilder {
         Ok(Held(self))
     }
 
-    #[tactic(auto, using(crate::proofs::ClauseShapes::adds_pair))]
-    pub(crate) fn hold_pair<S: ToText, T: ToText>(
+    #[tactic(auto, using(crate::proofs::ClauseShapes::adds_binary))]
+    pub(crate) fn hold_binary<S: ToText, T: ToText>(
         &mut self,
-        clause: PairClause,
+        clause: BinaryClause,
         first: S,
         second: T,
     ) -> Result<Held<'_>, SqlBuilderError>
         ensures* refused { sem 𝓛 (IsUnchangedIfHeldErr self.entry result) }
         ensures changed { IsHeldChangedSoThat self.entry
-            (AddsPair clause (S.text first) (T.text second) self.old) result }
-        ensures memory { IfErr result (RefusesPair clause self.old) }
+            (AddsBinary clause (S.text first) (T.text second) self.old) result }
+        ensures memory { IfErr result (RefusesBinary clause self.old) }
     {
-        self.push_pair(clause, first, second)?;
+        self.push_binary(clause, first, second)?;
         Ok(Held(self))
     }
 
-    pub(crate) fn hold_texts<S: ToText>(
+    pub(crate) fn hold_variadic<S: ToText>(
         &mut self,
-        clause: ListClause,
+        clause: VariadicClause,
         items: &[S],
     ) -> Result<Held<'_>, SqlBuilderError>
         ensures* refused { sem 𝓛 (IsUnchangedIfHeldErr self.entry result) }
         ensures changed { IsHeldChangedTo self.entry
-            (with_texts clause (map S.text items.now) self.old) result }
+            (with_variadic clause (map S.text items.now) self.old) result }
         ensures memory { FailsOnlyByMemory result }
     {
-        self.push_texts(clause, items)?;
+        self.push_variadic(clause, items)?;
         Ok(Held(self))
     }
 
@@ -421,79 +374,6 @@ impl SqlBuilder {
         ensures memory { FailsOnlyByMemory result }
     {
         self.push_order(descending, field)?;
-        Ok(Held(self))
-    }
-
-    #[tactic(auto, using(crate::proofs::ConditionAtoms::adds_condition))]
-    pub(crate) fn hold_unary<S: ToText>(
-        &mut self,
-        family: Family,
-        condition: UnaryCondition,
-        text: S,
-    ) -> Result<Held<'_>, SqlBuilderError>
-        ensures* refused { sem 𝓛 (IsUnchangedIfHeldErr self.entry result) }
-        ensures changed { IsHeldChangedSoThat self.entry
-            (AddsCondition family (unary_condition condition (S.text text)) self.old) result }
-        ensures memory { FailsOnlyByMemory result }
-    {
-        let text = unary(self.alloc, condition, text)?;
-        self.push_condition(family, text)?;
-        Ok(Held(self))
-    }
-
-    #[tactic(auto, using(crate::proofs::ConditionAtoms::adds_condition))]
-    pub(crate) fn hold_binary<S: ToText, T: ToText>(
-        &mut self,
-        family: Family,
-        condition: BinaryCondition,
-        field: S,
-        value: T,
-    ) -> Result<Held<'_>, SqlBuilderError>
-        ensures* refused { sem 𝓛 (IsUnchangedIfHeldErr self.entry result) }
-        ensures changed { IsHeldChangedSoThat self.entry (AddsCondition family
-            (binary_condition condition (S.text field) (T.text value)) self.old) result }
-        ensures memory { FailsOnlyByMemory result }
-    {
-        let text = binary(self.alloc, condition, field, value)?;
-        self.push_condition(family, text)?;
-        Ok(Held(self))
-    }
-
-    #[tactic(auto, using(crate::proofs::ConditionAtoms::adds_condition))]
-    pub(crate) fn hold_among<S: ToText, T: ToText>(
-        &mut self,
-        family: Family,
-        condition: ListCondition,
-        field: S,
-        values: &[T],
-    ) -> Result<Held<'_>, SqlBuilderError>
-        ensures* refused { sem 𝓛 (IsUnchangedIfHeldErr self.entry result) }
-        ensures changed { IsHeldChangedSoThat self.entry (AddsCondition family
-            (list_condition condition (S.text field) (map T.text values.now)) self.old) result }
-        ensures memory { FailsOnlyByMemory result }
-    {
-        let text = among(self.alloc, condition, field, values)?;
-        self.push_condition(family, text)?;
-        Ok(Held(self))
-    }
-
-    #[tactic(auto, using(crate::proofs::ConditionAtoms::adds_condition))]
-    pub(crate) fn hold_range<S: ToText, T: ToText, U: ToText>(
-        &mut self,
-        family: Family,
-        condition: RangeCondition,
-        field: S,
-        least: T,
-        greatest: U,
-    ) -> Result<Held<'_>, SqlBuilderError>
-        ensures* refused { sem 𝓛 (IsUnchangedIfHeldErr self.entry result) }
-        ensures changed { IsHeldChangedSoThat self.entry (AddsCondition family
-            (range_condition condition (S.text field) (T.text least) (U.text greatest))
-            self.old) result }
-        ensures memory { FailsOnlyByMemory result }
-    {
-        let text = range(self.alloc, condition, field, least, greatest)?;
-        self.push_condition(family, text)?;
         Ok(Held(self))
     }
 }

@@ -185,183 +185,183 @@ module _ (L : Lent) {M : Type 1} {𝓤 : Ura M} (𝓛 : Logic 𝓤) (𝓜 : Mode
 
   -- neither a constant nor an argument
   module _ where
-    abbrev Cs-bare : List (Constant 𝓛)
-    Cs-bare = []
+    abbrev Cs-nullary : List (Constant 𝓛)
+    Cs-nullary = []
 
-    abbrev Q-bare : List (Slot (suc n))
-    Q-bare = []
+    abbrev Q-nullary : List (Slot (suc n))
+    Q-nullary = []
 
-    abbrev K-bare : Kepts Q-bare
-    K-bare = tt
+    abbrev K-nullary : Kepts Q-nullary
+    K-nullary = tt
 
-    module _ (asked : (κs : Lfts (suc n)) → MutBor D₀ × Denots (types_at (also 𝓛 Cs-bare Q-bare) κs) → SProp 𝓤)
-        (told : (κs : Lfts (suc n)) → MutBor D₀ × Denots (types_at (also 𝓛 Cs-bare Q-bare) κs) → Effect D₀) (fn : Fn) (kg ko name : Callee) where
-      abbrev pub Code-bare : Type 0
-      Code-bare = (fn.locals ≡ l0 ∷ l1 ∷ kept ∷ lent ∷ [])
+    module _ (asked : (κs : Lfts (suc n)) → MutBor D₀ × Denots (types_at (also 𝓛 Cs-nullary Q-nullary) κs) → SProp 𝓤)
+        (told : (κs : Lfts (suc n)) → MutBor D₀ × Denots (types_at (also 𝓛 Cs-nullary Q-nullary) κs) → Effect D₀) (fn : Fn) (kg ko name : Callee) where
+      abbrev pub Code-nullary : Type 0
+      Code-nullary = (fn.locals ≡ l0 ∷ l1 ∷ kept ∷ lent ∷ [])
           × (fn.body ≡ seq (assign (place 3 []) (addr_of (place 1 (deref L.ty ∷ [])))) (seq (call kg (copy (place 3 []) ∷ []) (place 2 [])) (seq (call ko (copy (place 2 []) ∷ []) (place 0 [])) (return))))
 
-      abbrev pub Coded-bare : Type 2
-      Coded-bare = Coded Cs-bare Q-bare K-bare asked told fn name
+      abbrev pub Coded-nullary : Type 2
+      Coded-nullary = Coded Cs-nullary Q-nullary K-nullary asked told fn name
 
-      abbrev pub Method-bare : Type 1
-      Method-bare = Method Cs-bare Q-bare K-bare asked told name
+      abbrev pub Method-nullary : Type 1
+      Method-nullary = Method Cs-nullary Q-nullary K-nullary asked told name
 
-      pub by-bare : Code-bare → Coded-bare → StepMeets Cs-bare Q-bare K-bare asked told kg → Releases Cs-bare Q-bare K-bare asked told ko → Method-bare
-      by-bare code closed met release_met =
+      pub by-nullary : Code-nullary → Coded-nullary → StepMeets Cs-nullary Q-nullary K-nullary asked told kg → Releases Cs-nullary Q-nullary K-nullary asked told ko → Method-nullary
+      by-nullary code closed met release_met =
           let fm = framed 𝓤 𝓛.H 𝓜 (tables 𝓤 𝓛.H 𝓜 𝓡 𝓡.env) in
-          chains Q-bare K-bare (asks' Cs-bare Q-bare asked) (told' Cs-bare Q-bare told) fn name closed tt (λ y₀ are.
+          chains Q-nullary K-nullary (asks' Cs-nullary Q-nullary asked) (told' Cs-nullary Q-nullary told) fn name closed tt (λ y₀ are.
           let a = y₀.0.3 in let p = vptr a.0.ref_ptr.0 a.0.ref_ptr.1 in
-          let walk : Walks Cs-bare Q-bare K-bare asked told ((y₀.0.0, y₀.0.1, y₀.0.2, a, (p ∷ [], tt)), tt) fn =
-          let y : At_entry Cs-bare Q-bare K-bare asked told = ((y₀.0.0, y₀.0.1, y₀.0.2, a, (p ∷ [], tt)), tt) in
-          let z = more Cs-bare Q-bare K-bare asked told y in
-          qed 𝓛 (raw (at_entry Cs-bare Q-bare K-bare asked told y) ∷ []) ∵ coded Q-bare K-bare (asks' Cs-bare Q-bare asked) (told' Cs-bare Q-bare told) fn _ _ code.0 code.1 _ _ $
+          let walk : Walks Cs-nullary Q-nullary K-nullary asked told ((y₀.0.0, y₀.0.1, y₀.0.2, a, (p ∷ [], tt)), tt) fn =
+          let y : At_entry Cs-nullary Q-nullary K-nullary asked told = ((y₀.0.0, y₀.0.1, y₀.0.2, a, (p ∷ [], tt)), tt) in
+          let z = more Cs-nullary Q-nullary K-nullary asked told y in
+          qed 𝓛 (raw (at_entry Cs-nullary Q-nullary K-nullary asked told y) ∷ []) ∵ coded Q-nullary K-nullary (asks' Cs-nullary Q-nullary asked) (told' Cs-nullary Q-nullary told) fn _ _ code.0 code.1 _ _ $
           alloc_all ! (λ l. pass_all ! refl ((tt, tt), tt) $
           sets ! (addr ! (through ! refl (stop !))) refl (tt, tt) $
-          use1 𝓛 (raw (at_step Cs-bare Q-bare K-bare asked told y)) (widened Cs-bare Q-bare K-bare asked told y) $
+          use1 𝓛 (raw (at_step Cs-nullary Q-nullary K-nullary asked told y)) (widened Cs-nullary Q-nullary K-nullary asked told y) $
           calls_at ! fm _ met z (and_then ! (get ! refl) (no_more !)) (λ v.
-          returned ! tt (StepEnded Cs-bare Q-bare K-bare asked told) (step_clauses Cs-bare Q-bare K-bare asked told) z v (λ r ws is.
+          returned ! tt (StepEnded Cs-nullary Q-nullary K-nullary asked told) (step_clauses Cs-nullary Q-nullary K-nullary asked told) z v (λ r ws is.
           lands_as ! refl refl (L.fits y.0.0.0 v ((kept_lawful 𝓛 L y.0.0.0).typed r (v ∷ []) is)) $
           releases L ! fm release_met n y.0.0 y.0.1 a.0 (told z.0.0 z.0.3) r v (and_then ! (get ! refl) (no_more !)) (λ u t is'.
           lands_as ! refl refl ((bare_lawful 𝓛 L y.0.0.0).typed t (u ∷ []) is').0 $
-          returns ! (look_at ! 0 refl) $ free_all ! refl $ leaves_step Cs-bare Q-bare K-bare asked told y u t ws)))) in
+          returns ! (look_at ! 0 refl) $ free_all ! refl $ leaves_step Cs-nullary Q-nullary K-nullary asked told y u t ws)))) in
           (tt, (refl, walk)))
 
   -- one constant and one argument that is moved
   module _ (X : Constant 𝓛) (A : Argument 𝓛 (suc n)) where
-    abbrev Cs-text : List (Constant 𝓛)
-    Cs-text = X ∷ []
+    abbrev Cs-unary : List (Constant 𝓛)
+    Cs-unary = X ∷ []
 
-    abbrev Q-text : List (Slot (suc n))
-    Q-text = plain A.row ∷ []
+    abbrev Q-unary : List (Slot (suc n))
+    Q-unary = plain A.row ∷ []
 
-    abbrev K-text : Kepts Q-text
-    K-text = (A.kept, tt)
+    abbrev K-unary : Kepts Q-unary
+    K-unary = (A.kept, tt)
 
-    module _ (asked : (κs : Lfts (suc n)) → MutBor D₀ × Denots (types_at (also 𝓛 Cs-text Q-text) κs) → SProp 𝓤)
-        (told : (κs : Lfts (suc n)) → MutBor D₀ × Denots (types_at (also 𝓛 Cs-text Q-text) κs) → Effect D₀) (fn : Fn) (kg ko name : Callee) where
-      abbrev pub Code-text : Type 0
-      Code-text = (fn.locals ≡ l0 ∷ l1 ∷ local A.ty value_local ∷ kept ∷ lent ∷ local (layout X.row) value_local ∷ local A.ty value_local ∷ [])
+    module _ (asked : (κs : Lfts (suc n)) → MutBor D₀ × Denots (types_at (also 𝓛 Cs-unary Q-unary) κs) → SProp 𝓤)
+        (told : (κs : Lfts (suc n)) → MutBor D₀ × Denots (types_at (also 𝓛 Cs-unary Q-unary) κs) → Effect D₀) (fn : Fn) (kg ko name : Callee) where
+      abbrev pub Code-unary : Type 0
+      Code-unary = (fn.locals ≡ l0 ∷ l1 ∷ local A.ty value_local ∷ kept ∷ lent ∷ local (layout X.row) value_local ∷ local A.ty value_local ∷ [])
           × (fn.body ≡ seq (assign (place 4 []) (addr_of (place 1 (deref L.ty ∷ [])))) (seq (assign (place 5 []) (aggregate (int w8 X.tag ∷ []))) (seq (assign (place 6 []) (rv_opd (copy (place 2 [])))) (
           seq (call kg (copy (place 4 []) ∷ copy (place 5 []) ∷ copy (place 6 []) ∷ []) (place 3 [])) (seq (call ko (copy (place 3 []) ∷ []) (place 0 [])) (return))))))
 
-      abbrev pub Coded-text : Type 2
-      Coded-text = Coded Cs-text Q-text K-text asked told fn name
+      abbrev pub Coded-unary : Type 2
+      Coded-unary = Coded Cs-unary Q-unary K-unary asked told fn name
 
-      abbrev pub Method-text : Type 1
-      Method-text = Method Cs-text Q-text K-text asked told name
+      abbrev pub Method-unary : Type 1
+      Method-unary = Method Cs-unary Q-unary K-unary asked told name
 
-      pub by-text : Code-text → Coded-text → StepMeets Cs-text Q-text K-text asked told kg → Releases Cs-text Q-text K-text asked told ko → Method-text
-      by-text code closed met release_met =
+      pub by-unary : Code-unary → Coded-unary → StepMeets Cs-unary Q-unary K-unary asked told kg → Releases Cs-unary Q-unary K-unary asked told ko → Method-unary
+      by-unary code closed met release_met =
           let fm = framed 𝓤 𝓛.H 𝓜 (tables 𝓤 𝓛.H 𝓜 𝓡 𝓡.env) in
-          chains Q-text K-text (asks' Cs-text Q-text asked) (told' Cs-text Q-text told) fn name closed (A.goes, tt) (λ y₀ are.
+          chains Q-unary K-unary (asks' Cs-unary Q-unary asked) (told' Cs-unary Q-unary told) fn name closed (A.goes, tt) (λ y₀ are.
           let a = y₀.0.3 in let p = vptr a.0.ref_ptr.0 a.0.ref_ptr.1 in
           let x = A.one y₀.0.0 a.1.0 y₀.0.4.1.0 are.0 in
-          let walk : (w : Val) → Good A.ty w → Walks Cs-text Q-text K-text asked told ((y₀.0.0, y₀.0.1, y₀.0.2, a, (p ∷ [], (w ∷ [], tt))), tt) fn = λ w good.
-          let y : At_entry Cs-text Q-text K-text asked told = ((y₀.0.0, y₀.0.1, y₀.0.2, a, (p ∷ [], (w ∷ [], tt))), tt) in
-          let z = more Cs-text Q-text K-text asked told y in
-          qed 𝓛 (raw (at_entry Cs-text Q-text K-text asked told y) ∷ []) ∵ coded Q-text K-text (asks' Cs-text Q-text asked) (told' Cs-text Q-text told) fn _ _ code.0 code.1 _ _ $
+          let walk : (w : Val) → Good A.ty w → Walks Cs-unary Q-unary K-unary asked told ((y₀.0.0, y₀.0.1, y₀.0.2, a, (p ∷ [], (w ∷ [], tt))), tt) fn = λ w good.
+          let y : At_entry Cs-unary Q-unary K-unary asked told = ((y₀.0.0, y₀.0.1, y₀.0.2, a, (p ∷ [], (w ∷ [], tt))), tt) in
+          let z = more Cs-unary Q-unary K-unary asked told y in
+          qed 𝓛 (raw (at_entry Cs-unary Q-unary K-unary asked told y) ∷ []) ∵ coded Q-unary K-unary (asks' Cs-unary Q-unary asked) (told' Cs-unary Q-unary told) fn _ _ code.0 code.1 _ _ $
           alloc_all ! (λ l. pass_all ! refl ((tt, tt), (good, tt)) $
           sets ! (addr ! (through ! refl (stop !))) refl (tt, tt) $ sets ! (agg ! (and_then ! (lit ! X.is_byte) (no_more !))) refl X.good $
           sets ! (of_opd ! (get ! refl)) refl good $
-          use1 𝓛 (raw (at_step Cs-text Q-text K-text asked told y)) (widened Cs-text Q-text K-text asked told y) $
+          use1 𝓛 (raw (at_step Cs-unary Q-unary K-unary asked told y)) (widened Cs-unary Q-unary K-unary asked told y) $
           calls_at ! fm _ met z (and_then ! (get ! refl) (and_then ! (get ! refl) (and_then ! (get ! refl) (no_more !)))) (λ v.
-          returned ! tt (StepEnded Cs-text Q-text K-text asked told) (step_clauses Cs-text Q-text K-text asked told) z v (λ r ws is.
+          returned ! tt (StepEnded Cs-unary Q-unary K-unary asked told) (step_clauses Cs-unary Q-unary K-unary asked told) z v (λ r ws is.
           lands_as ! refl refl (L.fits y.0.0.0 v ((kept_lawful 𝓛 L y.0.0.0).typed r (v ∷ []) is)) $
           releases L ! fm release_met n y.0.0 y.0.1 a.0 (told z.0.0 z.0.3) r v (and_then ! (get ! refl) (no_more !)) (λ u t is'.
           lands_as ! refl refl ((bare_lawful 𝓛 L y.0.0.0).typed t (u ∷ []) is').0 $
-          returns ! (look_at ! 0 refl) $ free_all ! refl $ leaves_step Cs-text Q-text K-text asked told y u t ws)))) in
+          returns ! (look_at ! 0 refl) $ free_all ! refl $ leaves_step Cs-unary Q-unary K-unary asked told y u t ws)))) in
           ((x.0 ∷ [], tt), ((λ i. (x.1.0 i, tt)), walk x.0 x.1.1)))
 
   -- one constant and one argument that is copied
   module _ (X : Constant 𝓛) (A : Argument 𝓛 (suc n)) where
-    abbrev Cs-list : List (Constant 𝓛)
-    Cs-list = X ∷ []
+    abbrev Cs-variadic : List (Constant 𝓛)
+    Cs-variadic = X ∷ []
 
-    abbrev Q-list : List (Slot (suc n))
-    Q-list = plain A.row ∷ []
+    abbrev Q-variadic : List (Slot (suc n))
+    Q-variadic = plain A.row ∷ []
 
-    abbrev K-list : Kepts Q-list
-    K-list = (A.kept, tt)
+    abbrev K-variadic : Kepts Q-variadic
+    K-variadic = (A.kept, tt)
 
-    module _ (asked : (κs : Lfts (suc n)) → MutBor D₀ × Denots (types_at (also 𝓛 Cs-list Q-list) κs) → SProp 𝓤)
-        (told : (κs : Lfts (suc n)) → MutBor D₀ × Denots (types_at (also 𝓛 Cs-list Q-list) κs) → Effect D₀) (fn : Fn) (kg ko name : Callee) where
-      abbrev pub Code-list : Type 0
-      Code-list = (fn.locals ≡ l0 ∷ l1 ∷ local A.ty value_local ∷ kept ∷ lent ∷ local (layout X.row) value_local ∷ [])
+    module _ (asked : (κs : Lfts (suc n)) → MutBor D₀ × Denots (types_at (also 𝓛 Cs-variadic Q-variadic) κs) → SProp 𝓤)
+        (told : (κs : Lfts (suc n)) → MutBor D₀ × Denots (types_at (also 𝓛 Cs-variadic Q-variadic) κs) → Effect D₀) (fn : Fn) (kg ko name : Callee) where
+      abbrev pub Code-variadic : Type 0
+      Code-variadic = (fn.locals ≡ l0 ∷ l1 ∷ local A.ty value_local ∷ kept ∷ lent ∷ local (layout X.row) value_local ∷ [])
           × (fn.body ≡ seq (assign (place 4 []) (addr_of (place 1 (deref L.ty ∷ [])))) (seq (assign (place 5 []) (aggregate (int w8 X.tag ∷ []))) (seq (call kg (copy (place 4 []) ∷ copy (place 5 []) ∷ copy (place 2 []) ∷ []) (place 3 [])) (
           seq (call ko (copy (place 3 []) ∷ []) (place 0 [])) (return)))))
 
-      abbrev pub Coded-list : Type 2
-      Coded-list = Coded Cs-list Q-list K-list asked told fn name
+      abbrev pub Coded-variadic : Type 2
+      Coded-variadic = Coded Cs-variadic Q-variadic K-variadic asked told fn name
 
-      abbrev pub Method-list : Type 1
-      Method-list = Method Cs-list Q-list K-list asked told name
+      abbrev pub Method-variadic : Type 1
+      Method-variadic = Method Cs-variadic Q-variadic K-variadic asked told name
 
-      pub by-list : Code-list → Coded-list → StepMeets Cs-list Q-list K-list asked told kg → Releases Cs-list Q-list K-list asked told ko → Method-list
-      by-list code closed met release_met =
+      pub by-variadic : Code-variadic → Coded-variadic → StepMeets Cs-variadic Q-variadic K-variadic asked told kg → Releases Cs-variadic Q-variadic K-variadic asked told ko → Method-variadic
+      by-variadic code closed met release_met =
           let fm = framed 𝓤 𝓛.H 𝓜 (tables 𝓤 𝓛.H 𝓜 𝓡 𝓡.env) in
-          chains Q-list K-list (asks' Cs-list Q-list asked) (told' Cs-list Q-list told) fn name closed (A.goes, tt) (λ y₀ are.
+          chains Q-variadic K-variadic (asks' Cs-variadic Q-variadic asked) (told' Cs-variadic Q-variadic told) fn name closed (A.goes, tt) (λ y₀ are.
           let a = y₀.0.3 in let p = vptr a.0.ref_ptr.0 a.0.ref_ptr.1 in
           let x = A.one y₀.0.0 a.1.0 y₀.0.4.1.0 are.0 in
-          let walk : (w : Val) → Good A.ty w → Walks Cs-list Q-list K-list asked told ((y₀.0.0, y₀.0.1, y₀.0.2, a, (p ∷ [], (w ∷ [], tt))), tt) fn = λ w good.
-          let y : At_entry Cs-list Q-list K-list asked told = ((y₀.0.0, y₀.0.1, y₀.0.2, a, (p ∷ [], (w ∷ [], tt))), tt) in
-          let z = more Cs-list Q-list K-list asked told y in
-          qed 𝓛 (raw (at_entry Cs-list Q-list K-list asked told y) ∷ []) ∵ coded Q-list K-list (asks' Cs-list Q-list asked) (told' Cs-list Q-list told) fn _ _ code.0 code.1 _ _ $
+          let walk : (w : Val) → Good A.ty w → Walks Cs-variadic Q-variadic K-variadic asked told ((y₀.0.0, y₀.0.1, y₀.0.2, a, (p ∷ [], (w ∷ [], tt))), tt) fn = λ w good.
+          let y : At_entry Cs-variadic Q-variadic K-variadic asked told = ((y₀.0.0, y₀.0.1, y₀.0.2, a, (p ∷ [], (w ∷ [], tt))), tt) in
+          let z = more Cs-variadic Q-variadic K-variadic asked told y in
+          qed 𝓛 (raw (at_entry Cs-variadic Q-variadic K-variadic asked told y) ∷ []) ∵ coded Q-variadic K-variadic (asks' Cs-variadic Q-variadic asked) (told' Cs-variadic Q-variadic told) fn _ _ code.0 code.1 _ _ $
           alloc_all ! (λ l. pass_all ! refl ((tt, tt), (good, tt)) $
           sets ! (addr ! (through ! refl (stop !))) refl (tt, tt) $ sets ! (agg ! (and_then ! (lit ! X.is_byte) (no_more !))) refl X.good $
-          use1 𝓛 (raw (at_step Cs-list Q-list K-list asked told y)) (widened Cs-list Q-list K-list asked told y) $
+          use1 𝓛 (raw (at_step Cs-variadic Q-variadic K-variadic asked told y)) (widened Cs-variadic Q-variadic K-variadic asked told y) $
           calls_at ! fm _ met z (and_then ! (get ! refl) (and_then ! (get ! refl) (and_then ! (get ! refl) (no_more !)))) (λ v.
-          returned ! tt (StepEnded Cs-list Q-list K-list asked told) (step_clauses Cs-list Q-list K-list asked told) z v (λ r ws is.
+          returned ! tt (StepEnded Cs-variadic Q-variadic K-variadic asked told) (step_clauses Cs-variadic Q-variadic K-variadic asked told) z v (λ r ws is.
           lands_as ! refl refl (L.fits y.0.0.0 v ((kept_lawful 𝓛 L y.0.0.0).typed r (v ∷ []) is)) $
           releases L ! fm release_met n y.0.0 y.0.1 a.0 (told z.0.0 z.0.3) r v (and_then ! (get ! refl) (no_more !)) (λ u t is'.
           lands_as ! refl refl ((bare_lawful 𝓛 L y.0.0.0).typed t (u ∷ []) is').0 $
-          returns ! (look_at ! 0 refl) $ free_all ! refl $ leaves_step Cs-list Q-list K-list asked told y u t ws)))) in
+          returns ! (look_at ! 0 refl) $ free_all ! refl $ leaves_step Cs-variadic Q-variadic K-variadic asked told y u t ws)))) in
           ((x.0 ∷ [], tt), ((λ i. (x.1.0 i, tt)), walk x.0 x.1.1)))
 
   -- one constant and two arguments that are moved
   module _ (X : Constant 𝓛) (A B : Argument 𝓛 (suc n)) where
-    abbrev Cs-pair : List (Constant 𝓛)
-    Cs-pair = X ∷ []
+    abbrev Cs-binary : List (Constant 𝓛)
+    Cs-binary = X ∷ []
 
-    abbrev Q-pair : List (Slot (suc n))
-    Q-pair = plain A.row ∷ plain B.row ∷ []
+    abbrev Q-binary : List (Slot (suc n))
+    Q-binary = plain A.row ∷ plain B.row ∷ []
 
-    abbrev K-pair : Kepts Q-pair
-    K-pair = (A.kept, (B.kept, tt))
+    abbrev K-binary : Kepts Q-binary
+    K-binary = (A.kept, (B.kept, tt))
 
-    module _ (asked : (κs : Lfts (suc n)) → MutBor D₀ × Denots (types_at (also 𝓛 Cs-pair Q-pair) κs) → SProp 𝓤)
-        (told : (κs : Lfts (suc n)) → MutBor D₀ × Denots (types_at (also 𝓛 Cs-pair Q-pair) κs) → Effect D₀) (fn : Fn) (kg ko name : Callee) where
-      abbrev pub Code-pair : Type 0
-      Code-pair = (fn.locals ≡ l0 ∷ l1 ∷ local A.ty value_local ∷ local B.ty value_local ∷ kept ∷ lent ∷ local (layout X.row) value_local ∷ local A.ty value_local ∷ local B.ty value_local ∷ [])
+    module _ (asked : (κs : Lfts (suc n)) → MutBor D₀ × Denots (types_at (also 𝓛 Cs-binary Q-binary) κs) → SProp 𝓤)
+        (told : (κs : Lfts (suc n)) → MutBor D₀ × Denots (types_at (also 𝓛 Cs-binary Q-binary) κs) → Effect D₀) (fn : Fn) (kg ko name : Callee) where
+      abbrev pub Code-binary : Type 0
+      Code-binary = (fn.locals ≡ l0 ∷ l1 ∷ local A.ty value_local ∷ local B.ty value_local ∷ kept ∷ lent ∷ local (layout X.row) value_local ∷ local A.ty value_local ∷ local B.ty value_local ∷ [])
           × (fn.body ≡ seq (assign (place 5 []) (addr_of (place 1 (deref L.ty ∷ [])))) (seq (assign (place 6 []) (aggregate (int w8 X.tag ∷ []))) (seq (assign (place 7 []) (rv_opd (copy (place 2 [])))) (
           seq (assign (place 8 []) (rv_opd (copy (place 3 [])))) (seq (call kg (copy (place 5 []) ∷ copy (place 6 []) ∷ copy (place 7 []) ∷ copy (place 8 []) ∷ []) (place 4 [])) (seq (call ko (copy (place 4 []) ∷ []) (place 0 [])) (return)))))))
 
-      abbrev pub Coded-pair : Type 2
-      Coded-pair = Coded Cs-pair Q-pair K-pair asked told fn name
+      abbrev pub Coded-binary : Type 2
+      Coded-binary = Coded Cs-binary Q-binary K-binary asked told fn name
 
-      abbrev pub Method-pair : Type 1
-      Method-pair = Method Cs-pair Q-pair K-pair asked told name
+      abbrev pub Method-binary : Type 1
+      Method-binary = Method Cs-binary Q-binary K-binary asked told name
 
-      pub by-pair : Code-pair → Coded-pair → StepMeets Cs-pair Q-pair K-pair asked told kg → Releases Cs-pair Q-pair K-pair asked told ko → Method-pair
-      by-pair code closed met release_met =
+      pub by-binary : Code-binary → Coded-binary → StepMeets Cs-binary Q-binary K-binary asked told kg → Releases Cs-binary Q-binary K-binary asked told ko → Method-binary
+      by-binary code closed met release_met =
           let fm = framed 𝓤 𝓛.H 𝓜 (tables 𝓤 𝓛.H 𝓜 𝓡 𝓡.env) in
-          chains Q-pair K-pair (asks' Cs-pair Q-pair asked) (told' Cs-pair Q-pair told) fn name closed (A.goes, (B.goes, tt)) (λ y₀ are.
+          chains Q-binary K-binary (asks' Cs-binary Q-binary asked) (told' Cs-binary Q-binary told) fn name closed (A.goes, (B.goes, tt)) (λ y₀ are.
           let a = y₀.0.3 in let p = vptr a.0.ref_ptr.0 a.0.ref_ptr.1 in
           let x = A.one y₀.0.0 a.1.0 y₀.0.4.1.0 are.0 in
           let x' = B.one y₀.0.0 a.1.1.0 y₀.0.4.1.1.0 are.1.0 in
-          let walk : (w w' : Val) → Good A.ty w → Good B.ty w' → Walks Cs-pair Q-pair K-pair asked told ((y₀.0.0, y₀.0.1, y₀.0.2, a, (p ∷ [], (w ∷ [], (w' ∷ [], tt)))), tt) fn = λ w w' good good'.
-          let y : At_entry Cs-pair Q-pair K-pair asked told = ((y₀.0.0, y₀.0.1, y₀.0.2, a, (p ∷ [], (w ∷ [], (w' ∷ [], tt)))), tt) in
-          let z = more Cs-pair Q-pair K-pair asked told y in
-          qed 𝓛 (raw (at_entry Cs-pair Q-pair K-pair asked told y) ∷ []) ∵ coded Q-pair K-pair (asks' Cs-pair Q-pair asked) (told' Cs-pair Q-pair told) fn _ _ code.0 code.1 _ _ $
+          let walk : (w w' : Val) → Good A.ty w → Good B.ty w' → Walks Cs-binary Q-binary K-binary asked told ((y₀.0.0, y₀.0.1, y₀.0.2, a, (p ∷ [], (w ∷ [], (w' ∷ [], tt)))), tt) fn = λ w w' good good'.
+          let y : At_entry Cs-binary Q-binary K-binary asked told = ((y₀.0.0, y₀.0.1, y₀.0.2, a, (p ∷ [], (w ∷ [], (w' ∷ [], tt)))), tt) in
+          let z = more Cs-binary Q-binary K-binary asked told y in
+          qed 𝓛 (raw (at_entry Cs-binary Q-binary K-binary asked told y) ∷ []) ∵ coded Q-binary K-binary (asks' Cs-binary Q-binary asked) (told' Cs-binary Q-binary told) fn _ _ code.0 code.1 _ _ $
           alloc_all ! (λ l. pass_all ! refl ((tt, tt), (good, (good', tt))) $
           sets ! (addr ! (through ! refl (stop !))) refl (tt, tt) $ sets ! (agg ! (and_then ! (lit ! X.is_byte) (no_more !))) refl X.good $
           sets ! (of_opd ! (get ! refl)) refl good $ sets ! (of_opd ! (get ! refl)) refl good' $
-          use1 𝓛 (raw (at_step Cs-pair Q-pair K-pair asked told y)) (widened Cs-pair Q-pair K-pair asked told y) $
+          use1 𝓛 (raw (at_step Cs-binary Q-binary K-binary asked told y)) (widened Cs-binary Q-binary K-binary asked told y) $
           calls_at ! fm _ met z (and_then ! (get ! refl) (and_then ! (get ! refl) (and_then ! (get ! refl) (and_then ! (get ! refl) (no_more !))))) (λ v.
-          returned ! tt (StepEnded Cs-pair Q-pair K-pair asked told) (step_clauses Cs-pair Q-pair K-pair asked told) z v (λ r ws is.
+          returned ! tt (StepEnded Cs-binary Q-binary K-binary asked told) (step_clauses Cs-binary Q-binary K-binary asked told) z v (λ r ws is.
           lands_as ! refl refl (L.fits y.0.0.0 v ((kept_lawful 𝓛 L y.0.0.0).typed r (v ∷ []) is)) $
           releases L ! fm release_met n y.0.0 y.0.1 a.0 (told z.0.0 z.0.3) r v (and_then ! (get ! refl) (no_more !)) (λ u t is'.
           lands_as ! refl refl ((bare_lawful 𝓛 L y.0.0.0).typed t (u ∷ []) is').0 $
-          returns ! (look_at ! 0 refl) $ free_all ! refl $ leaves_step Cs-pair Q-pair K-pair asked told y u t ws)))) in
+          returns ! (look_at ! 0 refl) $ free_all ! refl $ leaves_step Cs-binary Q-binary K-binary asked told y u t ws)))) in
           ((x.0 ∷ [], (x'.0 ∷ [], tt)), ((λ i. (x.1.0 i, (x'.1.0 i, tt))), walk x.0 x'.0 x.1.1 x'.1.1)))
 
   -- one argument that is moved, and one that is copied
@@ -411,192 +411,146 @@ module _ (L : Lent) {M : Type 1} {𝓤 : Ura M} (𝓛 : Logic 𝓤) (𝓜 : Mode
           returns ! (look_at ! 0 refl) $ free_all ! refl $ leaves_step Cs-flagged Q-flagged K-flagged asked told y u t ws)))) in
           ((x.0 ∷ [], (x'.0 ∷ [], tt)), ((λ i. (x.1.0 i, (x'.1.0 i, tt))), walk x.0 x'.0 x.1.1 x'.1.1)))
 
-  -- two constants and one argument that is moved
-  module _ (X Y : Constant 𝓛) (A : Argument 𝓛 (suc n)) where
-    abbrev Cs-condition : List (Constant 𝓛)
-    Cs-condition = X ∷ Y ∷ []
-
-    abbrev Q-condition : List (Slot (suc n))
-    Q-condition = plain A.row ∷ []
-
-    abbrev K-condition : Kepts Q-condition
-    K-condition = (A.kept, tt)
-
-    module _ (asked : (κs : Lfts (suc n)) → MutBor D₀ × Denots (types_at (also 𝓛 Cs-condition Q-condition) κs) → SProp 𝓤)
-        (told : (κs : Lfts (suc n)) → MutBor D₀ × Denots (types_at (also 𝓛 Cs-condition Q-condition) κs) → Effect D₀) (fn : Fn) (kg ko name : Callee) where
-      abbrev pub Code-condition : Type 0
-      Code-condition = (fn.locals ≡ l0 ∷ l1 ∷ local A.ty value_local ∷ kept ∷ lent ∷ local (layout X.row) value_local ∷ local (layout Y.row) value_local ∷ local A.ty value_local ∷ [])
-          × (fn.body ≡ seq (assign (place 4 []) (addr_of (place 1 (deref L.ty ∷ [])))) (seq (assign (place 5 []) (aggregate (int w8 X.tag ∷ []))) (seq (assign (place 6 []) (aggregate (int w8 Y.tag ∷ []))) (
-          seq (assign (place 7 []) (rv_opd (copy (place 2 [])))) (seq (call kg (copy (place 4 []) ∷ copy (place 5 []) ∷ copy (place 6 []) ∷ copy (place 7 []) ∷ []) (place 3 [])) (seq (call ko (copy (place 3 []) ∷ []) (place 0 [])) (return)))))))
-
-      abbrev pub Coded-condition : Type 2
-      Coded-condition = Coded Cs-condition Q-condition K-condition asked told fn name
-
-      abbrev pub Method-condition : Type 1
-      Method-condition = Method Cs-condition Q-condition K-condition asked told name
-
-      pub by-condition : Code-condition → Coded-condition → StepMeets Cs-condition Q-condition K-condition asked told kg → Releases Cs-condition Q-condition K-condition asked told ko → Method-condition
-      by-condition code closed met release_met =
-          let fm = framed 𝓤 𝓛.H 𝓜 (tables 𝓤 𝓛.H 𝓜 𝓡 𝓡.env) in
-          chains Q-condition K-condition (asks' Cs-condition Q-condition asked) (told' Cs-condition Q-condition told) fn name closed (A.goes, tt) (λ y₀ are.
-          let a = y₀.0.3 in let p = vptr a.0.ref_ptr.0 a.0.ref_ptr.1 in
-          let x = A.one y₀.0.0 a.1.0 y₀.0.4.1.0 are.0 in
-          let walk : (w : Val) → Good A.ty w → Walks Cs-condition Q-condition K-condition asked told ((y₀.0.0, y₀.0.1, y₀.0.2, a, (p ∷ [], (w ∷ [], tt))), tt) fn = λ w good.
-          let y : At_entry Cs-condition Q-condition K-condition asked told = ((y₀.0.0, y₀.0.1, y₀.0.2, a, (p ∷ [], (w ∷ [], tt))), tt) in
-          let z = more Cs-condition Q-condition K-condition asked told y in
-          qed 𝓛 (raw (at_entry Cs-condition Q-condition K-condition asked told y) ∷ []) ∵ coded Q-condition K-condition (asks' Cs-condition Q-condition asked) (told' Cs-condition Q-condition told) fn _ _ code.0 code.1 _ _ $
-          alloc_all ! (λ l. pass_all ! refl ((tt, tt), (good, tt)) $
-          sets ! (addr ! (through ! refl (stop !))) refl (tt, tt) $ sets ! (agg ! (and_then ! (lit ! X.is_byte) (no_more !))) refl X.good $ sets ! (agg ! (and_then ! (lit ! Y.is_byte) (no_more !))) refl Y.good $
-          sets ! (of_opd ! (get ! refl)) refl good $
-          use1 𝓛 (raw (at_step Cs-condition Q-condition K-condition asked told y)) (widened Cs-condition Q-condition K-condition asked told y) $
-          calls_at ! fm _ met z (and_then ! (get ! refl) (and_then ! (get ! refl) (and_then ! (get ! refl) (and_then ! (get ! refl) (no_more !))))) (λ v.
-          returned ! tt (StepEnded Cs-condition Q-condition K-condition asked told) (step_clauses Cs-condition Q-condition K-condition asked told) z v (λ r ws is.
-          lands_as ! refl refl (L.fits y.0.0.0 v ((kept_lawful 𝓛 L y.0.0.0).typed r (v ∷ []) is)) $
-          releases L ! fm release_met n y.0.0 y.0.1 a.0 (told z.0.0 z.0.3) r v (and_then ! (get ! refl) (no_more !)) (λ u t is'.
-          lands_as ! refl refl ((bare_lawful 𝓛 L y.0.0.0).typed t (u ∷ []) is').0 $
-          returns ! (look_at ! 0 refl) $ free_all ! refl $ leaves_step Cs-condition Q-condition K-condition asked told y u t ws)))) in
-          ((x.0 ∷ [], tt), ((λ i. (x.1.0 i, tt)), walk x.0 x.1.1)))
-
   -- two constants and two arguments that are moved
   module _ (X Y : Constant 𝓛) (A B : Argument 𝓛 (suc n)) where
-    abbrev Cs-comparison : List (Constant 𝓛)
-    Cs-comparison = X ∷ Y ∷ []
+    abbrev Cs-chosen-binary : List (Constant 𝓛)
+    Cs-chosen-binary = X ∷ Y ∷ []
 
-    abbrev Q-comparison : List (Slot (suc n))
-    Q-comparison = plain A.row ∷ plain B.row ∷ []
+    abbrev Q-chosen-binary : List (Slot (suc n))
+    Q-chosen-binary = plain A.row ∷ plain B.row ∷ []
 
-    abbrev K-comparison : Kepts Q-comparison
-    K-comparison = (A.kept, (B.kept, tt))
+    abbrev K-chosen-binary : Kepts Q-chosen-binary
+    K-chosen-binary = (A.kept, (B.kept, tt))
 
-    module _ (asked : (κs : Lfts (suc n)) → MutBor D₀ × Denots (types_at (also 𝓛 Cs-comparison Q-comparison) κs) → SProp 𝓤)
-        (told : (κs : Lfts (suc n)) → MutBor D₀ × Denots (types_at (also 𝓛 Cs-comparison Q-comparison) κs) → Effect D₀) (fn : Fn) (kg ko name : Callee) where
-      abbrev pub Code-comparison : Type 0
-      Code-comparison = (fn.locals ≡ l0 ∷ l1 ∷ local A.ty value_local ∷ local B.ty value_local ∷ kept ∷ lent ∷ local (layout X.row) value_local ∷ local (layout Y.row) value_local ∷ local A.ty value_local ∷ local B.ty value_local ∷ [])
+    module _ (asked : (κs : Lfts (suc n)) → MutBor D₀ × Denots (types_at (also 𝓛 Cs-chosen-binary Q-chosen-binary) κs) → SProp 𝓤)
+        (told : (κs : Lfts (suc n)) → MutBor D₀ × Denots (types_at (also 𝓛 Cs-chosen-binary Q-chosen-binary) κs) → Effect D₀) (fn : Fn) (kg ko name : Callee) where
+      abbrev pub Code-chosen-binary : Type 0
+      Code-chosen-binary = (fn.locals ≡ l0 ∷ l1 ∷ local A.ty value_local ∷ local B.ty value_local ∷ kept ∷ lent ∷ local (layout X.row) value_local ∷ local (layout Y.row) value_local ∷ local A.ty value_local ∷ local B.ty value_local ∷ [])
           × (fn.body ≡ seq (assign (place 5 []) (addr_of (place 1 (deref L.ty ∷ [])))) (seq (assign (place 6 []) (aggregate (int w8 X.tag ∷ []))) (seq (assign (place 7 []) (aggregate (int w8 Y.tag ∷ []))) (
           seq (assign (place 8 []) (rv_opd (copy (place 2 [])))) (seq (assign (place 9 []) (rv_opd (copy (place 3 [])))) (seq (call kg (copy (place 5 []) ∷ copy (place 6 []) ∷ copy (place 7 []) ∷ copy (place 8 []) ∷ copy (place 9 []) ∷ []) (place 4 [])) (
           seq (call ko (copy (place 4 []) ∷ []) (place 0 [])) (return))))))))
 
-      abbrev pub Coded-comparison : Type 2
-      Coded-comparison = Coded Cs-comparison Q-comparison K-comparison asked told fn name
+      abbrev pub Coded-chosen-binary : Type 2
+      Coded-chosen-binary = Coded Cs-chosen-binary Q-chosen-binary K-chosen-binary asked told fn name
 
-      abbrev pub Method-comparison : Type 1
-      Method-comparison = Method Cs-comparison Q-comparison K-comparison asked told name
+      abbrev pub Method-chosen-binary : Type 1
+      Method-chosen-binary = Method Cs-chosen-binary Q-chosen-binary K-chosen-binary asked told name
 
-      pub by-comparison : Code-comparison → Coded-comparison → StepMeets Cs-comparison Q-comparison K-comparison asked told kg → Releases Cs-comparison Q-comparison K-comparison asked told ko → Method-comparison
-      by-comparison code closed met release_met =
+      pub by-chosen-binary : Code-chosen-binary → Coded-chosen-binary → StepMeets Cs-chosen-binary Q-chosen-binary K-chosen-binary asked told kg → Releases Cs-chosen-binary Q-chosen-binary K-chosen-binary asked told ko → Method-chosen-binary
+      by-chosen-binary code closed met release_met =
           let fm = framed 𝓤 𝓛.H 𝓜 (tables 𝓤 𝓛.H 𝓜 𝓡 𝓡.env) in
-          chains Q-comparison K-comparison (asks' Cs-comparison Q-comparison asked) (told' Cs-comparison Q-comparison told) fn name closed (A.goes, (B.goes, tt)) (λ y₀ are.
+          chains Q-chosen-binary K-chosen-binary (asks' Cs-chosen-binary Q-chosen-binary asked) (told' Cs-chosen-binary Q-chosen-binary told) fn name closed (A.goes, (B.goes, tt)) (λ y₀ are.
           let a = y₀.0.3 in let p = vptr a.0.ref_ptr.0 a.0.ref_ptr.1 in
           let x = A.one y₀.0.0 a.1.0 y₀.0.4.1.0 are.0 in
           let x' = B.one y₀.0.0 a.1.1.0 y₀.0.4.1.1.0 are.1.0 in
-          let walk : (w w' : Val) → Good A.ty w → Good B.ty w' → Walks Cs-comparison Q-comparison K-comparison asked told ((y₀.0.0, y₀.0.1, y₀.0.2, a, (p ∷ [], (w ∷ [], (w' ∷ [], tt)))), tt) fn = λ w w' good good'.
-          let y : At_entry Cs-comparison Q-comparison K-comparison asked told = ((y₀.0.0, y₀.0.1, y₀.0.2, a, (p ∷ [], (w ∷ [], (w' ∷ [], tt)))), tt) in
-          let z = more Cs-comparison Q-comparison K-comparison asked told y in
-          qed 𝓛 (raw (at_entry Cs-comparison Q-comparison K-comparison asked told y) ∷ []) ∵ coded Q-comparison K-comparison (asks' Cs-comparison Q-comparison asked) (told' Cs-comparison Q-comparison told) fn _ _ code.0 code.1 _ _ $
+          let walk : (w w' : Val) → Good A.ty w → Good B.ty w' → Walks Cs-chosen-binary Q-chosen-binary K-chosen-binary asked told ((y₀.0.0, y₀.0.1, y₀.0.2, a, (p ∷ [], (w ∷ [], (w' ∷ [], tt)))), tt) fn = λ w w' good good'.
+          let y : At_entry Cs-chosen-binary Q-chosen-binary K-chosen-binary asked told = ((y₀.0.0, y₀.0.1, y₀.0.2, a, (p ∷ [], (w ∷ [], (w' ∷ [], tt)))), tt) in
+          let z = more Cs-chosen-binary Q-chosen-binary K-chosen-binary asked told y in
+          qed 𝓛 (raw (at_entry Cs-chosen-binary Q-chosen-binary K-chosen-binary asked told y) ∷ []) ∵ coded Q-chosen-binary K-chosen-binary (asks' Cs-chosen-binary Q-chosen-binary asked) (told' Cs-chosen-binary Q-chosen-binary told) fn _ _ code.0 code.1 _ _ $
           alloc_all ! (λ l. pass_all ! refl ((tt, tt), (good, (good', tt))) $
           sets ! (addr ! (through ! refl (stop !))) refl (tt, tt) $ sets ! (agg ! (and_then ! (lit ! X.is_byte) (no_more !))) refl X.good $ sets ! (agg ! (and_then ! (lit ! Y.is_byte) (no_more !))) refl Y.good $
           sets ! (of_opd ! (get ! refl)) refl good $ sets ! (of_opd ! (get ! refl)) refl good' $
-          use1 𝓛 (raw (at_step Cs-comparison Q-comparison K-comparison asked told y)) (widened Cs-comparison Q-comparison K-comparison asked told y) $
+          use1 𝓛 (raw (at_step Cs-chosen-binary Q-chosen-binary K-chosen-binary asked told y)) (widened Cs-chosen-binary Q-chosen-binary K-chosen-binary asked told y) $
           calls_at ! fm _ met z (and_then ! (get ! refl) (and_then ! (get ! refl) (and_then ! (get ! refl) (and_then ! (get ! refl) (and_then ! (get ! refl) (no_more !)))))) (λ v.
-          returned ! tt (StepEnded Cs-comparison Q-comparison K-comparison asked told) (step_clauses Cs-comparison Q-comparison K-comparison asked told) z v (λ r ws is.
+          returned ! tt (StepEnded Cs-chosen-binary Q-chosen-binary K-chosen-binary asked told) (step_clauses Cs-chosen-binary Q-chosen-binary K-chosen-binary asked told) z v (λ r ws is.
           lands_as ! refl refl (L.fits y.0.0.0 v ((kept_lawful 𝓛 L y.0.0.0).typed r (v ∷ []) is)) $
           releases L ! fm release_met n y.0.0 y.0.1 a.0 (told z.0.0 z.0.3) r v (and_then ! (get ! refl) (no_more !)) (λ u t is'.
           lands_as ! refl refl ((bare_lawful 𝓛 L y.0.0.0).typed t (u ∷ []) is').0 $
-          returns ! (look_at ! 0 refl) $ free_all ! refl $ leaves_step Cs-comparison Q-comparison K-comparison asked told y u t ws)))) in
+          returns ! (look_at ! 0 refl) $ free_all ! refl $ leaves_step Cs-chosen-binary Q-chosen-binary K-chosen-binary asked told y u t ws)))) in
           ((x.0 ∷ [], (x'.0 ∷ [], tt)), ((λ i. (x.1.0 i, (x'.1.0 i, tt))), walk x.0 x'.0 x.1.1 x'.1.1)))
 
   -- two constants, one argument that is moved and one that is copied
   module _ (X Y : Constant 𝓛) (A B : Argument 𝓛 (suc n)) where
-    abbrev Cs-membership : List (Constant 𝓛)
-    Cs-membership = X ∷ Y ∷ []
+    abbrev Cs-chosen-listed : List (Constant 𝓛)
+    Cs-chosen-listed = X ∷ Y ∷ []
 
-    abbrev Q-membership : List (Slot (suc n))
-    Q-membership = plain A.row ∷ plain B.row ∷ []
+    abbrev Q-chosen-listed : List (Slot (suc n))
+    Q-chosen-listed = plain A.row ∷ plain B.row ∷ []
 
-    abbrev K-membership : Kepts Q-membership
-    K-membership = (A.kept, (B.kept, tt))
+    abbrev K-chosen-listed : Kepts Q-chosen-listed
+    K-chosen-listed = (A.kept, (B.kept, tt))
 
-    module _ (asked : (κs : Lfts (suc n)) → MutBor D₀ × Denots (types_at (also 𝓛 Cs-membership Q-membership) κs) → SProp 𝓤)
-        (told : (κs : Lfts (suc n)) → MutBor D₀ × Denots (types_at (also 𝓛 Cs-membership Q-membership) κs) → Effect D₀) (fn : Fn) (kg ko name : Callee) where
-      abbrev pub Code-membership : Type 0
-      Code-membership = (fn.locals ≡ l0 ∷ l1 ∷ local A.ty value_local ∷ local B.ty value_local ∷ kept ∷ lent ∷ local (layout X.row) value_local ∷ local (layout Y.row) value_local ∷ local A.ty value_local ∷ [])
+    module _ (asked : (κs : Lfts (suc n)) → MutBor D₀ × Denots (types_at (also 𝓛 Cs-chosen-listed Q-chosen-listed) κs) → SProp 𝓤)
+        (told : (κs : Lfts (suc n)) → MutBor D₀ × Denots (types_at (also 𝓛 Cs-chosen-listed Q-chosen-listed) κs) → Effect D₀) (fn : Fn) (kg ko name : Callee) where
+      abbrev pub Code-chosen-listed : Type 0
+      Code-chosen-listed = (fn.locals ≡ l0 ∷ l1 ∷ local A.ty value_local ∷ local B.ty value_local ∷ kept ∷ lent ∷ local (layout X.row) value_local ∷ local (layout Y.row) value_local ∷ local A.ty value_local ∷ [])
           × (fn.body ≡ seq (assign (place 5 []) (addr_of (place 1 (deref L.ty ∷ [])))) (seq (assign (place 6 []) (aggregate (int w8 X.tag ∷ []))) (seq (assign (place 7 []) (aggregate (int w8 Y.tag ∷ []))) (
           seq (assign (place 8 []) (rv_opd (copy (place 2 [])))) (seq (call kg (copy (place 5 []) ∷ copy (place 6 []) ∷ copy (place 7 []) ∷ copy (place 8 []) ∷ copy (place 3 []) ∷ []) (place 4 [])) (seq (call ko (copy (place 4 []) ∷ []) (place 0 [])) (return)))))))
 
-      abbrev pub Coded-membership : Type 2
-      Coded-membership = Coded Cs-membership Q-membership K-membership asked told fn name
+      abbrev pub Coded-chosen-listed : Type 2
+      Coded-chosen-listed = Coded Cs-chosen-listed Q-chosen-listed K-chosen-listed asked told fn name
 
-      abbrev pub Method-membership : Type 1
-      Method-membership = Method Cs-membership Q-membership K-membership asked told name
+      abbrev pub Method-chosen-listed : Type 1
+      Method-chosen-listed = Method Cs-chosen-listed Q-chosen-listed K-chosen-listed asked told name
 
-      pub by-membership : Code-membership → Coded-membership → StepMeets Cs-membership Q-membership K-membership asked told kg → Releases Cs-membership Q-membership K-membership asked told ko → Method-membership
-      by-membership code closed met release_met =
+      pub by-chosen-listed : Code-chosen-listed → Coded-chosen-listed → StepMeets Cs-chosen-listed Q-chosen-listed K-chosen-listed asked told kg → Releases Cs-chosen-listed Q-chosen-listed K-chosen-listed asked told ko → Method-chosen-listed
+      by-chosen-listed code closed met release_met =
           let fm = framed 𝓤 𝓛.H 𝓜 (tables 𝓤 𝓛.H 𝓜 𝓡 𝓡.env) in
-          chains Q-membership K-membership (asks' Cs-membership Q-membership asked) (told' Cs-membership Q-membership told) fn name closed (A.goes, (B.goes, tt)) (λ y₀ are.
+          chains Q-chosen-listed K-chosen-listed (asks' Cs-chosen-listed Q-chosen-listed asked) (told' Cs-chosen-listed Q-chosen-listed told) fn name closed (A.goes, (B.goes, tt)) (λ y₀ are.
           let a = y₀.0.3 in let p = vptr a.0.ref_ptr.0 a.0.ref_ptr.1 in
           let x = A.one y₀.0.0 a.1.0 y₀.0.4.1.0 are.0 in
           let x' = B.one y₀.0.0 a.1.1.0 y₀.0.4.1.1.0 are.1.0 in
-          let walk : (w w' : Val) → Good A.ty w → Good B.ty w' → Walks Cs-membership Q-membership K-membership asked told ((y₀.0.0, y₀.0.1, y₀.0.2, a, (p ∷ [], (w ∷ [], (w' ∷ [], tt)))), tt) fn = λ w w' good good'.
-          let y : At_entry Cs-membership Q-membership K-membership asked told = ((y₀.0.0, y₀.0.1, y₀.0.2, a, (p ∷ [], (w ∷ [], (w' ∷ [], tt)))), tt) in
-          let z = more Cs-membership Q-membership K-membership asked told y in
-          qed 𝓛 (raw (at_entry Cs-membership Q-membership K-membership asked told y) ∷ []) ∵ coded Q-membership K-membership (asks' Cs-membership Q-membership asked) (told' Cs-membership Q-membership told) fn _ _ code.0 code.1 _ _ $
+          let walk : (w w' : Val) → Good A.ty w → Good B.ty w' → Walks Cs-chosen-listed Q-chosen-listed K-chosen-listed asked told ((y₀.0.0, y₀.0.1, y₀.0.2, a, (p ∷ [], (w ∷ [], (w' ∷ [], tt)))), tt) fn = λ w w' good good'.
+          let y : At_entry Cs-chosen-listed Q-chosen-listed K-chosen-listed asked told = ((y₀.0.0, y₀.0.1, y₀.0.2, a, (p ∷ [], (w ∷ [], (w' ∷ [], tt)))), tt) in
+          let z = more Cs-chosen-listed Q-chosen-listed K-chosen-listed asked told y in
+          qed 𝓛 (raw (at_entry Cs-chosen-listed Q-chosen-listed K-chosen-listed asked told y) ∷ []) ∵ coded Q-chosen-listed K-chosen-listed (asks' Cs-chosen-listed Q-chosen-listed asked) (told' Cs-chosen-listed Q-chosen-listed told) fn _ _ code.0 code.1 _ _ $
           alloc_all ! (λ l. pass_all ! refl ((tt, tt), (good, (good', tt))) $
           sets ! (addr ! (through ! refl (stop !))) refl (tt, tt) $ sets ! (agg ! (and_then ! (lit ! X.is_byte) (no_more !))) refl X.good $ sets ! (agg ! (and_then ! (lit ! Y.is_byte) (no_more !))) refl Y.good $
           sets ! (of_opd ! (get ! refl)) refl good $
-          use1 𝓛 (raw (at_step Cs-membership Q-membership K-membership asked told y)) (widened Cs-membership Q-membership K-membership asked told y) $
+          use1 𝓛 (raw (at_step Cs-chosen-listed Q-chosen-listed K-chosen-listed asked told y)) (widened Cs-chosen-listed Q-chosen-listed K-chosen-listed asked told y) $
           calls_at ! fm _ met z (and_then ! (get ! refl) (and_then ! (get ! refl) (and_then ! (get ! refl) (and_then ! (get ! refl) (and_then ! (get ! refl) (no_more !)))))) (λ v.
-          returned ! tt (StepEnded Cs-membership Q-membership K-membership asked told) (step_clauses Cs-membership Q-membership K-membership asked told) z v (λ r ws is.
+          returned ! tt (StepEnded Cs-chosen-listed Q-chosen-listed K-chosen-listed asked told) (step_clauses Cs-chosen-listed Q-chosen-listed K-chosen-listed asked told) z v (λ r ws is.
           lands_as ! refl refl (L.fits y.0.0.0 v ((kept_lawful 𝓛 L y.0.0.0).typed r (v ∷ []) is)) $
           releases L ! fm release_met n y.0.0 y.0.1 a.0 (told z.0.0 z.0.3) r v (and_then ! (get ! refl) (no_more !)) (λ u t is'.
           lands_as ! refl refl ((bare_lawful 𝓛 L y.0.0.0).typed t (u ∷ []) is').0 $
-          returns ! (look_at ! 0 refl) $ free_all ! refl $ leaves_step Cs-membership Q-membership K-membership asked told y u t ws)))) in
+          returns ! (look_at ! 0 refl) $ free_all ! refl $ leaves_step Cs-chosen-listed Q-chosen-listed K-chosen-listed asked told y u t ws)))) in
           ((x.0 ∷ [], (x'.0 ∷ [], tt)), ((λ i. (x.1.0 i, (x'.1.0 i, tt))), walk x.0 x'.0 x.1.1 x'.1.1)))
 
   -- two constants and three arguments that are moved
   module _ (X Y : Constant 𝓛) (A B C : Argument 𝓛 (suc n)) where
-    abbrev Cs-between : List (Constant 𝓛)
-    Cs-between = X ∷ Y ∷ []
+    abbrev Cs-chosen-ternary : List (Constant 𝓛)
+    Cs-chosen-ternary = X ∷ Y ∷ []
 
-    abbrev Q-between : List (Slot (suc n))
-    Q-between = plain A.row ∷ plain B.row ∷ plain C.row ∷ []
+    abbrev Q-chosen-ternary : List (Slot (suc n))
+    Q-chosen-ternary = plain A.row ∷ plain B.row ∷ plain C.row ∷ []
 
-    abbrev K-between : Kepts Q-between
-    K-between = (A.kept, (B.kept, (C.kept, tt)))
+    abbrev K-chosen-ternary : Kepts Q-chosen-ternary
+    K-chosen-ternary = (A.kept, (B.kept, (C.kept, tt)))
 
-    module _ (asked : (κs : Lfts (suc n)) → MutBor D₀ × Denots (types_at (also 𝓛 Cs-between Q-between) κs) → SProp 𝓤)
-        (told : (κs : Lfts (suc n)) → MutBor D₀ × Denots (types_at (also 𝓛 Cs-between Q-between) κs) → Effect D₀) (fn : Fn) (kg ko name : Callee) where
-      abbrev pub Code-between : Type 0
-      Code-between = (fn.locals ≡ l0 ∷ l1 ∷ local A.ty value_local ∷ local B.ty value_local ∷ local C.ty value_local ∷ kept ∷ lent ∷ local (layout X.row) value_local ∷ local (layout Y.row) value_local ∷ local A.ty value_local ∷ local B.ty value_local ∷ local C.ty value_local ∷ [])
+    module _ (asked : (κs : Lfts (suc n)) → MutBor D₀ × Denots (types_at (also 𝓛 Cs-chosen-ternary Q-chosen-ternary) κs) → SProp 𝓤)
+        (told : (κs : Lfts (suc n)) → MutBor D₀ × Denots (types_at (also 𝓛 Cs-chosen-ternary Q-chosen-ternary) κs) → Effect D₀) (fn : Fn) (kg ko name : Callee) where
+      abbrev pub Code-chosen-ternary : Type 0
+      Code-chosen-ternary = (fn.locals ≡ l0 ∷ l1 ∷ local A.ty value_local ∷ local B.ty value_local ∷ local C.ty value_local ∷ kept ∷ lent ∷ local (layout X.row) value_local ∷ local (layout Y.row) value_local ∷ local A.ty value_local ∷ local B.ty value_local ∷ local C.ty value_local ∷ [])
           × (fn.body ≡ seq (assign (place 6 []) (addr_of (place 1 (deref L.ty ∷ [])))) (seq (assign (place 7 []) (aggregate (int w8 X.tag ∷ []))) (seq (assign (place 8 []) (aggregate (int w8 Y.tag ∷ []))) (
           seq (assign (place 9 []) (rv_opd (copy (place 2 [])))) (seq (assign (place 10 []) (rv_opd (copy (place 3 [])))) (seq (assign (place 11 []) (rv_opd (copy (place 4 [])))) (
           seq (call kg (copy (place 6 []) ∷ copy (place 7 []) ∷ copy (place 8 []) ∷ copy (place 9 []) ∷ copy (place 10 []) ∷ copy (place 11 []) ∷ []) (place 5 [])) (seq (call ko (copy (place 5 []) ∷ []) (place 0 [])) (return)))))))))
 
-      abbrev pub Coded-between : Type 2
-      Coded-between = Coded Cs-between Q-between K-between asked told fn name
+      abbrev pub Coded-chosen-ternary : Type 2
+      Coded-chosen-ternary = Coded Cs-chosen-ternary Q-chosen-ternary K-chosen-ternary asked told fn name
 
-      abbrev pub Method-between : Type 1
-      Method-between = Method Cs-between Q-between K-between asked told name
+      abbrev pub Method-chosen-ternary : Type 1
+      Method-chosen-ternary = Method Cs-chosen-ternary Q-chosen-ternary K-chosen-ternary asked told name
 
-      pub by-between : Code-between → Coded-between → StepMeets Cs-between Q-between K-between asked told kg → Releases Cs-between Q-between K-between asked told ko → Method-between
-      by-between code closed met release_met =
+      pub by-chosen-ternary : Code-chosen-ternary → Coded-chosen-ternary → StepMeets Cs-chosen-ternary Q-chosen-ternary K-chosen-ternary asked told kg → Releases Cs-chosen-ternary Q-chosen-ternary K-chosen-ternary asked told ko → Method-chosen-ternary
+      by-chosen-ternary code closed met release_met =
           let fm = framed 𝓤 𝓛.H 𝓜 (tables 𝓤 𝓛.H 𝓜 𝓡 𝓡.env) in
-          chains Q-between K-between (asks' Cs-between Q-between asked) (told' Cs-between Q-between told) fn name closed (A.goes, (B.goes, (C.goes, tt))) (λ y₀ are.
+          chains Q-chosen-ternary K-chosen-ternary (asks' Cs-chosen-ternary Q-chosen-ternary asked) (told' Cs-chosen-ternary Q-chosen-ternary told) fn name closed (A.goes, (B.goes, (C.goes, tt))) (λ y₀ are.
           let a = y₀.0.3 in let p = vptr a.0.ref_ptr.0 a.0.ref_ptr.1 in
           let x = A.one y₀.0.0 a.1.0 y₀.0.4.1.0 are.0 in
           let x' = B.one y₀.0.0 a.1.1.0 y₀.0.4.1.1.0 are.1.0 in
           let x'' = C.one y₀.0.0 a.1.1.1.0 y₀.0.4.1.1.1.0 are.1.1.0 in
-          let walk : (w w' w'' : Val) → Good A.ty w → Good B.ty w' → Good C.ty w'' → Walks Cs-between Q-between K-between asked told ((y₀.0.0, y₀.0.1, y₀.0.2, a, (p ∷ [], (w ∷ [], (w' ∷ [], (w'' ∷ [], tt))))), tt) fn = λ w w' w'' good good' good''.
-          let y : At_entry Cs-between Q-between K-between asked told = ((y₀.0.0, y₀.0.1, y₀.0.2, a, (p ∷ [], (w ∷ [], (w' ∷ [], (w'' ∷ [], tt))))), tt) in
-          let z = more Cs-between Q-between K-between asked told y in
-          qed 𝓛 (raw (at_entry Cs-between Q-between K-between asked told y) ∷ []) ∵ coded Q-between K-between (asks' Cs-between Q-between asked) (told' Cs-between Q-between told) fn _ _ code.0 code.1 _ _ $
+          let walk : (w w' w'' : Val) → Good A.ty w → Good B.ty w' → Good C.ty w'' → Walks Cs-chosen-ternary Q-chosen-ternary K-chosen-ternary asked told ((y₀.0.0, y₀.0.1, y₀.0.2, a, (p ∷ [], (w ∷ [], (w' ∷ [], (w'' ∷ [], tt))))), tt) fn = λ w w' w'' good good' good''.
+          let y : At_entry Cs-chosen-ternary Q-chosen-ternary K-chosen-ternary asked told = ((y₀.0.0, y₀.0.1, y₀.0.2, a, (p ∷ [], (w ∷ [], (w' ∷ [], (w'' ∷ [], tt))))), tt) in
+          let z = more Cs-chosen-ternary Q-chosen-ternary K-chosen-ternary asked told y in
+          qed 𝓛 (raw (at_entry Cs-chosen-ternary Q-chosen-ternary K-chosen-ternary asked told y) ∷ []) ∵ coded Q-chosen-ternary K-chosen-ternary (asks' Cs-chosen-ternary Q-chosen-ternary asked) (told' Cs-chosen-ternary Q-chosen-ternary told) fn _ _ code.0 code.1 _ _ $
           alloc_all ! (λ l. pass_all ! refl ((tt, tt), (good, (good', (good'', tt)))) $
           sets ! (addr ! (through ! refl (stop !))) refl (tt, tt) $ sets ! (agg ! (and_then ! (lit ! X.is_byte) (no_more !))) refl X.good $ sets ! (agg ! (and_then ! (lit ! Y.is_byte) (no_more !))) refl Y.good $
           sets ! (of_opd ! (get ! refl)) refl good $ sets ! (of_opd ! (get ! refl)) refl good' $ sets ! (of_opd ! (get ! refl)) refl good'' $
-          use1 𝓛 (raw (at_step Cs-between Q-between K-between asked told y)) (widened Cs-between Q-between K-between asked told y) $
+          use1 𝓛 (raw (at_step Cs-chosen-ternary Q-chosen-ternary K-chosen-ternary asked told y)) (widened Cs-chosen-ternary Q-chosen-ternary K-chosen-ternary asked told y) $
           calls_at ! fm _ met z (and_then ! (get ! refl) (and_then ! (get ! refl) (and_then ! (get ! refl) (and_then ! (get ! refl) (and_then ! (get ! refl) (and_then ! (get ! refl) (no_more !))))))) (λ v.
-          returned ! tt (StepEnded Cs-between Q-between K-between asked told) (step_clauses Cs-between Q-between K-between asked told) z v (λ r ws is.
+          returned ! tt (StepEnded Cs-chosen-ternary Q-chosen-ternary K-chosen-ternary asked told) (step_clauses Cs-chosen-ternary Q-chosen-ternary K-chosen-ternary asked told) z v (λ r ws is.
           lands_as ! refl refl (L.fits y.0.0.0 v ((kept_lawful 𝓛 L y.0.0.0).typed r (v ∷ []) is)) $
           releases L ! fm release_met n y.0.0 y.0.1 a.0 (told z.0.0 z.0.3) r v (and_then ! (get ! refl) (no_more !)) (λ u t is'.
           lands_as ! refl refl ((bare_lawful 𝓛 L y.0.0.0).typed t (u ∷ []) is').0 $
-          returns ! (look_at ! 0 refl) $ free_all ! refl $ leaves_step Cs-between Q-between K-between asked told y u t ws)))) in
+          returns ! (look_at ! 0 refl) $ free_all ! refl $ leaves_step Cs-chosen-ternary Q-chosen-ternary K-chosen-ternary asked told y u t ws)))) in
           ((x.0 ∷ [], (x'.0 ∷ [], (x''.0 ∷ [], tt))), ((λ i. (x.1.0 i, (x'.1.0 i, (x''.1.0 i, tt)))), walk x.0 x'.0 x''.0 x.1.1 x'.1.1 x''.1.1)))

@@ -57,13 +57,13 @@ module _ {M : Type 1} (𝓤 : Ura M) (𝓛 : Logic 𝓤) (𝓜 : Model 𝓤 𝓛
   abbrev tells : (κs : Lfts 2) → Denots (types_at (step.signature S).params κs) → Effect Name
   tells κs a = record { leaves = λ name. name ≡ with_told a.1.0 (s.text a.1.1.0) a.0.now; refuses = IsMemory }
 
-  pub by_told : calls.Code-text name 𝓛 𝓜 𝓡 1 [] (constant 𝓛 told.the_type told_laws.the_plain X) (generic 𝓛 2 0 S LS)
+  pub by_told : calls.Code-unary name 𝓛 𝓜 𝓡 1 [] (constant 𝓛 told.the_type told_laws.the_plain X) (generic 𝓛 2 0 S LS)
       asked tells (inst_fn types fn) (step_code.name types) release_code.name (callee types)
-      → calls.Coded-text name 𝓛 𝓜 𝓡 1 [] (constant 𝓛 told.the_type told_laws.the_plain X) (generic 𝓛 2 0 S LS)
+      → calls.Coded-unary name 𝓛 𝓜 𝓡 1 [] (constant 𝓛 told.the_type told_laws.the_plain X) (generic 𝓛 2 0 S LS)
       asked tells (inst_fn types fn) (step_code.name types) release_code.name (callee types)
       → Wired 𝓡.env step_code.code → Wired 𝓡.env release_code.code
-      → calls.Method-text name 𝓛 𝓜 𝓡 1 [] (constant 𝓛 told.the_type told_laws.the_plain X) (generic 𝓛 2 0 S LS)
+      → calls.Method-unary name 𝓛 𝓜 𝓡 1 [] (constant 𝓛 told.the_type told_laws.the_plain X) (generic 𝓛 2 0 S LS)
       asked tells (inst_fn types fn) (step_code.name types) release_code.name (callee types)
-  by_told code closed w w' = calls.by-text name 𝓛 𝓜 𝓡 1 [] (constant 𝓛 told.the_type told_laws.the_plain X) (generic 𝓛 2 0 S LS)
+  by_told code closed w w' = calls.by-unary name 𝓛 𝓜 𝓡 1 [] (constant 𝓛 told.the_type told_laws.the_plain X) (generic 𝓛 2 0 S LS)
       asked tells (inst_fn types fn) (step_code.name types) release_code.name (callee types)
       code closed (step_met.met 𝓤 𝓛 𝓜 𝓡 w S LS s d d' ms md) (release_met 𝓤 𝓛 𝓜 𝓡 w')

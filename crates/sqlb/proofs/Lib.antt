@@ -4,7 +4,7 @@ pub mod LineFeeds
 pub mod LineTexts
 pub mod Pieces
 pub mod Reasons
+pub mod References
 pub mod Rows
 pub mod SoFar
-pub mod Tables
 pub mod Unread

@@ -1,8 +1,10 @@
 pub mod Device
+pub mod Endings
 pub mod Fault
 pub mod Lines
 pub mod Names
 pub mod Output
 pub mod Ran
 pub mod Script
+pub mod Tables
 pub mod Watch

@@ -4,7 +4,7 @@ use Rattle.std.specs.List.{slice_split}
 use Rattle.std.specs.Str.{is_utf8}
 use Rattle.sql_builder.specs.Calls as call
 use Rattle.sql_builder.specs.Calls.{StartText, CallText, FinishText}
-use Rattle.sql_builder.specs.Conditions as condition
+use Rattle.sqlb.specs.Endings.{condition_of}
 use Rattle.sqlb.specs.Names.{meaning_of}
 use Rattle.sqlb.specs.declared.fault.Reason.{Reason}
 use Rattle.sqlb.specs.declared.fault.Reason.TheVariants.{NotUtf8, UnknownCall, WrongArguments}
@@ -18,10 +18,6 @@ use Rattle.sqlb.specs.declared.names.Binary.{Binary}
 use Rattle.sqlb.specs.declared.names.Binary.TheVariants as binary
 use Rattle.sqlb.specs.declared.names.Flagged.{Flagged}
 use Rattle.sqlb.specs.declared.names.Flagged.TheVariants as flagged
-use Rattle.sqlb.specs.declared.names.Ternary.{Ternary}
-use Rattle.sqlb.specs.declared.names.Ternary.TheVariants as ternary
-use Rattle.sqlb.specs.declared.names.Listed.{Listed}
-use Rattle.sqlb.specs.declared.names.Listed.TheVariants as listed
 use Rattle.sqlb.specs.declared.names.Variadic.{Variadic}
 use Rattle.sqlb.specs.declared.names.Variadic.TheVariants as variadic
 
@@ -88,9 +84,6 @@ unary_command unary.OrderAsc field = Calls (call.OrderAsc field)
 unary_command unary.OrderDesc field = Calls (call.OrderDesc field)
 unary_command unary.Limit limit = Calls (call.Limit limit)
 unary_command unary.Offset offset = Calls (call.Offset offset)
-unary_command (unary.Where family) text = Calls (call.Cond family (condition.Raw text))
-unary_command (unary.WhereNull family) field = Calls (call.Cond family (condition.IsNull field))
-unary_command (unary.WhereNotNull family) field = Calls (call.Cond family (condition.IsNotNull field))
 unary_command unary.SubqueryAs name = Finishes (call.SubqueryAs name)
 
 -- what a name says of its two arguments
@@ -99,24 +92,6 @@ binary_command binary.OnEq left right = Calls (call.OnEq left right)
 binary_command binary.CountAs field name = Calls (call.CountAs field name)
 binary_command binary.SetTo field value = Calls (call.SetTo field value)
 binary_command binary.SetStr field value = Calls (call.SetStr field value)
-binary_command (binary.Compare family relation) field value =
-    Calls (call.Cond family (condition.Compare relation field value))
-binary_command (binary.Like family negated percent) field mask =
-    Calls (call.Cond family (condition.Like negated percent field mask))
-binary_command (binary.InQuery family negated) field query =
-    Calls (call.Cond family (condition.InQuery negated field query))
-
--- what a name says of its three arguments
-abbrev pub ternary_command : Ternary → List ℕ → List ℕ → List ℕ → CommandText
-ternary_command (ternary.Between family negated) field least greatest =
-    Calls (call.Cond family (condition.Between negated field least greatest))
-
--- what a name says of a field and the values after it
-abbrev pub listed_command : Listed → List ℕ → List (List ℕ) → CommandText
-listed_command (listed.InList family negated) field values =
-    Calls (call.Cond family (condition.InList negated field values))
-listed_command (listed.InQuoted family negated) field values =
-    Calls (call.Cond family (condition.InQuoted negated field values))
 
 -- what a name says of its one argument and the truth value after it
 abbrev pub flagged_command : Flagged → List ℕ → Bool → CommandText
@@ -142,9 +117,8 @@ command (takes.Unary meaning) (argument ∷ []) = Some (unary_command meaning ar
 command (takes.Binary meaning) (first ∷ second ∷ []) = Some (binary_command meaning first second)
 command (takes.Flagged meaning) (argument ∷ flag ∷ []) =
     option_map (flagged_command meaning argument) (flag_in flag)
-command (takes.Ternary meaning) (first ∷ second ∷ third ∷ []) = Some (ternary_command meaning first second third)
-command (takes.Listed meaning) (field ∷ values) = Some (listed_command meaning field values)
 command (takes.Variadic meaning) arguments = Some (variadic_command meaning arguments)
+command (takes.Where family ending) arguments = option_map (λ made. Calls (call.Cond family made)) (condition_of ending arguments)
 command _ _ = None
 
 -- the checks of a line by itself, in their order: its name is known, and its arguments fit

@@ -1,6 +1,6 @@
 -- What the lines of an input do one after another.
 use Rattle.std.specs.Prelude.{◌≡◌, [], ◌∷◌, ◌++◌, Option, Some, None, Result, Ok, Err, option_map}
-use Rattle.sql_builder.specs.Answers.{start_text, call_text, finish_text}
+use Rattle.sql_builder.specs.Views.{start_view, call_view, finish_view}
 use Rattle.sqlb.specs.Lines.{CommandText, CommandResult, Starts, Calls, Finishes}
 use Rattle.sqlb.specs.Output.{OpenStatement}
 use Rattle.sqlb.specs.declared.fault.Reason.{Reason}
@@ -11,9 +11,9 @@ use Rattle.sqlb.specs.declared.lines.LineError.TheVariants.{Refused, Memory}
 
 -- a command, each text as its bytes
 abbrev pub command_text : Command → CommandText
-command_text (command.Start start) = Starts (start_text start)
-command_text (command.Call call) = Calls (call_text call)
-command_text (command.Finish finish) = Finishes (finish_text finish)
+command_text (command.Start start) = Starts (start_view start)
+command_text (command.Call call) = Calls (call_view call)
+command_text (command.Finish finish) = Finishes (finish_view finish)
 
 -- the statement that is open after a line, by what was open before it
 abbrev pub open_after : Option OpenStatement → CommandResult → Option OpenStatement

@@ -1,14 +1,17 @@
 //! Takes an input apart into lines, and reads what each says.
 ghost use Rattle.std.specs.Prelude.{◌≡◌, ◌==◌, ◌∷◌, ◌<◌};
-ghost use Rattle.std.specs.Prelude.{IfOk, length, map, position, string_bytes};
+ghost use Rattle.std.specs.Prelude.{IfOk, Some, length, map, position};
 ghost use Rattle.sqlb.specs.Lines.{command_in, command_of, command_with, flag_in, lines, parts_of};
 ghost use Rattle.sqlb.specs.Lines.{binary_command, flagged_command, nullary_command};
-ghost use Rattle.sqlb.specs.Lines.{listed_command, ternary_command, unary_command, variadic_command};
+ghost use Rattle.sqlb.specs.Lines.{unary_command, variadic_command};
 ghost use Rattle.sqlb.specs.Script.{Answers, command_text};
+ghost use Rattle.sqlb.specs.declared.names.Meaning.TheVariants.{Where};
 
+use crate::endings::Ending;
 use crate::fault::Reason;
-use crate::names::{Binary, Flagged, Listed, Meaning, Nullary, Ternary, Unary, Variadic};
-use sql_builder::calls::{Call, Condition, Finish, Start};
+use crate::names::{Binary, Flagged, Meaning, Nullary, Unary, Variadic};
+use crate::texts::{text, texts};
+use sql_builder::calls::{Call, Family, Finish, Start};
 use std::alloc::{AllocError, AllocFailed, Global};
 use std::str;
 
@@ -78,17 +81,6 @@ fn split_parts(alloc: Global, line: &str) -> Result<Vec<&str>, AllocError>
     line.split('\t').collect(alloc)
 }
 
-fn owned(alloc: Global, arguments: &[&str]) -> Result<Vec<String>, AllocError>
-    ensures { IfOk result (λ owned. map (λ argument. string_bytes argument) owned.items
-        ≡ map (λ argument. argument.now) arguments.now) }
-{
-    let mut owned = Vec::with_capacity(alloc, arguments.len())?;
-    for argument in arguments {
-        owned.push(String::from_str(alloc, argument)?)?;
-    }
-    Ok(owned)
-}
-
 impl Nullary {
     fn command(self) -> Command
         ensures { command_text result ≡ nullary_command self }
@@ -115,7 +107,7 @@ impl Unary {
     fn command(self, alloc: Global, argument: &str) -> Result<Command, AllocError>
         ensures { IfOk result (λ c. command_text c ≡ unary_command self argument.now) }
     {
-        let argument = String::from_str(alloc, argument)?;
+        let argument = text(alloc, argument)?;
         Ok(match self {
             Unary::SelectFrom => Command::Start(Start::SelectFrom(argument)),
             Unary::InsertInto => Command::Start(Start::InsertInto(argument)),
@@ -137,13 +129,6 @@ impl Unary {
             Unary::OrderDesc => Command::Call(Call::OrderDesc(argument)),
             Unary::Limit => Command::Call(Call::Limit(argument)),
             Unary::Offset => Command::Call(Call::Offset(argument)),
-            Unary::Where(family) => Command::Call(Call::Cond(family, Condition::Raw(argument))),
-            Unary::WhereNull(family) => {
-                Command::Call(Call::Cond(family, Condition::IsNull(argument)))
-            }
-            Unary::WhereNotNull(family) => {
-                Command::Call(Call::Cond(family, Condition::IsNotNull(argument)))
-            }
             Unary::SubqueryAs => Command::Finish(Finish::SubqueryAs(argument)),
         })
     }
@@ -153,62 +138,13 @@ impl Binary {
     fn command(self, alloc: Global, first: &str, second: &str) -> Result<Command, AllocError>
         ensures { IfOk result (λ c. command_text c ≡ binary_command self first.now second.now) }
     {
-        let first = String::from_str(alloc, first)?;
-        let second = String::from_str(alloc, second)?;
+        let first = text(alloc, first)?;
+        let second = text(alloc, second)?;
         Ok(Command::Call(match self {
             Binary::OnEq => Call::OnEq(first, second),
             Binary::CountAs => Call::CountAs(first, second),
             Binary::SetTo => Call::SetTo(first, second),
             Binary::SetStr => Call::SetStr(first, second),
-            Binary::Compare(family, relation) => {
-                Call::Cond(family, Condition::Compare(relation, first, second))
-            }
-            Binary::Like(family, negated, percent) => {
-                Call::Cond(family, Condition::Like(negated, percent, first, second))
-            }
-            Binary::InQuery(family, negated) => {
-                Call::Cond(family, Condition::InQuery(negated, first, second))
-            }
-        }))
-    }
-}
-
-impl Ternary {
-    fn command(
-        self,
-        alloc: Global,
-        first: &str,
-        second: &str,
-        third: &str,
-    ) -> Result<Command, AllocError>
-        ensures { IfOk result (λ c. command_text c
-            ≡ ternary_command self first.now second.now third.now) }
-    {
-        let first = String::from_str(alloc, first)?;
-        let second = String::from_str(alloc, second)?;
-        let third = String::from_str(alloc, third)?;
-        Ok(Command::Call(match self {
-            Ternary::Between(family, negated) => {
-                Call::Cond(family, Condition::Between(negated, first, second, third))
-            }
-        }))
-    }
-}
-
-impl Listed {
-    fn command(self, alloc: Global, field: &str, values: &[&str]) -> Result<Command, AllocError>
-        ensures { IfOk result (λ c. command_text c
-            ≡ listed_command self field.now (map (λ value. value.now) values.now)) }
-    {
-        let field = String::from_str(alloc, field)?;
-        let values = owned(alloc, values)?;
-        Ok(Command::Call(match self {
-            Listed::InList(family, negated) => {
-                Call::Cond(family, Condition::InList(negated, field, values))
-            }
-            Listed::InQuoted(family, negated) => {
-                Call::Cond(family, Condition::InQuoted(negated, field, values))
-            }
         }))
     }
 }
@@ -217,7 +153,7 @@ impl Flagged {
     fn command(self, alloc: Global, argument: &str, flag: bool) -> Result<Command, AllocError>
         ensures { IfOk result (λ c. command_text c ≡ flagged_command self argument.now flag) }
     {
-        let argument = String::from_str(alloc, argument)?;
+        let argument = text(alloc, argument)?;
         Ok(match self {
             Flagged::OrderBy => Command::Call(Call::OrderBy(argument, flag)),
         })
@@ -229,7 +165,7 @@ impl Variadic {
         ensures { IfOk result (λ c. command_text c
             ≡ variadic_command self (map (λ argument. argument.now) arguments.now)) }
     {
-        let arguments = owned(alloc, arguments)?;
+        let arguments = texts(alloc, arguments)?;
         Ok(match self {
             Variadic::SelectValues => Command::Start(Start::SelectValues(arguments)),
             Variadic::Fields => Command::Call(Call::Fields(arguments)),
@@ -246,6 +182,21 @@ fn read_flag(text: &str) -> Option<bool>
         "true" => Some(true),
         "false" => Some(false),
         _ => None,
+    }
+}
+
+fn read_condition(
+    alloc: Global,
+    family: Family,
+    ending: Ending,
+    arguments: &[&str],
+) -> Result<Command, LineError>
+    ensures { Answers command_text result (command_with (Some (Where family ending))
+        (map (λ argument. argument.now) arguments.now)) }
+{
+    match ending.condition(alloc, arguments)? {
+        Some(condition) => Ok(Command::Call(Call::Cond(family, condition))),
+        None => Err(LineError::Refused(Reason::WrongArguments)),
     }
 }
 
@@ -268,13 +219,8 @@ fn read_arguments(
             Some(flag) => Ok(meaning.command(alloc, argument, flag)?),
             None => Err(LineError::Refused(Reason::WrongArguments)),
         },
-        (Meaning::Ternary(meaning), [first, second, third]) => {
-            Ok(meaning.command(alloc, first, second, third)?)
-        }
-        (Meaning::Listed(meaning), [field, values @ ..]) => {
-            Ok(meaning.command(alloc, field, values)?)
-        }
         (Meaning::Variadic(meaning), _) => Ok(meaning.command(alloc, arguments)?),
+        (Meaning::Where(family, ending), _) => read_condition(alloc, family, ending, arguments),
         _ => Err(LineError::Refused(Reason::WrongArguments)),
     }
 }

@@ -1,6 +1,7 @@
 //! Reads lines of calls from standard input, and prints the statements that they make.
 #![tactic(auto)]
 
+mod endings;
 mod fault;
 mod input;
 mod lines;
@@ -8,8 +9,10 @@ mod names;
 mod output;
 mod run;
 mod script;
+mod tables;
 #[cfg(test)]
 mod tests;
+mod texts;
 mod watched;
 
 use crate::fault::Fault;

@@ -1,8 +1,10 @@
 //! The names that a line may begin with.
-ghost use Rattle.std.specs.Prelude.{◌≡◌, map};
-ghost use Rattle.sqlb.specs.Names.{found_by_reference, found_in, meaning_of};
+ghost use Rattle.std.specs.Prelude.{◌≡◌};
+ghost use Rattle.sqlb.specs.Names.{condition_call, meaning_of};
 
-use sql_builder::calls::{Family, Percent, Relation};
+use crate::endings::Ending;
+use crate::tables::find_in;
+use sql_builder::calls::Family;
 
 /// What a name stands for, by how many arguments it takes.
 #[derive(Clone, Copy)]
@@ -15,12 +17,10 @@ pub(crate) enum Meaning {
     Binary(Binary),
     /// It takes two, of which the second is `true` or `false`.
     Flagged(Flagged),
-    /// It takes three.
-    Ternary(Ternary),
-    /// It takes a field and any number of values.
-    Listed(Listed),
     /// It takes any number.
     Variadic(Variadic),
+    /// It adds a condition of this family; its ending says how many it takes.
+    Where(Family, Ending),
 }
 
 /// A name that takes no argument.
@@ -64,9 +64,6 @@ pub(crate) enum Unary {
     OrderDesc,
     Limit,
     Offset,
-    Where(Family),
-    WhereNull(Family),
-    WhereNotNull(Family),
     SubqueryAs,
 }
 
@@ -77,28 +74,12 @@ pub(crate) enum Binary {
     CountAs,
     SetTo,
     SetStr,
-    Compare(Family, Relation),
-    Like(Family, bool, Percent),
-    InQuery(Family, bool),
 }
 
 /// A name that takes two, of which the second is `true` or `false`.
 #[derive(Clone, Copy)]
 pub(crate) enum Flagged {
     OrderBy,
-}
-
-/// A name that takes three.
-#[derive(Clone, Copy)]
-pub(crate) enum Ternary {
-    Between(Family, bool),
-}
-
-/// A name that takes a field and any number of values.
-#[derive(Clone, Copy)]
-pub(crate) enum Listed {
-    InList(Family, bool),
-    InQuoted(Family, bool),
 }
 
 /// A name that takes any number.
@@ -110,7 +91,7 @@ pub(crate) enum Variadic {
     Values,
 }
 
-const NAMES: [(&str, Meaning); 93] = [
+const CALLS: [(&str, Meaning); 43] = [
     ("select_from", Meaning::Unary(Unary::SelectFrom)),
     ("insert_into", Meaning::Unary(Unary::InsertInto)),
     ("update_table", Meaning::Unary(Unary::UpdateTable)),
@@ -149,200 +130,6 @@ const NAMES: [(&str, Meaning); 93] = [
     ("fields", Meaning::Variadic(Variadic::Fields)),
     ("set_fields", Meaning::Variadic(Variadic::SetFields)),
     ("values", Meaning::Variadic(Variadic::Values)),
-    ("and_where", Meaning::Unary(Unary::Where(Family::And))),
-    (
-        "and_where_is_null",
-        Meaning::Unary(Unary::WhereNull(Family::And)),
-    ),
-    (
-        "and_where_is_not_null",
-        Meaning::Unary(Unary::WhereNotNull(Family::And)),
-    ),
-    (
-        "and_where_eq",
-        Meaning::Binary(Binary::Compare(Family::And, Relation::Eq)),
-    ),
-    (
-        "and_where_ne",
-        Meaning::Binary(Binary::Compare(Family::And, Relation::Ne)),
-    ),
-    (
-        "and_where_gt",
-        Meaning::Binary(Binary::Compare(Family::And, Relation::Gt)),
-    ),
-    (
-        "and_where_ge",
-        Meaning::Binary(Binary::Compare(Family::And, Relation::Ge)),
-    ),
-    (
-        "and_where_lt",
-        Meaning::Binary(Binary::Compare(Family::And, Relation::Lt)),
-    ),
-    (
-        "and_where_le",
-        Meaning::Binary(Binary::Compare(Family::And, Relation::Le)),
-    ),
-    (
-        "and_where_like",
-        Meaning::Binary(Binary::Like(Family::And, false, Percent::Plain)),
-    ),
-    (
-        "and_where_like_right",
-        Meaning::Binary(Binary::Like(Family::And, false, Percent::Right)),
-    ),
-    (
-        "and_where_like_left",
-        Meaning::Binary(Binary::Like(Family::And, false, Percent::Left)),
-    ),
-    (
-        "and_where_like_any",
-        Meaning::Binary(Binary::Like(Family::And, false, Percent::Any)),
-    ),
-    (
-        "and_where_not_like",
-        Meaning::Binary(Binary::Like(Family::And, true, Percent::Plain)),
-    ),
-    (
-        "and_where_not_like_right",
-        Meaning::Binary(Binary::Like(Family::And, true, Percent::Right)),
-    ),
-    (
-        "and_where_not_like_left",
-        Meaning::Binary(Binary::Like(Family::And, true, Percent::Left)),
-    ),
-    (
-        "and_where_not_like_any",
-        Meaning::Binary(Binary::Like(Family::And, true, Percent::Any)),
-    ),
-    (
-        "and_where_in_query",
-        Meaning::Binary(Binary::InQuery(Family::And, false)),
-    ),
-    (
-        "and_where_in",
-        Meaning::Listed(Listed::InList(Family::And, false)),
-    ),
-    (
-        "and_where_in_quoted",
-        Meaning::Listed(Listed::InQuoted(Family::And, false)),
-    ),
-    (
-        "and_where_between",
-        Meaning::Ternary(Ternary::Between(Family::And, false)),
-    ),
-    (
-        "and_where_not_in_query",
-        Meaning::Binary(Binary::InQuery(Family::And, true)),
-    ),
-    (
-        "and_where_not_in",
-        Meaning::Listed(Listed::InList(Family::And, true)),
-    ),
-    (
-        "and_where_not_in_quoted",
-        Meaning::Listed(Listed::InQuoted(Family::And, true)),
-    ),
-    (
-        "and_where_not_between",
-        Meaning::Ternary(Ternary::Between(Family::And, true)),
-    ),
-    ("or_where", Meaning::Unary(Unary::Where(Family::Or))),
-    (
-        "or_where_is_null",
-        Meaning::Unary(Unary::WhereNull(Family::Or)),
-    ),
-    (
-        "or_where_is_not_null",
-        Meaning::Unary(Unary::WhereNotNull(Family::Or)),
-    ),
-    (
-        "or_where_eq",
-        Meaning::Binary(Binary::Compare(Family::Or, Relation::Eq)),
-    ),
-    (
-        "or_where_ne",
-        Meaning::Binary(Binary::Compare(Family::Or, Relation::Ne)),
-    ),
-    (
-        "or_where_gt",
-        Meaning::Binary(Binary::Compare(Family::Or, Relation::Gt)),
-    ),
-    (
-        "or_where_ge",
-        Meaning::Binary(Binary::Compare(Family::Or, Relation::Ge)),
-    ),
-    (
-        "or_where_lt",
-        Meaning::Binary(Binary::Compare(Family::Or, Relation::Lt)),
-    ),
-    (
-        "or_where_le",
-        Meaning::Binary(Binary::Compare(Family::Or, Relation::Le)),
-    ),
-    (
-        "or_where_like",
-        Meaning::Binary(Binary::Like(Family::Or, false, Percent::Plain)),
-    ),
-    (
-        "or_where_like_right",
-        Meaning::Binary(Binary::Like(Family::Or, false, Percent::Right)),
-    ),
-    (
-        "or_where_like_left",
-        Meaning::Binary(Binary::Like(Family::Or, false, Percent::Left)),
-    ),
-    (
-        "or_where_like_any",
-        Meaning::Binary(Binary::Like(Family::Or, false, Percent::Any)),
-    ),
-    (
-        "or_where_not_like",
-        Meaning::Binary(Binary::Like(Family::Or, true, Percent::Plain)),
-    ),
-    (
-        "or_where_not_like_right",
-        Meaning::Binary(Binary::Like(Family::Or, true, Percent::Right)),
-    ),
-    (
-        "or_where_not_like_left",
-        Meaning::Binary(Binary::Like(Family::Or, true, Percent::Left)),
-    ),
-    (
-        "or_where_not_like_any",
-        Meaning::Binary(Binary::Like(Family::Or, true, Percent::Any)),
-    ),
-    (
-        "or_where_in_query",
-        Meaning::Binary(Binary::InQuery(Family::Or, false)),
-    ),
-    (
-        "or_where_in",
-        Meaning::Listed(Listed::InList(Family::Or, false)),
-    ),
-    (
-        "or_where_in_quoted",
-        Meaning::Listed(Listed::InQuoted(Family::Or, false)),
-    ),
-    (
-        "or_where_between",
-        Meaning::Ternary(Ternary::Between(Family::Or, false)),
-    ),
-    (
-        "or_where_not_in_query",
-        Meaning::Binary(Binary::InQuery(Family::Or, true)),
-    ),
-    (
-        "or_where_not_in",
-        Meaning::Listed(Listed::InList(Family::Or, true)),
-    ),
-    (
-        "or_where_not_in_quoted",
-        Meaning::Listed(Listed::InQuoted(Family::Or, true)),
-    ),
-    (
-        "or_where_not_between",
-        Meaning::Ternary(Ternary::Between(Family::Or, true)),
-    ),
     ("sql", Meaning::Nullary(Nullary::Sql)),
     ("query", Meaning::Nullary(Nullary::Query)),
     ("query_values", Meaning::Nullary(Nullary::QueryValues)),
@@ -350,29 +137,22 @@ const NAMES: [(&str, Meaning); 93] = [
     ("subquery_as", Meaning::Unary(Unary::SubqueryAs)),
 ];
 
-// A table of references, which is what the code has; `find_in` says the same of the names.
-fn find_by_reference(table: &[(&str, Meaning)], name: &str) -> Option<Meaning>
-    ensures { result ≡ found_by_reference table.now name.now }
+// A condition of this family, where the name is the prefix and an ending.
+fn condition_call(family: Family, prefix: &str, name: &str) -> Option<Meaning>
+    ensures { result ≡ condition_call family prefix.now name.now }
 {
-    table
-        .iter()
-        .find(|entry| entry.0 == name)
-        .map(|entry| entry.1)
-}
-
-#[tactic(auto, using(crate::proofs::Tables::found_by_reference_is))]
-fn find_in(table: &[(&str, Meaning)], name: &str) -> Option<Meaning>
-    ensures { result ≡ found_in (map (λ entry. (entry.0.now, entry.1)) table.now) name.now }
-{
-    find_by_reference(table, name)
+    let ending = name.strip_prefix(prefix)?;
+    Some(Meaning::Where(family, Ending::of(ending)?))
 }
 
 impl Meaning {
     /// What the name stands for, if it is known. Names are compared exactly.
-    #[tactic(auto, unfolding(crate::specs::Names::meaning_of, crate::specs::Names::names))]
+    #[tactic(auto, unfolding(crate::specs::Names::meaning_of, crate::specs::Names::calls))]
     pub(crate) fn of(name: &str) -> Option<Meaning>
         ensures meaning { result ≡ meaning_of name.now }
     {
-        find_in(&NAMES, name)
+        condition_call(Family::And, "and_where", name)
+            .or_else(|| condition_call(Family::Or, "or_where", name))
+            .or_else(|| find_in(&CALLS, name))
     }
 }

@@ -26,19 +26,19 @@ pub(crate) struct Script {
 
 impl Model for Script {
     ghost use Rattle.std.specs.Prelude.{Option, map, option_map};
-    ghost use Rattle.sql_builder.specs.Answers.{call_text, start_text};
+    ghost use Rattle.sql_builder.specs.Views.{call_view, start_view};
     ghost use Rattle.sqlb.specs.Output.{OpenStatement};
 
     ghost Value = { Option OpenStatement };
 
     ghost view = { λ s. option_map (λ statement. record {
-      start = start_text statement.start;
-      calls = map call_text statement.calls.items;
+      start = start_view statement.start;
+      calls = map call_view statement.calls.items;
     }) s.statement };
 }
 
 impl Script {
-    ghost use Rattle.sql_builder.specs.Answers.{call_text, finish_text, start_text};
+    ghost use Rattle.sql_builder.specs.Views.{call_view, finish_view, start_view};
     ghost use Rattle.sqlb.specs.Lines.{Starts, Calls, Finishes};
 
     /// No statement is open.
@@ -76,9 +76,9 @@ impl Script {
 
     fn take_start(&mut self, alloc: Global, start: Start) -> Result<Option<String>, LineError>
         ensures answer { Answers (option_map (λ s. string_bytes s)) result
-            (answer self.old (Ok (Starts (start_text start)))) }
+            (answer self.old (Ok (Starts (start_view start)))) }
         ensures after { OnOk result
-            (self.new ≡ open_after self.old (Ok (Starts (start_text start)))) }
+            (self.new ≡ open_after self.old (Ok (Starts (start_view start)))) }
         ensures err { OnErr result (self.new ≡ self.old) }
     {
         if self.statement.is_some() {
@@ -93,9 +93,9 @@ impl Script {
 
     fn take_call(&mut self, call: Call) -> Result<Option<String>, LineError>
         ensures answer { Answers (option_map (λ s. string_bytes s)) result
-            (answer self.old (Ok (Calls (call_text call)))) }
+            (answer self.old (Ok (Calls (call_view call)))) }
         ensures after { OnOk result
-            (self.new ≡ open_after self.old (Ok (Calls (call_text call)))) }
+            (self.new ≡ open_after self.old (Ok (Calls (call_view call)))) }
         ensures err { OnErr result (self.new ≡ self.old) }
     {
         match &mut self.statement {
@@ -109,9 +109,9 @@ impl Script {
 
     fn take_finish(&mut self, alloc: Global, finish: &Finish) -> Result<Option<String>, LineError>
         ensures answer { Answers (option_map (λ s. string_bytes s)) result
-            (answer self.old (Ok (Finishes (finish_text finish.now)))) }
+            (answer self.old (Ok (Finishes (finish_view finish.now)))) }
         ensures after { OnOk result
-            (self.new ≡ open_after self.old (Ok (Finishes (finish_text finish.now)))) }
+            (self.new ≡ open_after self.old (Ok (Finishes (finish_view finish.now)))) }
         ensures err { OnErr result (self.new ≡ self.old) }
     {
         let Some(statement) = &self.statement else {

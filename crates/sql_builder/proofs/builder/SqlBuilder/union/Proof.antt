@@ -1,12 +1,12 @@
 use Rattle.sql_parts.proofs.Walking.{refl}
 use Rattle.sql_builder.proofs.Constants as constants
-use Rattle.sql_builder.proofs.Methods.{by_text}
+use Rattle.sql_builder.proofs.Methods.{by_unary}
 use Rattle.sql_builder.specs.contracts.builder.SqlBuilder.union.Key.{name as #self}
 use Rattle.sql_builder.proofs.builder.SqlBuilder.union.Statement.{statement}
 use Rattle.sql_builder.proofs.builder.SqlBuilder.union.Code as code
 
 pub union_spec : {M : Type 1} → statement M
 union_spec 𝓤 𝓛 𝓜 𝓡 w S LS s d d' ms md =
-    by_text 𝓤 𝓛 𝓜 𝓡 constants.text_clause-union code.function #self S LS s d d' ms md
+    by_unary 𝓤 𝓛 𝓜 𝓡 constants.unary_clause-union code.function #self S LS s d d' ms md
     (refl, refl) (code.unfolded 𝓤 𝓛.H 𝓜 𝓡 w (S, tt) d d')
-    (code.calls-sql_builder::builder::SqlBuilder::hold_text 𝓡.env w) (code.calls-sql_builder::steps::release 𝓡.env w)
+    (code.calls-sql_builder::builder::SqlBuilder::hold_unary 𝓡.env w) (code.calls-sql_builder::steps::release 𝓡.env w)

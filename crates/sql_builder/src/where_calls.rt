@@ -3,23 +3,225 @@
 //! gives the builder back; it is refused only for want of memory, and then leaves the builder as it
 //! was. Where its texts are operands, what it adds is an atom of truth, but of a condition that is
 //! handed in as it stands.
-ghost use Rattle.std.specs.Prelude.{false, map, true};
+ghost use Rattle.std.specs.Prelude.{◌≡◌, IfOk, false, map, true};
 ghost use Rattle.sql_parts.specs.Error.{FailsOnlyByMemory};
+ghost use Rattle.sql_builder.specs.Steps.{is_negated};
 
 use crate::builder::SqlBuilder;
-use crate::calls::Family;
-use crate::steps::{BinaryCondition, ListCondition, RangeCondition, UnaryCondition, release};
+use crate::condition::{
+    Family, Percent, Relation, between, compare, in_list, in_query, in_quoted, is_not_null,
+    is_null, like,
+};
+use crate::steps::{Held, release};
 use sql_parts::{SqlBuilderError, ToText};
+
+/// Which sense a condition has that can be the NOT form.
+#[derive(Clone, Copy)]
+pub(crate) enum Sense {
+    Plain,
+    Negated,
+}
+
+impl Sense {
+    fn is_negated(self) -> bool
+        ensures { result ≡ is_negated self }
+    {
+        matches!(self, Sense::Negated)
+    }
+}
+
+// The steps of the calls: one for each condition, told by constants what the names of the calls say.
+impl SqlBuilder {
+    ghost use Rattle.std.specs.Borrow.{sem};
+    ghost use Rattle.sql_builder.specs.Chaining.{IsUnchangedIfHeldErr, IsHeldChangedSoThat};
+    ghost use Rattle.sql_builder.specs.Condition.{Raw, Compare, Like, IsNull, IsNotNull, InList, InQuoted, InQuery, Between};
+    ghost use Rattle.sql_builder.specs.Steps.{ConditionAdded, is_negated};
+
+    #[tactic(auto, using(crate::proofs::ConditionAtoms::condition_added))]
+    fn hold_raw<S: ToText>(
+        &mut self,
+        family: Family,
+        condition: S,
+    ) -> Result<Held<'_>, SqlBuilderError>
+        ensures* refused { sem 𝓛 (IsUnchangedIfHeldErr self.entry result) }
+        ensures changed { IsHeldChangedSoThat self.entry
+            (ConditionAdded family (Raw (S.text condition)) self.old) result }
+        ensures memory { FailsOnlyByMemory result }
+    {
+        let text = condition.to_text(self.alloc)?;
+        self.push_condition(family, text)?;
+        Ok(Held(self))
+    }
+
+    #[tactic(auto, using(crate::proofs::ConditionAtoms::condition_added))]
+    fn hold_is_null<S: ToText>(
+        &mut self,
+        family: Family,
+        field: S,
+    ) -> Result<Held<'_>, SqlBuilderError>
+        ensures* refused { sem 𝓛 (IsUnchangedIfHeldErr self.entry result) }
+        ensures changed { IsHeldChangedSoThat self.entry
+            (ConditionAdded family (IsNull (S.text field)) self.old) result }
+        ensures memory { FailsOnlyByMemory result }
+    {
+        let text = is_null(self.alloc, field)?;
+        self.push_condition(family, text)?;
+        Ok(Held(self))
+    }
+
+    #[tactic(auto, using(crate::proofs::ConditionAtoms::condition_added))]
+    fn hold_is_not_null<S: ToText>(
+        &mut self,
+        family: Family,
+        field: S,
+    ) -> Result<Held<'_>, SqlBuilderError>
+        ensures* refused { sem 𝓛 (IsUnchangedIfHeldErr self.entry result) }
+        ensures changed { IsHeldChangedSoThat self.entry
+            (ConditionAdded family (IsNotNull (S.text field)) self.old) result }
+        ensures memory { FailsOnlyByMemory result }
+    {
+        let text = is_not_null(self.alloc, field)?;
+        self.push_condition(family, text)?;
+        Ok(Held(self))
+    }
+
+    #[tactic(auto, using(crate::proofs::ConditionAtoms::condition_added))]
+    fn hold_compare<S: ToText, T: ToText>(
+        &mut self,
+        family: Family,
+        relation: Relation,
+        field: S,
+        value: T,
+    ) -> Result<Held<'_>, SqlBuilderError>
+        ensures* refused { sem 𝓛 (IsUnchangedIfHeldErr self.entry result) }
+        ensures changed { IsHeldChangedSoThat self.entry
+            (ConditionAdded family (Compare relation (S.text field) (T.text value)) self.old) result }
+        ensures memory { FailsOnlyByMemory result }
+    {
+        let text = compare(self.alloc, relation, field, value)?;
+        self.push_condition(family, text)?;
+        Ok(Held(self))
+    }
+
+    #[tactic(auto, using(crate::proofs::ConditionAtoms::condition_added))]
+    fn hold_like<S: ToText, T: ToText>(
+        &mut self,
+        family: Family,
+        percent: Percent,
+        field: S,
+        mask: T,
+    ) -> Result<Held<'_>, SqlBuilderError>
+        ensures* refused { sem 𝓛 (IsUnchangedIfHeldErr self.entry result) }
+        ensures changed { IsHeldChangedSoThat self.entry
+            (ConditionAdded family (Like false percent (S.text field) (T.text mask)) self.old) result }
+        ensures memory { FailsOnlyByMemory result }
+    {
+        let text = like(self.alloc, false, percent, field, mask)?;
+        self.push_condition(family, text)?;
+        Ok(Held(self))
+    }
+
+    #[tactic(auto, using(crate::proofs::ConditionAtoms::condition_added))]
+    fn hold_not_like<S: ToText, T: ToText>(
+        &mut self,
+        family: Family,
+        percent: Percent,
+        field: S,
+        mask: T,
+    ) -> Result<Held<'_>, SqlBuilderError>
+        ensures* refused { sem 𝓛 (IsUnchangedIfHeldErr self.entry result) }
+        ensures changed { IsHeldChangedSoThat self.entry
+            (ConditionAdded family (Like true percent (S.text field) (T.text mask)) self.old) result }
+        ensures memory { FailsOnlyByMemory result }
+    {
+        let text = like(self.alloc, true, percent, field, mask)?;
+        self.push_condition(family, text)?;
+        Ok(Held(self))
+    }
+
+    #[tactic(auto, using(crate::proofs::ConditionAtoms::condition_added))]
+    fn hold_in_list<S: ToText, T: ToText>(
+        &mut self,
+        family: Family,
+        sense: Sense,
+        field: S,
+        values: &[T],
+    ) -> Result<Held<'_>, SqlBuilderError>
+        ensures* refused { sem 𝓛 (IsUnchangedIfHeldErr self.entry result) }
+        ensures changed { IsHeldChangedSoThat self.entry
+            (ConditionAdded family (InList (is_negated sense) (S.text field) (map T.text values.now)) self.old) result }
+        ensures memory { FailsOnlyByMemory result }
+    {
+        let text = in_list(self.alloc, sense.is_negated(), field, values)?;
+        self.push_condition(family, text)?;
+        Ok(Held(self))
+    }
+
+    #[tactic(auto, using(crate::proofs::ConditionAtoms::condition_added))]
+    fn hold_in_quoted<S: ToText, T: ToText>(
+        &mut self,
+        family: Family,
+        sense: Sense,
+        field: S,
+        values: &[T],
+    ) -> Result<Held<'_>, SqlBuilderError>
+        ensures* refused { sem 𝓛 (IsUnchangedIfHeldErr self.entry result) }
+        ensures changed { IsHeldChangedSoThat self.entry
+            (ConditionAdded family (InQuoted (is_negated sense) (S.text field) (map T.text values.now)) self.old) result }
+        ensures memory { FailsOnlyByMemory result }
+    {
+        let text = in_quoted(self.alloc, sense.is_negated(), field, values)?;
+        self.push_condition(family, text)?;
+        Ok(Held(self))
+    }
+
+    #[tactic(auto, using(crate::proofs::ConditionAtoms::condition_added))]
+    fn hold_in_query<S: ToText, T: ToText>(
+        &mut self,
+        family: Family,
+        sense: Sense,
+        field: S,
+        query: T,
+    ) -> Result<Held<'_>, SqlBuilderError>
+        ensures* refused { sem 𝓛 (IsUnchangedIfHeldErr self.entry result) }
+        ensures changed { IsHeldChangedSoThat self.entry
+            (ConditionAdded family (InQuery (is_negated sense) (S.text field) (T.text query)) self.old) result }
+        ensures memory { FailsOnlyByMemory result }
+    {
+        let text = in_query(self.alloc, sense.is_negated(), field, query)?;
+        self.push_condition(family, text)?;
+        Ok(Held(self))
+    }
+
+    #[tactic(auto, using(crate::proofs::ConditionAtoms::condition_added))]
+    fn hold_between<S: ToText, T: ToText, U: ToText>(
+        &mut self,
+        family: Family,
+        sense: Sense,
+        field: S,
+        least: T,
+        greatest: U,
+    ) -> Result<Held<'_>, SqlBuilderError>
+        ensures* refused { sem 𝓛 (IsUnchangedIfHeldErr self.entry result) }
+        ensures changed { IsHeldChangedSoThat self.entry
+            (ConditionAdded family (Between (is_negated sense) (S.text field) (T.text least) (U.text greatest)) self.old) result }
+        ensures memory { FailsOnlyByMemory result }
+    {
+        let text = between(self.alloc, sense.is_negated(), field, least, greatest)?;
+        self.push_condition(family, text)?;
+        Ok(Held(self))
+    }
+}
 
 impl SqlBuilder {
     ghost use Rattle.std.specs.Borrow.{sem};
     ghost use Rattle.sql_builder.specs.Meaning.{AddsCondition};
     ghost use Rattle.sql_builder.specs.Chaining.{IsUnchangedIfErr};
     ghost use Rattle.sql_parts.specs.Lending.{IsChangedSoThat};
-    ghost use Rattle.sql_builder.specs.Conditions.{Raw, Compare, Like, IsNull, IsNotNull, InList, InQuoted, InQuery, Between};
-    ghost use Rattle.sql_builder.specs.declared.calls.Family.TheVariants.{And, Or};
-    ghost use Rattle.sql_builder.specs.declared.calls.Percent.TheVariants.{Plain, Right, Left, Any};
-    ghost use Rattle.sql_builder.specs.declared.calls.Relation.TheVariants.{Eq, Ne, Gt, Ge, Lt, Le};
+    ghost use Rattle.sql_builder.specs.Condition.{Raw, Compare, Like, IsNull, IsNotNull, InList, InQuoted, InQuery, Between};
+    ghost use Rattle.sql_builder.specs.declared.condition.Family.TheVariants.{And, Or};
+    ghost use Rattle.sql_builder.specs.declared.condition.Percent.TheVariants.{Plain, Right, Left, Any};
+    ghost use Rattle.sql_builder.specs.declared.condition.Relation.TheVariants.{Eq, Ne, Gt, Ge, Lt, Le};
 
     /// Adds the condition as it stands, in a group of its own.
     pub fn and_where<S: ToText>(&mut self, condition: S) -> Result<&mut Self, SqlBuilderError>
@@ -28,7 +230,7 @@ impl SqlBuilder {
             (AddsCondition And (Raw (S.text condition)) self.old) result }
         ensures memory { FailsOnlyByMemory result }
     {
-        release(self.hold_unary(Family::And, UnaryCondition::Bare, condition))
+        release(self.hold_raw(Family::And, condition))
     }
 
     /// Adds `field IS NULL`, in a group of its own.
@@ -38,7 +240,7 @@ impl SqlBuilder {
             (AddsCondition And (IsNull (S.text field)) self.old) result }
         ensures memory { FailsOnlyByMemory result }
     {
-        release(self.hold_unary(Family::And, UnaryCondition::IsNull, field))
+        release(self.hold_is_null(Family::And, field))
     }
 
     /// Adds `field IS NOT NULL`, in a group of its own.
@@ -51,7 +253,7 @@ impl SqlBuilder {
             (AddsCondition And (IsNotNull (S.text field)) self.old) result }
         ensures memory { FailsOnlyByMemory result }
     {
-        release(self.hold_unary(Family::And, UnaryCondition::IsNotNull, field))
+        release(self.hold_is_not_null(Family::And, field))
     }
 
     /// Adds `field = value`, in a group of its own.
@@ -65,7 +267,7 @@ impl SqlBuilder {
             (AddsCondition And (Compare Eq (S.text field) (T.text value)) self.old) result }
         ensures memory { FailsOnlyByMemory result }
     {
-        release(self.hold_binary(Family::And, BinaryCondition::Eq, field, value))
+        release(self.hold_compare(Family::And, Relation::Eq, field, value))
     }
 
     /// Adds `field <> value`, in a group of its own.
@@ -79,7 +281,7 @@ impl SqlBuilder {
             (AddsCondition And (Compare Ne (S.text field) (T.text value)) self.old) result }
         ensures memory { FailsOnlyByMemory result }
     {
-        release(self.hold_binary(Family::And, BinaryCondition::Ne, field, value))
+        release(self.hold_compare(Family::And, Relation::Ne, field, value))
     }
 
     /// Adds `field > value`, in a group of its own.
@@ -93,7 +295,7 @@ impl SqlBuilder {
             (AddsCondition And (Compare Gt (S.text field) (T.text value)) self.old) result }
         ensures memory { FailsOnlyByMemory result }
     {
-        release(self.hold_binary(Family::And, BinaryCondition::Gt, field, value))
+        release(self.hold_compare(Family::And, Relation::Gt, field, value))
     }
 
     /// Adds `field >= value`, in a group of its own.
@@ -107,7 +309,7 @@ impl SqlBuilder {
             (AddsCondition And (Compare Ge (S.text field) (T.text value)) self.old) result }
         ensures memory { FailsOnlyByMemory result }
     {
-        release(self.hold_binary(Family::And, BinaryCondition::Ge, field, value))
+        release(self.hold_compare(Family::And, Relation::Ge, field, value))
     }
 
     /// Adds `field < value`, in a group of its own.
@@ -121,7 +323,7 @@ impl SqlBuilder {
             (AddsCondition And (Compare Lt (S.text field) (T.text value)) self.old) result }
         ensures memory { FailsOnlyByMemory result }
     {
-        release(self.hold_binary(Family::And, BinaryCondition::Lt, field, value))
+        release(self.hold_compare(Family::And, Relation::Lt, field, value))
     }
 
     /// Adds `field <= value`, in a group of its own.
@@ -135,7 +337,7 @@ impl SqlBuilder {
             (AddsCondition And (Compare Le (S.text field) (T.text value)) self.old) result }
         ensures memory { FailsOnlyByMemory result }
     {
-        release(self.hold_binary(Family::And, BinaryCondition::Le, field, value))
+        release(self.hold_compare(Family::And, Relation::Le, field, value))
     }
 
     /// Adds `field LIKE` the mask, as `quote` writes it, in a group of its own.
@@ -149,7 +351,7 @@ impl SqlBuilder {
             (AddsCondition And (Like false Plain (S.text field) (T.text mask)) self.old) result }
         ensures memory { FailsOnlyByMemory result }
     {
-        release(self.hold_binary(Family::And, BinaryCondition::Like, field, mask))
+        release(self.hold_like(Family::And, Percent::Plain, field, mask))
     }
 
     /// Adds `field LIKE` `%` and the mask, which `quote` writes together, in a group of its
@@ -164,7 +366,7 @@ impl SqlBuilder {
             (AddsCondition And (Like false Right (S.text field) (T.text mask)) self.old) result }
         ensures memory { FailsOnlyByMemory result }
     {
-        release(self.hold_binary(Family::And, BinaryCondition::LikeRight, field, mask))
+        release(self.hold_like(Family::And, Percent::Right, field, mask))
     }
 
     /// Adds `field LIKE` the mask and `%`, which `quote` writes together, in a group of its
@@ -179,7 +381,7 @@ impl SqlBuilder {
             (AddsCondition And (Like false Left (S.text field) (T.text mask)) self.old) result }
         ensures memory { FailsOnlyByMemory result }
     {
-        release(self.hold_binary(Family::And, BinaryCondition::LikeLeft, field, mask))
+        release(self.hold_like(Family::And, Percent::Left, field, mask))
     }
 
     /// Adds `field LIKE` `%`, the mask and `%`, which `quote` writes together, in a group of
@@ -194,7 +396,7 @@ impl SqlBuilder {
             (AddsCondition And (Like false Any (S.text field) (T.text mask)) self.old) result }
         ensures memory { FailsOnlyByMemory result }
     {
-        release(self.hold_binary(Family::And, BinaryCondition::LikeAny, field, mask))
+        release(self.hold_like(Family::And, Percent::Any, field, mask))
     }
 
     /// Adds `field NOT LIKE` the mask, as `quote` writes it, in a group of its own.
@@ -208,7 +410,7 @@ impl SqlBuilder {
             (AddsCondition And (Like true Plain (S.text field) (T.text mask)) self.old) result }
         ensures memory { FailsOnlyByMemory result }
     {
-        release(self.hold_binary(Family::And, BinaryCondition::NotLike, field, mask))
+        release(self.hold_not_like(Family::And, Percent::Plain, field, mask))
     }
 
     /// Adds `field NOT LIKE` `%` and the mask, which `quote` writes together, in a group of its
@@ -223,7 +425,7 @@ impl SqlBuilder {
             (AddsCondition And (Like true Right (S.text field) (T.text mask)) self.old) result }
         ensures memory { FailsOnlyByMemory result }
     {
-        release(self.hold_binary(Family::And, BinaryCondition::NotLikeRight, field, mask))
+        release(self.hold_not_like(Family::And, Percent::Right, field, mask))
     }
 
     /// Adds `field NOT LIKE` the mask and `%`, which `quote` writes together, in a group of its
@@ -238,7 +440,7 @@ impl SqlBuilder {
             (AddsCondition And (Like true Left (S.text field) (T.text mask)) self.old) result }
         ensures memory { FailsOnlyByMemory result }
     {
-        release(self.hold_binary(Family::And, BinaryCondition::NotLikeLeft, field, mask))
+        release(self.hold_not_like(Family::And, Percent::Left, field, mask))
     }
 
     /// Adds `field NOT LIKE` `%`, the mask and `%`, which `quote` writes together, in a group
@@ -253,7 +455,7 @@ impl SqlBuilder {
             (AddsCondition And (Like true Any (S.text field) (T.text mask)) self.old) result }
         ensures memory { FailsOnlyByMemory result }
     {
-        release(self.hold_binary(Family::And, BinaryCondition::NotLikeAny, field, mask))
+        release(self.hold_not_like(Family::And, Percent::Any, field, mask))
     }
 
     /// Adds `field IN (..)` of these values, in a group of its own.
@@ -268,7 +470,7 @@ impl SqlBuilder {
             (InList false (S.text field) (map T.text values.now)) self.old) result }
         ensures memory { FailsOnlyByMemory result }
     {
-        release(self.hold_among(Family::And, ListCondition::In, field, values))
+        release(self.hold_in_list(Family::And, Sense::Plain, field, values))
     }
 
     /// Adds `field IN (..)` of these values, each as `quote` writes it, in a group of its own.
@@ -283,7 +485,7 @@ impl SqlBuilder {
             (InQuoted false (S.text field) (map T.text values.now)) self.old) result }
         ensures memory { FailsOnlyByMemory result }
     {
-        release(self.hold_among(Family::And, ListCondition::InQuoted, field, values))
+        release(self.hold_in_quoted(Family::And, Sense::Plain, field, values))
     }
 
     /// Adds `field IN (query)`, in a group of its own.
@@ -297,7 +499,7 @@ impl SqlBuilder {
             (AddsCondition And (InQuery false (S.text field) (T.text query)) self.old) result }
         ensures memory { FailsOnlyByMemory result }
     {
-        release(self.hold_binary(Family::And, BinaryCondition::InQuery, field, query))
+        release(self.hold_in_query(Family::And, Sense::Plain, field, query))
     }
 
     /// Adds `field BETWEEN least AND greatest`, in a group of its own.
@@ -313,7 +515,7 @@ impl SqlBuilder {
             (Between false (S.text field) (T.text least) (U.text greatest)) self.old) result }
         ensures memory { FailsOnlyByMemory result }
     {
-        release(self.hold_range(Family::And, RangeCondition::Between, field, least, greatest))
+        release(self.hold_between(Family::And, Sense::Plain, field, least, greatest))
     }
 
     /// Adds `field NOT IN (..)` of these values, in a group of its own.
@@ -328,7 +530,7 @@ impl SqlBuilder {
             (InList true (S.text field) (map T.text values.now)) self.old) result }
         ensures memory { FailsOnlyByMemory result }
     {
-        release(self.hold_among(Family::And, ListCondition::NotIn, field, values))
+        release(self.hold_in_list(Family::And, Sense::Negated, field, values))
     }
 
     /// Adds `field NOT IN (..)` of these values, each as `quote` writes it, in a group of its
@@ -344,7 +546,7 @@ impl SqlBuilder {
             (InQuoted true (S.text field) (map T.text values.now)) self.old) result }
         ensures memory { FailsOnlyByMemory result }
     {
-        release(self.hold_among(Family::And, ListCondition::NotInQuoted, field, values))
+        release(self.hold_in_quoted(Family::And, Sense::Negated, field, values))
     }
 
     /// Adds `field NOT IN (query)`, in a group of its own.
@@ -358,7 +560,7 @@ impl SqlBuilder {
             (AddsCondition And (InQuery true (S.text field) (T.text query)) self.old) result }
         ensures memory { FailsOnlyByMemory result }
     {
-        release(self.hold_binary(Family::And, BinaryCondition::NotInQuery, field, query))
+        release(self.hold_in_query(Family::And, Sense::Negated, field, query))
     }
 
     /// Adds `field NOT BETWEEN least AND greatest`, in a group of its own.
@@ -374,13 +576,7 @@ impl SqlBuilder {
             (Between true (S.text field) (T.text least) (U.text greatest)) self.old) result }
         ensures memory { FailsOnlyByMemory result }
     {
-        release(self.hold_range(
-            Family::And,
-            RangeCondition::NotBetween,
-            field,
-            least,
-            greatest,
-        ))
+        release(self.hold_between(Family::And, Sense::Negated, field, least, greatest))
     }
 
     /// Adds the condition as it stands: joins the last group by OR, and opens one where there
@@ -391,7 +587,7 @@ impl SqlBuilder {
             (AddsCondition Or (Raw (S.text condition)) self.old) result }
         ensures memory { FailsOnlyByMemory result }
     {
-        release(self.hold_unary(Family::Or, UnaryCondition::Bare, condition))
+        release(self.hold_raw(Family::Or, condition))
     }
 
     /// Adds `field IS NULL`: joins the last group by OR, and opens one where there is none.
@@ -401,7 +597,7 @@ impl SqlBuilder {
             (AddsCondition Or (IsNull (S.text field)) self.old) result }
         ensures memory { FailsOnlyByMemory result }
     {
-        release(self.hold_unary(Family::Or, UnaryCondition::IsNull, field))
+        release(self.hold_is_null(Family::Or, field))
     }
 
     /// Adds `field IS NOT NULL`: joins the last group by OR, and opens one where there is none.
@@ -414,7 +610,7 @@ impl SqlBuilder {
             (AddsCondition Or (IsNotNull (S.text field)) self.old) result }
         ensures memory { FailsOnlyByMemory result }
     {
-        release(self.hold_unary(Family::Or, UnaryCondition::IsNotNull, field))
+        release(self.hold_is_not_null(Family::Or, field))
     }
 
     /// Adds `field = value`: joins the last group by OR, and opens one where there is none.
@@ -428,7 +624,7 @@ impl SqlBuilder {
             (AddsCondition Or (Compare Eq (S.text field) (T.text value)) self.old) result }
         ensures memory { FailsOnlyByMemory result }
     {
-        release(self.hold_binary(Family::Or, BinaryCondition::Eq, field, value))
+        release(self.hold_compare(Family::Or, Relation::Eq, field, value))
     }
 
     /// Adds `field <> value`: joins the last group by OR, and opens one where there is none.
@@ -442,7 +638,7 @@ impl SqlBuilder {
             (AddsCondition Or (Compare Ne (S.text field) (T.text value)) self.old) result }
         ensures memory { FailsOnlyByMemory result }
     {
-        release(self.hold_binary(Family::Or, BinaryCondition::Ne, field, value))
+        release(self.hold_compare(Family::Or, Relation::Ne, field, value))
     }
 
     /// Adds `field > value`: joins the last group by OR, and opens one where there is none.
@@ -456,7 +652,7 @@ impl SqlBuilder {
             (AddsCondition Or (Compare Gt (S.text field) (T.text value)) self.old) result }
         ensures memory { FailsOnlyByMemory result }
     {
-        release(self.hold_binary(Family::Or, BinaryCondition::Gt, field, value))
+        release(self.hold_compare(Family::Or, Relation::Gt, field, value))
     }
 
     /// Adds `field >= value`: joins the last group by OR, and opens one where there is none.
@@ -470,7 +666,7 @@ impl SqlBuilder {
             (AddsCondition Or (Compare Ge (S.text field) (T.text value)) self.old) result }
         ensures memory { FailsOnlyByMemory result }
     {
-        release(self.hold_binary(Family::Or, BinaryCondition::Ge, field, value))
+        release(self.hold_compare(Family::Or, Relation::Ge, field, value))
     }
 
     /// Adds `field < value`: joins the last group by OR, and opens one where there is none.
@@ -484,7 +680,7 @@ impl SqlBuilder {
             (AddsCondition Or (Compare Lt (S.text field) (T.text value)) self.old) result }
         ensures memory { FailsOnlyByMemory result }
     {
-        release(self.hold_binary(Family::Or, BinaryCondition::Lt, field, value))
+        release(self.hold_compare(Family::Or, Relation::Lt, field, value))
     }
 
     /// Adds `field <= value`: joins the last group by OR, and opens one where there is none.
@@ -498,7 +694,7 @@ impl SqlBuilder {
             (AddsCondition Or (Compare Le (S.text field) (T.text value)) self.old) result }
         ensures memory { FailsOnlyByMemory result }
     {
-        release(self.hold_binary(Family::Or, BinaryCondition::Le, field, value))
+        release(self.hold_compare(Family::Or, Relation::Le, field, value))
     }
 
     /// Adds `field LIKE` the mask, as `quote` writes it: joins the last group by OR, and opens
@@ -513,7 +709,7 @@ impl SqlBuilder {
             (AddsCondition Or (Like false Plain (S.text field) (T.text mask)) self.old) result }
         ensures memory { FailsOnlyByMemory result }
     {
-        release(self.hold_binary(Family::Or, BinaryCondition::Like, field, mask))
+        release(self.hold_like(Family::Or, Percent::Plain, field, mask))
     }
 
     /// Adds `field LIKE` `%` and the mask, which `quote` writes together: joins the last group
@@ -528,7 +724,7 @@ impl SqlBuilder {
             (AddsCondition Or (Like false Right (S.text field) (T.text mask)) self.old) result }
         ensures memory { FailsOnlyByMemory result }
     {
-        release(self.hold_binary(Family::Or, BinaryCondition::LikeRight, field, mask))
+        release(self.hold_like(Family::Or, Percent::Right, field, mask))
     }
 
     /// Adds `field LIKE` the mask and `%`, which `quote` writes together: joins the last group
@@ -543,7 +739,7 @@ impl SqlBuilder {
             (AddsCondition Or (Like false Left (S.text field) (T.text mask)) self.old) result }
         ensures memory { FailsOnlyByMemory result }
     {
-        release(self.hold_binary(Family::Or, BinaryCondition::LikeLeft, field, mask))
+        release(self.hold_like(Family::Or, Percent::Left, field, mask))
     }
 
     /// Adds `field LIKE` `%`, the mask and `%`, which `quote` writes together: joins the last
@@ -558,7 +754,7 @@ impl SqlBuilder {
             (AddsCondition Or (Like false Any (S.text field) (T.text mask)) self.old) result }
         ensures memory { FailsOnlyByMemory result }
     {
-        release(self.hold_binary(Family::Or, BinaryCondition::LikeAny, field, mask))
+        release(self.hold_like(Family::Or, Percent::Any, field, mask))
     }
 
     /// Adds `field NOT LIKE` the mask, as `quote` writes it: joins the last group by OR, and
@@ -573,7 +769,7 @@ impl SqlBuilder {
             (AddsCondition Or (Like true Plain (S.text field) (T.text mask)) self.old) result }
         ensures memory { FailsOnlyByMemory result }
     {
-        release(self.hold_binary(Family::Or, BinaryCondition::NotLike, field, mask))
+        release(self.hold_not_like(Family::Or, Percent::Plain, field, mask))
     }
 
     /// Adds `field NOT LIKE` `%` and the mask, which `quote` writes together: joins the last
@@ -588,7 +784,7 @@ impl SqlBuilder {
             (AddsCondition Or (Like true Right (S.text field) (T.text mask)) self.old) result }
         ensures memory { FailsOnlyByMemory result }
     {
-        release(self.hold_binary(Family::Or, BinaryCondition::NotLikeRight, field, mask))
+        release(self.hold_not_like(Family::Or, Percent::Right, field, mask))
     }
 
     /// Adds `field NOT LIKE` the mask and `%`, which `quote` writes together: joins the last
@@ -603,7 +799,7 @@ impl SqlBuilder {
             (AddsCondition Or (Like true Left (S.text field) (T.text mask)) self.old) result }
         ensures memory { FailsOnlyByMemory result }
     {
-        release(self.hold_binary(Family::Or, BinaryCondition::NotLikeLeft, field, mask))
+        release(self.hold_not_like(Family::Or, Percent::Left, field, mask))
     }
 
     /// Adds `field NOT LIKE` `%`, the mask and `%`, which `quote` writes together: joins the
@@ -618,7 +814,7 @@ impl SqlBuilder {
             (AddsCondition Or (Like true Any (S.text field) (T.text mask)) self.old) result }
         ensures memory { FailsOnlyByMemory result }
     {
-        release(self.hold_binary(Family::Or, BinaryCondition::NotLikeAny, field, mask))
+        release(self.hold_not_like(Family::Or, Percent::Any, field, mask))
     }
 
     /// Adds `field IN (..)` of these values: joins the last group by OR, and opens one where
@@ -634,7 +830,7 @@ impl SqlBuilder {
             (InList false (S.text field) (map T.text values.now)) self.old) result }
         ensures memory { FailsOnlyByMemory result }
     {
-        release(self.hold_among(Family::Or, ListCondition::In, field, values))
+        release(self.hold_in_list(Family::Or, Sense::Plain, field, values))
     }
 
     /// Adds `field IN (..)` of these values, each as `quote` writes it: joins the last group by
@@ -650,7 +846,7 @@ impl SqlBuilder {
             (InQuoted false (S.text field) (map T.text values.now)) self.old) result }
         ensures memory { FailsOnlyByMemory result }
     {
-        release(self.hold_among(Family::Or, ListCondition::InQuoted, field, values))
+        release(self.hold_in_quoted(Family::Or, Sense::Plain, field, values))
     }
 
     /// Adds `field IN (query)`: joins the last group by OR, and opens one where there is none.
@@ -664,7 +860,7 @@ impl SqlBuilder {
             (AddsCondition Or (InQuery false (S.text field) (T.text query)) self.old) result }
         ensures memory { FailsOnlyByMemory result }
     {
-        release(self.hold_binary(Family::Or, BinaryCondition::InQuery, field, query))
+        release(self.hold_in_query(Family::Or, Sense::Plain, field, query))
     }
 
     /// Adds `field BETWEEN least AND greatest`: joins the last group by OR, and opens one where
@@ -681,7 +877,7 @@ impl SqlBuilder {
             (Between false (S.text field) (T.text least) (U.text greatest)) self.old) result }
         ensures memory { FailsOnlyByMemory result }
     {
-        release(self.hold_range(Family::Or, RangeCondition::Between, field, least, greatest))
+        release(self.hold_between(Family::Or, Sense::Plain, field, least, greatest))
     }
 
     /// Adds `field NOT IN (..)` of these values: joins the last group by OR, and opens one
@@ -697,7 +893,7 @@ impl SqlBuilder {
             (InList true (S.text field) (map T.text values.now)) self.old) result }
         ensures memory { FailsOnlyByMemory result }
     {
-        release(self.hold_among(Family::Or, ListCondition::NotIn, field, values))
+        release(self.hold_in_list(Family::Or, Sense::Negated, field, values))
     }
 
     /// Adds `field NOT IN (..)` of these values, each as `quote` writes it: joins the last
@@ -713,7 +909,7 @@ impl SqlBuilder {
             (InQuoted true (S.text field) (map T.text values.now)) self.old) result }
         ensures memory { FailsOnlyByMemory result }
     {
-        release(self.hold_among(Family::Or, ListCondition::NotInQuoted, field, values))
+        release(self.hold_in_quoted(Family::Or, Sense::Negated, field, values))
     }
 
     /// Adds `field NOT IN (query)`: joins the last group by OR, and opens one where there is
@@ -728,7 +924,7 @@ impl SqlBuilder {
             (AddsCondition Or (InQuery true (S.text field) (T.text query)) self.old) result }
         ensures memory { FailsOnlyByMemory result }
     {
-        release(self.hold_binary(Family::Or, BinaryCondition::NotInQuery, field, query))
+        release(self.hold_in_query(Family::Or, Sense::Negated, field, query))
     }
 
     /// Adds `field NOT BETWEEN least AND greatest`: joins the last group by OR, and opens one
@@ -745,12 +941,6 @@ impl SqlBuilder {
             (Between true (S.text field) (T.text least) (U.text greatest)) self.old) result }
         ensures memory { FailsOnlyByMemory result }
     {
-        release(self.hold_range(
-            Family::Or,
-            RangeCondition::NotBetween,
-            field,
-            least,
-            greatest,
-        ))
+        release(self.hold_between(Family::Or, Sense::Negated, field, least, greatest))
     }
 }

@@ -1,19 +1,92 @@
-//! The texts of conditions.
+//! What a condition says, and its text.
 ghost use Rattle.std.specs.Prelude.{◌≡◌, ◌++◌, codes, flat_map, map, string_bytes, IfOk, OnOk};
 ghost use Rattle.sql_parts.specs.Error.{FailsOnlyByMemory};
 ghost use Rattle.sql_parts.specs.Quoting.{quoted};
-ghost use Rattle.sql_builder.specs.Builder.{condition_bytes};
-ghost use Rattle.sql_builder.specs.Steps.{binary_condition, list_condition, range_condition, unary_condition};
-ghost use Rattle.sql_builder.specs.Conditions.{Between, InList, InQuery, InQuoted, Like, is_behind, is_in_front, mask_text, not_text};
+ghost use Rattle.sql_builder.specs.Condition.{Between, Compare, InList, InQuery, InQuoted, IsNotNull, IsNull, Like, condition_bytes, condition_view, is_behind, is_in_front, mask_text, not_text, relation_text};
 ghost use Rattle.sql_builder.specs.Layout.{byte_atoms};
 ghost use Rattle.sql_builder.specs.Phrases.{comma_list};
 
-use crate::calls::{Percent, Relation};
-use crate::phrases::{comparison, push_items, push_quoted};
-use crate::steps::{BinaryCondition, ListCondition, RangeCondition, UnaryCondition};
+use crate::phrases::{infix, push_items, push_quoted};
 use sql_parts::text::Quotes;
 use sql_parts::{SqlBuilderError, ToText};
 use std::alloc::Global;
+
+/// Which family a condition's call belongs to.
+#[derive(Clone, Copy)]
+pub enum Family {
+    /// The condition opens a group of its own.
+    And,
+    /// The condition joins the last group, and opens one only where there is none.
+    Or,
+}
+
+/// How two texts are compared.
+#[derive(Clone, Copy)]
+pub enum Relation {
+    /// Equal.
+    Eq,
+    /// Not equal.
+    Ne,
+    /// Greater than.
+    Gt,
+    /// Greater than or equal.
+    Ge,
+    /// Less than.
+    Lt,
+    /// Less than or equal.
+    Le,
+}
+
+/// Where percent signs stand beside a mask of LIKE.
+#[derive(Clone, Copy)]
+pub enum Percent {
+    /// Nowhere.
+    Plain,
+    /// In front of the mask, which the text so matches at its right end.
+    Right,
+    /// Behind the mask, which the text so matches at its left end.
+    Left,
+    /// On both sides.
+    Any,
+}
+
+/// A condition. A truth value says whether it is the NOT form.
+#[derive(Drop)]
+pub enum Condition {
+    /// A condition as it stands.
+    Raw(String),
+    /// A field compared with a value.
+    Compare(Relation, String, String),
+    /// A field that is like a mask, which is quoted with its percent signs.
+    Like(bool, Percent, String, String),
+    /// A field that is NULL.
+    IsNull(String),
+    /// A field that is not NULL.
+    IsNotNull(String),
+    /// A field that is one of a list of values.
+    InList(bool, String, Vec<String>),
+    /// A field that is one of a list of values, each of which is quoted.
+    InQuoted(bool, String, Vec<String>),
+    /// A field that is one of what a query gives.
+    InQuery(bool, String, String),
+    /// A field between a least and a greatest value.
+    Between(bool, String, String, String),
+}
+
+impl Relation {
+    fn sign(self) -> &'static str
+        ensures { result.now ≡ relation_text self }
+    {
+        match self {
+            Relation::Eq => " = ",
+            Relation::Ne => " <> ",
+            Relation::Gt => " > ",
+            Relation::Ge => " >= ",
+            Relation::Lt => " < ",
+            Relation::Le => " <= ",
+        }
+    }
+}
 
 impl Percent {
     fn is_in_front(self) -> bool
@@ -26,6 +99,35 @@ impl Percent {
         ensures { result ≡ is_behind self }
     {
         matches!(self, Percent::Left | Percent::Any)
+    }
+}
+
+impl Condition {
+    /// The condition's text.
+    pub(crate) fn to_text(&self, alloc: Global) -> Result<String, SqlBuilderError>
+        ensures made { IfOk result (λ s. string_bytes s
+            ≡ condition_bytes (condition_view self.now)) }
+        ensures memory { FailsOnlyByMemory result }
+    {
+        match self {
+            Condition::Raw(condition) => condition.to_text(alloc),
+            Condition::Compare(relation, field, value) => compare(alloc, *relation, field, value),
+            Condition::Like(negated, percent, field, mask) => {
+                like(alloc, *negated, *percent, field, mask)
+            }
+            Condition::IsNull(field) => is_null(alloc, field),
+            Condition::IsNotNull(field) => is_not_null(alloc, field),
+            Condition::InList(negated, field, values) => {
+                in_list(alloc, *negated, field, values.as_slice())
+            }
+            Condition::InQuoted(negated, field, values) => {
+                in_quoted(alloc, *negated, field, values.as_slice())
+            }
+            Condition::InQuery(negated, field, query) => in_query(alloc, *negated, field, query),
+            Condition::Between(negated, field, least, greatest) => {
+                between(alloc, *negated, field, least, greatest)
+            }
+        }
     }
 }
 
@@ -46,6 +148,37 @@ fn field_and_words<S: ToText>(
     }
     text.push_str(words)?;
     Ok(text)
+}
+
+/// A field compared with a value.
+pub(crate) fn compare<S: ToText, T: ToText>(
+    alloc: Global,
+    relation: Relation,
+    field: S,
+    value: T,
+) -> Result<String, SqlBuilderError>
+    ensures made { IfOk result (λ s. string_bytes s
+        ≡ condition_bytes (Compare relation (S.text field) (T.text value))) }
+    ensures memory { FailsOnlyByMemory result }
+{
+    infix(alloc, field, relation.sign(), value)
+}
+
+/// A field that is NULL.
+pub(crate) fn is_null<S: ToText>(alloc: Global, field: S) -> Result<String, SqlBuilderError>
+    ensures made { IfOk result (λ s. string_bytes s ≡ condition_bytes (IsNull (S.text field))) }
+    ensures memory { FailsOnlyByMemory result }
+{
+    field_and_words(alloc, false, field, " IS NULL")
+}
+
+/// A field that is not NULL.
+pub(crate) fn is_not_null<S: ToText>(alloc: Global, field: S) -> Result<String, SqlBuilderError>
+    ensures made { IfOk result (λ s. string_bytes s
+        ≡ condition_bytes (IsNotNull (S.text field))) }
+    ensures memory { FailsOnlyByMemory result }
+{
+    field_and_words(alloc, false, field, " IS NOT NULL")
 }
 
 // A mask with its percent signs, between single quotes.
@@ -184,89 +317,4 @@ pub(crate) fn between<S: ToText, T: ToText, U: ToText>(
     text.push_str(" AND ")?;
     greatest.push_to(alloc, &mut text)?;
     Ok(text)
-}
-
-/// A condition with one text.
-pub(crate) fn unary<S: ToText>(
-    alloc: Global,
-    condition: UnaryCondition,
-    text: S,
-) -> Result<String, SqlBuilderError>
-    ensures made { IfOk result (λ s. string_bytes s
-        ≡ condition_bytes (unary_condition condition (S.text text))) }
-    ensures memory { FailsOnlyByMemory result }
-{
-    match condition {
-        UnaryCondition::Bare => text.to_text(alloc),
-        UnaryCondition::IsNull => field_and_words(alloc, false, text, " IS NULL"),
-        UnaryCondition::IsNotNull => field_and_words(alloc, false, text, " IS NOT NULL"),
-    }
-}
-
-/// A condition with two texts.
-pub(crate) fn binary<S: ToText, T: ToText>(
-    alloc: Global,
-    condition: BinaryCondition,
-    field: S,
-    value: T,
-) -> Result<String, SqlBuilderError>
-    ensures made { IfOk result (λ s. string_bytes s
-        ≡ condition_bytes (binary_condition condition (S.text field) (T.text value))) }
-    ensures memory { FailsOnlyByMemory result }
-{
-    match condition {
-        BinaryCondition::Eq => comparison(alloc, Relation::Eq, field, value),
-        BinaryCondition::Ne => comparison(alloc, Relation::Ne, field, value),
-        BinaryCondition::Gt => comparison(alloc, Relation::Gt, field, value),
-        BinaryCondition::Ge => comparison(alloc, Relation::Ge, field, value),
-        BinaryCondition::Lt => comparison(alloc, Relation::Lt, field, value),
-        BinaryCondition::Le => comparison(alloc, Relation::Le, field, value),
-        BinaryCondition::Like => like(alloc, false, Percent::Plain, field, value),
-        BinaryCondition::LikeRight => like(alloc, false, Percent::Right, field, value),
-        BinaryCondition::LikeLeft => like(alloc, false, Percent::Left, field, value),
-        BinaryCondition::LikeAny => like(alloc, false, Percent::Any, field, value),
-        BinaryCondition::NotLike => like(alloc, true, Percent::Plain, field, value),
-        BinaryCondition::NotLikeRight => like(alloc, true, Percent::Right, field, value),
-        BinaryCondition::NotLikeLeft => like(alloc, true, Percent::Left, field, value),
-        BinaryCondition::NotLikeAny => like(alloc, true, Percent::Any, field, value),
-        BinaryCondition::InQuery => in_query(alloc, false, field, value),
-        BinaryCondition::NotInQuery => in_query(alloc, true, field, value),
-    }
-}
-
-/// A condition with a text and a list of texts.
-pub(crate) fn among<S: ToText, T: ToText>(
-    alloc: Global,
-    condition: ListCondition,
-    field: S,
-    values: &[T],
-) -> Result<String, SqlBuilderError>
-    ensures made { IfOk result (λ s. string_bytes s
-        ≡ condition_bytes (list_condition condition (S.text field) (map T.text values.now))) }
-    ensures memory { FailsOnlyByMemory result }
-{
-    match condition {
-        ListCondition::In => in_list(alloc, false, field, values),
-        ListCondition::InQuoted => in_quoted(alloc, false, field, values),
-        ListCondition::NotIn => in_list(alloc, true, field, values),
-        ListCondition::NotInQuoted => in_quoted(alloc, true, field, values),
-    }
-}
-
-/// A condition with three texts.
-pub(crate) fn range<S: ToText, T: ToText, U: ToText>(
-    alloc: Global,
-    condition: RangeCondition,
-    field: S,
-    least: T,
-    greatest: U,
-) -> Result<String, SqlBuilderError>
-    ensures made { IfOk result (λ s. string_bytes s ≡ condition_bytes
-        (range_condition condition (S.text field) (T.text least) (U.text greatest))) }
-    ensures memory { FailsOnlyByMemory result }
-{
-    match condition {
-        RangeCondition::Between => between(alloc, false, field, least, greatest),
-        RangeCondition::NotBetween => between(alloc, true, field, least, greatest),
-    }
 }

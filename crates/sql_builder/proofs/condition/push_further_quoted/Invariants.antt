@@ -1,6 +1,6 @@
 use Rattle.std.proofs.Common.{◌≡◌, ◌++◌, codes, flat_map, map, string_bytes, take}
 use Rattle.sql_parts.specs.Quoting.{quoted}
-use Rattle.sql_builder.proofs.condition_texts.push_further_quoted.Given as goal
+use Rattle.sql_builder.proofs.condition.push_further_quoted.Given as goal
 
 abbrev pub invariant-loop-item : goal.invariant-loop-item
 invariant-loop-item g l =

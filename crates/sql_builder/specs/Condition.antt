@@ -1,0 +1,137 @@
+-- A condition of WHERE: what it says, what it prints, and what is asked of its texts.
+use Rattle.std.specs.Prelude.{ℕ, List, [], ◌∷◌, ◌++◌, Bool, true, false, ◌&&◌, codes, map, string_bytes}
+use Rattle.std.specs.List.{list_all}
+use Rattle.sql_parts.specs.Fragments.{balanced, operand}
+use Rattle.sql_parts.specs.Quoting.{quoted}
+use Rattle.sql_parts.specs.Text.{texts}
+use Rattle.sql_builder.specs.Handed.{Handed, Bare, Enclosed}
+use Rattle.sql_builder.specs.Layout.{byte_atoms}
+use Rattle.sql_builder.specs.Phrases.{comma_list}
+use Rattle.sql_builder.specs.Text.{Pieces, fixed_piece, quoted_piece, raw_piece}
+use Rattle.sql_builder.specs.declared.condition.Condition.{Condition}
+use Rattle.sql_builder.specs.declared.condition.Condition.TheVariants as condition
+use Rattle.sql_builder.specs.declared.condition.Percent.{Percent}
+use Rattle.sql_builder.specs.declared.condition.Percent.TheVariants.{Plain, Right, Left, Any}
+use Rattle.sql_builder.specs.declared.condition.Relation.{Relation}
+use Rattle.sql_builder.specs.declared.condition.Relation.TheVariants.{Eq, Ne, Gt, Ge, Lt, Le}
+
+-- A condition, each text as its bytes; a truth value says whether it is the NOT form.
+pub data ConditionText : Type 0 where
+  Raw : List ℕ → ConditionText
+  Compare : Relation → List ℕ → List ℕ → ConditionText
+  Like : Bool → Percent → List ℕ → List ℕ → ConditionText
+  IsNull : List ℕ → ConditionText
+  IsNotNull : List ℕ → ConditionText
+  InList : Bool → List ℕ → List (List ℕ) → ConditionText
+  InQuoted : Bool → List ℕ → List (List ℕ) → ConditionText
+  InQuery : Bool → List ℕ → List ℕ → ConditionText
+  Between : Bool → List ℕ → List ℕ → List ℕ → ConditionText
+
+-- a condition, its texts as bytes
+abbrev pub condition_view : Condition → ConditionText
+condition_view (condition.Raw t) = Raw (string_bytes t)
+condition_view (condition.Compare relation field value) =
+    Compare relation (string_bytes field) (string_bytes value)
+condition_view (condition.Like negated percent field mask) =
+    Like negated percent (string_bytes field) (string_bytes mask)
+condition_view (condition.IsNull field) = IsNull (string_bytes field)
+condition_view (condition.IsNotNull field) = IsNotNull (string_bytes field)
+condition_view (condition.InList negated field values) =
+    InList negated (string_bytes field) (texts values.items)
+condition_view (condition.InQuoted negated field values) =
+    InQuoted negated (string_bytes field) (texts values.items)
+condition_view (condition.InQuery negated field query) =
+    InQuery negated (string_bytes field) (string_bytes query)
+condition_view (condition.Between negated field least greatest) =
+    Between negated (string_bytes field) (string_bytes least) (string_bytes greatest)
+
+-- the sign of a comparison, with its blanks
+abbrev pub relation_text : Relation → List ℕ
+relation_text Eq = codes " = "
+relation_text Ne = codes " <> "
+relation_text Gt = codes " > "
+relation_text Ge = codes " >= "
+relation_text Lt = codes " < "
+relation_text Le = codes " <= "
+
+-- whether a percent sign stands in front of the mask
+abbrev pub is_in_front : Percent → Bool
+is_in_front Plain = false
+is_in_front Right = true
+is_in_front Left = false
+is_in_front Any = true
+
+-- whether a percent sign stands behind the mask
+abbrev pub is_behind : Percent → Bool
+is_behind Plain = false
+is_behind Right = false
+is_behind Left = true
+is_behind Any = true
+
+-- a percent sign, if there is one
+abbrev pub percent_sign : Bool → List ℕ
+percent_sign true = codes "%"
+percent_sign false = []
+
+-- the mask with its percent signs
+abbrev pub mask_text : Percent → List ℕ → List ℕ
+mask_text percent mask = percent_sign (is_in_front percent) ++ (mask ++ percent_sign (is_behind percent))
+
+-- NOT, in the NOT form
+abbrev pub not_text : Bool → List ℕ
+not_text true = codes " NOT"
+not_text false = []
+
+-- `word` gives the atoms of a text of the product's own, `raw` of one that is handed in, `quoted` of one between quotes
+module _ {A : Type 0} (word raw quoted : List ℕ → List A) where
+  -- what a condition prints
+  abbrev pub condition_layout : ConditionText → List A
+  condition_layout (Raw condition) = raw condition
+  condition_layout (Compare relation field value) = raw field ++ (word (relation_text relation) ++ raw value)
+  condition_layout (Like negated percent field mask) =
+      raw field ++ (word (not_text negated ++ codes " LIKE ") ++ quoted (mask_text percent mask))
+  condition_layout (IsNull field) = raw field ++ word (codes " IS NULL")
+  condition_layout (IsNotNull field) = raw field ++ word (codes " IS NOT NULL")
+  condition_layout (InList negated field values) =
+      raw field ++ (word (not_text negated ++ codes " IN (")
+      ++ (comma_list word (map raw values) ++ word (codes ")")))
+  condition_layout (InQuoted negated field values) =
+      raw field ++ (word (not_text negated ++ codes " IN (")
+      ++ (comma_list word (map quoted values) ++ word (codes ")")))
+  condition_layout (InQuery negated field query) =
+      raw field ++ (word (not_text negated ++ codes " IN (") ++ (raw query ++ word (codes ")")))
+  condition_layout (Between negated field least greatest) =
+      raw field ++ (word (not_text negated ++ codes " BETWEEN ")
+      ++ (raw least ++ (word (codes " AND ") ++ raw greatest)))
+
+-- a condition's text
+abbrev pub condition_bytes : ConditionText → List ℕ
+condition_bytes condition = condition_layout byte_atoms byte_atoms quoted condition
+
+-- a condition's pieces
+abbrev pub condition_pieces : ConditionText → Pieces
+condition_pieces condition = condition_layout fixed_piece raw_piece quoted_piece condition
+
+-- the texts of a condition are operands; of IN the field is, and what stands in the brackets is balanced
+abbrev pub has_operands : ConditionText → Bool
+has_operands (Raw condition) = false
+has_operands (Compare relation field value) = operand field && operand value
+has_operands (Like negated percent field mask) = operand field
+has_operands (IsNull field) = operand field
+has_operands (IsNotNull field) = operand field
+has_operands (InList negated field values) = operand field && list_all balanced values
+has_operands (InQuoted negated field values) = operand field
+has_operands (InQuery negated field query) = operand field && balanced query
+has_operands (Between negated field least greatest) = operand field && (operand least && operand greatest)
+
+-- the texts that a condition is handed
+abbrev pub condition_handed : ConditionText → List Handed
+condition_handed (Raw condition) = Bare condition ∷ []
+condition_handed (Compare relation field value) = Bare field ∷ Bare value ∷ []
+condition_handed (Like negated percent field mask) = Bare field ∷ []
+condition_handed (IsNull field) = Bare field ∷ []
+condition_handed (IsNotNull field) = Bare field ∷ []
+condition_handed (InList negated field values) = Bare field ∷ map Enclosed values
+condition_handed (InQuoted negated field values) = Bare field ∷ []
+condition_handed (InQuery negated field query) = Bare field ∷ Enclosed query ∷ []
+condition_handed (Between negated field least greatest) = Bare field ∷ Bare least ∷ Bare greatest ∷ []

@@ -1,0 +1,14 @@
+-- The texts that calls are handed, by where they are printed.
+use Rattle.std.specs.Prelude.{ℕ, List, Bool, not, ◌&&◌}
+use Rattle.sql_parts.specs.Fragments.{balanced, has_clause_word}
+
+-- A text that is handed in to be printed as it stands: bare, or where outer clause words change nothing, which is between
+-- brackets of the builder's own, and behind UNION.
+pub data Handed : Type 0 where
+  Bare : List ℕ → Handed
+  Enclosed : List ℕ → Handed
+
+-- it is balanced, and has no outer clause word if it is bare
+abbrev pub is_fit : Handed → Bool
+is_fit (Bare text) = balanced text && not (has_clause_word text)
+is_fit (Enclosed text) = balanced text
