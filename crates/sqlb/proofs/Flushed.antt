@@ -1,5 +1,5 @@
 -- A buffered writer that is flushed.
-use Rattle.std.proofs.Common.{◌≡◌, List, ℕ, Bool, true, false, [], ◌++◌, refl, ap, subst, sym, ◌∙◌}
+use Rattle.std.proofs.Common.{◌≡◌, List, ℕ, false, [], ◌++◌, refl, ap, subst, sym, ◌∙◌}
 use Rattle.std.specs.declared.io.buffered.BufWriter.{BufWriter}
 use Rattle.std.specs.Io.Buffered.{writer_buffer, writer_contents, writer_inner}
 use Rattle.std.specs.Io.KnownBytes.{Appends, append_known}

@@ -3,6 +3,7 @@ pub mod Flushed
 pub mod LineFeeds
 pub mod LineTexts
 pub mod Pieces
+pub mod Prefixes
 pub mod Reasons
 pub mod References
 pub mod Rows

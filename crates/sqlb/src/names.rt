@@ -1,6 +1,7 @@
 //! The names that a line may begin with.
 ghost use Rattle.std.specs.Prelude.{◌≡◌};
-ghost use Rattle.sqlb.specs.Names.{condition_call, meaning_of};
+ghost use Rattle.sqlb.specs.Names.{calls, condition_call, meaning_of};
+ghost use Rattle.sqlb.specs.Tables.{found_in};
 
 use crate::endings::Ending;
 use crate::tables::find_in;
@@ -145,14 +146,22 @@ fn condition_call(family: Family, prefix: &str, name: &str) -> Option<Meaning>
     Some(Meaning::Where(family, Ending::of(ending)?))
 }
 
+// Another call.
+#[tactic(auto, unfolding(crate::specs::Names::calls))]
+fn other_call(name: &str) -> Option<Meaning>
+    ensures { result ≡ found_in calls name.now }
+{
+    find_in(&CALLS, name)
+}
+
 impl Meaning {
     /// What the name stands for, if it is known. Names are compared exactly.
-    #[tactic(auto, unfolding(crate::specs::Names::meaning_of, crate::specs::Names::calls))]
+    #[tactic(auto, unfolding(crate::specs::Names::meaning_of))]
     pub(crate) fn of(name: &str) -> Option<Meaning>
         ensures meaning { result ≡ meaning_of name.now }
     {
         condition_call(Family::And, "and_where", name)
             .or_else(|| condition_call(Family::Or, "or_where", name))
-            .or_else(|| find_in(&CALLS, name))
+            .or_else(|| other_call(name))
     }
 }
