@@ -2,7 +2,7 @@
 use Rattle.std.proofs.Common.{◌≡◌, ◌≢◌, ℕ, ◌+◌, ◌<◌, ◌≤◌, Bool, List, [], ◌∷◌, ◌++◌, Option, None, Some, length, get_or, take, map, flat_map, codes, String, refl, ap, sym, ◌∙◌, append_assoc, arith}
 use Rattle.std.specs.Prelude.{nat_eq, ◌&&◌}
 use Rattle.std.proofs.lemmas.Bool.Decides.{nat_tests}
-use Rattle.std.proofs.lemmas.List.{take_more, map-append, append-nil, length-map}
+use Rattle.std.proofs.lemmas.List.{take_more, map-append, append-nil}
 use Rattle.std.proofs.lemmas.Grind.{flat_map-append}
 use Rattle.sql_builder.specs.Builder.{ClauseTexts}
 use Rattle.sql_parts.specs.Text.{texts}
@@ -27,7 +27,8 @@ bracketed [] = refl
 bracketed (g ∷ gs) =
     ap (◌++◌ (codes ") AND (")) (append_assoc g _ _ ∙ ap (◌++◌ g) (bracketed gs) ∙ sym (append_assoc g _ _))
 
-several : (gs : List (List ℕ)) → 2 ≤ length gs
+-- several groups, with the brackets of two neighbours written at once
+pub several : (gs : List (List ℕ)) → 2 ≤ length gs
     → concat_sections byte_atoms (where_sections byte_atoms gs)
     ≡ codes " WHERE (" ++ (join_with (codes ") AND (") gs ++ codes ")")
 several [] h = absurd (omega arith)
@@ -37,12 +38,6 @@ several (g ∷ k ∷ gs) h =
     (append-nil _ ∙ append_assoc g _ _ ∙ ap (◌++◌ g) (sym (bracketed (k ∷ gs))) ∙ sym (append_assoc g _ _))
 
 module _ {Z : Type 0} where
-  -- several groups, with the brackets of two neighbours written at once
-  pub several_groups : (gs : List (String Z)) → 2 ≤ length gs
-      → concat_sections byte_atoms (where_sections byte_atoms (texts gs))
-      ≡ codes " WHERE (" ++ (join_with (codes ") AND (") (texts gs) ++ codes ")")
-  several_groups gs h = several (texts gs) (rw length-map h)
-
   -- GROUP BY of some fields
   pub some_group_fields : (ts : List (String Z)) (having : Option (List ℕ)) → length ts ≢ 0
       → concat_sections byte_atoms (group_by_sections byte_atoms (texts ts) having)

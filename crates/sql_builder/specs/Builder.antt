@@ -1,5 +1,5 @@
 -- What a call makes of a builder's clauses, each text as its bytes.
-use Rattle.std.specs.Prelude.{ℕ, List, [], ◌∷◌, ◌++◌, None, Some, Bool, true, false, codes, flat_map, String, string_bytes}
+use Rattle.std.specs.Prelude.{ℕ, List, [], ◌∷◌, ◌++◌, None, Some, Bool, true, false, codes, flat_map, map, String, string_bytes}
 use Rattle.sql_parts.specs.Error.{IsMemory}
 use Rattle.sql_parts.specs.declared.error.SqlBuilderError.{SqlBuilderError}
 use Rattle.sql_builder.specs.Calls as call
@@ -11,6 +11,9 @@ use Rattle.sql_parts.specs.Text.{texts}
 use Rattle.sql_builder.specs.declared.condition.Family.{Family}
 use Rattle.sql_builder.specs.declared.condition.Family.TheVariants.{And, Or}
 use Rattle.sql_builder.specs.Condition.{ConditionText, condition_bytes}
+use Rattle.sql_builder.specs.Filters.{cut}
+use Rattle.sql_parts.specs.Text.{join_with}
+use Rattle.sql_builder.specs.declared.clauses.GroupedCondition.{GroupedCondition}
 use Rattle.sql_builder.specs.declared.clauses.Join.{Join}
 use Rattle.sql_builder.specs.declared.clauses.JoinOperator.{JoinOperator}
 use Rattle.sql_builder.specs.declared.clauses.Union.{Union}
@@ -28,6 +31,16 @@ join_text j =
 -- a query that UNION adds, and whether it is of all rows
 abbrev pub union_text : Union → Bool × List ℕ
 union_text union = (union.all, string_bytes union.query)
+
+-- a condition, and whether it opens a group
+abbrev pub condition_in_group : GroupedCondition → Bool × List ℕ
+condition_in_group condition = (condition.opens_group, string_bytes condition.text)
+
+-- the texts of the groups: the conditions are cut before each that opens a group, and those of a group joined by OR
+abbrev pub group_texts : List GroupedCondition → List (List ℕ)
+group_texts conditions =
+    map (λ group. join_with (codes " OR ") (map (λ c. c.1) (group.0 ∷ group.1)))
+    (cut (λ c. c.0) (map condition_in_group conditions))
 
 -- the table text, with the further tables behind it
 abbrev pub table_text : {Z : Type 0} → String Z → List (String Z) → List ℕ

@@ -6,7 +6,9 @@ ghost use Rattle.sql_parts.specs.Text.{texts};
 ghost use Rattle.sql_builder.specs.Calls.{SelectFrom, SelectValues, InsertInto, UpdateTable, DeleteFrom};
 ghost use Rattle.sql_builder.specs.Clauses.{new_clauses};
 
-use crate::clauses::{Join, JoinOperator, Kind, Union, copy_joins, copy_unions};
+use crate::clauses::{
+    GroupedCondition, Join, JoinOperator, Kind, Union, copy_conditions, copy_joins, copy_unions,
+};
 use sql_parts::text::{copies, copy};
 use sql_parts::{SqlBuilderError, ToText};
 use std::alloc::Global;
@@ -33,8 +35,7 @@ pub struct SqlBuilder {
     pub(crate) returning: Option<String>,
     pub(crate) group_fields: Vec<String>,
     pub(crate) having: Option<String>,
-    // The conditions that WHERE joins by AND, a text for each group.
-    pub(crate) groups: Vec<String>,
+    pub(crate) conditions: Vec<GroupedCondition>,
     pub(crate) unions: Vec<Union>,
     pub(crate) order_fields: Vec<String>,
     pub(crate) limit: Option<String>,
@@ -43,7 +44,7 @@ pub struct SqlBuilder {
 
 impl Model for SqlBuilder {
     ghost use Rattle.std.specs.Prelude.{List, ℕ, map};
-    ghost use Rattle.sql_builder.specs.Builder.{join_text, table_text, union_text};
+    ghost use Rattle.sql_builder.specs.Builder.{group_texts, join_text, table_text, union_text};
     ghost use Rattle.sql_parts.specs.Text.{optional_text, texts};
     ghost use Rattle.sql_builder.specs.Clauses.{Clauses};
 
@@ -63,7 +64,7 @@ impl Model for SqlBuilder {
       returning = optional_text b.returning;
       group_fields = texts b.group_fields.items;
       having = optional_text b.having;
-      groups = texts b.groups.items;
+      groups = group_texts b.conditions.items;
       unions = map union_text b.unions.items;
       order_fields = texts b.order_fields.items;
       limit = optional_text b.limit;
@@ -91,7 +92,7 @@ impl SqlBuilder {
             returning: None,
             group_fields: Vec::new(alloc),
             having: None,
-            groups: Vec::new(alloc),
+            conditions: Vec::new(alloc),
             unions: Vec::new(alloc),
             order_fields: Vec::new(alloc),
             limit: None,
@@ -179,7 +180,7 @@ impl SqlBuilder {
             returning: copy(alloc, &self.returning)?,
             group_fields: copies(alloc, &self.group_fields)?,
             having: copy(alloc, &self.having)?,
-            groups: copies(alloc, &self.groups)?,
+            conditions: copy_conditions(alloc, &self.conditions)?,
             unions: copy_unions(alloc, &self.unions)?,
             order_fields: copies(alloc, &self.order_fields)?,
             limit: copy(alloc, &self.limit)?,

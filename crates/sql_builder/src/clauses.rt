@@ -1,7 +1,7 @@
 //! What a builder keeps of its clauses.
 ghost use Rattle.std.specs.Prelude.{◌≡◌, ◌++◌, map, string_bytes, IfOk, OnOk, OnErr};
 ghost use Rattle.sql_parts.specs.Error.{FailsOnlyByMemory};
-ghost use Rattle.sql_builder.specs.Builder.{extend_last, join_text, union_text};
+ghost use Rattle.sql_builder.specs.Builder.{condition_in_group, extend_last, join_text, union_text};
 ghost use Rattle.sql_builder.specs.Layout.{byte_atoms};
 ghost use Rattle.sql_builder.specs.Phrases.{constraint};
 
@@ -44,6 +44,14 @@ pub(crate) struct Join {
 pub(crate) struct Union {
     pub(crate) all: bool,
     pub(crate) query: String,
+}
+
+/// A condition of WHERE.
+#[derive(Drop)]
+pub(crate) struct GroupedCondition {
+    /// Whether a group begins with it; the first begins one in any case.
+    pub(crate) opens_group: bool,
+    pub(crate) text: String,
 }
 
 impl Join {
@@ -109,6 +117,25 @@ pub(crate) fn copy_unions(alloc: Global, unions: &[Union]) -> Result<Vec<Union>,
         copied.push(Union {
             all: union.all,
             query,
+        })?;
+    }
+    Ok(copied)
+}
+
+pub(crate) fn copy_conditions(
+    alloc: Global,
+    conditions: &[GroupedCondition],
+) -> Result<Vec<GroupedCondition>, SqlBuilderError>
+    ensures copied { IfOk result (λ copied. map condition_in_group copied.items
+        ≡ map condition_in_group conditions.now) }
+    ensures memory { FailsOnlyByMemory result }
+{
+    let mut copied = Vec::with_capacity(alloc, conditions.len())?;
+    for condition in conditions {
+        let text = condition.text.to_text(alloc)?;
+        copied.push(GroupedCondition {
+            opens_group: condition.opens_group,
+            text,
         })?;
     }
     Ok(copied)

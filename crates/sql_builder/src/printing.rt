@@ -1,8 +1,9 @@
 //! Prints a builder's clauses as a statement or a query.
-ghost use Rattle.std.specs.Prelude.{◌≡◌, ◌++◌, IsNone, IfOk, IfSome, None, Some, codes, flat_map, map, string_bytes};
+ghost use Rattle.std.specs.List.{list_any};
+ghost use Rattle.std.specs.Prelude.{◌≡◌, ◌∷◌, ◌++◌, IsNone, IfOk, IfSome, None, Some, codes, flat_map, map, string_bytes};
 ghost use Rattle.sql_parts.specs.Error.{FailsOnlyByMemory};
-ghost use Rattle.sql_builder.specs.Builder.{join_text, union_text};
-ghost use Rattle.sql_builder.specs.Steps.{Adds};
+ghost use Rattle.sql_builder.specs.Builder.{condition_in_group, group_texts, join_text, union_text};
+ghost use Rattle.sql_builder.specs.Steps.{Adds, condition_words, further_condition};
 ghost use Rattle.sql_parts.specs.Text.{optional_text, texts};
 ghost use Rattle.sql_builder.specs.Layout.{byte_atoms, concat_sections, delete_sections, fields_or_star, group_by_sections, insert_sections, is_no_text, optional_section, order_by_sections, query, query_values, refusal, select_opening, sql, statement_sections, subquery, subquery_as, union_opening, update_sections, where_sections};
 ghost use Rattle.sql_builder.specs.Calls.{Query, Sql, Subquery, SubqueryAs};
@@ -14,7 +15,7 @@ ghost use Rattle.sql_builder.specs.Text.{fixed_piece, raw_piece};
 ghost use Rattle.sql_parts.specs.Text.{join_with};
 
 use crate::builder::SqlBuilder;
-use crate::clauses::{Join, JoinOperator, Kind, Union};
+use crate::clauses::{GroupedCondition, Join, JoinOperator, Kind, Union};
 use sql_parts::{SqlBuilderError, ToText};
 use std::alloc::AllocError;
 
@@ -65,25 +66,64 @@ fn push_fields(out: &mut String, fields: &[String]) -> Result<(), AllocError>
     Ok(())
 }
 
-// The brackets of two neighbours are written at once.
-#[tactic(auto, using(crate::proofs::Printed::several_groups, std::proofs::lemmas::List::append_assoc))]
-fn push_where(out: &mut String, groups: &[String]) -> Result<(), AllocError>
-    ensures { Adds result out.old out.new
-        (concat_sections byte_atoms (where_sections byte_atoms (texts groups.now))) }
+impl GroupedCondition {
+    // What stands in front of it, where it is not the first and several groups stand in brackets.
+    fn words(&self) -> &'static str
+        ensures { result.now ≡ condition_words self.now.opens_group }
+    {
+        if self.opens_group { ") AND (" } else { " OR " }
+    }
+}
+
+fn opens_group(conditions: &[GroupedCondition]) -> bool
+    ensures { result ≡ list_any (λ condition. condition.opens_group) conditions.now }
 {
-    match groups {
-        [] => {}
-        [group] => {
-            out.push_str(" WHERE ")?;
-            out.push_str(group.as_str())?;
-        }
-        _ => {
-            out.push_str(" WHERE (")?;
-            push_joined(out, ") AND (", groups)?;
-            out.push_str(")")?;
-        }
+    conditions.iter().any(|condition| condition.opens_group)
+}
+
+// The brackets of two neighbours are written at once.
+#[tactic(auto, using(crate::proofs::Printed::one_more, std::proofs::lemmas::List::append_assoc))]
+fn push_further_conditions(
+    out: &mut String,
+    conditions: &[GroupedCondition],
+) -> Result<(), AllocError>
+    ensures { Adds result out.old out.new
+        (flat_map further_condition (map condition_in_group conditions.now)) }
+{
+    for condition in conditions {
+        out.push_str(condition.words())?;
+        out.push_str(condition.text.as_str())?;
     }
     Ok(())
+}
+
+#[tactic(auto, using(crate::proofs::Groups::one_group, crate::proofs::Groups::several_groups, std::proofs::lemmas::List::append_assoc))]
+fn push_conditions(
+    out: &mut String,
+    first: &GroupedCondition,
+    further: &[GroupedCondition],
+) -> Result<(), AllocError>
+    ensures { Adds result out.old out.new (concat_sections byte_atoms
+        (where_sections byte_atoms (group_texts (first.now ∷ further.now)))) }
+{
+    let is_bracketed = opens_group(further);
+    out.push_str(if is_bracketed { " WHERE (" } else { " WHERE " })?;
+    out.push_str(first.text.as_str())?;
+    push_further_conditions(out, further)?;
+    if is_bracketed {
+        out.push_str(")")?;
+    }
+    Ok(())
+}
+
+fn push_where(out: &mut String, conditions: &[GroupedCondition]) -> Result<(), AllocError>
+    ensures { Adds result out.old out.new
+        (concat_sections byte_atoms (where_sections byte_atoms (group_texts conditions.now))) }
+{
+    match conditions.split_first() {
+        Some((first, further)) => push_conditions(out, first, further),
+        None => Ok(()),
+    }
 }
 
 #[tactic(auto, using(crate::proofs::Printed::some_group_fields, std::proofs::lemmas::List::append_assoc))]
@@ -232,7 +272,7 @@ impl SqlBuilder {
         push_select(out, self.distinct, &self.fields)?;
         push_tables(out, " FROM ", self.table.as_str(), &self.further_tables)?;
         push_joins(out, &self.joins)?;
-        push_where(out, &self.groups)?;
+        push_where(out, &self.conditions)?;
         push_group_by(out, &self.group_fields, &self.having)?;
         push_unions(out, &self.unions)?;
         push_order_by(out, &self.unions, &self.order_fields)?;
@@ -295,7 +335,7 @@ impl SqlBuilder {
     {
         push_tables(out, "UPDATE ", self.table.as_str(), &self.further_tables)?;
         push_list(out, " SET ", &self.sets)?;
-        push_where(out, &self.groups)?;
+        push_where(out, &self.conditions)?;
         push_optional(out, " RETURNING ", &self.returning)?;
         Ok(())
     }
@@ -310,7 +350,7 @@ impl SqlBuilder {
             self.table.as_str(),
             &self.further_tables,
         )?;
-        push_where(out, &self.groups)?;
+        push_where(out, &self.conditions)?;
         Ok(())
     }
 

@@ -2,18 +2,17 @@
 //! clause is meant, and one that adds a condition.
 ghost use Rattle.std.specs.Prelude.{◌≡◌, [], ◌∷◌, ◌++◌, map, codes, string_bytes, IfErr, OnOk, OnErr};
 ghost use Rattle.sql_parts.specs.Error.{FailsOnlyByMemory};
-ghost use Rattle.sql_builder.specs.Builder.{extend_last, with_condition_text, with_order, with_returning};
+ghost use Rattle.sql_builder.specs.Builder.{with_condition_text, with_order, with_returning};
 ghost use Rattle.sql_builder.specs.Steps.{AddsBinary, RefusesBinary, RefusesUnary, Tells, with_binary, with_unary, with_variadic};
 ghost use Rattle.sql_parts.specs.Text.{texts};
 ghost use Rattle.std.specs.Result.{result_map_both};
 
 use crate::builder::SqlBuilder;
-use crate::clauses::{Join, Union, constrain_last};
+use crate::clauses::{GroupedCondition, Join, Union, constrain_last};
 use crate::condition::Family;
 use crate::phrases::{count, count_as, equation, order, quoted_equation, row};
 use sql_parts::text::copies;
 use sql_parts::{SqlBuilderError, ToText};
-use std::alloc::AllocError;
 
 /// A call with one text.
 #[derive(Clone, Copy)]
@@ -69,30 +68,6 @@ pub(crate) fn release(
             Ok(builder)
         }
         Err(error) => Err(error),
-    }
-}
-
-// The last group goes on with the condition: its growth is made before it changes.
-#[tactic(auto, using(std::proofs::lemmas::List::append_assoc))]
-fn push_alternative(group: &mut String, condition: &str) -> Result<(), AllocError>
-    ensures ok { OnOk result
-        (string_bytes group.new ≡ string_bytes group.old ++ (codes " OR " ++ condition.now)) }
-    ensures err { OnErr result (string_bytes group.new ≡ string_bytes group.old) }
-{
-    group.reserve(condition.len().saturating_add(4))?;
-    group.push_str(" OR ")?;
-    group.push_str(condition)?;
-    Ok(())
-}
-
-fn extend_last_group(groups: &mut [String], condition: &str) -> Result<(), AllocError>
-    ensures ok { OnOk result
-        (texts groups.new ≡ extend_last (codes " OR " ++ condition.now) (texts groups.old)) }
-    ensures err { OnErr result (texts groups.new ≡ texts groups.old) }
-{
-    match groups.last_mut() {
-        Some(group) => push_alternative(group, condition),
-        None => Ok(()),
     }
 }
 
@@ -213,6 +188,7 @@ impl SqlBuilder {
         Ok(())
     }
 
+    #[tactic(auto, using(crate::proofs::Groups::one_more_condition))]
     pub(crate) fn push_condition(
         &mut self,
         family: Family,
@@ -221,12 +197,10 @@ impl SqlBuilder {
         ensures { Tells result self.old self.new
             (with_condition_text family (string_bytes condition)) }
     {
-        match family {
-            Family::Or if !self.groups.is_empty() => {
-                extend_last_group(&mut self.groups, condition.as_str())?;
-            }
-            Family::And | Family::Or => self.groups.push(condition)?,
-        }
+        self.conditions.push(GroupedCondition {
+            opens_group: matches!(family, Family::And),
+            text: condition,
+        })?;
         Ok(())
     }
 }

@@ -1,6 +1,7 @@
-use Rattle.std.proofs.Common.{◌++◌, ◌∙◌, ap, flat_map, map}
-use Rattle.sql_builder.specs.Builder.{join_text, union_text}
-use Rattle.sql_parts.specs.Text.{texts}
+use Rattle.std.proofs.Common.{◌++◌, ◌∷◌, ◌∙◌, ap, codes, flat_map, map}
+use Rattle.sql_builder.specs.Builder.{condition_in_group, join_text, union_text}
+use Rattle.sql_builder.specs.Filters.{cut}
+use Rattle.sql_parts.specs.Text.{join_with, texts}
 use Rattle.sql_builder.specs.Layout.{byte_atoms}
 use Rattle.sql_builder.specs.Phrases.{further_table}
 use Rattle.sql_builder.proofs.builder.SqlBuilder.clone.Goals as goal
@@ -14,9 +15,9 @@ returns-clause-equal c =
     let sets = c.in_ok-copies-3.ensures.copied ∙ ap texts c.deref-4.ensures.value in
     let rows = c.in_ok-copies-4.ensures.copied ∙ ap texts c.deref-5.ensures.value in
     let group_fields = c.in_ok-copies-5.ensures.copied ∙ ap texts c.deref-6.ensures.value in
-    let groups = c.in_ok-copies-6.ensures.copied ∙ ap texts c.deref-7.ensures.value in
+    let conditions = c.in_ok-copy_conditions.ensures.copied ∙ ap (map condition_in_group) c.deref-7.ensures.value in
     let unions = c.in_ok-copy_unions.ensures.copied ∙ ap (map union_text) c.deref-8.ensures.value in
-    let order_fields = c.in_ok-copies-7.ensures.copied ∙ ap texts c.deref-9.ensures.value in
+    let order_fields = c.in_ok-copies-6.ensures.copied ∙ ap texts c.deref-9.ensures.value in
     (λ i. record {
       kind = c.self.inside.kind;
       table = c.in_ok-to_text.ensures.text i ++ flat_map (further_table byte_atoms) (further_tables i);
@@ -31,7 +32,7 @@ returns-clause-equal c =
       returning = c.in_ok-copy-2.ensures.copied i;
       group_fields = group_fields i;
       having = c.in_ok-copy-3.ensures.copied i;
-      groups = groups i;
+      groups = map (λ group. join_with (codes " OR ") (map (λ c. c.1) (group.0 ∷ group.1))) (cut (λ c. c.0) (conditions i));
       unions = unions i;
       order_fields = order_fields i;
       limit = c.in_ok-copy-4.ensures.copied i;

@@ -1,0 +1,106 @@
+-- A list in groups: cut before each element that opens a group, and what the elements of a group say joined.
+use Rattle.std.proofs.Common.{◌≡◌, refl, ap, sym, ◌∙◌, Bool, true, false, List, [], ◌∷◌, ◌++◌, map, flat_map, append_assoc, codes, ℕ, ◌≤◌, ◌||◌, length, arith, string_bytes}
+use Rattle.std.specs.List.{list_any}
+use Rattle.std.proofs.lemmas.List.{map-append, append-nil, length-map}
+use Rattle.std.proofs.lemmas.Grind.{flat_map-append}
+use Rattle.sql_parts.specs.Text.{join_with}
+use Rattle.sql_builder.specs.Builder.{condition_in_group, extend_last, group_texts, join_last}
+use Rattle.sql_builder.specs.Layout.{byte_atoms, concat_sections, where_sections}
+use Rattle.sql_builder.specs.Steps.{further_condition}
+use Rattle.sql_builder.proofs.Printed.{several}
+use Rattle.sql_builder.specs.declared.clauses.GroupedCondition.{GroupedCondition}
+use Rattle.sql_builder.specs.Filters.{Group, cut, lead_and_groups}
+use Rattle.sql_builder.proofs.Snoc.{cut-snoc, into_last, put_in}
+
+-- the groups after one more element
+abbrev pub one_more : {A : Type 0} → Bool → List A → List A → List (List A) → List (List A)
+one_more true or said groups = groups ++ said ∷ []
+one_more false or said groups = join_last or said groups
+
+module _ {X A : Type 0} (opens : X → Bool) (says : X → List A) (or : List A) where
+  abbrev pub group_says : Group X → List A
+  group_says group = join_with or (map says (group.0 ∷ group.1))
+
+  alone : (x : X) → group_says (x, []) ≡ says x
+  alone x = append-nil (says x)
+
+  -- an element that joins the last of some groups
+  joined : (x : X) (g : Group X) (gs : List (Group X)) → map group_says (into_last x g gs) ≡ extend_last (or ++ says x) (map group_says (g ∷ gs))
+  joined x g [] =
+      ap (λ t. t ∷ [])
+      (ap (λ ss. says g.0 ++ flat_map (λ s. or ++ s) ss) (map-append says g.1 (x ∷ []))
+      ∙ ap (λ rest. says g.0 ++ rest) (flat_map-append (λ s. or ++ s) (map says g.1) (says x ∷ []) ∙ ap (λ rest. flat_map (λ s. or ++ s) (map says g.1) ++ rest) (append-nil (or ++ says x)))
+      ∙ sym (append_assoc (says g.0) (flat_map (λ s. or ++ s) (map says g.1)) (or ++ says x)))
+  joined x g (h ∷ gs) = ap (λ ts. group_says g ∷ ts) (joined x h gs)
+
+  put : (x : X) (b : Bool) (gs : List (Group X)) → map group_says (put_in b x gs) ≡ one_more b or (says x) (map group_says gs)
+  put x true [] = ap (λ t. t ∷ []) (alone x)
+  put x true (g ∷ gs) = map-append group_says (g ∷ gs) ((x, []) ∷ []) ∙ ap (λ t. map group_says (g ∷ gs) ++ t ∷ []) (alone x)
+  put x false [] = ap (λ t. t ∷ []) (alone x)
+  put x false (g ∷ gs) = joined x g gs
+
+  pub groups-snoc : (xs : List X) (x : X) → map group_says (cut opens (xs ++ x ∷ [])) ≡ one_more (opens x) or (says x) (map group_says (cut opens xs))
+  groups-snoc xs x = ap (map group_says) (cut-snoc opens xs x) ∙ put x (opens x) (cut opens xs)
+
+-- ---- the conditions that a builder keeps
+
+abbrev Told : Type 0
+Told = Bool × List ℕ
+
+abbrev texts_of : List Told → List (List ℕ)
+texts_of conditions = map (group_says (λ (c : Told). c.0) (λ c. c.1) (codes " OR ")) (cut (λ c. c.0) conditions)
+
+-- one more condition, which opens a group or joins the last
+pub one_more_condition : (xs : List GroupedCondition) (c : GroupedCondition)
+    → group_texts (xs ++ c ∷ []) ≡ one_more c.opens_group (codes " OR ") (string_bytes c.text) (group_texts xs)
+one_more_condition xs c =
+    ap texts_of (map-append condition_in_group xs (c ∷ [])) ∙ groups-snoc (λ (t : Told). t.0) (λ t. t.1) (codes " OR ") (map condition_in_group xs) (condition_in_group c)
+
+-- ---- what WHERE prints of them
+
+behind_first : (xs : List Told)
+    → flat_map further_condition xs
+    ≡ flat_map (λ t. codes " OR " ++ t) (map (λ (c : Told). c.1) (lead_and_groups (λ (c : Told). c.0) xs).0)
+    ++ flat_map (λ g. codes ") AND (" ++ g) (map (group_says (λ (c : Told). c.0) (λ c. c.1) (codes " OR ")) (lead_and_groups (λ (c : Told). c.0) xs).1)
+behind_first [] = refl
+behind_first ((true, t) ∷ xs) = rw (behind_first xs) (simp append_assoc)
+behind_first ((false, t) ∷ xs) = rw (behind_first xs) (simp append_assoc)
+
+-- the conditions one after another, with the brackets of two groups written at once
+in_a_row : (first : Told) (xs : List Told)
+    → first.1 ++ flat_map further_condition xs ≡ join_with (codes ") AND (") (texts_of (first ∷ xs))
+in_a_row first xs = ap (λ rest. first.1 ++ rest) (behind_first xs) ∙ sym (append_assoc first.1 _ _)
+
+no_more_groups : (xs : List Told) → list_any (λ (c : Told). c.0) xs ≡ false → (lead_and_groups (λ (c : Told). c.0) xs).1 ≡ []
+no_more_groups [] h = refl
+no_more_groups ((true, t) ∷ xs) h = cc h
+no_more_groups ((false, t) ∷ xs) h = no_more_groups xs h
+
+more_groups : (xs : List Told) → list_any (λ (c : Told). c.0) xs ≡ true → 1 ≤ length (lead_and_groups (λ (c : Told). c.0) xs).1
+more_groups [] h = cc h
+more_groups ((true, t) ∷ xs) h = omega arith
+more_groups ((false, t) ∷ xs) h = more_groups xs h
+
+any-map : (xs : List GroupedCondition) → list_any (λ c. c.opens_group) xs ≡ list_any (λ (c : Told). c.0) (map condition_in_group xs)
+any-map [] = refl
+any-map (x ∷ xs) = ap (λ (b : Bool). x.opens_group || b) (any-map xs)
+
+-- the WHERE of a first condition and others, where no other opens a group
+pub one_group : (first : GroupedCondition) (further : List GroupedCondition) → list_any (λ c. c.opens_group) further ≡ false
+    → concat_sections byte_atoms (where_sections byte_atoms (group_texts (first ∷ further)))
+    ≡ codes " WHERE " ++ (string_bytes first.text ++ flat_map further_condition (map condition_in_group further))
+one_group first further none =
+    let told = map condition_in_group further in
+    let no_more = no_more_groups told (sym (any-map further) ∙ none) in
+    ap (λ gs. concat_sections byte_atoms (where_sections byte_atoms (group_says (λ (c : Told). c.0) (λ c. c.1) (codes " OR ") (condition_in_group first, (lead_and_groups (λ (c : Told). c.0) told).0) ∷ map (group_says (λ (c : Told). c.0) (λ c. c.1) (codes " OR ")) gs))) no_more
+    ∙ ap (λ t. codes " WHERE " ++ t) (append-nil _)
+    ∙ ap (λ t. codes " WHERE " ++ (string_bytes first.text ++ t)) (sym (behind_first told ∙ ap (λ gs. flat_map (λ t. codes " OR " ++ t) (map (λ (c : Told). c.1) (lead_and_groups (λ (c : Told). c.0) told).0) ++ flat_map (λ g. codes ") AND (" ++ g) (map (group_says (λ (c : Told). c.0) (λ c. c.1) (codes " OR ")) gs)) no_more ∙ append-nil _))
+
+-- and where another does
+pub several_groups : (first : GroupedCondition) (further : List GroupedCondition) → list_any (λ c. c.opens_group) further ≡ true
+    → concat_sections byte_atoms (where_sections byte_atoms (group_texts (first ∷ further)))
+    ≡ codes " WHERE (" ++ ((string_bytes first.text ++ flat_map further_condition (map condition_in_group further)) ++ codes ")")
+several_groups first further some =
+    let told = map condition_in_group further in
+    several (group_texts (first ∷ further)) (rw (length-map (lead_and_groups (λ (c : Told). c.0) told).1 (group_says (λ (c : Told). c.0) (λ c. c.1) (codes " OR "))) (omega (arith, more_groups told (sym (any-map further) ∙ some))))
+    ∙ ap (λ t. codes " WHERE (" ++ (t ++ codes ")")) (sym (in_a_row (condition_in_group first) told))
