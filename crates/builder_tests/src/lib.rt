@@ -2,8 +2,34 @@
 #![tactic(auto)]
 
 #[cfg(test)]
+mod binds;
+#[cfg(test)]
+mod call_lists;
+#[cfg(test)]
 mod callers;
+#[cfg(test)]
+mod chains;
+#[cfg(test)]
+mod clauses;
+#[cfg(test)]
+mod clones;
+#[cfg(test)]
+mod condition_calls;
+#[cfg(test)]
+mod conditions;
+#[cfg(test)]
+mod empty;
+#[cfg(test)]
+mod every_call;
+#[cfg(test)]
+mod joins;
 #[cfg(test)]
 mod names;
 #[cfg(test)]
-mod statements;
+mod rows;
+#[cfg(test)]
+mod stated_laws;
+#[cfg(test)]
+mod subqueries;
+#[cfg(test)]
+mod texts;

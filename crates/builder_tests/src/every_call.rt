@@ -1,0 +1,187 @@
+//! One call of each case after each start, and what each finish prints of it.
+
+use crate::rows::{Made, Start};
+use sql_builder::{SqlBuilder, SqlBuilderError};
+use std::alloc::Global;
+use std::test::Fail;
+
+pub(crate) type Finish = fn(&SqlBuilder) -> Made;
+
+type Started = Result<SqlBuilder, SqlBuilderError>;
+
+fn select_from(alloc: Global) -> Started {
+    SqlBuilder::select_from(alloc, "t")
+}
+
+fn select_values(alloc: Global) -> Started {
+    SqlBuilder::select_values(alloc, &["1"])
+}
+
+fn insert_into(alloc: Global) -> Started {
+    SqlBuilder::insert_into(alloc, "t")
+}
+
+fn update_table(alloc: Global) -> Started {
+    SqlBuilder::update_table(alloc, "t")
+}
+
+fn delete_from(alloc: Global) -> Started {
+    SqlBuilder::delete_from(alloc, "t")
+}
+
+fn sql(builder: &SqlBuilder) -> Made {
+    builder.sql()
+}
+
+fn query(builder: &SqlBuilder) -> Made {
+    builder.query()
+}
+
+fn query_values(builder: &SqlBuilder) -> Made {
+    builder.query_values()
+}
+
+fn subquery(builder: &SqlBuilder) -> Made {
+    builder.subquery()
+}
+
+fn subquery_as(builder: &SqlBuilder) -> Made {
+    builder.subquery_as("s")
+}
+
+/// Each start and each finish, and what they make of one call of each case.
+pub(crate) const EVERY_START_AND_FINISH: [(Start, Finish, &str); 9] = [
+    (
+        select_from,
+        sql,
+        "SELECT DISTINCT k, l, COUNT(m), COUNT(n) AS o FROM t, u NATURAL LEFT JOIN a ON x ON y = \
+            z LEFT OUTER JOIN b RIGHT JOIN c RIGHT OUTER JOIN d INNER JOIN e CROSS JOIN f WHERE \
+            (r) AND (s > 7) GROUP BY v, w HAVING x > 8 UNION SELECT 9 UNION ALL SELECT 10 LIMIT \
+            11 OFFSET 12;",
+    ),
+    (select_values, sql, "SELECT k, l, COUNT(m), COUNT(n) AS o;"),
+    (
+        insert_into,
+        sql,
+        "INSERT INTO t, u (k, l, COUNT(m), COUNT(n) AS o) VALUES (4, 5), (6) RETURNING id;",
+    ),
+    (
+        update_table,
+        sql,
+        "UPDATE t, u SET p = 1, q = 'it''s' WHERE (r) AND (s > 7) RETURNING id;",
+    ),
+    (delete_from, sql, "DELETE FROM t, u WHERE (r) AND (s > 7);"),
+    (
+        delete_from,
+        query,
+        "SELECT DISTINCT k, l, COUNT(m), COUNT(n) AS o FROM t, u NATURAL LEFT JOIN a ON x ON y = \
+            z LEFT OUTER JOIN b RIGHT JOIN c RIGHT OUTER JOIN d INNER JOIN e CROSS JOIN f WHERE \
+            (r) AND (s > 7) GROUP BY v, w HAVING x > 8 UNION SELECT 9 UNION ALL SELECT 10 LIMIT \
+            11 OFFSET 12",
+    ),
+    (
+        select_from,
+        query_values,
+        "SELECT k, l, COUNT(m), COUNT(n) AS o",
+    ),
+    (
+        select_from,
+        subquery,
+        "(SELECT DISTINCT k, l, COUNT(m), COUNT(n) AS o FROM t, u NATURAL LEFT JOIN a ON x ON y \
+            = z LEFT OUTER JOIN b RIGHT JOIN c RIGHT OUTER JOIN d INNER JOIN e CROSS JOIN f \
+            WHERE (r) AND (s > 7) GROUP BY v, w HAVING x > 8 UNION SELECT 9 UNION ALL SELECT 10 \
+            LIMIT 11 OFFSET 12)",
+    ),
+    (
+        select_from,
+        subquery_as,
+        "(SELECT DISTINCT k, l, COUNT(m), COUNT(n) AS o FROM t, u NATURAL LEFT JOIN a ON x ON y \
+            = z LEFT OUTER JOIN b RIGHT JOIN c RIGHT OUTER JOIN d INNER JOIN e CROSS JOIN f \
+            WHERE (r) AND (s > 7) GROUP BY v, w HAVING x > 8 UNION SELECT 9 UNION ALL SELECT 10 \
+            LIMIT 11 OFFSET 12) AS s",
+    ),
+];
+
+fn tell_tables_and_joins(builder: &mut SqlBuilder) -> Result<(), SqlBuilderError> {
+    builder
+        .distinct()
+        .and_table("u")?
+        .natural()
+        .left()
+        .join("a")?
+        .on("x")?
+        .on_eq("y", "z")?;
+    Ok(())
+}
+
+fn tell_further_joins(builder: &mut SqlBuilder) -> Result<(), SqlBuilderError> {
+    builder.left_outer().join("b")?.right().join("c")?;
+    builder.right_outer().join("d")?.inner().join("e")?;
+    builder.cross().join("f")?;
+    Ok(())
+}
+
+fn tell_fields(builder: &mut SqlBuilder) -> Result<(), SqlBuilderError> {
+    builder
+        .fields(&["g", "h"])?
+        .set_fields(&["i", "j"])?
+        .set_field("k")?
+        .field("l")?
+        .count("m")?
+        .count_as("n", "o")?;
+    Ok(())
+}
+
+fn tell_sets_and_rows(builder: &mut SqlBuilder) -> Result<(), SqlBuilderError> {
+    builder
+        .set("p", "1")?
+        .set_str("q", "it's")?
+        .select("SELECT 3")?
+        .values(&["4", "5"])?
+        .values(&["6"])?
+        .returning("p")?
+        .returning_id()?;
+    Ok(())
+}
+
+fn tell_conditions_and_groups(builder: &mut SqlBuilder) -> Result<(), SqlBuilderError> {
+    builder
+        .and_where("r")?
+        .and_where_gt("s", "7")?
+        .group_by("v")?
+        .group_by("w")?
+        .having("x > 8")?;
+    Ok(())
+}
+
+fn tell_unions_and_order(builder: &mut SqlBuilder) -> Result<(), SqlBuilderError> {
+    builder
+        .union("SELECT 9")?
+        .union_all("SELECT 10")?
+        .order_by("y", true)?
+        .order_asc("z")?
+        .order_desc("z")?
+        .limit("11")?
+        .offset("12")?;
+    Ok(())
+}
+
+/// One call of each case. A function for each few, since the proof of all in one takes long.
+pub(crate) fn tell_every_call(builder: &mut SqlBuilder) -> Result<(), SqlBuilderError> {
+    tell_tables_and_joins(builder)?;
+    tell_further_joins(builder)?;
+    tell_fields(builder)?;
+    tell_sets_and_rows(builder)?;
+    tell_conditions_and_groups(builder)?;
+    tell_unions_and_order(builder)
+}
+
+#[test]
+fn makes_every_call_after_every_start(rt: HostRuntime) -> Result<(), Fail> {
+    for (start, finish, wanted) in EVERY_START_AND_FINISH.iter() {
+        let mut builder = start(rt.alloc())?;
+        tell_every_call(&mut builder)?;
+        assert_eq!(rt; finish(&builder)?.as_str(), *wanted, "{wanted}");
+    }
+    Ok(())
+}

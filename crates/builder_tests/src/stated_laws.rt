@@ -1,0 +1,23 @@
+//! The laws of the builder.
+
+use sql_builder::laws;
+
+// The contracts of these say all: here each is only called once.
+#[test]
+fn states_its_laws() {
+    laws::quoting_is_injective();
+    laws::doubling_is_undone();
+    laws::unmarked_is_unchanged();
+    laws::tokens_join_at_edges();
+    laws::bound_texts_keep_the_count();
+    laws::fields_join();
+    laws::only_last_counts();
+    laws::only_the_end_is_a_semicolon();
+    laws::added_texts_keep_tokens();
+    laws::conditions_are_atoms();
+    laws::statements_read_back();
+    laws::fit_texts_make_fit_fragments();
+    laws::truth_follows_the_form();
+    laws::brackets_make_operands();
+    laws::worked_truths();
+}
