@@ -46,6 +46,29 @@ fn groups_conditions(rt: HostRuntime) -> Result<(), Fail> {
 }
 
 #[test]
+fn keeps_empty_conditions(rt: HostRuntime) -> Result<(), Fail> {
+    let rows: [(Chain, &str); 3] = [
+        (
+            |builder| builder.and_where("")?.sql(),
+            "SELECT * FROM t WHERE ;",
+        ),
+        (
+            |builder| builder.and_where("")?.or_where("b")?.sql(),
+            "SELECT * FROM t WHERE  OR b;",
+        ),
+        (
+            |builder| builder.or_where("a")?.and_where("")?.or_where("")?.sql(),
+            "SELECT * FROM t WHERE (a) AND ( OR );",
+        ),
+    ];
+    for (chain, wanted) in rows.iter() {
+        let mut builder = SqlBuilder::select_from(rt.alloc(), "t")?;
+        assert_eq!(rt; chain(&mut builder)?.as_str(), *wanted, "{wanted}");
+    }
+    Ok(())
+}
+
+#[test]
 fn writes_masks_and_ranges(rt: HostRuntime) -> Result<(), Fail> {
     let rows: [(Chain, &str); 3] = [
         (

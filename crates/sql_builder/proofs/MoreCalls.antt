@@ -1,12 +1,11 @@
 -- One more call, and the clauses of a list of calls.
 use Rattle.std.proofs.Common.{◌≡◌, List, [], ◌∷◌, ◌++◌, Option, None, Some, ◌||◌, ◌&&◌, not, if◌then◌else◌, codes, map, filter_map, flat_map, refl, ap, sym, ◌∙◌, append_assoc}
-use Rattle.std.proofs.lemmas.List.{map-append, append-nil}
+use Rattle.std.proofs.lemmas.List.{append-nil}
 use Rattle.std.proofs.lemmas.Simd.{map-map}
-use Rattle.std.proofs.lemmas.Grind.{flat_map-append}
 use Rattle.std.proofs.lemmas.List.Elements.{filter_map-append}
 use Rattle.std.specs.List.{cons_option}
 use Rattle.std.specs.Option.{option_or}
-use Rattle.sql_builder.specs.Builder.{extend_last, join_last}
+use Rattle.sql_builder.specs.Builder.{join_last}
 use Rattle.sql_builder.specs.Calls as call
 use Rattle.sql_builder.specs.Calls.{StartText, CallText, clauses, condition_in, conditions_of, fields_in, group_fields_in, group_pieces, groups, having_in, is_distinct, is_join, is_natural, is_select, is_values, limit_in, offset_in, opens_group, operator_in, order_fields_in, query_in, returning_in, rows_in, drops_fields, sets_in, start_fields, table_in, table_of, start_table, unions_in}
 use Rattle.sql_builder.specs.Clauses.{Clauses}
@@ -16,7 +15,9 @@ use Rattle.sql_builder.specs.Text.{Pieces, fixed_piece}
 use Rattle.sql_builder.specs.declared.condition.Family.{Family}
 use Rattle.sql_builder.specs.declared.condition.Family.TheVariants.{And, Or}
 use Rattle.sql_builder.proofs.Joins.{joins-snoc, joins_after}
-use Rattle.sql_builder.proofs.Snoc.{add, add_is, any-snoc, any_unfollowed-snoc, cut-snoc, flat-snoc, flat_since-snoc, last-snoc, last_since-snoc, into_last, put_in}
+use Rattle.sql_builder.proofs.Snoc.{add, add_is, any-snoc, any_unfollowed-snoc, flat-snoc, flat_since-snoc, last-snoc, last_since-snoc}
+use Rattle.sql_builder.proofs.Groups.{group_says, groups-snoc, one_more}
+use Rattle.sql_parts.specs.Text.{join_with}
 
 -- what stands between two conditions of a group
 abbrev pub or_pieces : Pieces
@@ -32,43 +33,36 @@ with_condition_in (Some (Or, condition)) groups = join_last or_pieces (condition
 abbrev told_pieces : Group (Family × ConditionText) → Pieces
 told_pieces group = group_pieces (conditions_of group)
 
--- a condition that joins the last of some groups
-alternative : (k : ConditionText) (g : Group (Family × ConditionText)) (gs : List (Group (Family × ConditionText)))
-    → map told_pieces (into_last (Or, k) g gs)
-    ≡ extend_last (or_pieces ++ condition_pieces k) (map told_pieces (g ∷ gs))
-alternative k g [] =
-    ap (λ (t : Pieces). t ∷ [])
-    (rw (map-append (λ (c : Family × ConditionText). c.1) g.1 ((Or, k) ∷ []))
-    (rw (map-append condition_pieces (map (λ (c : Family × ConditionText). c.1) g.1) (k ∷ []))
-    (simp (flat_map-append, append-nil, append_assoc))))
-alternative k g (h ∷ gs) = ap (λ (ts : List Pieces). told_pieces g ∷ ts) (alternative k h gs)
+-- the same, by what each condition says
+abbrev said : Family × ConditionText → Pieces
+said condition = condition_pieces condition.1
 
-groups-snoc : (calls : List CallText) (c : CallText)
+same : (gs : List (Group (Family × ConditionText))) → map told_pieces gs ≡ map (group_says opens_group said or_pieces) gs
+same [] = refl
+same (g ∷ gs) =
+    ap (λ (more : List Pieces). join_with or_pieces (said g.0 ∷ more) ∷ map told_pieces gs) (map-map condition_pieces (λ (c : Family × ConditionText). c.1) g.1)
+    ∙ ap (λ (more : List Pieces). group_says opens_group said or_pieces g ∷ more) (same gs)
+
+put : (k : Family × ConditionText) (gs : List Pieces) → one_more (opens_group k) or_pieces (said k) gs ≡ with_condition_in (Some k) gs
+put (And, k) gs = refl
+put (Or, k) gs = refl
+
+calls-snoc : (calls : List CallText) (c : CallText)
     → map group_pieces (groups (calls ++ c ∷ [])) ≡ with_condition_in (condition_in c) (map group_pieces (groups calls))
-groups-snoc calls c =
+calls-snoc calls c =
     rw (map-map group_pieces conditions_of (cut opens_group (filter_map condition_in (calls ++ c ∷ []))))
     (rw (map-map group_pieces conditions_of (cut opens_group (filter_map condition_in calls)))
     (rw (filter_map-append condition_in calls (c ∷ [])) (by (condition_in c))))
   where
-    alone : (k : Family × ConditionText) → told_pieces (k, []) ≡ condition_pieces k.1
-    alone k = append-nil (condition_pieces k.1)
-
-    put : (k : Family × ConditionText) (gs : List (Group (Family × ConditionText)))
-        → map told_pieces (put_in (opens_group k) k gs) ≡ with_condition_in (Some k) (map told_pieces gs)
-    put (And, k) [] = ap (λ (t : Pieces). t ∷ []) (alone (And, k))
-    put (And, k) (g ∷ gs) =
-        map-append told_pieces (g ∷ gs) (((And, k), []) ∷ [])
-        ∙ ap (λ (t : Pieces). map told_pieces (g ∷ gs) ++ t ∷ []) (alone (And, k))
-    put (Or, k) [] = ap (λ (t : Pieces). t ∷ []) (alone (Or, k))
-    put (Or, k) (g ∷ gs) = alternative k g gs
-
     by : (o : Option (Family × ConditionText))
         → map told_pieces (cut opens_group (filter_map condition_in calls ++ cons_option o []))
         ≡ with_condition_in o (map told_pieces (cut opens_group (filter_map condition_in calls)))
     by None = rw (append-nil (filter_map condition_in calls)) refl
     by (Some k) =
-        rw (cut-snoc opens_group (filter_map condition_in calls) k)
-        (put k (cut opens_group (filter_map condition_in calls)))
+        let before = filter_map condition_in calls in
+        same (cut opens_group (before ++ k ∷ [])) ∙ groups-snoc opens_group said or_pieces before k
+        ∙ ap (one_more (opens_group k) or_pieces (said k)) (sym (same (cut opens_group before)))
+        ∙ put k (map told_pieces (cut opens_group before))
 
 -- the clauses after one more call, of those before it
 abbrev pub clauses_after : CallText → Clauses Pieces → Clauses Pieces
@@ -116,7 +110,7 @@ one_more_clauses start calls c =
       last-snoc returning_in calls c,
       flat-snoc group_fields_in calls c,
       last-snoc having_in calls c,
-      groups-snoc calls c,
+      calls-snoc calls c,
       flat-snoc unions_in calls c,
       flat-snoc order_fields_in calls c,
       last-snoc limit_in calls c,

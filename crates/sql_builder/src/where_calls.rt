@@ -15,7 +15,7 @@ use crate::condition::{
 use crate::steps::{Held, release};
 use sql_parts::{SqlBuilderError, ToText};
 
-/// Which sense a condition has that can be the NOT form.
+/// Whether a call adds the NOT form of its condition.
 #[derive(Clone, Copy)]
 pub(crate) enum Sense {
     Plain,
