@@ -1,12 +1,11 @@
 -- A list in groups: cut before each element that opens a group, and what the elements of a group say joined.
-use Rattle.std.proofs.Common.{◌≡◌, refl, ap, sym, ◌∙◌, Bool, true, false, List, [], ◌∷◌, ◌++◌, map, flat_map, append_assoc, codes, ℕ, ◌≤◌, ◌||◌, length, arith, string_bytes}
+use Rattle.std.proofs.Common.{if◌then◌else◌, ◌≡◌, refl, ap, sym, ◌∙◌, Bool, true, false, List, [], ◌∷◌, ◌++◌, map, flat_map, append_assoc, codes, ℕ, ◌≤◌, ◌||◌, length, arith, string_bytes}
 use Rattle.std.specs.List.{list_any}
 use Rattle.std.proofs.lemmas.List.{map-append, append-nil, length-map}
 use Rattle.std.proofs.lemmas.Grind.{flat_map-append}
 use Rattle.sql_parts.specs.Text.{join_with}
 use Rattle.sql_builder.specs.Builder.{condition_in_group, extend_last, group_texts, join_last}
 use Rattle.sql_builder.specs.Layout.{byte_atoms, concat_sections, where_sections}
-use Rattle.sql_builder.specs.Steps.{further_condition}
 use Rattle.sql_builder.proofs.Printed.{several}
 use Rattle.sql_builder.specs.declared.clauses.GroupedCondition.{GroupedCondition}
 use Rattle.sql_builder.specs.Filters.{Group, cut, lead_and_groups}
@@ -57,6 +56,10 @@ one_more_condition xs c =
     ap texts_of (map-append condition_in_group xs (c ∷ [])) ∙ groups-snoc (λ (t : Told). t.0) (λ t. t.1) (codes " OR ") (map condition_in_group xs) (condition_in_group c)
 
 -- ---- what WHERE prints of them
+
+-- a condition behind the first, where several groups stand in brackets
+abbrev pub further_condition : Bool × List ℕ → List ℕ
+further_condition c = (if c.0 then codes ") AND (" else codes " OR ") ++ c.1
 
 behind_first : (xs : List Told)
     → flat_map further_condition xs

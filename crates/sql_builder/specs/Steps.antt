@@ -132,15 +132,6 @@ abbrev pub is_negated : Sense → Bool
 is_negated Plain = false
 is_negated Negated = true
 
--- what stands in front of a condition that is not the first, where several groups stand in brackets
-abbrev pub condition_words : Bool → List ℕ
-condition_words true = codes ") AND ("
-condition_words false = codes " OR "
-
--- the condition with these words
-abbrev pub further_condition : Bool × List ℕ → List ℕ
-further_condition condition = condition_words condition.0 ++ condition.1
-
 -- where a call that prints is not refused, it adds this text to what it prints to
 abbrev pub Adds : {E Z : Type 0} → Result (Unit {0}) E → String Z → String Z → List ℕ → Type 0
 Adds result old new text = OnOk result (string_bytes new ≡ string_bytes old ++ text)

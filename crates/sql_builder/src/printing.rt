@@ -1,9 +1,9 @@
 //! Prints a builder's clauses as a statement or a query.
 ghost use Rattle.std.specs.List.{list_any};
-ghost use Rattle.std.specs.Prelude.{◌≡◌, ◌∷◌, ◌++◌, IsNone, IfOk, IfSome, None, Some, codes, flat_map, map, string_bytes};
+ghost use Rattle.std.specs.Prelude.{◌≡◌, ◌∷◌, ◌++◌, IsNone, IfOk, IfSome, None, Some, codes, flat_map, if◌then◌else◌, map, string_bytes};
 ghost use Rattle.sql_parts.specs.Error.{FailsOnlyByMemory};
 ghost use Rattle.sql_builder.specs.Builder.{condition_in_group, group_texts, join_text, union_text};
-ghost use Rattle.sql_builder.specs.Steps.{Adds, condition_words, further_condition};
+ghost use Rattle.sql_builder.specs.Steps.{Adds};
 ghost use Rattle.sql_parts.specs.Text.{optional_text, texts};
 ghost use Rattle.sql_builder.specs.Layout.{byte_atoms, concat_sections, delete_sections, fields_or_star, group_by_sections, insert_sections, is_no_text, optional_section, order_by_sections, query, query_values, refusal, select_opening, sql, statement_sections, subquery, subquery_as, union_opening, update_sections, where_sections};
 ghost use Rattle.sql_builder.specs.Calls.{Query, Sql, Subquery, SubqueryAs};
@@ -69,7 +69,8 @@ fn push_fields(out: &mut String, fields: &[String]) -> Result<(), AllocError>
 impl GroupedCondition {
     // What stands in front of it, where it is not the first and several groups stand in brackets.
     fn words(&self) -> &'static str
-        ensures { result.now ≡ condition_words self.now.opens_group }
+        ensures { result.now
+            ≡ (if self.now.opens_group then codes ") AND (" else codes " OR ") }
     {
         if self.opens_group { ") AND (" } else { " OR " }
     }
@@ -88,7 +89,8 @@ fn push_further_conditions(
     conditions: &[GroupedCondition],
 ) -> Result<(), AllocError>
     ensures { Adds result out.old out.new
-        (flat_map further_condition (map condition_in_group conditions.now)) }
+        (flat_map (λ c. (if c.0 then codes ") AND (" else codes " OR ") ++ c.1)
+        (map condition_in_group conditions.now)) }
 {
     for condition in conditions {
         out.push_str(condition.words())?;
