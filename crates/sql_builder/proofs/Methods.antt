@@ -213,8 +213,8 @@ module _ {M : Type 1} (𝓤 : Ura M) (𝓛 : Logic 𝓤) (𝓜 : Model 𝓤 𝓛
   -- a condition with two texts, by one more constant
   module _ (X : Variant family.the_type) (Y : Choice) (condition : Y.type.D → List ℕ → List ℕ → ConditionText) (fn : Fn) (name step : Args → Callee) (S T : RattleType) (LS : Laws S) (LT : Laws T)
       (s : Ghosts S.Denot) (t : Ghosts T.Denot) (d e d' e' : Dict) where
-    abbrev pub types-adds_binary : Args
-    types-adds_binary = bounded (a_type ∷ a_type ∷ []) (S, (T, tt)) (dcons d (dcons e (dcons d' (dcons e' dnil))))
+    abbrev pub types-adds_chosen_binary : Args
+    types-adds_chosen_binary = bounded (a_type ∷ a_type ∷ []) (S, (T, tt)) (dcons d (dcons e (dcons d' (dcons e' dnil))))
 
     abbrev F-binary : Constant 𝓛
     F-binary = constant 𝓛 family.the_type family_laws.the_plain X
@@ -231,27 +231,27 @@ module _ {M : Type 1} (𝓤 : Ura M) (𝓛 : Logic 𝓤) (𝓜 : Model 𝓤 𝓛
     abbrev Given-binary : Lfts 3 → Type 0
     Given-binary κs = MutBor ClauseTexts × Denots (types_at {n = 3} (also 𝓛 (F-binary ∷ C-binary ∷ []) (plain A-binary.row ∷ plain B-binary.row ∷ [])) κs)
 
-    abbrev kept-adds_binary : (κs : Lfts 3) → Given-binary κs → Effect ClauseTexts
-    kept-adds_binary κs a = record { leaves = ConditionAdded a.1.0 (condition a.1.1.0 (s.text a.1.1.1.0) (t.text a.1.1.1.1.0)) a.0.now; refuses = IsMemory }
+    abbrev kept-adds_chosen_binary : (κs : Lfts 3) → Given-binary κs → Effect ClauseTexts
+    kept-adds_chosen_binary κs a = record { leaves = ConditionAdded a.1.0 (condition a.1.1.0 (s.text a.1.1.1.0) (t.text a.1.1.1.1.0)) a.0.now; refuses = IsMemory }
 
-    abbrev told-adds_binary : (κs : Lfts 3) → Given-binary κs → Effect ClauseTexts
-    told-adds_binary κs a = record { leaves = AddsCondition a.1.0 (condition a.1.1.0 (s.text a.1.1.1.0) (t.text a.1.1.1.1.0)) a.0.now; refuses = IsMemory }
+    abbrev told-adds_chosen_binary : (κs : Lfts 3) → Given-binary κs → Effect ClauseTexts
+    told-adds_chosen_binary κs a = record { leaves = AddsCondition a.1.0 (condition a.1.1.0 (s.text a.1.1.1.0) (t.text a.1.1.1.1.0)) a.0.now; refuses = IsMemory }
 
-    pub adds_binary : (asked : (κs : Lfts 3) → Given-binary κs → SProp 𝓤)
-        → calls.StepMeets builder 𝓛 𝓜 𝓡 2 [] (F-binary ∷ C-binary ∷ []) (plain A-binary.row ∷ plain B-binary.row ∷ []) (A-binary.kept, (B-binary.kept, tt)) asked kept-adds_binary (step types-adds_binary)
-        → calls.Code-chosen-binary builder 𝓛 𝓜 𝓡 2 [] F-binary C-binary A-binary B-binary asked told-adds_binary (inst_fn types-adds_binary fn) (step types-adds_binary) release_code.name (name types-adds_binary)
-        → calls.Coded-chosen-binary builder 𝓛 𝓜 𝓡 2 [] F-binary C-binary A-binary B-binary asked told-adds_binary (inst_fn types-adds_binary fn) (step types-adds_binary) release_code.name (name types-adds_binary)
+    pub adds_chosen_binary : (asked : (κs : Lfts 3) → Given-binary κs → SProp 𝓤)
+        → calls.StepMeets builder 𝓛 𝓜 𝓡 2 [] (F-binary ∷ C-binary ∷ []) (plain A-binary.row ∷ plain B-binary.row ∷ []) (A-binary.kept, (B-binary.kept, tt)) asked kept-adds_chosen_binary (step types-adds_chosen_binary)
+        → calls.Code-chosen-binary builder 𝓛 𝓜 𝓡 2 [] F-binary C-binary A-binary B-binary asked told-adds_chosen_binary (inst_fn types-adds_chosen_binary fn) (step types-adds_chosen_binary) release_code.name (name types-adds_chosen_binary)
+        → calls.Coded-chosen-binary builder 𝓛 𝓜 𝓡 2 [] F-binary C-binary A-binary B-binary asked told-adds_chosen_binary (inst_fn types-adds_chosen_binary fn) (step types-adds_chosen_binary) release_code.name (name types-adds_chosen_binary)
         → Wired 𝓡.env release_code.code
-        → calls.Method-chosen-binary builder 𝓛 𝓜 𝓡 2 [] F-binary C-binary A-binary B-binary asked told-adds_binary (inst_fn types-adds_binary fn) (step types-adds_binary) release_code.name (name types-adds_binary)
+        → calls.Method-chosen-binary builder 𝓛 𝓜 𝓡 2 [] F-binary C-binary A-binary B-binary asked told-adds_chosen_binary (inst_fn types-adds_chosen_binary fn) (step types-adds_chosen_binary) release_code.name (name types-adds_chosen_binary)
     unfolding ConditionAdded
-    adds_binary asked met code closed w = calls.by-chosen-binary builder 𝓛 𝓜 𝓡 2 [] F-binary C-binary A-binary B-binary asked told-adds_binary (inst_fn types-adds_binary fn) (step types-adds_binary) release_code.name (name types-adds_binary)
+    adds_chosen_binary asked met code closed w = calls.by-chosen-binary builder 𝓛 𝓜 𝓡 2 [] F-binary C-binary A-binary B-binary asked told-adds_chosen_binary (inst_fn types-adds_chosen_binary fn) (step types-adds_chosen_binary) release_code.name (name types-adds_chosen_binary)
         code closed met (release_met 𝓤 𝓛 𝓜 𝓡 w)
 
   -- a condition with a text and a list of texts, by one more constant
   module _ (X : Variant family.the_type) (Y : Choice) (condition : Y.type.D → List ℕ → List (List ℕ) → ConditionText) (fn : Fn) (name step : Args → Callee) (S T : RattleType) (LS : Laws S) (LT : Laws T)
       (s : Ghosts S.Denot) (t : Ghosts T.Denot) (d e d' e' : Dict) (os : List (Outlives 4)) where
-    abbrev pub types-adds_listed : Args
-    types-adds_listed = bounded (a_type ∷ a_type ∷ []) (S, (T, tt)) (dcons d (dcons e (dcons d' (dcons e' dnil))))
+    abbrev pub types-adds_chosen_listed : Args
+    types-adds_chosen_listed = bounded (a_type ∷ a_type ∷ []) (S, (T, tt)) (dcons d (dcons e (dcons d' (dcons e' dnil))))
 
     abbrev F-listed : Constant 𝓛
     F-listed = constant 𝓛 family.the_type family_laws.the_plain X
@@ -268,27 +268,27 @@ module _ {M : Type 1} (𝓤 : Ura M) (𝓛 : Logic 𝓤) (𝓜 : Model 𝓤 𝓛
     abbrev Given-listed : Lfts 4 → Type 0
     Given-listed κs = MutBor ClauseTexts × Denots (types_at {n = 4} (also 𝓛 (F-listed ∷ C-listed ∷ []) (plain A-listed.row ∷ plain B-listed.row ∷ [])) κs)
 
-    abbrev kept-adds_listed : (κs : Lfts 4) → Given-listed κs → Effect ClauseTexts
-    kept-adds_listed κs a = record { leaves = ConditionAdded a.1.0 (condition a.1.1.0 (s.text a.1.1.1.0) (map t.text a.1.1.1.1.0.now)) a.0.now; refuses = IsMemory }
+    abbrev kept-adds_chosen_listed : (κs : Lfts 4) → Given-listed κs → Effect ClauseTexts
+    kept-adds_chosen_listed κs a = record { leaves = ConditionAdded a.1.0 (condition a.1.1.0 (s.text a.1.1.1.0) (map t.text a.1.1.1.1.0.now)) a.0.now; refuses = IsMemory }
 
-    abbrev told-adds_listed : (κs : Lfts 4) → Given-listed κs → Effect ClauseTexts
-    told-adds_listed κs a = record { leaves = AddsCondition a.1.0 (condition a.1.1.0 (s.text a.1.1.1.0) (map t.text a.1.1.1.1.0.now)) a.0.now; refuses = IsMemory }
+    abbrev told-adds_chosen_listed : (κs : Lfts 4) → Given-listed κs → Effect ClauseTexts
+    told-adds_chosen_listed κs a = record { leaves = AddsCondition a.1.0 (condition a.1.1.0 (s.text a.1.1.1.0) (map t.text a.1.1.1.1.0.now)) a.0.now; refuses = IsMemory }
 
-    pub adds_listed : (asked : (κs : Lfts 4) → Given-listed κs → SProp 𝓤)
-        → calls.StepMeets builder 𝓛 𝓜 𝓡 3 os (F-listed ∷ C-listed ∷ []) (plain A-listed.row ∷ plain B-listed.row ∷ []) (A-listed.kept, (B-listed.kept, tt)) asked kept-adds_listed (step types-adds_listed)
-        → calls.Code-chosen-listed builder 𝓛 𝓜 𝓡 3 os F-listed C-listed A-listed B-listed asked told-adds_listed (inst_fn types-adds_listed fn) (step types-adds_listed) release_code.name (name types-adds_listed)
-        → calls.Coded-chosen-listed builder 𝓛 𝓜 𝓡 3 os F-listed C-listed A-listed B-listed asked told-adds_listed (inst_fn types-adds_listed fn) (step types-adds_listed) release_code.name (name types-adds_listed)
+    pub adds_chosen_listed : (asked : (κs : Lfts 4) → Given-listed κs → SProp 𝓤)
+        → calls.StepMeets builder 𝓛 𝓜 𝓡 3 os (F-listed ∷ C-listed ∷ []) (plain A-listed.row ∷ plain B-listed.row ∷ []) (A-listed.kept, (B-listed.kept, tt)) asked kept-adds_chosen_listed (step types-adds_chosen_listed)
+        → calls.Code-chosen-listed builder 𝓛 𝓜 𝓡 3 os F-listed C-listed A-listed B-listed asked told-adds_chosen_listed (inst_fn types-adds_chosen_listed fn) (step types-adds_chosen_listed) release_code.name (name types-adds_chosen_listed)
+        → calls.Coded-chosen-listed builder 𝓛 𝓜 𝓡 3 os F-listed C-listed A-listed B-listed asked told-adds_chosen_listed (inst_fn types-adds_chosen_listed fn) (step types-adds_chosen_listed) release_code.name (name types-adds_chosen_listed)
         → Wired 𝓡.env release_code.code
-        → calls.Method-chosen-listed builder 𝓛 𝓜 𝓡 3 os F-listed C-listed A-listed B-listed asked told-adds_listed (inst_fn types-adds_listed fn) (step types-adds_listed) release_code.name (name types-adds_listed)
+        → calls.Method-chosen-listed builder 𝓛 𝓜 𝓡 3 os F-listed C-listed A-listed B-listed asked told-adds_chosen_listed (inst_fn types-adds_chosen_listed fn) (step types-adds_chosen_listed) release_code.name (name types-adds_chosen_listed)
     unfolding ConditionAdded
-    adds_listed asked met code closed w = calls.by-chosen-listed builder 𝓛 𝓜 𝓡 3 os F-listed C-listed A-listed B-listed asked told-adds_listed (inst_fn types-adds_listed fn) (step types-adds_listed) release_code.name (name types-adds_listed)
+    adds_chosen_listed asked met code closed w = calls.by-chosen-listed builder 𝓛 𝓜 𝓡 3 os F-listed C-listed A-listed B-listed asked told-adds_chosen_listed (inst_fn types-adds_chosen_listed fn) (step types-adds_chosen_listed) release_code.name (name types-adds_chosen_listed)
         code closed met (release_met 𝓤 𝓛 𝓜 𝓡 w)
 
   -- a condition with three texts, by one more constant
   module _ (X : Variant family.the_type) (Y : Choice) (condition : Y.type.D → List ℕ → List ℕ → List ℕ → ConditionText) (fn : Fn) (name step : Args → Callee) (S T U : RattleType) (LS : Laws S) (LT : Laws T) (LU : Laws U)
       (s : Ghosts S.Denot) (t : Ghosts T.Denot) (u : Ghosts U.Denot) (d e f d' e' f' : Dict) where
-    abbrev pub types-adds_ternary : Args
-    types-adds_ternary = bounded (a_type ∷ a_type ∷ a_type ∷ []) (S, (T, (U, tt))) (dcons d (dcons e (dcons f (dcons d' (dcons e' (dcons f' dnil))))))
+    abbrev pub types-adds_chosen_ternary : Args
+    types-adds_chosen_ternary = bounded (a_type ∷ a_type ∷ a_type ∷ []) (S, (T, (U, tt))) (dcons d (dcons e (dcons f (dcons d' (dcons e' (dcons f' dnil))))))
 
     abbrev F-ternary : Constant 𝓛
     F-ternary = constant 𝓛 family.the_type family_laws.the_plain X
@@ -308,18 +308,18 @@ module _ {M : Type 1} (𝓤 : Ura M) (𝓛 : Logic 𝓤) (𝓜 : Model 𝓤 𝓛
     abbrev Given-ternary : Lfts 4 → Type 0
     Given-ternary κs = MutBor ClauseTexts × Denots (types_at {n = 4} (also 𝓛 (F-ternary ∷ C-ternary ∷ []) (plain A-ternary.row ∷ plain B-ternary.row ∷ plain D-ternary.row ∷ [])) κs)
 
-    abbrev kept-adds_ternary : (κs : Lfts 4) → Given-ternary κs → Effect ClauseTexts
-    kept-adds_ternary κs a = record { leaves = ConditionAdded a.1.0 (condition a.1.1.0 (s.text a.1.1.1.0) (t.text a.1.1.1.1.0) (u.text a.1.1.1.1.1.0)) a.0.now; refuses = IsMemory }
+    abbrev kept-adds_chosen_ternary : (κs : Lfts 4) → Given-ternary κs → Effect ClauseTexts
+    kept-adds_chosen_ternary κs a = record { leaves = ConditionAdded a.1.0 (condition a.1.1.0 (s.text a.1.1.1.0) (t.text a.1.1.1.1.0) (u.text a.1.1.1.1.1.0)) a.0.now; refuses = IsMemory }
 
-    abbrev told-adds_ternary : (κs : Lfts 4) → Given-ternary κs → Effect ClauseTexts
-    told-adds_ternary κs a = record { leaves = AddsCondition a.1.0 (condition a.1.1.0 (s.text a.1.1.1.0) (t.text a.1.1.1.1.0) (u.text a.1.1.1.1.1.0)) a.0.now; refuses = IsMemory }
+    abbrev told-adds_chosen_ternary : (κs : Lfts 4) → Given-ternary κs → Effect ClauseTexts
+    told-adds_chosen_ternary κs a = record { leaves = AddsCondition a.1.0 (condition a.1.1.0 (s.text a.1.1.1.0) (t.text a.1.1.1.1.0) (u.text a.1.1.1.1.1.0)) a.0.now; refuses = IsMemory }
 
-    pub adds_ternary : (asked : (κs : Lfts 4) → Given-ternary κs → SProp 𝓤)
-        → calls.StepMeets builder 𝓛 𝓜 𝓡 3 [] (F-ternary ∷ C-ternary ∷ []) (plain A-ternary.row ∷ plain B-ternary.row ∷ plain D-ternary.row ∷ []) (A-ternary.kept, (B-ternary.kept, (D-ternary.kept, tt))) asked kept-adds_ternary (step types-adds_ternary)
-        → calls.Code-chosen-ternary builder 𝓛 𝓜 𝓡 3 [] F-ternary C-ternary A-ternary B-ternary D-ternary asked told-adds_ternary (inst_fn types-adds_ternary fn) (step types-adds_ternary) release_code.name (name types-adds_ternary)
-        → calls.Coded-chosen-ternary builder 𝓛 𝓜 𝓡 3 [] F-ternary C-ternary A-ternary B-ternary D-ternary asked told-adds_ternary (inst_fn types-adds_ternary fn) (step types-adds_ternary) release_code.name (name types-adds_ternary)
+    pub adds_chosen_ternary : (asked : (κs : Lfts 4) → Given-ternary κs → SProp 𝓤)
+        → calls.StepMeets builder 𝓛 𝓜 𝓡 3 [] (F-ternary ∷ C-ternary ∷ []) (plain A-ternary.row ∷ plain B-ternary.row ∷ plain D-ternary.row ∷ []) (A-ternary.kept, (B-ternary.kept, (D-ternary.kept, tt))) asked kept-adds_chosen_ternary (step types-adds_chosen_ternary)
+        → calls.Code-chosen-ternary builder 𝓛 𝓜 𝓡 3 [] F-ternary C-ternary A-ternary B-ternary D-ternary asked told-adds_chosen_ternary (inst_fn types-adds_chosen_ternary fn) (step types-adds_chosen_ternary) release_code.name (name types-adds_chosen_ternary)
+        → calls.Coded-chosen-ternary builder 𝓛 𝓜 𝓡 3 [] F-ternary C-ternary A-ternary B-ternary D-ternary asked told-adds_chosen_ternary (inst_fn types-adds_chosen_ternary fn) (step types-adds_chosen_ternary) release_code.name (name types-adds_chosen_ternary)
         → Wired 𝓡.env release_code.code
-        → calls.Method-chosen-ternary builder 𝓛 𝓜 𝓡 3 [] F-ternary C-ternary A-ternary B-ternary D-ternary asked told-adds_ternary (inst_fn types-adds_ternary fn) (step types-adds_ternary) release_code.name (name types-adds_ternary)
+        → calls.Method-chosen-ternary builder 𝓛 𝓜 𝓡 3 [] F-ternary C-ternary A-ternary B-ternary D-ternary asked told-adds_chosen_ternary (inst_fn types-adds_chosen_ternary fn) (step types-adds_chosen_ternary) release_code.name (name types-adds_chosen_ternary)
     unfolding ConditionAdded
-    adds_ternary asked met code closed w = calls.by-chosen-ternary builder 𝓛 𝓜 𝓡 3 [] F-ternary C-ternary A-ternary B-ternary D-ternary asked told-adds_ternary (inst_fn types-adds_ternary fn) (step types-adds_ternary) release_code.name (name types-adds_ternary)
+    adds_chosen_ternary asked met code closed w = calls.by-chosen-ternary builder 𝓛 𝓜 𝓡 3 [] F-ternary C-ternary A-ternary B-ternary D-ternary asked told-adds_chosen_ternary (inst_fn types-adds_chosen_ternary fn) (step types-adds_chosen_ternary) release_code.name (name types-adds_chosen_ternary)
         code closed met (release_met 𝓤 𝓛 𝓜 𝓡 w)
