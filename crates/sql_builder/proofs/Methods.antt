@@ -1,9 +1,10 @@
 -- The chain calls of each step. A chain call's proof is one use of these.
 use Rattle.sql_parts.proofs.Walking.{◌≡◌, ℕ, List, [], ◌∷◌, MutBor, plain, a_type, dcons, dnil, bounded, inst_fn, Ura, Logic, RattleType, SProp}
-use Rattle.sql_parts.proofs.Loans.{Argument, Constant, Effect, Lent, Variant, also, boolean, constant, generic, slice}
+use Rattle.sql_parts.proofs.Loans.{Argument, Constant, Effect, Lent, Variant, also, boolean, constant, generic, passed_laws, passed_row, release_name, release_triple, slice}
 use Rattle.sql_builder.proofs.Constants.{Choice}
 use Rattle.sql_parts.proofs.ChainCalls as calls
 use mir.Syntax.{Args, Callee, Dict, Fn}
+use contract.BorrowLft.{⊑_refl}
 use contract.Lifetimes.{Lfts, Outlives}
 use contract.Running.{Running}
 use prog.Model.{Model}
@@ -12,6 +13,7 @@ use denote.Param.Glue.{Met as Drops}
 use denote.Param.Laws.{Laws}
 use denote.RattleType.{Denots}
 use denote.Signature.{types_at}
+use denote.Triple.Statement.{Triple}
 use Rattle.std.specs.Prelude.{codes, map}
 use Rattle.sql_parts.specs.Error.{IsMemory}
 use Rattle.sql_parts.specs.declared.text.ToText.{Ghosts}
@@ -22,10 +24,8 @@ use Rattle.sql_builder.specs.Meaning.{AddsCondition}
 use Rattle.sql_builder.specs.Steps.{ConditionAdded, AddsBinary, RefusesBinary, RefusesUnary, with_unary, with_variadic}
 use Rattle.sql_builder.specs.contracts.builder.SqlBuilder.{the_row}
 use Rattle.sql_builder.proofs.builder.SqlBuilder.TheLaws as builder_laws
-use Rattle.sql_builder.specs.contracts.steps.Held as held
-use Rattle.sql_builder.proofs.steps.Held.TheLaws as held_laws
-use Rattle.sql_builder.proofs.steps.release.Met.{met as release_met}
-use Rattle.sql_builder.proofs.steps.release.Symbol as release_code
+use Rattle.sql_parts.proofs.lending.release.Met.{met as release_met}
+use Rattle.sql_parts.proofs.lending.release.Symbol as release_code
 use Rattle.sql_builder.specs.contracts.steps.UnaryClause as unary_clause
 use Rattle.sql_builder.proofs.steps.UnaryClause.TheLaws as unary_clause_laws
 use Rattle.sql_builder.specs.contracts.steps.BinaryClause as binary_clause
@@ -53,14 +53,17 @@ use Rattle.sql_builder.proofs.builder.SqlBuilder.hold_order.Symbol as order_code
 abbrev pub builder : Lent
 builder = record {
   row = the_row;
-  ty = builder_laws.mir;
-  held = held.the_row;
-  laws = held_laws.the_row_laws;
-  loan = λ κ h. h.0;
-  fits = λ κ v t. t.0;
+  laws = builder_laws.the_row_laws;
+  holds_no_loan = ⊑_refl [];
 }
 
+abbrev release : Callee
+release = release_name builder
+
 module _ {M : Type 1} (𝓤 : Ura M) (𝓛 : Logic 𝓤) (𝓜 : Model 𝓤 𝓛.H) (𝓡 : Running 𝓤 𝓛.H 𝓜) where
+  releases : Wired 𝓡.env release_code.code → Triple 𝓤 (𝓡.run (𝓡.env release)) (release_triple 𝓛 builder)
+  releases w = release_met 𝓤 𝓛 𝓜 𝓡 w (passed_row builder) (passed_laws builder)
+
   -- a call with one text, by its clause
   module _ (X : Variant unary_clause.the_type) (fn : Fn) (name : Args → Callee) (S : RattleType) (LS : Laws S)
       (s : Ghosts S.Denot) (d : Dict) (d' : Dict)
@@ -75,15 +78,15 @@ module _ {M : Type 1} (𝓤 : Ura M) (𝓛 : Logic 𝓤) (𝓜 : Model 𝓤 𝓛
     told-unary κs a = record { leaves = λ builder. builder ≡ with_unary a.1.0 (s.text a.1.1.0) a.0.now; refuses = RefusesUnary a.1.0 a.0.now }
 
     pub by_unary : calls.Code-unary builder 𝓛 𝓜 𝓡 1 [] (constant 𝓛 unary_clause.the_type unary_clause_laws.the_plain X) (generic 𝓛 2 0 S LS)
-        asked-unary told-unary (inst_fn types-unary fn) (unary_code.name types-unary) release_code.name (name types-unary)
+        asked-unary told-unary (inst_fn types-unary fn) (unary_code.name types-unary) release (name types-unary)
         → calls.Coded-unary builder 𝓛 𝓜 𝓡 1 [] (constant 𝓛 unary_clause.the_type unary_clause_laws.the_plain X) (generic 𝓛 2 0 S LS)
-        asked-unary told-unary (inst_fn types-unary fn) (unary_code.name types-unary) release_code.name (name types-unary)
+        asked-unary told-unary (inst_fn types-unary fn) (unary_code.name types-unary) release (name types-unary)
         → Wired 𝓡.env unary_code.code → Wired 𝓡.env release_code.code
         → calls.Method-unary builder 𝓛 𝓜 𝓡 1 [] (constant 𝓛 unary_clause.the_type unary_clause_laws.the_plain X) (generic 𝓛 2 0 S LS)
-        asked-unary told-unary (inst_fn types-unary fn) (unary_code.name types-unary) release_code.name (name types-unary)
+        asked-unary told-unary (inst_fn types-unary fn) (unary_code.name types-unary) release (name types-unary)
     by_unary code closed w w' = calls.by-unary builder 𝓛 𝓜 𝓡 1 [] (constant 𝓛 unary_clause.the_type unary_clause_laws.the_plain X) (generic 𝓛 2 0 S LS)
-        asked-unary told-unary (inst_fn types-unary fn) (unary_code.name types-unary) release_code.name (name types-unary)
-        code closed (unary_met.met 𝓤 𝓛 𝓜 𝓡 w S LS s d d' ms md) (release_met 𝓤 𝓛 𝓜 𝓡 w')
+        asked-unary told-unary (inst_fn types-unary fn) (unary_code.name types-unary) release (name types-unary)
+        code closed (unary_met.met 𝓤 𝓛 𝓜 𝓡 w S LS s d d' ms md) (releases w')
 
   -- the call without a text
   module _ (fn : Fn) (name : Callee) where
@@ -94,15 +97,15 @@ module _ {M : Type 1} (𝓤 : Ura M) (𝓛 : Logic 𝓤) (𝓜 : Model 𝓤 𝓛
     told-returning_id κs a = record { leaves = λ builder. builder ≡ with_returning (codes "id") a.0.now; refuses = IsMemory }
 
     pub by_returning_id : calls.Code-nullary builder 𝓛 𝓜 𝓡 0 []
-        asked-returning_id told-returning_id fn returning_id_code.name release_code.name name
+        asked-returning_id told-returning_id fn returning_id_code.name release name
         → calls.Coded-nullary builder 𝓛 𝓜 𝓡 0 []
-        asked-returning_id told-returning_id fn returning_id_code.name release_code.name name
+        asked-returning_id told-returning_id fn returning_id_code.name release name
         → Wired 𝓡.env returning_id_code.code → Wired 𝓡.env release_code.code
         → calls.Method-nullary builder 𝓛 𝓜 𝓡 0 []
-        asked-returning_id told-returning_id fn returning_id_code.name release_code.name name
+        asked-returning_id told-returning_id fn returning_id_code.name release name
     by_returning_id code closed w w' = calls.by-nullary builder 𝓛 𝓜 𝓡 0 []
-        asked-returning_id told-returning_id fn returning_id_code.name release_code.name name
-        code closed (returning_id_met.met 𝓤 𝓛 𝓜 𝓡 w) (release_met 𝓤 𝓛 𝓜 𝓡 w')
+        asked-returning_id told-returning_id fn returning_id_code.name release name
+        code closed (returning_id_met.met 𝓤 𝓛 𝓜 𝓡 w) (releases w')
 
   -- a call with two texts, by its clause
   module _ (X : Variant binary_clause.the_type) (fn : Fn) (name : Args → Callee) (S T : RattleType) (LS : Laws S) (LT : Laws T)
@@ -118,15 +121,15 @@ module _ {M : Type 1} (𝓤 : Ura M) (𝓛 : Logic 𝓤) (𝓜 : Model 𝓤 𝓛
     told-binary κs a = record { leaves = AddsBinary a.1.0 (s.text a.1.1.0) (t.text a.1.1.1.0) a.0.now; refuses = RefusesBinary a.1.0 a.0.now }
 
     pub by_binary : calls.Code-binary builder 𝓛 𝓜 𝓡 2 [] (constant 𝓛 binary_clause.the_type binary_clause_laws.the_plain X) (generic 𝓛 3 0 S LS) (generic 𝓛 3 1 T LT)
-        asked-binary told-binary (inst_fn types-binary fn) (binary_code.name types-binary) release_code.name (name types-binary)
+        asked-binary told-binary (inst_fn types-binary fn) (binary_code.name types-binary) release (name types-binary)
         → calls.Coded-binary builder 𝓛 𝓜 𝓡 2 [] (constant 𝓛 binary_clause.the_type binary_clause_laws.the_plain X) (generic 𝓛 3 0 S LS) (generic 𝓛 3 1 T LT)
-        asked-binary told-binary (inst_fn types-binary fn) (binary_code.name types-binary) release_code.name (name types-binary)
+        asked-binary told-binary (inst_fn types-binary fn) (binary_code.name types-binary) release (name types-binary)
         → Wired 𝓡.env binary_code.code → Wired 𝓡.env release_code.code
         → calls.Method-binary builder 𝓛 𝓜 𝓡 2 [] (constant 𝓛 binary_clause.the_type binary_clause_laws.the_plain X) (generic 𝓛 3 0 S LS) (generic 𝓛 3 1 T LT)
-        asked-binary told-binary (inst_fn types-binary fn) (binary_code.name types-binary) release_code.name (name types-binary)
+        asked-binary told-binary (inst_fn types-binary fn) (binary_code.name types-binary) release (name types-binary)
     by_binary code closed w w' = calls.by-binary builder 𝓛 𝓜 𝓡 2 [] (constant 𝓛 binary_clause.the_type binary_clause_laws.the_plain X) (generic 𝓛 3 0 S LS) (generic 𝓛 3 1 T LT)
-        asked-binary told-binary (inst_fn types-binary fn) (binary_code.name types-binary) release_code.name (name types-binary)
-        code closed (binary_met.met 𝓤 𝓛 𝓜 𝓡 w S T LS LT s d t e d' e' ms mt md me) (release_met 𝓤 𝓛 𝓜 𝓡 w')
+        asked-binary told-binary (inst_fn types-binary fn) (binary_code.name types-binary) release (name types-binary)
+        code closed (binary_met.met 𝓤 𝓛 𝓜 𝓡 w S T LS LT s d t e d' e' ms mt md me) (releases w')
 
   -- a call with a list of texts, by its clause
   module _ (X : Variant variadic_clause.the_type) (fn : Fn) (name : Args → Callee) (S : RattleType) (LS : Laws S)
@@ -142,15 +145,15 @@ module _ {M : Type 1} (𝓤 : Ura M) (𝓛 : Logic 𝓤) (𝓜 : Model 𝓤 𝓛
     told-variadic κs a = record { leaves = λ builder. builder ≡ with_variadic a.1.0 (map s.text a.1.1.0.now) a.0.now; refuses = IsMemory }
 
     pub by_variadic : calls.Code-variadic builder 𝓛 𝓜 𝓡 2 ((variadic_step.signature S).outlives) (constant 𝓛 variadic_clause.the_type variadic_clause_laws.the_plain X) (slice 𝓛 3 1 tt 0 S)
-        asked-variadic told-variadic (inst_fn types-variadic fn) (variadic_code.name types-variadic) release_code.name (name types-variadic)
+        asked-variadic told-variadic (inst_fn types-variadic fn) (variadic_code.name types-variadic) release (name types-variadic)
         → calls.Coded-variadic builder 𝓛 𝓜 𝓡 2 ((variadic_step.signature S).outlives) (constant 𝓛 variadic_clause.the_type variadic_clause_laws.the_plain X) (slice 𝓛 3 1 tt 0 S)
-        asked-variadic told-variadic (inst_fn types-variadic fn) (variadic_code.name types-variadic) release_code.name (name types-variadic)
+        asked-variadic told-variadic (inst_fn types-variadic fn) (variadic_code.name types-variadic) release (name types-variadic)
         → Wired 𝓡.env variadic_code.code → Wired 𝓡.env release_code.code
         → calls.Method-variadic builder 𝓛 𝓜 𝓡 2 ((variadic_step.signature S).outlives) (constant 𝓛 variadic_clause.the_type variadic_clause_laws.the_plain X) (slice 𝓛 3 1 tt 0 S)
-        asked-variadic told-variadic (inst_fn types-variadic fn) (variadic_code.name types-variadic) release_code.name (name types-variadic)
+        asked-variadic told-variadic (inst_fn types-variadic fn) (variadic_code.name types-variadic) release (name types-variadic)
     by_variadic code closed w w' = calls.by-variadic builder 𝓛 𝓜 𝓡 2 ((variadic_step.signature S).outlives) (constant 𝓛 variadic_clause.the_type variadic_clause_laws.the_plain X) (slice 𝓛 3 1 tt 0 S)
-        asked-variadic told-variadic (inst_fn types-variadic fn) (variadic_code.name types-variadic) release_code.name (name types-variadic)
-        code closed (variadic_met.met 𝓤 𝓛 𝓜 𝓡 w S LS s d d' ms md) (release_met 𝓤 𝓛 𝓜 𝓡 w')
+        asked-variadic told-variadic (inst_fn types-variadic fn) (variadic_code.name types-variadic) release (name types-variadic)
+        code closed (variadic_met.met 𝓤 𝓛 𝓜 𝓡 w S LS s d d' ms md) (releases w')
 
   -- a call with a text and a truth value
   module _ (fn : Fn) (name : Args → Callee) (S : RattleType) (LS : Laws S)
@@ -166,15 +169,15 @@ module _ {M : Type 1} (𝓤 : Ura M) (𝓛 : Logic 𝓤) (𝓜 : Model 𝓤 𝓛
     told-order κs a = record { leaves = λ builder. builder ≡ with_order a.1.1.0 (s.text a.1.0) a.0.now; refuses = IsMemory }
 
     pub by_order : calls.Code-flagged builder 𝓛 𝓜 𝓡 1 [] (generic 𝓛 2 0 S LS) (boolean 𝓛 2)
-        asked-order told-order (inst_fn types-order fn) (order_code.name types-order) release_code.name (name types-order)
+        asked-order told-order (inst_fn types-order fn) (order_code.name types-order) release (name types-order)
         → calls.Coded-flagged builder 𝓛 𝓜 𝓡 1 [] (generic 𝓛 2 0 S LS) (boolean 𝓛 2)
-        asked-order told-order (inst_fn types-order fn) (order_code.name types-order) release_code.name (name types-order)
+        asked-order told-order (inst_fn types-order fn) (order_code.name types-order) release (name types-order)
         → Wired 𝓡.env order_code.code → Wired 𝓡.env release_code.code
         → calls.Method-flagged builder 𝓛 𝓜 𝓡 1 [] (generic 𝓛 2 0 S LS) (boolean 𝓛 2)
-        asked-order told-order (inst_fn types-order fn) (order_code.name types-order) release_code.name (name types-order)
+        asked-order told-order (inst_fn types-order fn) (order_code.name types-order) release (name types-order)
     by_order code closed w w' = calls.by-flagged builder 𝓛 𝓜 𝓡 1 [] (generic 𝓛 2 0 S LS) (boolean 𝓛 2)
-        asked-order told-order (inst_fn types-order fn) (order_code.name types-order) release_code.name (name types-order)
-        code closed (order_met.met 𝓤 𝓛 𝓜 𝓡 w S LS s d d' ms md) (release_met 𝓤 𝓛 𝓜 𝓡 w')
+        asked-order told-order (inst_fn types-order fn) (order_code.name types-order) release (name types-order)
+        code closed (order_met.met 𝓤 𝓛 𝓜 𝓡 w S LS s d d' ms md) (releases w')
 
   -- The calls that add a condition, by their family. `condition` makes the condition of the texts, and `step` is the step's
   -- code, which meets its contract.
@@ -202,13 +205,13 @@ module _ {M : Type 1} (𝓤 : Ura M) (𝓛 : Logic 𝓤) (𝓜 : Model 𝓤 𝓛
 
     pub adds_unary : (asked : (κs : Lfts 2) → Given-unary κs → SProp 𝓤)
         → calls.StepMeets builder 𝓛 𝓜 𝓡 1 [] (F-unary ∷ []) (plain A-unary.row ∷ []) (A-unary.kept, tt) asked kept-adds_unary (step types-adds_unary)
-        → calls.Code-unary builder 𝓛 𝓜 𝓡 1 [] F-unary A-unary asked told-adds_unary (inst_fn types-adds_unary fn) (step types-adds_unary) release_code.name (name types-adds_unary)
-        → calls.Coded-unary builder 𝓛 𝓜 𝓡 1 [] F-unary A-unary asked told-adds_unary (inst_fn types-adds_unary fn) (step types-adds_unary) release_code.name (name types-adds_unary)
+        → calls.Code-unary builder 𝓛 𝓜 𝓡 1 [] F-unary A-unary asked told-adds_unary (inst_fn types-adds_unary fn) (step types-adds_unary) release (name types-adds_unary)
+        → calls.Coded-unary builder 𝓛 𝓜 𝓡 1 [] F-unary A-unary asked told-adds_unary (inst_fn types-adds_unary fn) (step types-adds_unary) release (name types-adds_unary)
         → Wired 𝓡.env release_code.code
-        → calls.Method-unary builder 𝓛 𝓜 𝓡 1 [] F-unary A-unary asked told-adds_unary (inst_fn types-adds_unary fn) (step types-adds_unary) release_code.name (name types-adds_unary)
+        → calls.Method-unary builder 𝓛 𝓜 𝓡 1 [] F-unary A-unary asked told-adds_unary (inst_fn types-adds_unary fn) (step types-adds_unary) release (name types-adds_unary)
     unfolding ConditionAdded
-    adds_unary asked met code closed w = calls.by-unary builder 𝓛 𝓜 𝓡 1 [] F-unary A-unary asked told-adds_unary (inst_fn types-adds_unary fn) (step types-adds_unary) release_code.name (name types-adds_unary)
-        code closed met (release_met 𝓤 𝓛 𝓜 𝓡 w)
+    adds_unary asked met code closed w = calls.by-unary builder 𝓛 𝓜 𝓡 1 [] F-unary A-unary asked told-adds_unary (inst_fn types-adds_unary fn) (step types-adds_unary) release (name types-adds_unary)
+        code closed met (releases w)
 
   -- a condition with two texts, by one more constant
   module _ (X : Variant family.the_type) (Y : Choice) (condition : Y.type.D → List ℕ → List ℕ → ConditionText) (fn : Fn) (name step : Args → Callee) (S T : RattleType) (LS : Laws S) (LT : Laws T)
@@ -239,13 +242,13 @@ module _ {M : Type 1} (𝓤 : Ura M) (𝓛 : Logic 𝓤) (𝓜 : Model 𝓤 𝓛
 
     pub adds_chosen_binary : (asked : (κs : Lfts 3) → Given-binary κs → SProp 𝓤)
         → calls.StepMeets builder 𝓛 𝓜 𝓡 2 [] (F-binary ∷ C-binary ∷ []) (plain A-binary.row ∷ plain B-binary.row ∷ []) (A-binary.kept, (B-binary.kept, tt)) asked kept-adds_chosen_binary (step types-adds_chosen_binary)
-        → calls.Code-chosen-binary builder 𝓛 𝓜 𝓡 2 [] F-binary C-binary A-binary B-binary asked told-adds_chosen_binary (inst_fn types-adds_chosen_binary fn) (step types-adds_chosen_binary) release_code.name (name types-adds_chosen_binary)
-        → calls.Coded-chosen-binary builder 𝓛 𝓜 𝓡 2 [] F-binary C-binary A-binary B-binary asked told-adds_chosen_binary (inst_fn types-adds_chosen_binary fn) (step types-adds_chosen_binary) release_code.name (name types-adds_chosen_binary)
+        → calls.Code-chosen-binary builder 𝓛 𝓜 𝓡 2 [] F-binary C-binary A-binary B-binary asked told-adds_chosen_binary (inst_fn types-adds_chosen_binary fn) (step types-adds_chosen_binary) release (name types-adds_chosen_binary)
+        → calls.Coded-chosen-binary builder 𝓛 𝓜 𝓡 2 [] F-binary C-binary A-binary B-binary asked told-adds_chosen_binary (inst_fn types-adds_chosen_binary fn) (step types-adds_chosen_binary) release (name types-adds_chosen_binary)
         → Wired 𝓡.env release_code.code
-        → calls.Method-chosen-binary builder 𝓛 𝓜 𝓡 2 [] F-binary C-binary A-binary B-binary asked told-adds_chosen_binary (inst_fn types-adds_chosen_binary fn) (step types-adds_chosen_binary) release_code.name (name types-adds_chosen_binary)
+        → calls.Method-chosen-binary builder 𝓛 𝓜 𝓡 2 [] F-binary C-binary A-binary B-binary asked told-adds_chosen_binary (inst_fn types-adds_chosen_binary fn) (step types-adds_chosen_binary) release (name types-adds_chosen_binary)
     unfolding ConditionAdded
-    adds_chosen_binary asked met code closed w = calls.by-chosen-binary builder 𝓛 𝓜 𝓡 2 [] F-binary C-binary A-binary B-binary asked told-adds_chosen_binary (inst_fn types-adds_chosen_binary fn) (step types-adds_chosen_binary) release_code.name (name types-adds_chosen_binary)
-        code closed met (release_met 𝓤 𝓛 𝓜 𝓡 w)
+    adds_chosen_binary asked met code closed w = calls.by-chosen-binary builder 𝓛 𝓜 𝓡 2 [] F-binary C-binary A-binary B-binary asked told-adds_chosen_binary (inst_fn types-adds_chosen_binary fn) (step types-adds_chosen_binary) release (name types-adds_chosen_binary)
+        code closed met (releases w)
 
   -- a condition with a text and a list of texts, by one more constant
   module _ (X : Variant family.the_type) (Y : Choice) (condition : Y.type.D → List ℕ → List (List ℕ) → ConditionText) (fn : Fn) (name step : Args → Callee) (S T : RattleType) (LS : Laws S) (LT : Laws T)
@@ -276,13 +279,13 @@ module _ {M : Type 1} (𝓤 : Ura M) (𝓛 : Logic 𝓤) (𝓜 : Model 𝓤 𝓛
 
     pub adds_chosen_listed : (asked : (κs : Lfts 4) → Given-listed κs → SProp 𝓤)
         → calls.StepMeets builder 𝓛 𝓜 𝓡 3 os (F-listed ∷ C-listed ∷ []) (plain A-listed.row ∷ plain B-listed.row ∷ []) (A-listed.kept, (B-listed.kept, tt)) asked kept-adds_chosen_listed (step types-adds_chosen_listed)
-        → calls.Code-chosen-listed builder 𝓛 𝓜 𝓡 3 os F-listed C-listed A-listed B-listed asked told-adds_chosen_listed (inst_fn types-adds_chosen_listed fn) (step types-adds_chosen_listed) release_code.name (name types-adds_chosen_listed)
-        → calls.Coded-chosen-listed builder 𝓛 𝓜 𝓡 3 os F-listed C-listed A-listed B-listed asked told-adds_chosen_listed (inst_fn types-adds_chosen_listed fn) (step types-adds_chosen_listed) release_code.name (name types-adds_chosen_listed)
+        → calls.Code-chosen-listed builder 𝓛 𝓜 𝓡 3 os F-listed C-listed A-listed B-listed asked told-adds_chosen_listed (inst_fn types-adds_chosen_listed fn) (step types-adds_chosen_listed) release (name types-adds_chosen_listed)
+        → calls.Coded-chosen-listed builder 𝓛 𝓜 𝓡 3 os F-listed C-listed A-listed B-listed asked told-adds_chosen_listed (inst_fn types-adds_chosen_listed fn) (step types-adds_chosen_listed) release (name types-adds_chosen_listed)
         → Wired 𝓡.env release_code.code
-        → calls.Method-chosen-listed builder 𝓛 𝓜 𝓡 3 os F-listed C-listed A-listed B-listed asked told-adds_chosen_listed (inst_fn types-adds_chosen_listed fn) (step types-adds_chosen_listed) release_code.name (name types-adds_chosen_listed)
+        → calls.Method-chosen-listed builder 𝓛 𝓜 𝓡 3 os F-listed C-listed A-listed B-listed asked told-adds_chosen_listed (inst_fn types-adds_chosen_listed fn) (step types-adds_chosen_listed) release (name types-adds_chosen_listed)
     unfolding ConditionAdded
-    adds_chosen_listed asked met code closed w = calls.by-chosen-listed builder 𝓛 𝓜 𝓡 3 os F-listed C-listed A-listed B-listed asked told-adds_chosen_listed (inst_fn types-adds_chosen_listed fn) (step types-adds_chosen_listed) release_code.name (name types-adds_chosen_listed)
-        code closed met (release_met 𝓤 𝓛 𝓜 𝓡 w)
+    adds_chosen_listed asked met code closed w = calls.by-chosen-listed builder 𝓛 𝓜 𝓡 3 os F-listed C-listed A-listed B-listed asked told-adds_chosen_listed (inst_fn types-adds_chosen_listed fn) (step types-adds_chosen_listed) release (name types-adds_chosen_listed)
+        code closed met (releases w)
 
   -- a condition with three texts, by one more constant
   module _ (X : Variant family.the_type) (Y : Choice) (condition : Y.type.D → List ℕ → List ℕ → List ℕ → ConditionText) (fn : Fn) (name step : Args → Callee) (S T U : RattleType) (LS : Laws S) (LT : Laws T) (LU : Laws U)
@@ -316,10 +319,10 @@ module _ {M : Type 1} (𝓤 : Ura M) (𝓛 : Logic 𝓤) (𝓜 : Model 𝓤 𝓛
 
     pub adds_chosen_ternary : (asked : (κs : Lfts 4) → Given-ternary κs → SProp 𝓤)
         → calls.StepMeets builder 𝓛 𝓜 𝓡 3 [] (F-ternary ∷ C-ternary ∷ []) (plain A-ternary.row ∷ plain B-ternary.row ∷ plain D-ternary.row ∷ []) (A-ternary.kept, (B-ternary.kept, (D-ternary.kept, tt))) asked kept-adds_chosen_ternary (step types-adds_chosen_ternary)
-        → calls.Code-chosen-ternary builder 𝓛 𝓜 𝓡 3 [] F-ternary C-ternary A-ternary B-ternary D-ternary asked told-adds_chosen_ternary (inst_fn types-adds_chosen_ternary fn) (step types-adds_chosen_ternary) release_code.name (name types-adds_chosen_ternary)
-        → calls.Coded-chosen-ternary builder 𝓛 𝓜 𝓡 3 [] F-ternary C-ternary A-ternary B-ternary D-ternary asked told-adds_chosen_ternary (inst_fn types-adds_chosen_ternary fn) (step types-adds_chosen_ternary) release_code.name (name types-adds_chosen_ternary)
+        → calls.Code-chosen-ternary builder 𝓛 𝓜 𝓡 3 [] F-ternary C-ternary A-ternary B-ternary D-ternary asked told-adds_chosen_ternary (inst_fn types-adds_chosen_ternary fn) (step types-adds_chosen_ternary) release (name types-adds_chosen_ternary)
+        → calls.Coded-chosen-ternary builder 𝓛 𝓜 𝓡 3 [] F-ternary C-ternary A-ternary B-ternary D-ternary asked told-adds_chosen_ternary (inst_fn types-adds_chosen_ternary fn) (step types-adds_chosen_ternary) release (name types-adds_chosen_ternary)
         → Wired 𝓡.env release_code.code
-        → calls.Method-chosen-ternary builder 𝓛 𝓜 𝓡 3 [] F-ternary C-ternary A-ternary B-ternary D-ternary asked told-adds_chosen_ternary (inst_fn types-adds_chosen_ternary fn) (step types-adds_chosen_ternary) release_code.name (name types-adds_chosen_ternary)
+        → calls.Method-chosen-ternary builder 𝓛 𝓜 𝓡 3 [] F-ternary C-ternary A-ternary B-ternary D-ternary asked told-adds_chosen_ternary (inst_fn types-adds_chosen_ternary fn) (step types-adds_chosen_ternary) release (name types-adds_chosen_ternary)
     unfolding ConditionAdded
-    adds_chosen_ternary asked met code closed w = calls.by-chosen-ternary builder 𝓛 𝓜 𝓡 3 [] F-ternary C-ternary A-ternary B-ternary D-ternary asked told-adds_chosen_ternary (inst_fn types-adds_chosen_ternary fn) (step types-adds_chosen_ternary) release_code.name (name types-adds_chosen_ternary)
-        code closed met (release_met 𝓤 𝓛 𝓜 𝓡 w)
+    adds_chosen_ternary asked met code closed w = calls.by-chosen-ternary builder 𝓛 𝓜 𝓡 3 [] F-ternary C-ternary A-ternary B-ternary D-ternary asked told-adds_chosen_ternary (inst_fn types-adds_chosen_ternary fn) (step types-adds_chosen_ternary) release (name types-adds_chosen_ternary)
+        code closed met (releases w)

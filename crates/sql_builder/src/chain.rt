@@ -11,7 +11,8 @@ ghost use Rattle.sql_builder.specs.Phrases.{count, count_as, equation};
 
 use crate::builder::SqlBuilder;
 use crate::clauses::JoinOperator;
-use crate::steps::{BinaryClause, UnaryClause, VariadicClause, release};
+use crate::steps::{BinaryClause, UnaryClause, VariadicClause};
+use sql_parts::lending::release;
 use sql_parts::{SqlBuilderError, ToText};
 
 impl SqlBuilder {

@@ -5,12 +5,12 @@ ghost use Rattle.sql_parts.specs.Error.{FailsOnlyByMemory};
 ghost use Rattle.sql_builder.specs.Builder.{with_condition_text, with_order, with_returning};
 ghost use Rattle.sql_builder.specs.Steps.{AddsBinary, RefusesBinary, RefusesUnary, Tells, with_binary, with_unary, with_variadic};
 ghost use Rattle.sql_parts.specs.Text.{texts};
-ghost use Rattle.std.specs.Result.{result_map_both};
 
 use crate::builder::SqlBuilder;
 use crate::clauses::{GroupedCondition, Join, Union, constrain_last};
 use crate::condition::Family;
 use crate::phrases::{count, count_as, equation, order, quoted_equation, row};
+use sql_parts::lending::Held;
 use sql_parts::text::copies;
 use sql_parts::{SqlBuilderError, ToText};
 
@@ -50,25 +50,6 @@ pub(crate) enum VariadicClause {
     Fields,
     SetFields,
     Values,
-}
-
-// A builder that a step has changed. A call that lends the builder back is proved
-// to leave it alone where it is refused only if the loan comes in a struct.
-#[derive(Drop)]
-pub(crate) struct Held<'a>(pub(crate) &'a mut SqlBuilder);
-
-pub(crate) fn release(
-    held: Result<Held<'_>, SqlBuilderError>,
-) -> Result<&mut SqlBuilder, SqlBuilderError>
-    ensures { result ≡ result_map_both (λ held. held.0) (λ error. error) held.entry }
-{
-    match held {
-        Ok(held) => {
-            let Held(builder) = held;
-            Ok(builder)
-        }
-        Err(error) => Err(error),
-    }
 }
 
 impl SqlBuilder {
@@ -282,13 +263,14 @@ impl SqlBuilder {
 
 impl SqlBuilder {
     ghost use Rattle.std.specs.Borrow.{sem};
-    ghost use Rattle.sql_builder.specs.Chaining.{IsUnchangedIfHeldErr, IsHeldChangedSoThat, IsHeldChangedTo};
+    ghost use Rattle.sql_builder.specs.Chaining.{IsUnchangedIfHeldErr};
+    ghost use Rattle.sql_parts.specs.Lending.{IsHeldChangedSoThat, IsHeldChangedTo};
 
     pub(crate) fn hold_unary<S: ToText>(
         &mut self,
         clause: UnaryClause,
         text: S,
-    ) -> Result<Held<'_>, SqlBuilderError>
+    ) -> Result<Held<'_, SqlBuilder>, SqlBuilderError>
         ensures* refused { sem 𝓛 (IsUnchangedIfHeldErr self.entry result) }
         ensures changed { IsHeldChangedTo self.entry
             (with_unary clause (S.text text) self.old) result }
@@ -298,7 +280,7 @@ impl SqlBuilder {
         Ok(Held(self))
     }
 
-    pub(crate) fn hold_returning_id(&mut self) -> Result<Held<'_>, SqlBuilderError>
+    pub(crate) fn hold_returning_id(&mut self) -> Result<Held<'_, SqlBuilder>, SqlBuilderError>
         ensures* refused { sem 𝓛 (IsUnchangedIfHeldErr self.entry result) }
         ensures changed { IsHeldChangedTo self.entry (with_returning (codes "id") self.old) result }
         ensures memory { FailsOnlyByMemory result }
@@ -313,7 +295,7 @@ impl SqlBuilder {
         clause: BinaryClause,
         first: S,
         second: T,
-    ) -> Result<Held<'_>, SqlBuilderError>
+    ) -> Result<Held<'_, SqlBuilder>, SqlBuilderError>
         ensures* refused { sem 𝓛 (IsUnchangedIfHeldErr self.entry result) }
         ensures changed { IsHeldChangedSoThat self.entry
             (AddsBinary clause (S.text first) (T.text second) self.old) result }
@@ -327,7 +309,7 @@ impl SqlBuilder {
         &mut self,
         clause: VariadicClause,
         items: &[S],
-    ) -> Result<Held<'_>, SqlBuilderError>
+    ) -> Result<Held<'_, SqlBuilder>, SqlBuilderError>
         ensures* refused { sem 𝓛 (IsUnchangedIfHeldErr self.entry result) }
         ensures changed { IsHeldChangedTo self.entry
             (with_variadic clause (map S.text items.now) self.old) result }
@@ -341,7 +323,7 @@ impl SqlBuilder {
         &mut self,
         field: S,
         descending: bool,
-    ) -> Result<Held<'_>, SqlBuilderError>
+    ) -> Result<Held<'_, SqlBuilder>, SqlBuilderError>
         ensures* refused { sem 𝓛 (IsUnchangedIfHeldErr self.entry result) }
         ensures changed { IsHeldChangedTo self.entry
             (with_order descending (S.text field) self.old) result }

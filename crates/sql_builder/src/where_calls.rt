@@ -12,7 +12,7 @@ use crate::condition::{
     Family, Percent, Relation, between, compare, in_list, in_query, in_quoted, is_not_null,
     is_null, like,
 };
-use crate::steps::{Held, release};
+use sql_parts::lending::{Held, release};
 use sql_parts::{SqlBuilderError, ToText};
 
 /// Whether a call adds the NOT form of its condition.
@@ -33,7 +33,8 @@ impl Sense {
 // The steps of the calls: one for each condition, told by constants what the names of the calls say.
 impl SqlBuilder {
     ghost use Rattle.std.specs.Borrow.{sem};
-    ghost use Rattle.sql_builder.specs.Chaining.{IsUnchangedIfHeldErr, IsHeldChangedSoThat};
+    ghost use Rattle.sql_builder.specs.Chaining.{IsUnchangedIfHeldErr};
+    ghost use Rattle.sql_parts.specs.Lending.{IsHeldChangedSoThat};
     ghost use Rattle.sql_builder.specs.Condition.{Raw, Compare, Like, IsNull, IsNotNull, InList, InQuoted, InQuery, Between};
     ghost use Rattle.sql_builder.specs.Steps.{ConditionAdded, is_negated};
 
@@ -42,7 +43,7 @@ impl SqlBuilder {
         &mut self,
         family: Family,
         condition: S,
-    ) -> Result<Held<'_>, SqlBuilderError>
+    ) -> Result<Held<'_, SqlBuilder>, SqlBuilderError>
         ensures* refused { sem 𝓛 (IsUnchangedIfHeldErr self.entry result) }
         ensures changed { IsHeldChangedSoThat self.entry
             (ConditionAdded family (Raw (S.text condition)) self.old) result }
@@ -58,7 +59,7 @@ impl SqlBuilder {
         &mut self,
         family: Family,
         field: S,
-    ) -> Result<Held<'_>, SqlBuilderError>
+    ) -> Result<Held<'_, SqlBuilder>, SqlBuilderError>
         ensures* refused { sem 𝓛 (IsUnchangedIfHeldErr self.entry result) }
         ensures changed { IsHeldChangedSoThat self.entry
             (ConditionAdded family (IsNull (S.text field)) self.old) result }
@@ -74,7 +75,7 @@ impl SqlBuilder {
         &mut self,
         family: Family,
         field: S,
-    ) -> Result<Held<'_>, SqlBuilderError>
+    ) -> Result<Held<'_, SqlBuilder>, SqlBuilderError>
         ensures* refused { sem 𝓛 (IsUnchangedIfHeldErr self.entry result) }
         ensures changed { IsHeldChangedSoThat self.entry
             (ConditionAdded family (IsNotNull (S.text field)) self.old) result }
@@ -92,7 +93,7 @@ impl SqlBuilder {
         relation: Relation,
         field: S,
         value: T,
-    ) -> Result<Held<'_>, SqlBuilderError>
+    ) -> Result<Held<'_, SqlBuilder>, SqlBuilderError>
         ensures* refused { sem 𝓛 (IsUnchangedIfHeldErr self.entry result) }
         ensures changed { IsHeldChangedSoThat self.entry
             (ConditionAdded family (Compare relation (S.text field) (T.text value)) self.old) result }
@@ -110,7 +111,7 @@ impl SqlBuilder {
         percent: Percent,
         field: S,
         mask: T,
-    ) -> Result<Held<'_>, SqlBuilderError>
+    ) -> Result<Held<'_, SqlBuilder>, SqlBuilderError>
         ensures* refused { sem 𝓛 (IsUnchangedIfHeldErr self.entry result) }
         ensures changed { IsHeldChangedSoThat self.entry
             (ConditionAdded family (Like false percent (S.text field) (T.text mask)) self.old) result }
@@ -128,7 +129,7 @@ impl SqlBuilder {
         percent: Percent,
         field: S,
         mask: T,
-    ) -> Result<Held<'_>, SqlBuilderError>
+    ) -> Result<Held<'_, SqlBuilder>, SqlBuilderError>
         ensures* refused { sem 𝓛 (IsUnchangedIfHeldErr self.entry result) }
         ensures changed { IsHeldChangedSoThat self.entry
             (ConditionAdded family (Like true percent (S.text field) (T.text mask)) self.old) result }
@@ -146,7 +147,7 @@ impl SqlBuilder {
         sense: Sense,
         field: S,
         values: &[T],
-    ) -> Result<Held<'_>, SqlBuilderError>
+    ) -> Result<Held<'_, SqlBuilder>, SqlBuilderError>
         ensures* refused { sem 𝓛 (IsUnchangedIfHeldErr self.entry result) }
         ensures changed { IsHeldChangedSoThat self.entry
             (ConditionAdded family (InList (is_negated sense) (S.text field) (map T.text values.now)) self.old) result }
@@ -164,7 +165,7 @@ impl SqlBuilder {
         sense: Sense,
         field: S,
         values: &[T],
-    ) -> Result<Held<'_>, SqlBuilderError>
+    ) -> Result<Held<'_, SqlBuilder>, SqlBuilderError>
         ensures* refused { sem 𝓛 (IsUnchangedIfHeldErr self.entry result) }
         ensures changed { IsHeldChangedSoThat self.entry
             (ConditionAdded family (InQuoted (is_negated sense) (S.text field) (map T.text values.now)) self.old) result }
@@ -182,7 +183,7 @@ impl SqlBuilder {
         sense: Sense,
         field: S,
         query: T,
-    ) -> Result<Held<'_>, SqlBuilderError>
+    ) -> Result<Held<'_, SqlBuilder>, SqlBuilderError>
         ensures* refused { sem 𝓛 (IsUnchangedIfHeldErr self.entry result) }
         ensures changed { IsHeldChangedSoThat self.entry
             (ConditionAdded family (InQuery (is_negated sense) (S.text field) (T.text query)) self.old) result }
@@ -201,7 +202,7 @@ impl SqlBuilder {
         field: S,
         least: T,
         greatest: U,
-    ) -> Result<Held<'_>, SqlBuilderError>
+    ) -> Result<Held<'_, SqlBuilder>, SqlBuilderError>
         ensures* refused { sem 𝓛 (IsUnchangedIfHeldErr self.entry result) }
         ensures changed { IsHeldChangedSoThat self.entry
             (ConditionAdded family (Between (is_negated sense) (S.text field) (T.text least) (U.text greatest)) self.old) result }

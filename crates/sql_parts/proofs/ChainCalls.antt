@@ -1,7 +1,7 @@
 -- A chain call whose body is `release(self.hold_x(constants, arguments))`: the constants are variants without fields, and each argument is moved or copied.
 -- The proof of such a call is one use of these. `told` is what the call does.
 use Rattle.sql_parts.proofs.Walking.{lit, join, split, fsplit, use1, ◌⊛◌, ◌≡◌, ℕ, List, [], ◌∷◌, refl, sym, subst, proved_at, leaves, Val, vptr, raw, ‵, tables, ◌$◌, ◌∵◌, !, qed, move, fjoin, nothing, use0, enter, addr, stop, no_more, and_then, returns, alloc_all, pass_all, free_all, look_at, get, through, sets, of_opd, lands_as, plain, calls_at, triple_of, Stays, stay_dropped, Goes-spent_ref, walk_of, framed, SProp, ent, sem, Item, Seq, Step, step, Go, prop, WpFn, no, by, Ura, Logic, RattleType, MutBor, id⊢, regoal, allocs, params', runs, at_ret}
-use Rattle.sql_parts.proofs.Loans.{Effect, Lent, in_a_local, release_triple, Good, Kept, Bare, kept_lawful, bare_lawful, held_says, says, returned, releases, Argument, Constant, also, keeps, put, puts, after, owned}
+use Rattle.sql_parts.proofs.Loans.{Effect, Lent, in_a_local, release_triple, Good, Kept, Bare, kept_lawful, bare_lawful, fits, held_says, says, returned, releases, Argument, Constant, also, keeps, put, puts, after, owned}
 use Rattle.std.specs.Prelude.{suc}
 use mir.Syntax.{Callee, Fn, Local, Body, ty_ref, mut, erased, named, value_local, local, seq, assign, call, return, place, copy, addr_of, rv_opd, deref, aggregate, int, w8}
 use base.Fml.{fsep}
@@ -24,6 +24,7 @@ use denote.Triple.Statement.{Triple}
 use denote.Triple.Walked.{AllGo, has_of, fits_of}
 use Rattle.std.specs.contracts.result.Result as RS
 use Rattle.sql_parts.specs.contracts.error.SqlBuilderError.{the_row as E}
+use Rattle.sql_parts.specs.contracts.lending.Held as held
 
 -- nothing is had of an argument at exit
 abbrev pub dropped : {m : ℕ} (ss : List (Slot m)) (ks : Kepts ss) → Stays ss ks
@@ -51,7 +52,7 @@ module _ (L : Lent) {M : Type 1} {𝓤 : Ura M} (𝓛 : Logic 𝓤) (𝓜 : Mode
   l1 = local (ty_ref (named 0) mut (pointee L.row.written)) value_local
 
   abbrev pub kept : Local
-  kept = local (layout (RS.the_row (L.held in_a_local) E)) value_local
+  kept = local (layout (RS.the_row (held.the_row in_a_local L.row) E)) value_local
 
   abbrev pub lent : Local
   lent = local (ty_ref erased mut (pointee L.row.written)) value_local
@@ -72,7 +73,7 @@ module _ (L : Lent) {M : Type 1} {𝓤 : Ura M} (𝓛 : Logic 𝓤) (𝓜 : Mode
     T = record { signature = signature ss (λ κs. Bare 𝓛 L κs.0); kept = (no, ks) }
 
     abbrev pub e : Clauses 𝓤 D
-    e κs a = record { ghost = Unit {0}; requires = λ _. asks κs a; ensures = λ _ r _. held_says 𝓛 L a.0 (told κs a) κs.0 r }
+    e κs a = record { ghost = Unit {0}; requires = λ _. asks κs a; ensures = λ _ r _. held_says 𝓛 L a.0 (told κs a) r }
 
     abbrev pub c : Clauses 𝓤 T
     c κs a = record { ghost = Unit {0}; requires = λ _. asks κs a; ensures = λ _ r _. says 𝓛 L a.0 (told κs a) r }
@@ -198,7 +199,7 @@ module _ (L : Lent) {M : Type 1} {𝓤 : Ura M} (𝓛 : Logic 𝓤) (𝓜 : Mode
         (told : (κs : Lfts (suc n)) → MutBor D₀ × Denots (types_at (also 𝓛 Cs-nullary Q-nullary) κs) → Effect D₀) (fn : Fn) (kg ko name : Callee) where
       abbrev pub Code-nullary : Type 0
       Code-nullary = (fn.locals ≡ l0 ∷ l1 ∷ kept ∷ lent ∷ [])
-          × (fn.body ≡ seq (assign (place 3 []) (addr_of (place 1 (deref L.ty ∷ [])))) (seq (call kg (copy (place 3 []) ∷ []) (place 2 [])) (seq (call ko (copy (place 2 []) ∷ []) (place 0 [])) (return))))
+          × (fn.body ≡ seq (assign (place 3 []) (addr_of (place 1 (deref (layout L.row) ∷ [])))) (seq (call kg (copy (place 3 []) ∷ []) (place 2 [])) (seq (call ko (copy (place 2 []) ∷ []) (place 0 [])) (return))))
 
       abbrev pub Coded-nullary : Type 2
       Coded-nullary = Coded Cs-nullary Q-nullary K-nullary asked told fn name
@@ -220,7 +221,7 @@ module _ (L : Lent) {M : Type 1} {𝓤 : Ura M} (𝓛 : Logic 𝓤) (𝓜 : Mode
           use1 𝓛 (raw (at_step Cs-nullary Q-nullary K-nullary asked told y)) (widened Cs-nullary Q-nullary K-nullary asked told y) $
           calls_at ! fm _ met z (and_then ! (get ! refl) (no_more !)) (λ v.
           returned ! tt (StepEnded Cs-nullary Q-nullary K-nullary asked told) (step_clauses Cs-nullary Q-nullary K-nullary asked told) z v (λ r ws is.
-          lands_as ! refl refl (L.fits y.0.0.0 v ((kept_lawful 𝓛 L y.0.0.0).typed r (v ∷ []) is)) $
+          lands_as ! refl refl (fits 𝓛 L y.0.0.0 v ((kept_lawful 𝓛 L y.0.0.0).typed r (v ∷ []) is)) $
           releases L ! fm release_met n y.0.0 y.0.1 a.0 (told z.0.0 z.0.3) r v (and_then ! (get ! refl) (no_more !)) (λ u t is'.
           lands_as ! refl refl ((bare_lawful 𝓛 L y.0.0.0).typed t (u ∷ []) is').0 $
           returns ! (look_at ! 0 refl) $ free_all ! refl $ leaves_step Cs-nullary Q-nullary K-nullary asked told y u t ws)))) in
@@ -241,7 +242,7 @@ module _ (L : Lent) {M : Type 1} {𝓤 : Ura M} (𝓛 : Logic 𝓤) (𝓜 : Mode
         (told : (κs : Lfts (suc n)) → MutBor D₀ × Denots (types_at (also 𝓛 Cs-unary Q-unary) κs) → Effect D₀) (fn : Fn) (kg ko name : Callee) where
       abbrev pub Code-unary : Type 0
       Code-unary = (fn.locals ≡ l0 ∷ l1 ∷ local A.ty value_local ∷ kept ∷ lent ∷ local (layout X.row) value_local ∷ local A.ty value_local ∷ [])
-          × (fn.body ≡ seq (assign (place 4 []) (addr_of (place 1 (deref L.ty ∷ [])))) (seq (assign (place 5 []) (aggregate (int w8 X.tag ∷ []))) (seq (assign (place 6 []) (rv_opd (copy (place 2 [])))) (
+          × (fn.body ≡ seq (assign (place 4 []) (addr_of (place 1 (deref (layout L.row) ∷ [])))) (seq (assign (place 5 []) (aggregate (int w8 X.tag ∷ []))) (seq (assign (place 6 []) (rv_opd (copy (place 2 [])))) (
           seq (call kg (copy (place 4 []) ∷ copy (place 5 []) ∷ copy (place 6 []) ∷ []) (place 3 [])) (seq (call ko (copy (place 3 []) ∷ []) (place 0 [])) (return))))))
 
       abbrev pub Coded-unary : Type 2
@@ -266,7 +267,7 @@ module _ (L : Lent) {M : Type 1} {𝓤 : Ura M} (𝓛 : Logic 𝓤) (𝓜 : Mode
           use1 𝓛 (raw (at_step Cs-unary Q-unary K-unary asked told y)) (widened Cs-unary Q-unary K-unary asked told y) $
           calls_at ! fm _ met z (and_then ! (get ! refl) (and_then ! (get ! refl) (and_then ! (get ! refl) (no_more !)))) (λ v.
           returned ! tt (StepEnded Cs-unary Q-unary K-unary asked told) (step_clauses Cs-unary Q-unary K-unary asked told) z v (λ r ws is.
-          lands_as ! refl refl (L.fits y.0.0.0 v ((kept_lawful 𝓛 L y.0.0.0).typed r (v ∷ []) is)) $
+          lands_as ! refl refl (fits 𝓛 L y.0.0.0 v ((kept_lawful 𝓛 L y.0.0.0).typed r (v ∷ []) is)) $
           releases L ! fm release_met n y.0.0 y.0.1 a.0 (told z.0.0 z.0.3) r v (and_then ! (get ! refl) (no_more !)) (λ u t is'.
           lands_as ! refl refl ((bare_lawful 𝓛 L y.0.0.0).typed t (u ∷ []) is').0 $
           returns ! (look_at ! 0 refl) $ free_all ! refl $ leaves_step Cs-unary Q-unary K-unary asked told y u t ws)))) in
@@ -287,7 +288,7 @@ module _ (L : Lent) {M : Type 1} {𝓤 : Ura M} (𝓛 : Logic 𝓤) (𝓜 : Mode
         (told : (κs : Lfts (suc n)) → MutBor D₀ × Denots (types_at (also 𝓛 Cs-variadic Q-variadic) κs) → Effect D₀) (fn : Fn) (kg ko name : Callee) where
       abbrev pub Code-variadic : Type 0
       Code-variadic = (fn.locals ≡ l0 ∷ l1 ∷ local A.ty value_local ∷ kept ∷ lent ∷ local (layout X.row) value_local ∷ [])
-          × (fn.body ≡ seq (assign (place 4 []) (addr_of (place 1 (deref L.ty ∷ [])))) (seq (assign (place 5 []) (aggregate (int w8 X.tag ∷ []))) (seq (call kg (copy (place 4 []) ∷ copy (place 5 []) ∷ copy (place 2 []) ∷ []) (place 3 [])) (
+          × (fn.body ≡ seq (assign (place 4 []) (addr_of (place 1 (deref (layout L.row) ∷ [])))) (seq (assign (place 5 []) (aggregate (int w8 X.tag ∷ []))) (seq (call kg (copy (place 4 []) ∷ copy (place 5 []) ∷ copy (place 2 []) ∷ []) (place 3 [])) (
           seq (call ko (copy (place 3 []) ∷ []) (place 0 [])) (return)))))
 
       abbrev pub Coded-variadic : Type 2
@@ -311,7 +312,7 @@ module _ (L : Lent) {M : Type 1} {𝓤 : Ura M} (𝓛 : Logic 𝓤) (𝓜 : Mode
           use1 𝓛 (raw (at_step Cs-variadic Q-variadic K-variadic asked told y)) (widened Cs-variadic Q-variadic K-variadic asked told y) $
           calls_at ! fm _ met z (and_then ! (get ! refl) (and_then ! (get ! refl) (and_then ! (get ! refl) (no_more !)))) (λ v.
           returned ! tt (StepEnded Cs-variadic Q-variadic K-variadic asked told) (step_clauses Cs-variadic Q-variadic K-variadic asked told) z v (λ r ws is.
-          lands_as ! refl refl (L.fits y.0.0.0 v ((kept_lawful 𝓛 L y.0.0.0).typed r (v ∷ []) is)) $
+          lands_as ! refl refl (fits 𝓛 L y.0.0.0 v ((kept_lawful 𝓛 L y.0.0.0).typed r (v ∷ []) is)) $
           releases L ! fm release_met n y.0.0 y.0.1 a.0 (told z.0.0 z.0.3) r v (and_then ! (get ! refl) (no_more !)) (λ u t is'.
           lands_as ! refl refl ((bare_lawful 𝓛 L y.0.0.0).typed t (u ∷ []) is').0 $
           returns ! (look_at ! 0 refl) $ free_all ! refl $ leaves_step Cs-variadic Q-variadic K-variadic asked told y u t ws)))) in
@@ -332,7 +333,7 @@ module _ (L : Lent) {M : Type 1} {𝓤 : Ura M} (𝓛 : Logic 𝓤) (𝓜 : Mode
         (told : (κs : Lfts (suc n)) → MutBor D₀ × Denots (types_at (also 𝓛 Cs-binary Q-binary) κs) → Effect D₀) (fn : Fn) (kg ko name : Callee) where
       abbrev pub Code-binary : Type 0
       Code-binary = (fn.locals ≡ l0 ∷ l1 ∷ local A.ty value_local ∷ local B.ty value_local ∷ kept ∷ lent ∷ local (layout X.row) value_local ∷ local A.ty value_local ∷ local B.ty value_local ∷ [])
-          × (fn.body ≡ seq (assign (place 5 []) (addr_of (place 1 (deref L.ty ∷ [])))) (seq (assign (place 6 []) (aggregate (int w8 X.tag ∷ []))) (seq (assign (place 7 []) (rv_opd (copy (place 2 [])))) (
+          × (fn.body ≡ seq (assign (place 5 []) (addr_of (place 1 (deref (layout L.row) ∷ [])))) (seq (assign (place 6 []) (aggregate (int w8 X.tag ∷ []))) (seq (assign (place 7 []) (rv_opd (copy (place 2 [])))) (
           seq (assign (place 8 []) (rv_opd (copy (place 3 [])))) (seq (call kg (copy (place 5 []) ∷ copy (place 6 []) ∷ copy (place 7 []) ∷ copy (place 8 []) ∷ []) (place 4 [])) (seq (call ko (copy (place 4 []) ∷ []) (place 0 [])) (return)))))))
 
       abbrev pub Coded-binary : Type 2
@@ -358,7 +359,7 @@ module _ (L : Lent) {M : Type 1} {𝓤 : Ura M} (𝓛 : Logic 𝓤) (𝓜 : Mode
           use1 𝓛 (raw (at_step Cs-binary Q-binary K-binary asked told y)) (widened Cs-binary Q-binary K-binary asked told y) $
           calls_at ! fm _ met z (and_then ! (get ! refl) (and_then ! (get ! refl) (and_then ! (get ! refl) (and_then ! (get ! refl) (no_more !))))) (λ v.
           returned ! tt (StepEnded Cs-binary Q-binary K-binary asked told) (step_clauses Cs-binary Q-binary K-binary asked told) z v (λ r ws is.
-          lands_as ! refl refl (L.fits y.0.0.0 v ((kept_lawful 𝓛 L y.0.0.0).typed r (v ∷ []) is)) $
+          lands_as ! refl refl (fits 𝓛 L y.0.0.0 v ((kept_lawful 𝓛 L y.0.0.0).typed r (v ∷ []) is)) $
           releases L ! fm release_met n y.0.0 y.0.1 a.0 (told z.0.0 z.0.3) r v (and_then ! (get ! refl) (no_more !)) (λ u t is'.
           lands_as ! refl refl ((bare_lawful 𝓛 L y.0.0.0).typed t (u ∷ []) is').0 $
           returns ! (look_at ! 0 refl) $ free_all ! refl $ leaves_step Cs-binary Q-binary K-binary asked told y u t ws)))) in
@@ -379,7 +380,7 @@ module _ (L : Lent) {M : Type 1} {𝓤 : Ura M} (𝓛 : Logic 𝓤) (𝓜 : Mode
         (told : (κs : Lfts (suc n)) → MutBor D₀ × Denots (types_at (also 𝓛 Cs-flagged Q-flagged) κs) → Effect D₀) (fn : Fn) (kg ko name : Callee) where
       abbrev pub Code-flagged : Type 0
       Code-flagged = (fn.locals ≡ l0 ∷ l1 ∷ local A.ty value_local ∷ local B.ty value_local ∷ kept ∷ lent ∷ local A.ty value_local ∷ [])
-          × (fn.body ≡ seq (assign (place 5 []) (addr_of (place 1 (deref L.ty ∷ [])))) (seq (assign (place 6 []) (rv_opd (copy (place 2 [])))) (seq (call kg (copy (place 5 []) ∷ copy (place 6 []) ∷ copy (place 3 []) ∷ []) (place 4 [])) (
+          × (fn.body ≡ seq (assign (place 5 []) (addr_of (place 1 (deref (layout L.row) ∷ [])))) (seq (assign (place 6 []) (rv_opd (copy (place 2 [])))) (seq (call kg (copy (place 5 []) ∷ copy (place 6 []) ∷ copy (place 3 []) ∷ []) (place 4 [])) (
           seq (call ko (copy (place 4 []) ∷ []) (place 0 [])) (return)))))
 
       abbrev pub Coded-flagged : Type 2
@@ -405,7 +406,7 @@ module _ (L : Lent) {M : Type 1} {𝓤 : Ura M} (𝓛 : Logic 𝓤) (𝓜 : Mode
           use1 𝓛 (raw (at_step Cs-flagged Q-flagged K-flagged asked told y)) (widened Cs-flagged Q-flagged K-flagged asked told y) $
           calls_at ! fm _ met z (and_then ! (get ! refl) (and_then ! (get ! refl) (and_then ! (get ! refl) (no_more !)))) (λ v.
           returned ! tt (StepEnded Cs-flagged Q-flagged K-flagged asked told) (step_clauses Cs-flagged Q-flagged K-flagged asked told) z v (λ r ws is.
-          lands_as ! refl refl (L.fits y.0.0.0 v ((kept_lawful 𝓛 L y.0.0.0).typed r (v ∷ []) is)) $
+          lands_as ! refl refl (fits 𝓛 L y.0.0.0 v ((kept_lawful 𝓛 L y.0.0.0).typed r (v ∷ []) is)) $
           releases L ! fm release_met n y.0.0 y.0.1 a.0 (told z.0.0 z.0.3) r v (and_then ! (get ! refl) (no_more !)) (λ u t is'.
           lands_as ! refl refl ((bare_lawful 𝓛 L y.0.0.0).typed t (u ∷ []) is').0 $
           returns ! (look_at ! 0 refl) $ free_all ! refl $ leaves_step Cs-flagged Q-flagged K-flagged asked told y u t ws)))) in
@@ -426,7 +427,7 @@ module _ (L : Lent) {M : Type 1} {𝓤 : Ura M} (𝓛 : Logic 𝓤) (𝓜 : Mode
         (told : (κs : Lfts (suc n)) → MutBor D₀ × Denots (types_at (also 𝓛 Cs-chosen-binary Q-chosen-binary) κs) → Effect D₀) (fn : Fn) (kg ko name : Callee) where
       abbrev pub Code-chosen-binary : Type 0
       Code-chosen-binary = (fn.locals ≡ l0 ∷ l1 ∷ local A.ty value_local ∷ local B.ty value_local ∷ kept ∷ lent ∷ local (layout X.row) value_local ∷ local (layout Y.row) value_local ∷ local A.ty value_local ∷ local B.ty value_local ∷ [])
-          × (fn.body ≡ seq (assign (place 5 []) (addr_of (place 1 (deref L.ty ∷ [])))) (seq (assign (place 6 []) (aggregate (int w8 X.tag ∷ []))) (seq (assign (place 7 []) (aggregate (int w8 Y.tag ∷ []))) (
+          × (fn.body ≡ seq (assign (place 5 []) (addr_of (place 1 (deref (layout L.row) ∷ [])))) (seq (assign (place 6 []) (aggregate (int w8 X.tag ∷ []))) (seq (assign (place 7 []) (aggregate (int w8 Y.tag ∷ []))) (
           seq (assign (place 8 []) (rv_opd (copy (place 2 [])))) (seq (assign (place 9 []) (rv_opd (copy (place 3 [])))) (seq (call kg (copy (place 5 []) ∷ copy (place 6 []) ∷ copy (place 7 []) ∷ copy (place 8 []) ∷ copy (place 9 []) ∷ []) (place 4 [])) (
           seq (call ko (copy (place 4 []) ∷ []) (place 0 [])) (return))))))))
 
@@ -453,7 +454,7 @@ module _ (L : Lent) {M : Type 1} {𝓤 : Ura M} (𝓛 : Logic 𝓤) (𝓜 : Mode
           use1 𝓛 (raw (at_step Cs-chosen-binary Q-chosen-binary K-chosen-binary asked told y)) (widened Cs-chosen-binary Q-chosen-binary K-chosen-binary asked told y) $
           calls_at ! fm _ met z (and_then ! (get ! refl) (and_then ! (get ! refl) (and_then ! (get ! refl) (and_then ! (get ! refl) (and_then ! (get ! refl) (no_more !)))))) (λ v.
           returned ! tt (StepEnded Cs-chosen-binary Q-chosen-binary K-chosen-binary asked told) (step_clauses Cs-chosen-binary Q-chosen-binary K-chosen-binary asked told) z v (λ r ws is.
-          lands_as ! refl refl (L.fits y.0.0.0 v ((kept_lawful 𝓛 L y.0.0.0).typed r (v ∷ []) is)) $
+          lands_as ! refl refl (fits 𝓛 L y.0.0.0 v ((kept_lawful 𝓛 L y.0.0.0).typed r (v ∷ []) is)) $
           releases L ! fm release_met n y.0.0 y.0.1 a.0 (told z.0.0 z.0.3) r v (and_then ! (get ! refl) (no_more !)) (λ u t is'.
           lands_as ! refl refl ((bare_lawful 𝓛 L y.0.0.0).typed t (u ∷ []) is').0 $
           returns ! (look_at ! 0 refl) $ free_all ! refl $ leaves_step Cs-chosen-binary Q-chosen-binary K-chosen-binary asked told y u t ws)))) in
@@ -474,7 +475,7 @@ module _ (L : Lent) {M : Type 1} {𝓤 : Ura M} (𝓛 : Logic 𝓤) (𝓜 : Mode
         (told : (κs : Lfts (suc n)) → MutBor D₀ × Denots (types_at (also 𝓛 Cs-chosen-listed Q-chosen-listed) κs) → Effect D₀) (fn : Fn) (kg ko name : Callee) where
       abbrev pub Code-chosen-listed : Type 0
       Code-chosen-listed = (fn.locals ≡ l0 ∷ l1 ∷ local A.ty value_local ∷ local B.ty value_local ∷ kept ∷ lent ∷ local (layout X.row) value_local ∷ local (layout Y.row) value_local ∷ local A.ty value_local ∷ [])
-          × (fn.body ≡ seq (assign (place 5 []) (addr_of (place 1 (deref L.ty ∷ [])))) (seq (assign (place 6 []) (aggregate (int w8 X.tag ∷ []))) (seq (assign (place 7 []) (aggregate (int w8 Y.tag ∷ []))) (
+          × (fn.body ≡ seq (assign (place 5 []) (addr_of (place 1 (deref (layout L.row) ∷ [])))) (seq (assign (place 6 []) (aggregate (int w8 X.tag ∷ []))) (seq (assign (place 7 []) (aggregate (int w8 Y.tag ∷ []))) (
           seq (assign (place 8 []) (rv_opd (copy (place 2 [])))) (seq (call kg (copy (place 5 []) ∷ copy (place 6 []) ∷ copy (place 7 []) ∷ copy (place 8 []) ∷ copy (place 3 []) ∷ []) (place 4 [])) (seq (call ko (copy (place 4 []) ∷ []) (place 0 [])) (return)))))))
 
       abbrev pub Coded-chosen-listed : Type 2
@@ -500,7 +501,7 @@ module _ (L : Lent) {M : Type 1} {𝓤 : Ura M} (𝓛 : Logic 𝓤) (𝓜 : Mode
           use1 𝓛 (raw (at_step Cs-chosen-listed Q-chosen-listed K-chosen-listed asked told y)) (widened Cs-chosen-listed Q-chosen-listed K-chosen-listed asked told y) $
           calls_at ! fm _ met z (and_then ! (get ! refl) (and_then ! (get ! refl) (and_then ! (get ! refl) (and_then ! (get ! refl) (and_then ! (get ! refl) (no_more !)))))) (λ v.
           returned ! tt (StepEnded Cs-chosen-listed Q-chosen-listed K-chosen-listed asked told) (step_clauses Cs-chosen-listed Q-chosen-listed K-chosen-listed asked told) z v (λ r ws is.
-          lands_as ! refl refl (L.fits y.0.0.0 v ((kept_lawful 𝓛 L y.0.0.0).typed r (v ∷ []) is)) $
+          lands_as ! refl refl (fits 𝓛 L y.0.0.0 v ((kept_lawful 𝓛 L y.0.0.0).typed r (v ∷ []) is)) $
           releases L ! fm release_met n y.0.0 y.0.1 a.0 (told z.0.0 z.0.3) r v (and_then ! (get ! refl) (no_more !)) (λ u t is'.
           lands_as ! refl refl ((bare_lawful 𝓛 L y.0.0.0).typed t (u ∷ []) is').0 $
           returns ! (look_at ! 0 refl) $ free_all ! refl $ leaves_step Cs-chosen-listed Q-chosen-listed K-chosen-listed asked told y u t ws)))) in
@@ -521,7 +522,7 @@ module _ (L : Lent) {M : Type 1} {𝓤 : Ura M} (𝓛 : Logic 𝓤) (𝓜 : Mode
         (told : (κs : Lfts (suc n)) → MutBor D₀ × Denots (types_at (also 𝓛 Cs-chosen-ternary Q-chosen-ternary) κs) → Effect D₀) (fn : Fn) (kg ko name : Callee) where
       abbrev pub Code-chosen-ternary : Type 0
       Code-chosen-ternary = (fn.locals ≡ l0 ∷ l1 ∷ local A.ty value_local ∷ local B.ty value_local ∷ local C.ty value_local ∷ kept ∷ lent ∷ local (layout X.row) value_local ∷ local (layout Y.row) value_local ∷ local A.ty value_local ∷ local B.ty value_local ∷ local C.ty value_local ∷ [])
-          × (fn.body ≡ seq (assign (place 6 []) (addr_of (place 1 (deref L.ty ∷ [])))) (seq (assign (place 7 []) (aggregate (int w8 X.tag ∷ []))) (seq (assign (place 8 []) (aggregate (int w8 Y.tag ∷ []))) (
+          × (fn.body ≡ seq (assign (place 6 []) (addr_of (place 1 (deref (layout L.row) ∷ [])))) (seq (assign (place 7 []) (aggregate (int w8 X.tag ∷ []))) (seq (assign (place 8 []) (aggregate (int w8 Y.tag ∷ []))) (
           seq (assign (place 9 []) (rv_opd (copy (place 2 [])))) (seq (assign (place 10 []) (rv_opd (copy (place 3 [])))) (seq (assign (place 11 []) (rv_opd (copy (place 4 [])))) (
           seq (call kg (copy (place 6 []) ∷ copy (place 7 []) ∷ copy (place 8 []) ∷ copy (place 9 []) ∷ copy (place 10 []) ∷ copy (place 11 []) ∷ []) (place 5 [])) (seq (call ko (copy (place 5 []) ∷ []) (place 0 [])) (return)))))))))
 
@@ -549,7 +550,7 @@ module _ (L : Lent) {M : Type 1} {𝓤 : Ura M} (𝓛 : Logic 𝓤) (𝓜 : Mode
           use1 𝓛 (raw (at_step Cs-chosen-ternary Q-chosen-ternary K-chosen-ternary asked told y)) (widened Cs-chosen-ternary Q-chosen-ternary K-chosen-ternary asked told y) $
           calls_at ! fm _ met z (and_then ! (get ! refl) (and_then ! (get ! refl) (and_then ! (get ! refl) (and_then ! (get ! refl) (and_then ! (get ! refl) (and_then ! (get ! refl) (no_more !))))))) (λ v.
           returned ! tt (StepEnded Cs-chosen-ternary Q-chosen-ternary K-chosen-ternary asked told) (step_clauses Cs-chosen-ternary Q-chosen-ternary K-chosen-ternary asked told) z v (λ r ws is.
-          lands_as ! refl refl (L.fits y.0.0.0 v ((kept_lawful 𝓛 L y.0.0.0).typed r (v ∷ []) is)) $
+          lands_as ! refl refl (fits 𝓛 L y.0.0.0 v ((kept_lawful 𝓛 L y.0.0.0).typed r (v ∷ []) is)) $
           releases L ! fm release_met n y.0.0 y.0.1 a.0 (told z.0.0 z.0.3) r v (and_then ! (get ! refl) (no_more !)) (λ u t is'.
           lands_as ! refl refl ((bare_lawful 𝓛 L y.0.0.0).typed t (u ∷ []) is').0 $
           returns ! (look_at ! 0 refl) $ free_all ! refl $ leaves_step Cs-chosen-ternary Q-chosen-ternary K-chosen-ternary asked told y u t ws)))) in

@@ -1,12 +1,16 @@
 -- What the proofs of the calls that hand a loan back share. Such a call is `release(self.hold_x(..))`.
-use Rattle.sql_parts.proofs.Walking.{qed, by, use0, fjoin, ◌∵◌, !, plain, no, yes, Goes-dropped, stay_dropped, ◌≡◌, ℕ, List, [], ◌∷◌, refl, sym, subst, MutBor, id⊢, ftrue, named, Val, fact, ‵, raw, ◌⊛◌, some, later, ◌$◌, move, drop, use1, use2, split, join, await, pick, shows, MutRef, nothing, heard, peeks, calls_at, lasts, triple_of, Ura, Logic, sem, Item, Seq, Goal, Soaks, SProp, ent, sep, RattleType}
+use Rattle.sql_parts.proofs.Walking.{qed, by, use0, fjoin, ◌∵◌, !, plain, no, yes, Goes-dropped, stay_dropped, ◌≡◌, ℕ, List, [], ◌∷◌, refl, sym, subst, MutBor, id⊢, named, Val, fact, ‵, raw, ◌⊛◌, some, later, ◌$◌, move, drop, use1, use2, split, join, await, pick, shows, MutRef, nothing, heard, peeks, a_type, calls_at, lasts, triple_of, Ura, Logic, sem, Item, Seq, Goal, Soaks, SProp, ent, sep, RattleType}
 use mir.Syntax.{Ty, erased, Callee, Opd as Operand, Body, seq, call, Place}
+use mir.Raw.{raw as raw_type}
 use mir.Val.{has_ty, WT}
 use lib.Dec.{T}
 use types.Kit.{runs, lands, Post}
 use types.Run.{Opds}
+use prog.Erase.{raw-raw}
 use prog.Wp.{Env, Calls, Loops}
 use sound.WpLaws.{FmC}
+use contract.BorrowLft.{◌⊑◌, ⊑_static}
+use contract.Fact.{fact_i}
 use contract.Lifetimes.{Lfts, Shares, Within, lft_at, toks}
 use denote.Exit.{Kept as Keeps}
 use denote.Triple.Walked.{Goes}
@@ -15,9 +19,9 @@ use denote.Enum.Enum.{Enum-Lawful}
 use denote.Enum.Declared.{shape}
 use denote.Struct.Recorded.{recorded_lawful}
 use denote.Ref.{NamedLft, mut_Lawful}
-use denote.Param.{param, layout}
+use denote.Param.{arg, param, layout, layouts}
 use denote.Plain.{Boolean, bool_Lawful}
-use denote.Param.Laws.{Laws, param_laws}
+use denote.Param.Laws.{Laws, arg_laws, param_laws}
 use denote.Slice.{ShrSlice, shr_slice_Lawful}
 use denote.Enum.Declared.{Declared, variants, row as enum_row}
 use denote.Enum.Enum.{Plainss}
@@ -34,13 +38,18 @@ use denote.Triple.Clauses.{Ended, Clauses, Lasts, at_exit, closing}
 use denote.Triple.Entry.{alive, Res}
 use denote.Triple.Statement.{Contract, Triple}
 use Rattle.std.specs.contracts.result.Result as RS
-use Rattle.std.specs.Prelude.{Result, Ok, Err, IfOk, IfErr, suc}
-use Rattle.std.specs.Borrow.{RestsIfErr}
+use Rattle.std.specs.Prelude.{Result, Ok, Err, IfErr, suc}
 use Rattle.std.specs.Result.{result_map_both}
-use base.Fml.{Lft}
+use base.Fml.{Lft, Share}
+use base.Fraction.{full_share}
+use Rattle.sql_parts.specs.Lending.{IsChangedSoThat, IsHeldChangedSoThat, IsUnchangedIfErr, IsUnchangedIfHeldErr}
 use Rattle.sql_parts.specs.declared.error.SqlBuilderError.{SqlBuilderError}
 use Rattle.sql_parts.specs.contracts.error.SqlBuilderError.{the_row as E}
 use Rattle.sql_parts.proofs.error.SqlBuilderError.TheLaws as error_laws
+use Rattle.sql_parts.specs.declared.lending.Held.{Held}
+use Rattle.sql_parts.specs.contracts.lending.Held as held
+use Rattle.sql_parts.proofs.lending.Held.TheLaws as held_laws
+use Rattle.sql_parts.specs.contracts.lending.release.Key as release_code
 
 abbrev pub Good : Ty → Val → Type 0
 Good τ v = T (has_ty τ v) × WT v
@@ -62,14 +71,21 @@ at κ = record { mir = named 0; lft = κ }
 abbrev pub in_a_local : NamedLft
 in_a_local = record { mir = erased; lft = [] }
 
--- a type that is lent: its row and its machine type, and the struct that a step hands the loan back in
+-- a type that is lent: its row and its laws, and that it holds no loan itself
 pub record Lent : Type 2 where
   pub row : RattleType
-  pub ty : Ty
-  pub held : NamedLft → RattleType
-  pub laws : (κ : NamedLft) → Laws (held κ)
-  pub loan : (κ : NamedLft) → (held κ).Denot → MutBor row.Denot
-  pub fits : (κ : Lft) (v : Val) → Typed (RS.the_row (held (at κ)) E).mir (v ∷ []) → Good (layout (RS.the_row (held in_a_local) E)) v
+  pub laws : Laws row
+  pub holds_no_loan : [] ⊑ row.lives
+
+-- the type as a call of `release` is passed it, and the call's name
+abbrev pub passed_row : Lent → RattleType
+passed_row L = arg (raw_type (layout L.row)) no L.row
+
+abbrev pub passed_laws : (L : Lent) → Laws (passed_row L)
+passed_laws L = arg_laws (raw_type (layout L.row)) no L.row L.laws (raw-raw (layout L.row))
+
+abbrev pub release_name : Lent → Callee
+release_name L = release_code.name (layouts (a_type ∷ []) (passed_row L, tt))
 
 -- what a call does: what holds of the value that it leaves where it is not refused, and how it is refused
 pub record Effect (D : Type 0) : Type 1 where
@@ -82,53 +98,70 @@ module _ {M : Type 1} {𝓤 : Ura M} (𝓛 : Logic 𝓤) where
 
   module _ (L : Lent) where
     abbrev pub Kept : Lft → RattleType
-    Kept κ = RS.the_row (L.held (at κ)) E
+    Kept κ = RS.the_row (held.the_row (at κ) L.row) E
 
     abbrev pub Bare : Lft → RattleType
     Bare κ = RS.the_row (MutRef (named 0) κ L.row) E
 
     pub kept_lawful : (κ : Lft) → Lawful 𝓛 (Kept κ)
-    kept_lawful κ = result_Lawful _ _ ((L.laws (at κ)).lawful 𝓛) ((error_laws.the_row_laws).lawful 𝓛)
+    kept_lawful κ = result_Lawful _ _ ((held_laws.the_row_laws (at κ) L.row L.laws).lawful 𝓛) ((error_laws.the_row_laws).lawful 𝓛)
 
     pub bare_lawful : (κ : Lft) → Lawful 𝓛 (Bare κ)
     bare_lawful κ = result_Lawful _ _ (mut_Lawful 𝓛 (named 0) κ L.row) ((error_laws.the_row_laws).lawful 𝓛)
 
-    abbrev pub Holds : Lft → Type 0
-    Holds κ = Result (L.held (at κ)).Denot SqlBuilderError
+    -- a result with a loan in it goes into a local
+    pub fits : (κ : Lft) (v : Val) → Typed (Kept κ).mir (v ∷ []) → Good (layout (RS.the_row (held.the_row in_a_local L.row) E)) v
+    fits κ v t = t.0
+
+    abbrev pub Holds : Type 0
+    Holds = Result (Held L.row.Denot) SqlBuilderError
 
     abbrev pub Lends : Type 0
     Lends = Result (MutBor L.row.Denot) SqlBuilderError
 
-    abbrev pub released : (κ : Lft) → Holds κ → Lends
-    released κ r = result_map_both (L.loan (at κ)) (λ error. error) r
+    abbrev pub released : Holds → Lends
+    released r = result_map_both (λ held. held.0) (λ error. error) r
 
     -- the clauses of `hold_x`, and those of `x`
     module _ (s : MutBor L.row.Denot) (x : Effect L.row.Denot) where
-      abbrev pub held_says : (κ : Lft) → Holds κ → SProp 𝓤
-      held_says κ r = sep 𝓤 (sem 𝓛 (RestsIfErr L.row s (λ h. (L.loan (at κ) h).ghost_name) r (λ n. n ≡ s.now))) (sep 𝓤 (fact 𝓤 (IfOk r (λ h. ((L.loan (at κ) h).ghost_name ≡ s.ghost_name) × x.leaves (L.loan (at κ) h).now))) (fact 𝓤 (IfErr r x.refuses)))
+      abbrev pub held_says : Holds → SProp 𝓤
+      held_says r = sep 𝓤 (sem 𝓛 (IsUnchangedIfHeldErr L.row s r)) (sep 𝓤 (fact 𝓤 (IsHeldChangedSoThat s x.leaves r)) (fact 𝓤 (IfErr r x.refuses)))
 
       abbrev pub says : Lends → SProp 𝓤
-      says r = sep 𝓤 (sem 𝓛 (RestsIfErr L.row s (λ b. b.ghost_name) r (λ n. n ≡ s.now))) (sep 𝓤 (fact 𝓤 (IfOk r (λ b. (b.ghost_name ≡ s.ghost_name) × x.leaves b.now))) (fact 𝓤 (IfErr r x.refuses)))
+      says r = sep 𝓤 (sem 𝓛 (IsUnchangedIfErr L.row s r)) (sep 𝓤 (fact 𝓤 (IsChangedSoThat s x.leaves r)) (fact 𝓤 (IfErr r x.refuses)))
 
-      passes : (κ : Lft) (r : Holds κ) → ent 𝓤 (held_says κ r) (says (released κ r))
-      passes κ (Ok h) = id⊢ 𝓤 _
-      passes κ (Err e) = id⊢ 𝓤 _
+      passes : (r : Holds) → ent 𝓤 (held_says r) (says (released r))
+      passes (Ok h) = id⊢ 𝓤 _
+      passes (Err e) = id⊢ 𝓤 _
 
-      pub passed : (κ : Lft) (r : Holds κ) (t : Lends) → t ≡ released κ r → ent 𝓤 (held_says κ r) (says t)
-      passed κ r t e = subst (λ (u : Lends). ent 𝓤 (held_says κ r) (says u)) (sym e) (passes κ r)
+      pub passed : (r : Holds) (t : Lends) → t ≡ released r → ent 𝓤 (held_says r) (says t)
+      passed r t e = subst (λ (u : Lends). ent 𝓤 (held_says r) (says u)) (sym e) (passes r)
 
-    -- what `release` says
+    -- what `release` says, at the loan's lifetime and at that of the loans in what is lent
     abbrev pub release_ended : Ended
     release_ended = record {
-      signature = record { lifetimes = 1; outlives = []; params = plain (λ κs. Kept κs.0) ∷ []; result = plain (λ κs. Bare κs.0) };
+      signature = record {
+        lifetimes = 2;
+        outlives = record { long = 1; long_ok = tt; short = named 0; short_ok = tt } ∷ [];
+        params = plain (λ κs. Kept κs.0) ∷ [];
+        result = plain (λ κs. Bare κs.0);
+      };
       kept = (no, tt);
     }
 
     abbrev pub release_clauses : Clauses 𝓤 release_ended
-    release_clauses κs a = record { ghost = Unit {0}; requires = λ _. emp 𝓤; ensures = λ _ r _. fact 𝓤 (r ≡ released κs.0 a.0) }
+    release_clauses κs a = record {
+      ghost = Unit {0};
+      requires = λ _. sep 𝓤 (fact 𝓤 (κs.1.0 ⊑ L.row.lives)) (emp 𝓤);
+      ensures = λ _ r _. fact 𝓤 (r ≡ released a.0);
+    }
 
     abbrev pub release_triple : Contract 𝓤
     release_triple = triple_of 𝓛 release_ended.signature (closing 𝓛 release_ended release_clauses)
+
+    -- the call of `release` with r, which is the machine value v
+    abbrev pub release_call : (κ : Lft) (q : Share) → Holds → Val → release_triple.Ghost
+    release_call κ q r v = (((κ, ([], tt)), (q, (full_share, tt)), (⊑_static κ, tt), (r, tt), (v ∷ [], tt)), tt)
 
 module _ {M : Type 1} {𝓤 : Ura M} {𝓛 : Logic 𝓤} {K : Type 0} {Γ : List (Item 𝓤)} {G : Goal 𝓤 𝓛.H} where
   -- what a call left: the result, the `ensures` and the tokens
@@ -147,23 +180,26 @@ module _ (L : Lent) {M : Type 1} {𝓤 : Ura M} {𝓛 : Logic 𝓤} {K : Type 0}
   -- the call of `release`
   pub releases : K → FmC 𝓤 𝓛.H 𝓛.laws C → {rest : Body}
       → Triple 𝓤 (C f) (release_triple 𝓛 L)
-      → (n : ℕ) (κs : Lfts (suc n)) (qs : Shares (suc n)) (s : MutBor L.row.Denot) (x : Effect L.row.Denot) (r : Holds 𝓛 L κs.0) (v : Val)
-      → Opds K 𝓛 (raw ((release_triple 𝓛 L).pre (((κs.0, tt), (qs.0, tt), tt, (r, tt), (v ∷ [], tt)), tt)) ∷ raw (toks 𝓛 n κs.1 qs.1) ∷ raw (held_says 𝓛 L s x κs.0 r) ∷ Γ) En xs (v ∷ [])
+      → (n : ℕ) (κs : Lfts (suc n)) (qs : Shares (suc n)) (s : MutBor L.row.Denot) (x : Effect L.row.Denot) (r : Holds 𝓛 L) (v : Val)
+      → Opds K 𝓛 (raw ((release_triple 𝓛 L).pre (release_call 𝓛 L κs.0 qs.0 r v)) ∷ raw (toks 𝓛 n κs.1 qs.1) ∷ raw (held_says 𝓛 L s x r) ∷ Γ) En xs (v ∷ [])
       → ((u : Val) (t : Lends 𝓛 L) → Is (Bare 𝓛 L κs.0) t (u ∷ [])
       → Seq K 𝓛 (‵ ((Bare 𝓛 L κs.0).own_val t (u ∷ [])) ∷ raw (says 𝓛 L s x t) ∷ raw (toks 𝓛 (suc n) κs qs) ∷ Γ) (lands C Λ En dest u rest q))
-      → Seq K 𝓛 (‵ ((Kept 𝓛 L κs.0).own_val r (v ∷ [])) ∷ raw (held_says 𝓛 L s x κs.0 r) ∷ raw (toks 𝓛 (suc n) κs qs) ∷ Γ) (runs C Λ En (seq (call f xs dest) rest) q)
+      → Seq K 𝓛 (‵ ((Kept 𝓛 L κs.0).own_val r (v ∷ [])) ∷ raw (held_says 𝓛 L s x r) ∷ raw (toks 𝓛 (suc n) κs qs) ∷ Γ) (runs C Λ En (seq (call f xs dest) rest) q)
   releases t fm met n κs qs s x r v os k =
       let O = release_triple 𝓛 L in
-      let z : O.Ghost = (((κs.0, tt), (qs.0, tt), tt, (r, tt), (v ∷ [], tt)), tt) in
+      let z : O.Ghost = release_call 𝓛 L κs.0 qs.0 r v in
       let A = 𝓛.A in
       move t (2 ∷ []) $ use1 𝓛 (raw (A.lft κs.0 qs.0) ⊛ raw (toks 𝓛 n κs.1 qs.1)) (id⊢ 𝓤 _) $ split t $
       -- [the token; the other tokens; the result; what is said]
-      nothing t $ move t (1 ∷ 0 ∷ []) $ join t $ nothing t $ move t (3 ∷ 0 ∷ []) $ join t $ move t (1 ∷ 0 ∷ []) $ join t $ nothing t $ move t (1 ∷ 0 ∷ []) $
+      nothing t $ use0 𝓛 (raw (A.lft [] full_share)) (𝓛.lfts.lft-nil full_share) $ join t $ move t (1 ∷ 0 ∷ []) $ join t $
+      nothing t $ move t (3 ∷ 0 ∷ []) $ join t $ move t (1 ∷ 0 ∷ []) $ join t $
+      -- [what is owned; the other tokens; what is said]
+      nothing t $ use0 𝓛 (raw (fact 𝓤 ([] ⊑ L.row.lives))) (fact_i 𝓤 ([] ⊑ L.row.lives) (emp 𝓤) L.holds_no_loan) $ join t $ move t (1 ∷ 0 ∷ []) $
       use2 𝓛 (raw (O.pre z)) (id⊢ 𝓤 _) $ calls_at t fm O met z os (λ u.
       returned t tt (release_ended 𝓛 L) (release_clauses 𝓛 L) z u (λ w ws is. move t (1 ∷ []) $ heard t _ (λ e.
       -- [the result; the token; the other tokens; what is said]
-      move t (1 ∷ []) $ use1 𝓛 (raw (A.lft κs.0 qs.0) ⊛ ‵ ftrue) (id⊢ 𝓤 _) $ split t $ move t (1 ∷ []) $ drop t $ move t (0 ∷ 2 ∷ []) $ join t $
-      use1 𝓛 (raw (toks 𝓛 (suc n) κs qs)) (id⊢ 𝓤 _) $ move t (2 ∷ []) $ use1 𝓛 (raw (says 𝓛 L s x w)) (passed 𝓛 L s x κs.0 r w e) $ move t (2 ∷ 0 ∷ 1 ∷ []) $ k u w is)))
+      move t (1 ∷ []) $ use1 𝓛 (raw (A.lft κs.0 qs.0) ⊛ raw (sep 𝓤 (A.lft [] full_share) (emp 𝓤))) (id⊢ 𝓤 _) $ split t $ move t (1 ∷ []) $ drop t $ move t (0 ∷ 2 ∷ []) $ join t $
+      use1 𝓛 (raw (toks 𝓛 (suc n) κs qs)) (id⊢ 𝓤 _) $ move t (2 ∷ []) $ use1 𝓛 (raw (says 𝓛 L s x w)) (passed 𝓛 L s x r w e) $ move t (2 ∷ 0 ∷ 1 ∷ []) $ k u w is)))
 
 -- an argument of m lifetimes: its type, whether `ended` keeps it, that its values are one machine value each, and that nothing is left of it
 pub record Argument {M : Type 1} {𝓤 : Ura M} (𝓛 : Logic 𝓤) (m : ℕ) : Type 2 where

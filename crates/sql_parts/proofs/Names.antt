@@ -1,9 +1,10 @@
 -- The calls that tell a name something and hand it back. Such a call's proof is one use of `by_told`.
 use Rattle.sql_parts.proofs.Walking.{◌≡◌, [], ◌∷◌, a_type, dcons, dnil, bounded, inst_fn, refl, Ura, Logic, RattleType, SProp}
-use Rattle.sql_parts.proofs.Loans.{Effect, Lent, Variant, constant, generic}
+use Rattle.sql_parts.proofs.Loans.{Effect, Lent, Variant, constant, generic, passed_laws, passed_row, release_name}
 use Rattle.sql_parts.proofs.Variants.{variant}
 use Rattle.sql_parts.proofs.ChainCalls as calls
 use mir.Syntax.{Args, Callee, Dict, Fn}
+use contract.BorrowLft.{⊑_refl}
 use contract.Lifetimes.{Lfts}
 use contract.Running.{Running}
 use prog.Model.{Model}
@@ -18,10 +19,8 @@ use Rattle.sql_parts.specs.declared.text.ToText.{Ghosts}
 use Rattle.sql_parts.specs.contracts.text.ToText.TheBound.{Met}
 use Rattle.sql_parts.specs.contracts.name.SqlName.{the_row}
 use Rattle.sql_parts.proofs.name.SqlName.TheLaws as name_laws
-use Rattle.sql_parts.specs.contracts.name.Held as held
-use Rattle.sql_parts.proofs.name.Held.TheLaws as held_laws
-use Rattle.sql_parts.proofs.name.release.Met.{met as release_met}
-use Rattle.sql_parts.proofs.name.release.Symbol as release_code
+use Rattle.sql_parts.proofs.lending.release.Met.{met as release_met}
+use Rattle.sql_parts.proofs.lending.release.Symbol as release_code
 use Rattle.sql_parts.specs.contracts.name.Told as told
 use Rattle.sql_parts.specs.declared.name.Told.TheVariants as told_case
 use Rattle.sql_parts.proofs.name.Told.TheLaws as told_laws
@@ -32,12 +31,12 @@ use Rattle.sql_parts.proofs.name.SqlName.hold.Symbol as step_code
 abbrev pub name : Lent
 name = record {
   row = the_row;
-  ty = name_laws.mir;
-  held = held.the_row;
-  laws = held_laws.the_row_laws;
-  loan = λ κ h. h.0;
-  fits = λ κ v t. t.0;
+  laws = name_laws.the_row_laws;
+  holds_no_loan = ⊑_refl [];
 }
+
+abbrev release : Callee
+release = release_name name
 
 abbrev pub part : Variant told.the_type
 part = variant told.the_type told_laws.the_laws told_case.Part 0 tt tt tt refl
@@ -58,12 +57,12 @@ module _ {M : Type 1} (𝓤 : Ura M) (𝓛 : Logic 𝓤) (𝓜 : Model 𝓤 𝓛
   tells κs a = record { leaves = λ name. name ≡ with_told a.1.0 (s.text a.1.1.0) a.0.now; refuses = IsMemory }
 
   pub by_told : calls.Code-unary name 𝓛 𝓜 𝓡 1 [] (constant 𝓛 told.the_type told_laws.the_plain X) (generic 𝓛 2 0 S LS)
-      asked tells (inst_fn types fn) (step_code.name types) release_code.name (callee types)
+      asked tells (inst_fn types fn) (step_code.name types) release (callee types)
       → calls.Coded-unary name 𝓛 𝓜 𝓡 1 [] (constant 𝓛 told.the_type told_laws.the_plain X) (generic 𝓛 2 0 S LS)
-      asked tells (inst_fn types fn) (step_code.name types) release_code.name (callee types)
+      asked tells (inst_fn types fn) (step_code.name types) release (callee types)
       → Wired 𝓡.env step_code.code → Wired 𝓡.env release_code.code
       → calls.Method-unary name 𝓛 𝓜 𝓡 1 [] (constant 𝓛 told.the_type told_laws.the_plain X) (generic 𝓛 2 0 S LS)
-      asked tells (inst_fn types fn) (step_code.name types) release_code.name (callee types)
+      asked tells (inst_fn types fn) (step_code.name types) release (callee types)
   by_told code closed w w' = calls.by-unary name 𝓛 𝓜 𝓡 1 [] (constant 𝓛 told.the_type told_laws.the_plain X) (generic 𝓛 2 0 S LS)
-      asked tells (inst_fn types fn) (step_code.name types) release_code.name (callee types)
-      code closed (step_met.met 𝓤 𝓛 𝓜 𝓡 w S LS s d d' ms md) (release_met 𝓤 𝓛 𝓜 𝓡 w')
+      asked tells (inst_fn types fn) (step_code.name types) release (callee types)
+      code closed (step_met.met 𝓤 𝓛 𝓜 𝓡 w S LS s d d' ms md) (release_met 𝓤 𝓛 𝓜 𝓡 w' (passed_row name) (passed_laws name))

@@ -2,7 +2,6 @@
 pub use Rattle.std.proofs.Common.{◌≡◌, ℕ, List, [], ◌∷◌, refl, sym, subst, lit<, MutBor}
 pub use Rattle.std.proofs.raw_atomic.Walks.{proved_at, leaves}
 pub use base.Logic.{id⊢, SProp, ent, sep}
-pub use base.Fml.{ftrue}
 pub use mir.Syntax.{named, a_type, dcons, dnil}
 pub use mir.Val.{Val, vptr}
 pub use contract.Monad.{fact}

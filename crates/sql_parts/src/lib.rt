@@ -10,6 +10,7 @@ mod binding;
 mod dangling;
 pub mod error;
 pub mod laws;
+pub mod lending;
 mod levels;
 pub mod lex;
 mod lexer;

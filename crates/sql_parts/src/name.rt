@@ -1,7 +1,6 @@
 //! Names of tables and columns, as parts with dots between them and perhaps an alias.
 ghost use Rattle.std.specs.Prelude.{◌≡◌, ◌++◌, Some, codes, flat_map, map, string_bytes, IfOk, IsTrue, OnOk};
 ghost use Rattle.std.specs.List.{list_all};
-ghost use Rattle.std.specs.Result.{result_map_both};
 ghost use Rattle.sql_parts.specs.Error.{FailsOnlyByMemory};
 ghost use Rattle.sql_parts.specs.Name.{alias_text, fits_form, is_plain, name_of, name_parts, name_text, name_token, name_tokens, safe_form, safe_text, safe_tokens};
 ghost use Rattle.sql_parts.specs.Name.{str_token, tokens_in, with_alias, with_part, with_told, written_in};
@@ -10,6 +9,7 @@ ghost use Rattle.sql_parts.specs.Text.{texts};
 ghost use Rattle.sql_parts.specs.Tokens.{closed, tokens};
 
 use crate::error::SqlBuilderError;
+use crate::lending::{Held, release};
 use crate::quoting::push_enclosed;
 use crate::text::{Quotes, ToText, copies, copy};
 use std::alloc::Global;
@@ -98,29 +98,10 @@ pub(crate) enum Told {
     Alias,
 }
 
-// A name that a step has changed. A call that lends the name back is proved
-// to leave it alone where it is refused only if the loan comes in a struct.
-#[derive(Drop)]
-pub(crate) struct Held<'a>(&'a mut SqlName);
-
-pub(crate) fn release(
-    held: Result<Held<'_>, SqlBuilderError>,
-) -> Result<&mut SqlName, SqlBuilderError>
-    ensures { result ≡ result_map_both (λ held. held.0) (λ error. error) held.entry }
-{
-    match held {
-        Ok(held) => {
-            let Held(name) = held;
-            Ok(name)
-        }
-        Err(error) => Err(error),
-    }
-}
-
 impl SqlName {
     ghost use Rattle.std.specs.Borrow.{sem};
-    ghost use Rattle.sql_parts.specs.Chaining.{IsUnchangedIfErr, IsUnchangedIfHeldErr, IsHeldChangedTo};
-    ghost use Rattle.sql_parts.specs.Lending.{IsChangedTo};
+    ghost use Rattle.sql_parts.specs.Chaining.{IsUnchangedIfErr, IsUnchangedIfHeldErr};
+    ghost use Rattle.sql_parts.specs.Lending.{IsChangedTo, IsHeldChangedTo};
 
     /// A name of one part, without an alias. It is refused only for want of memory.
     pub fn new<S: ToText>(alloc: Global, part: S) -> Result<SqlName, SqlBuilderError>
@@ -135,7 +116,7 @@ impl SqlName {
         })
     }
 
-    fn hold<S: ToText>(&mut self, told: Told, text: S) -> Result<Held<'_>, SqlBuilderError>
+    fn hold<S: ToText>(&mut self, told: Told, text: S) -> Result<Held<'_, SqlName>, SqlBuilderError>
         ensures* refused { sem 𝓛 (IsUnchangedIfHeldErr self.entry result) }
         ensures changed { IsHeldChangedTo self.entry (with_told told (S.text text) self.old) result }
         ensures memory { FailsOnlyByMemory result }

@@ -9,4 +9,4 @@ pub on_eq_spec : {M : Type 1} → statement M
 on_eq_spec 𝓤 𝓛 𝓜 𝓡 w S T LS LT s d t e d' e' ms mt md me =
     by_binary 𝓤 𝓛 𝓜 𝓡 constants.binary_clause-on_eq code.function #self S T LS LT s d t e d' e' ms mt md me
     (refl, refl) (code.unfolded 𝓤 𝓛.H 𝓜 𝓡 w (S, (T, tt)) d e d' e')
-    (code.calls-sql_builder::builder::SqlBuilder::hold_binary 𝓡.env w) (code.calls-sql_builder::steps::release 𝓡.env w)
+    (code.calls-sql_builder::builder::SqlBuilder::hold_binary 𝓡.env w) (code.calls-sql_parts::lending::release 𝓡.env w)

@@ -8,4 +8,4 @@ pub returning_id_spec : {M : Type 1} → statement M
 returning_id_spec 𝓤 𝓛 𝓜 𝓡 w =
     by_returning_id 𝓤 𝓛 𝓜 𝓡 code.function #self
     (refl, refl) (code.unfolded 𝓤 𝓛.H 𝓜 𝓡 w)
-    (code.calls-sql_builder::builder::SqlBuilder::hold_returning_id 𝓡.env w) (code.calls-sql_builder::steps::release 𝓡.env w)
+    (code.calls-sql_builder::builder::SqlBuilder::hold_returning_id 𝓡.env w) (code.calls-sql_parts::lending::release 𝓡.env w)

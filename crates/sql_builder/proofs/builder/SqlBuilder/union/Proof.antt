@@ -9,4 +9,4 @@ pub union_spec : {M : Type 1} → statement M
 union_spec 𝓤 𝓛 𝓜 𝓡 w S LS s d d' ms md =
     by_unary 𝓤 𝓛 𝓜 𝓡 constants.unary_clause-union code.function #self S LS s d d' ms md
     (refl, refl) (code.unfolded 𝓤 𝓛.H 𝓜 𝓡 w (S, tt) d d')
-    (code.calls-sql_builder::builder::SqlBuilder::hold_unary 𝓡.env w) (code.calls-sql_builder::steps::release 𝓡.env w)
+    (code.calls-sql_builder::builder::SqlBuilder::hold_unary 𝓡.env w) (code.calls-sql_parts::lending::release 𝓡.env w)

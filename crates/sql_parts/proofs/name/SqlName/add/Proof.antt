@@ -8,4 +8,4 @@ pub add_spec : {M : Type 1} → statement M
 add_spec 𝓤 𝓛 𝓜 𝓡 w S LS s d d' ms md =
     by_told 𝓤 𝓛 𝓜 𝓡 part code.function #self S LS s d d' ms md
     (refl, refl) (code.unfolded 𝓤 𝓛.H 𝓜 𝓡 w (S, tt) d d')
-    (code.calls-sql_parts::name::SqlName::hold 𝓡.env w) (code.calls-sql_parts::name::release 𝓡.env w)
+    (code.calls-sql_parts::name::SqlName::hold 𝓡.env w) (code.calls-sql_parts::lending::release 𝓡.env w)
