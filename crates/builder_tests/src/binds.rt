@@ -1,6 +1,7 @@
 //! Statements that values are bound to.
 
 use crate::rows::Made;
+use sql_builder::SqlBuilderError;
 use sql_builder::prelude::{Bind, SqlArg, SqlBuilder, quote};
 use std::alloc::Global;
 use std::collections::HashMap;
@@ -16,21 +17,41 @@ fn rows_to_bind(builder: &mut SqlBuilder) -> Made {
         .sql()
 }
 
-fn bind_rows(alloc: Global, rows: String) -> Made {
+type Arguments = Result<Vec<Box<dyn SqlArg>>, SqlBuilderError>;
+
+fn names(alloc: Global) -> Arguments {
     let mut names: Vec<Box<dyn SqlArg>> = Vec::new(alloc);
     names.push(Box::new(alloc, String::from_str(alloc, "D&G")?)?)?;
     names.push(Box::new(alloc, String::from_str(alloc, "G&D")?)?)?;
+    Ok(names)
+}
+
+fn numbers(alloc: Global) -> Arguments {
     let mut numbers: Vec<Box<dyn SqlArg>> = Vec::new(alloc);
     numbers.push(Box::new(alloc, 10_000)?)?;
     numbers.push(Box::new(alloc, 100)?)?;
-    rows.bind_nums(alloc, names.as_slice())?
-        .binds(alloc, numbers.as_slice())
+    Ok(numbers)
+}
+
+fn bind_names_of_rows(alloc: Global, rows: &str) -> Made {
+    let names = names(alloc)?;
+    rows.bind_nums(alloc, names.as_slice())
+}
+
+fn bind_numbers_of_rows(alloc: Global, rows: &str) -> Made {
+    let numbers = numbers(alloc)?;
+    rows.binds(alloc, numbers.as_slice())
+}
+
+fn bind_rows(alloc: Global, rows: &str) -> Made {
+    let named = bind_names_of_rows(alloc, rows)?;
+    bind_numbers_of_rows(alloc, named.as_str())
 }
 
 fn binds_rows_of_an_insert(alloc: Global) -> Made {
     let mut builder = SqlBuilder::insert_into(alloc, "company")?;
     let rows = rows_to_bind(&mut builder)?;
-    bind_rows(alloc, rows)
+    bind_rows(alloc, rows.as_str())
 }
 
 fn range_to_bind(builder: &mut SqlBuilder) -> Made {

@@ -1,9 +1,14 @@
 //! Chains of calls as a caller writes them.
 
-use crate::rows::{Chain, Made};
+use crate::rows::{Chain, Made, made};
+use sql_builder::SqlBuilderError;
 use sql_builder::prelude::{SqlBuilder, quote};
 use std::alloc::Global;
 use std::test::Fail;
+
+fn of_company(alloc: Global) -> Result<SqlBuilder, SqlBuilderError> {
+    SqlBuilder::select_from(alloc, "company")
+}
 
 #[test]
 fn selects_rows(rt: HostRuntime) -> Result<(), Fail> {
@@ -33,28 +38,9 @@ fn selects_rows(rt: HostRuntime) -> Result<(), Fail> {
         ),
     ];
     for (chain, wanted) in rows.iter() {
-        let mut builder = SqlBuilder::select_from(rt.alloc(), "company")?;
-        assert_eq!(rt; chain(&mut builder)?.as_str(), *wanted, "{wanted}");
+        let made = made(rt.alloc(), of_company, *chain)?;
+        assert_eq!(rt; made.as_str(), *wanted, "{wanted}");
     }
-    Ok(())
-}
-
-fn join_shops(builder: &mut SqlBuilder) -> Made {
-    builder
-        .field("b.title")?
-        .left_outer()
-        .join("shops AS s")?
-        .on_eq("b.id", "s.book")?
-        .sql()
-}
-
-#[test]
-fn joins_tables(rt: HostRuntime) -> Result<(), Fail> {
-    let mut builder = SqlBuilder::select_from(rt.alloc(), "books AS b")?;
-    assert_eq!(rt;
-        join_shops(&mut builder)?.as_str(),
-        "SELECT b.title FROM books AS b LEFT OUTER JOIN shops AS s ON b.id = s.book;"
-    );
     Ok(())
 }
 
@@ -94,19 +80,22 @@ fn kinds_of_books(alloc: Global) -> Made {
     builder.subquery()
 }
 
+fn kinds_of(alloc: Global, table: &str) -> Made {
+    SqlBuilder::select_from(alloc, table)?.field("c")?.sql()
+}
+
 #[test]
 fn selects_from_a_subquery(rt: HostRuntime) -> Result<(), Fail> {
     let inner = kinds_of_books(rt.alloc())?;
-    let mut builder = SqlBuilder::select_from(rt.alloc(), inner)?;
-    builder.field("c")?;
     assert_eq!(rt;
-        builder.sql()?.as_str(),
+        kinds_of(rt.alloc(), inner.as_str())?.as_str(),
         "SELECT c FROM (SELECT CASE WHEN p < 9 THEN 'a' ELSE 'b' END AS c FROM books);"
     );
     Ok(())
 }
 
-fn add_to_books(builder: &mut SqlBuilder, added: &str) -> Made {
+fn add_to_books(alloc: Global, added: &str) -> Made {
+    let mut builder = SqlBuilder::select_from(alloc, "books")?;
     builder
         .field("title")?
         .field("price")?
@@ -115,13 +104,15 @@ fn add_to_books(builder: &mut SqlBuilder, added: &str) -> Made {
         .sql()
 }
 
+fn values_to_add(alloc: Global) -> Made {
+    SqlBuilder::select_values(alloc, &["'Gatsby'", "124"])?.query_values()
+}
+
 #[test]
 fn adds_values_of_another(rt: HostRuntime) -> Result<(), Fail> {
-    let values = SqlBuilder::select_values(rt.alloc(), &["'Gatsby'", "124"])?;
-    let added = values.query_values()?;
-    let mut builder = SqlBuilder::select_from(rt.alloc(), "books")?;
+    let added = values_to_add(rt.alloc())?;
     assert_eq!(rt;
-        add_to_books(&mut builder, added.as_str())?.as_str(),
+        add_to_books(rt.alloc(), added.as_str())?.as_str(),
         "SELECT title, price FROM books UNION ALL SELECT 'Gatsby', 124;"
     );
     Ok(())

@@ -1,47 +1,49 @@
 //! Clones: each has every clause of its builder, and neither sees what the other is told.
 
-use crate::every_call::{EVERY_START_AND_FINISH, Finish, tell_every_call};
+use crate::every_call::{
+    EVERY_START_AND_FINISH, Finish, sql, tell_every_call, tell_every_call_after,
+};
 use crate::rows::Made;
 use sql_builder::{SqlBuilder, SqlBuilderError};
 use std::test::Fail;
 
-fn clone_for_a_join(builder: &mut SqlBuilder) -> Result<SqlBuilder, SqlBuilderError> {
-    builder.natural().left().clone()
+fn is_printed(builder: &SqlBuilder, finish: Finish, wanted: &str) -> Result<bool, SqlBuilderError>
+    requires { IsAlwaysCallable finish }
+{
+    let made = finish(builder)?;
+    Ok(made.as_str() == wanted)
 }
 
-fn joined(builder: &mut SqlBuilder) -> Made {
-    builder.join("b")?.sql()
+fn join_to_clone(builder: &SqlBuilder) -> Made {
+    let mut clone = builder.clone()?;
+    clone.join("b")?.sql()
 }
 
 #[test]
 fn a_clone_is_a_builder_of_its_own(rt: HostRuntime) -> Result<(), Fail> {
-    let mut first = SqlBuilder::select_from(rt.alloc(), "a")?;
-    let mut second = clone_for_a_join(&mut first)?;
-    let made = joined(&mut second)?;
+    let mut builder = SqlBuilder::select_from(rt.alloc(), "a")?;
+    builder.natural().left();
+    let made = join_to_clone(&builder)?;
     assert_eq!(rt; made.as_str(), "SELECT * FROM a NATURAL LEFT JOIN b;");
-    let made = first.sql()?;
-    assert_eq!(rt; made.as_str(), "SELECT * FROM a;");
+    assert!(rt; is_printed(&builder, sql, "SELECT * FROM a;")?);
     Ok(())
 }
 
-/// What a clone of this builder prints, and the builder itself once the clone has changed.
-fn cloned(builder: &SqlBuilder, finish: Finish) -> Result<(String, String), SqlBuilderError>
+/// Whether a clone of this builder prints this, and so does the builder once the clone has changed.
+fn is_cloned(builder: &SqlBuilder, finish: Finish, wanted: &str) -> Result<bool, SqlBuilderError>
     requires { IsAlwaysCallable finish }
 {
-    let mut other = builder.clone()?;
-    let made = finish(&other)?;
-    tell_every_call(&mut other)?;
-    Ok((made, finish(builder)?))
+    let mut clone = builder.clone()?;
+    let is_same = is_printed(&clone, finish, wanted)?;
+    tell_every_call(&mut clone)?;
+    Ok(is_same && is_printed(builder, finish, wanted)?)
 }
 
 #[test]
 fn a_clone_has_every_clause(rt: HostRuntime) -> Result<(), Fail> {
     for (start, finish, wanted) in EVERY_START_AND_FINISH.iter() {
-        let mut first = start(rt.alloc())?;
-        tell_every_call(&mut first)?;
-        let (clone, original) = cloned(&first, *finish)?;
-        assert_eq!(rt; clone.as_str(), *wanted, "clone: {wanted}");
-        assert_eq!(rt; original.as_str(), *wanted, "original: {wanted}");
+        let builder = tell_every_call_after(rt.alloc(), *start)?;
+        assert!(rt; is_cloned(&builder, *finish, wanted)?, "{wanted}");
     }
     Ok(())
 }

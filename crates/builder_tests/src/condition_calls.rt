@@ -1,172 +1,176 @@
-//! Each call that adds a condition: alone, and joined to a group.
-use crate::rows::Made;
+//! Each call that adds a condition, by both families; the rows of `tests/conditions` have each of
+//! them alone and behind another condition.
+
+use crate::rows::{Chain, made};
 use sql_builder::{SqlBuilder, SqlBuilderError};
 use std::alloc::Global;
 use std::test::Fail;
 
-type Call = fn(&mut SqlBuilder) -> Result<(), SqlBuilderError>;
+fn of_t(alloc: Global) -> Result<SqlBuilder, SqlBuilderError> {
+    SqlBuilder::select_from(alloc, "t")
+}
 
-/// The name of a call, the call, and the text that it makes.
-type Row = (&'static str, Call, &'static str);
-
-/// A call by its name and arguments, and the text that it makes. A constant holds no closure, so
-/// that rows stand in their tests.
-macro_rules! row {
-    ($call:ident($($argument:expr),+) => $wanted:literal) => {
+#[test]
+fn adds_each_condition_by_and(rt: HostRuntime) -> Result<(), Fail> {
+    let rows: [(Chain, &str); 6] = [
         (
-            stringify!($call),
-            |builder| told(builder.$call($($argument),+)),
-            $wanted,
-        )
-    };
-}
-
-fn told(told: Result<&mut SqlBuilder, SqlBuilderError>) -> Result<(), SqlBuilderError> {
-    told?;
-    Ok(())
-}
-
-fn alone(alloc: Global, call: Call) -> Made
-    requires { IsAlwaysCallable call }
-{
-    let mut builder = SqlBuilder::select_from(alloc, "t")?;
-    call(&mut builder)?;
-    builder.query()
-}
-
-fn behind_a_group(alloc: Global, call: Call) -> Made
-    requires { IsAlwaysCallable call }
-{
-    let mut builder = SqlBuilder::select_from(alloc, "t")?;
-    builder.and_where("a")?;
-    call(&mut builder)?;
-    builder.query()
-}
-
-#[test]
-fn adds_each_condition_alone_by_and(rt: HostRuntime) -> Result<(), Fail> {
-    let rows: [Row; 25] = [
-        row!(and_where("f") => "SELECT * FROM t WHERE f"),
-        row!(and_where_is_null("f") => "SELECT * FROM t WHERE f IS NULL"),
-        row!(and_where_is_not_null("f") => "SELECT * FROM t WHERE f IS NOT NULL"),
-        row!(and_where_eq("f", "1") => "SELECT * FROM t WHERE f = 1"),
-        row!(and_where_ne("f", "1") => "SELECT * FROM t WHERE f <> 1"),
-        row!(and_where_gt("f", "1") => "SELECT * FROM t WHERE f > 1"),
-        row!(and_where_ge("f", "1") => "SELECT * FROM t WHERE f >= 1"),
-        row!(and_where_lt("f", "1") => "SELECT * FROM t WHERE f < 1"),
-        row!(and_where_le("f", "1") => "SELECT * FROM t WHERE f <= 1"),
-        row!(and_where_like("f", "it's") => "SELECT * FROM t WHERE f LIKE 'it''s'"),
-        row!(and_where_like_right("f", "it's") => "SELECT * FROM t WHERE f LIKE '%it''s'"),
-        row!(and_where_like_left("f", "it's") => "SELECT * FROM t WHERE f LIKE 'it''s%'"),
-        row!(and_where_like_any("f", "it's") => "SELECT * FROM t WHERE f LIKE '%it''s%'"),
-        row!(and_where_not_like("f", "it's") => "SELECT * FROM t WHERE f NOT LIKE 'it''s'"),
-        row!(and_where_not_like_right("f", "it's") => "SELECT * FROM t WHERE f NOT LIKE '%it''s'"),
-        row!(and_where_not_like_left("f", "it's") => "SELECT * FROM t WHERE f NOT LIKE 'it''s%'"),
-        row!(and_where_not_like_any("f", "it's") => "SELECT * FROM t WHERE f NOT LIKE '%it''s%'"),
-        row!(and_where_in("f", &["1", "2"]) => "SELECT * FROM t WHERE f IN (1, 2)"),
-        row!(and_where_in_quoted("f", &["1", "2"]) => "SELECT * FROM t WHERE f IN ('1', '2')"),
-        row!(and_where_in_query("f", "SELECT 1") => "SELECT * FROM t WHERE f IN (SELECT 1)"),
-        row!(and_where_between("f", "1", "2") => "SELECT * FROM t WHERE f BETWEEN 1 AND 2"),
-        row!(and_where_not_in("f", &["1", "2"]) => "SELECT * FROM t WHERE f NOT IN (1, 2)"),
-        row!(and_where_not_in_quoted("f", &["1", "2"]) =>
-            "SELECT * FROM t WHERE f NOT IN ('1', '2')"),
-        row!(and_where_not_in_query("f", "SELECT 1") =>
-            "SELECT * FROM t WHERE f NOT IN (SELECT 1)"),
-        row!(and_where_not_between("f", "1", "2") => "SELECT * FROM t WHERE f NOT BETWEEN 1 AND 2"),
+            |builder| {
+                builder
+                    .and_where("a")?
+                    .and_where_is_null("b")?
+                    .and_where_is_not_null("c")?
+                    .query()
+            },
+            "SELECT * FROM t WHERE (a) AND (b IS NULL) AND (c IS NOT NULL)",
+        ),
+        (
+            |builder| {
+                builder
+                    .and_where_eq("a", "1")?
+                    .and_where_ne("b", "2")?
+                    .and_where_gt("c", "3")?
+                    .and_where_ge("d", "4")?
+                    .and_where_lt("e", "5")?
+                    .and_where_le("f", "6")?
+                    .query()
+            },
+            "SELECT * FROM t WHERE (a = 1) AND (b <> 2) AND (c > 3) AND (d >= 4) AND (e < 5) AND \
+                (f <= 6)",
+        ),
+        (
+            |builder| {
+                builder
+                    .and_where_like("a", "it's")?
+                    .and_where_like_right("b", "it's")?
+                    .and_where_like_left("c", "it's")?
+                    .and_where_like_any("d", "it's")?
+                    .query()
+            },
+            "SELECT * FROM t WHERE (a LIKE 'it''s') AND (b LIKE '%it''s') AND (c LIKE 'it''s%') \
+                AND (d LIKE '%it''s%')",
+        ),
+        (
+            |builder| {
+                builder
+                    .and_where_not_like("a", "it's")?
+                    .and_where_not_like_right("b", "it's")?
+                    .and_where_not_like_left("c", "it's")?
+                    .and_where_not_like_any("d", "it's")?
+                    .query()
+            },
+            "SELECT * FROM t WHERE (a NOT LIKE 'it''s') AND (b NOT LIKE '%it''s') AND (c NOT LIKE \
+                'it''s%') AND (d NOT LIKE '%it''s%')",
+        ),
+        (
+            |builder| {
+                builder
+                    .and_where_in("a", &["1", "2"])?
+                    .and_where_in_quoted("b", &["1", "2"])?
+                    .and_where_in_query("c", "SELECT 1")?
+                    .and_where_between("d", "1", "2")?
+                    .query()
+            },
+            "SELECT * FROM t WHERE (a IN (1, 2)) AND (b IN ('1', '2')) AND (c IN (SELECT 1)) AND \
+                (d BETWEEN 1 AND 2)",
+        ),
+        (
+            |builder| {
+                builder
+                    .and_where_not_in("a", &["1", "2"])?
+                    .and_where_not_in_quoted("b", &["1", "2"])?
+                    .and_where_not_in_query("c", "SELECT 1")?
+                    .and_where_not_between("d", "1", "2")?
+                    .query()
+            },
+            "SELECT * FROM t WHERE (a NOT IN (1, 2)) AND (b NOT IN ('1', '2')) AND (c NOT IN \
+                (SELECT 1)) AND (d NOT BETWEEN 1 AND 2)",
+        ),
     ];
-    for (name, call, wanted) in rows.iter() {
-        let made = alone(rt.alloc(), *call)?;
-        assert_eq!(rt; made.as_str(), *wanted, "{name}");
+    for (chain, wanted) in rows.iter() {
+        let made = made(rt.alloc(), of_t, *chain)?;
+        assert_eq!(rt; made.as_str(), *wanted, "{wanted}");
     }
     Ok(())
 }
 
 #[test]
-fn adds_each_condition_alone_by_or(rt: HostRuntime) -> Result<(), Fail> {
-    let rows: [Row; 25] = [
-        row!(or_where("f") => "SELECT * FROM t WHERE f"),
-        row!(or_where_is_null("f") => "SELECT * FROM t WHERE f IS NULL"),
-        row!(or_where_is_not_null("f") => "SELECT * FROM t WHERE f IS NOT NULL"),
-        row!(or_where_eq("f", "1") => "SELECT * FROM t WHERE f = 1"),
-        row!(or_where_ne("f", "1") => "SELECT * FROM t WHERE f <> 1"),
-        row!(or_where_gt("f", "1") => "SELECT * FROM t WHERE f > 1"),
-        row!(or_where_ge("f", "1") => "SELECT * FROM t WHERE f >= 1"),
-        row!(or_where_lt("f", "1") => "SELECT * FROM t WHERE f < 1"),
-        row!(or_where_le("f", "1") => "SELECT * FROM t WHERE f <= 1"),
-        row!(or_where_like("f", "it's") => "SELECT * FROM t WHERE f LIKE 'it''s'"),
-        row!(or_where_like_right("f", "it's") => "SELECT * FROM t WHERE f LIKE '%it''s'"),
-        row!(or_where_like_left("f", "it's") => "SELECT * FROM t WHERE f LIKE 'it''s%'"),
-        row!(or_where_like_any("f", "it's") => "SELECT * FROM t WHERE f LIKE '%it''s%'"),
-        row!(or_where_not_like("f", "it's") => "SELECT * FROM t WHERE f NOT LIKE 'it''s'"),
-        row!(or_where_not_like_right("f", "it's") => "SELECT * FROM t WHERE f NOT LIKE '%it''s'"),
-        row!(or_where_not_like_left("f", "it's") => "SELECT * FROM t WHERE f NOT LIKE 'it''s%'"),
-        row!(or_where_not_like_any("f", "it's") => "SELECT * FROM t WHERE f NOT LIKE '%it''s%'"),
-        row!(or_where_in("f", &["1", "2"]) => "SELECT * FROM t WHERE f IN (1, 2)"),
-        row!(or_where_in_quoted("f", &["1", "2"]) => "SELECT * FROM t WHERE f IN ('1', '2')"),
-        row!(or_where_in_query("f", "SELECT 1") => "SELECT * FROM t WHERE f IN (SELECT 1)"),
-        row!(or_where_between("f", "1", "2") => "SELECT * FROM t WHERE f BETWEEN 1 AND 2"),
-        row!(or_where_not_in("f", &["1", "2"]) => "SELECT * FROM t WHERE f NOT IN (1, 2)"),
-        row!(or_where_not_in_quoted("f", &["1", "2"]) =>
-            "SELECT * FROM t WHERE f NOT IN ('1', '2')"),
-        row!(or_where_not_in_query("f", "SELECT 1") => "SELECT * FROM t WHERE f NOT IN (SELECT 1)"),
-        row!(or_where_not_between("f", "1", "2") => "SELECT * FROM t WHERE f NOT BETWEEN 1 AND 2"),
+fn adds_each_condition_by_or(rt: HostRuntime) -> Result<(), Fail> {
+    let rows: [(Chain, &str); 6] = [
+        (
+            |builder| {
+                builder
+                    .or_where("a")?
+                    .or_where_is_null("b")?
+                    .or_where_is_not_null("c")?
+                    .query()
+            },
+            "SELECT * FROM t WHERE a OR b IS NULL OR c IS NOT NULL",
+        ),
+        (
+            |builder| {
+                builder
+                    .or_where_eq("a", "1")?
+                    .or_where_ne("b", "2")?
+                    .or_where_gt("c", "3")?
+                    .or_where_ge("d", "4")?
+                    .or_where_lt("e", "5")?
+                    .or_where_le("f", "6")?
+                    .query()
+            },
+            "SELECT * FROM t WHERE a = 1 OR b <> 2 OR c > 3 OR d >= 4 OR e < 5 OR f <= 6",
+        ),
+        (
+            |builder| {
+                builder
+                    .or_where_like("a", "it's")?
+                    .or_where_like_right("b", "it's")?
+                    .or_where_like_left("c", "it's")?
+                    .or_where_like_any("d", "it's")?
+                    .query()
+            },
+            "SELECT * FROM t WHERE a LIKE 'it''s' OR b LIKE '%it''s' OR c LIKE 'it''s%' OR d LIKE \
+                '%it''s%'",
+        ),
+        (
+            |builder| {
+                builder
+                    .or_where_not_like("a", "it's")?
+                    .or_where_not_like_right("b", "it's")?
+                    .or_where_not_like_left("c", "it's")?
+                    .or_where_not_like_any("d", "it's")?
+                    .query()
+            },
+            "SELECT * FROM t WHERE a NOT LIKE 'it''s' OR b NOT LIKE '%it''s' OR c NOT LIKE 'it''s%' \
+                OR d NOT LIKE '%it''s%'",
+        ),
+        (
+            |builder| {
+                builder
+                    .or_where_in("a", &["1", "2"])?
+                    .or_where_in_quoted("b", &["1", "2"])?
+                    .or_where_in_query("c", "SELECT 1")?
+                    .or_where_between("d", "1", "2")?
+                    .query()
+            },
+            "SELECT * FROM t WHERE a IN (1, 2) OR b IN ('1', '2') OR c IN (SELECT 1) OR d BETWEEN 1 \
+                AND 2",
+        ),
+        (
+            |builder| {
+                builder
+                    .or_where_not_in("a", &["1", "2"])?
+                    .or_where_not_in_quoted("b", &["1", "2"])?
+                    .or_where_not_in_query("c", "SELECT 1")?
+                    .or_where_not_between("d", "1", "2")?
+                    .query()
+            },
+            "SELECT * FROM t WHERE a NOT IN (1, 2) OR b NOT IN ('1', '2') OR c NOT IN (SELECT 1) OR \
+                d NOT BETWEEN 1 AND 2",
+        ),
     ];
-    for (name, call, wanted) in rows.iter() {
-        let made = alone(rt.alloc(), *call)?;
-        assert_eq!(rt; made.as_str(), *wanted, "{name}");
-    }
-    Ok(())
-}
-
-#[test]
-fn joins_each_comparison_to_a_group(rt: HostRuntime) -> Result<(), Fail> {
-    let rows: [Row; 9] = [
-        row!(or_where("f") => "SELECT * FROM t WHERE a OR f"),
-        row!(or_where_is_null("f") => "SELECT * FROM t WHERE a OR f IS NULL"),
-        row!(or_where_is_not_null("f") => "SELECT * FROM t WHERE a OR f IS NOT NULL"),
-        row!(or_where_eq("f", "1") => "SELECT * FROM t WHERE a OR f = 1"),
-        row!(or_where_ne("f", "1") => "SELECT * FROM t WHERE a OR f <> 1"),
-        row!(or_where_gt("f", "1") => "SELECT * FROM t WHERE a OR f > 1"),
-        row!(or_where_ge("f", "1") => "SELECT * FROM t WHERE a OR f >= 1"),
-        row!(or_where_lt("f", "1") => "SELECT * FROM t WHERE a OR f < 1"),
-        row!(or_where_le("f", "1") => "SELECT * FROM t WHERE a OR f <= 1"),
-    ];
-    for (name, call, wanted) in rows.iter() {
-        let made = behind_a_group(rt.alloc(), *call)?;
-        assert_eq!(rt; made.as_str(), *wanted, "{name}");
-    }
-    Ok(())
-}
-
-#[test]
-fn joins_each_mask_and_list_to_a_group(rt: HostRuntime) -> Result<(), Fail> {
-    let rows: [Row; 16] = [
-        row!(or_where_like("f", "it's") => "SELECT * FROM t WHERE a OR f LIKE 'it''s'"),
-        row!(or_where_like_right("f", "it's") => "SELECT * FROM t WHERE a OR f LIKE '%it''s'"),
-        row!(or_where_like_left("f", "it's") => "SELECT * FROM t WHERE a OR f LIKE 'it''s%'"),
-        row!(or_where_like_any("f", "it's") => "SELECT * FROM t WHERE a OR f LIKE '%it''s%'"),
-        row!(or_where_not_like("f", "it's") => "SELECT * FROM t WHERE a OR f NOT LIKE 'it''s'"),
-        row!(or_where_not_like_right("f", "it's") =>
-            "SELECT * FROM t WHERE a OR f NOT LIKE '%it''s'"),
-        row!(or_where_not_like_left("f", "it's") =>
-            "SELECT * FROM t WHERE a OR f NOT LIKE 'it''s%'"),
-        row!(or_where_not_like_any("f", "it's") =>
-            "SELECT * FROM t WHERE a OR f NOT LIKE '%it''s%'"),
-        row!(or_where_in("f", &["1", "2"]) => "SELECT * FROM t WHERE a OR f IN (1, 2)"),
-        row!(or_where_in_quoted("f", &["1", "2"]) => "SELECT * FROM t WHERE a OR f IN ('1', '2')"),
-        row!(or_where_in_query("f", "SELECT 1") => "SELECT * FROM t WHERE a OR f IN (SELECT 1)"),
-        row!(or_where_between("f", "1", "2") => "SELECT * FROM t WHERE a OR f BETWEEN 1 AND 2"),
-        row!(or_where_not_in("f", &["1", "2"]) => "SELECT * FROM t WHERE a OR f NOT IN (1, 2)"),
-        row!(or_where_not_in_quoted("f", &["1", "2"]) =>
-            "SELECT * FROM t WHERE a OR f NOT IN ('1', '2')"),
-        row!(or_where_not_in_query("f", "SELECT 1") =>
-            "SELECT * FROM t WHERE a OR f NOT IN (SELECT 1)"),
-        row!(or_where_not_between("f", "1", "2") =>
-            "SELECT * FROM t WHERE a OR f NOT BETWEEN 1 AND 2"),
-    ];
-    for (name, call, wanted) in rows.iter() {
-        let made = behind_a_group(rt.alloc(), *call)?;
-        assert_eq!(rt; made.as_str(), *wanted, "{name}");
+    for (chain, wanted) in rows.iter() {
+        let made = made(rt.alloc(), of_t, *chain)?;
+        assert_eq!(rt; made.as_str(), *wanted, "{wanted}");
     }
     Ok(())
 }

@@ -29,7 +29,7 @@ fn delete_from(alloc: Global) -> Started {
     SqlBuilder::delete_from(alloc, "t")
 }
 
-fn sql(builder: &SqlBuilder) -> Made {
+pub(crate) fn sql(builder: &SqlBuilder) -> Made {
     builder.sql()
 }
 
@@ -176,12 +176,27 @@ pub(crate) fn tell_every_call(builder: &mut SqlBuilder) -> Result<(), SqlBuilder
     tell_unions_and_order(builder)
 }
 
+pub(crate) fn tell_every_call_after(alloc: Global, start: Start) -> Started
+    requires { IsAlwaysCallable start }
+{
+    let mut builder = start(alloc)?;
+    tell_every_call(&mut builder)?;
+    Ok(builder)
+}
+
+fn made_of_every_call(alloc: Global, start: Start, finish: Finish) -> Made
+    requires start { Start.IsAlwaysCallable start }
+    requires finish { Finish.IsAlwaysCallable finish }
+{
+    let builder = tell_every_call_after(alloc, start)?;
+    finish(&builder)
+}
+
 #[test]
 fn makes_every_call_after_every_start(rt: HostRuntime) -> Result<(), Fail> {
     for (start, finish, wanted) in EVERY_START_AND_FINISH.iter() {
-        let mut builder = start(rt.alloc())?;
-        tell_every_call(&mut builder)?;
-        assert_eq!(rt; finish(&builder)?.as_str(), *wanted, "{wanted}");
+        let made = made_of_every_call(rt.alloc(), *start, *finish)?;
+        assert_eq!(rt; made.as_str(), *wanted, "{wanted}");
     }
     Ok(())
 }

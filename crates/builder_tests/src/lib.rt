@@ -1,4 +1,5 @@
-//! Tests of `sql_builder`: what no clause says, and rows through the calls themselves.
+//! Tests of `sql_builder`: each call by its own name, and what the lines of a program can't say. Rows of
+//! statements are lines, in `tests/rows` and `tests/conditions`.
 #![tactic(auto)]
 
 #[cfg(test)]
@@ -10,21 +11,15 @@ mod callers;
 #[cfg(test)]
 mod chains;
 #[cfg(test)]
-mod clauses;
-#[cfg(test)]
 mod clones;
 #[cfg(test)]
 mod condition_calls;
 #[cfg(test)]
-mod conditions;
-#[cfg(test)]
-mod empty;
-#[cfg(test)]
 mod every_call;
 #[cfg(test)]
-mod joins;
-#[cfg(test)]
 mod names;
+#[cfg(test)]
+mod refusals;
 #[cfg(test)]
 mod rows;
 #[cfg(test)]

@@ -26,13 +26,40 @@ fn dquoted(alloc: Global) -> Named {
     Ok(dname!(alloc, "books"))
 }
 
+fn books(alloc: Global) -> Result<SqlBuilder, SqlBuilderError> {
+    SqlBuilder::select_from(alloc, name!(alloc, "books"; "b"))
+}
+
+fn select_title(alloc: Global, builder: &mut SqlBuilder) -> Result<(), SqlBuilderError> {
+    builder.field(name!(alloc, "b", "title"))?;
+    Ok(())
+}
+
+fn join_shops(alloc: Global, builder: &mut SqlBuilder) -> Result<(), SqlBuilderError> {
+    builder.left().join(name!(alloc, "shops"; "s"))?;
+    Ok(())
+}
+
+fn on_books(alloc: Global, builder: &mut SqlBuilder, id: &str) -> Result<(), SqlBuilderError> {
+    builder.on_eq(id, name!(alloc, "s", "book"))?;
+    Ok(())
+}
+
+fn id_of_books(alloc: Global) -> Named {
+    Ok(name!(alloc, "b", "id"))
+}
+
+fn on_id_of_books(alloc: Global, builder: &mut SqlBuilder) -> Result<(), SqlBuilderError> {
+    let id = id_of_books(alloc)?;
+    on_books(alloc, builder, id.as_str())
+}
+
 fn statement(alloc: Global) -> Named {
-    SqlBuilder::select_from(alloc, name!(alloc, "books"; "b"))?
-        .field(name!(alloc, "b", "title"))?
-        .left()
-        .join(name!(alloc, "shops"; "s"))?
-        .on_eq(name!(alloc, "b", "id"), name!(alloc, "s", "book"))?
-        .sql()
+    let mut builder = books(alloc)?;
+    select_title(alloc, &mut builder)?;
+    join_shops(alloc, &mut builder)?;
+    on_id_of_books(alloc, &mut builder)?;
+    builder.sql()
 }
 
 /// Each macro, names in the calls of a builder, and what they write; more of them stand in the tests

@@ -9,15 +9,12 @@ pub(crate) type Made = Result<String, SqlBuilderError>;
 /// The call that begins a builder.
 pub(crate) type Start = fn(Global) -> Result<SqlBuilder, SqlBuilderError>;
 
-/// The calls that a builder is told, and the one that prints it.
+/// The calls that a builder is told, and the one that prints it. A row's calls are closures, which no
+/// constant holds, so that rows stand in their tests.
 pub(crate) type Chain = fn(&mut SqlBuilder) -> Made;
 
-/// The text that a chain makes, or the message that it is refused with.
+/// The text that is made, or the message that it is refused with.
 pub(crate) type Wanted = Result<&'static str, &'static str>;
-
-/// A start, a chain of calls behind it, and what they make. A row's calls are closures, which no
-/// constant holds, so that rows stand in their tests.
-pub(crate) type Row = (Start, Chain, Wanted);
 
 pub(crate) fn made(alloc: Global, start: Start, chain: Chain) -> Made
     requires start { Start.IsAlwaysCallable start }

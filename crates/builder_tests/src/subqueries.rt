@@ -3,6 +3,7 @@
 use crate::rows::Made;
 use sql_builder::SqlBuilder;
 use sql_builder::lex::{has_clause_word, has_semicolon, is_closed, is_operand};
+use std::alloc::Global;
 use std::test::Fail;
 
 fn where_a_mask_matches(builder: &mut SqlBuilder) -> Made {
@@ -19,24 +20,6 @@ fn a_quoted_text_stays_in_its_quotes(rt: HostRuntime) -> Result<(), Fail> {
     Ok(())
 }
 
-fn where_groups_are(builder: &mut SqlBuilder) -> Made {
-    builder
-        .and_where("(a) OR (b)")?
-        .and_where("NOT c AND d")?
-        .sql()
-}
-
-/// Conditions with brackets and a NOT of their own.
-#[test]
-fn puts_groups_in_brackets(rt: HostRuntime) -> Result<(), Fail> {
-    let mut builder = SqlBuilder::select_from(rt.alloc(), "t")?;
-    assert_eq!(rt;
-        where_groups_are(&mut builder)?.as_str(),
-        "SELECT * FROM t WHERE ((a) OR (b)) AND (NOT c AND d);"
-    );
-    Ok(())
-}
-
 fn ids_of_two_groups(builder: &mut SqlBuilder) -> Made {
     builder
         .field("id")?
@@ -48,26 +31,29 @@ fn ids_of_two_groups(builder: &mut SqlBuilder) -> Made {
 /// A query of two groups in brackets.
 #[test]
 fn encloses_a_subquery(rt: HostRuntime) -> Result<(), Fail> {
-    let mut builder = SqlBuilder::select_from(rt.alloc(), "b")?;
-    let ids = ids_of_two_groups(&mut builder)?;
+    let ids = ids(rt.alloc())?;
     assert_eq!(rt; ids.as_str(), "(SELECT id FROM b WHERE (p OR q) AND (r))");
     assert!(rt; is_operand(ids.as_str()), "{ids:?} is no operand");
     assert!(rt; !has_clause_word(ids.as_str()), "{ids:?} has a clause word");
     Ok(())
 }
 
-fn where_an_id_is(builder: &mut SqlBuilder, ids: &str) -> Made {
+fn ids(alloc: Global) -> Made {
+    let mut builder = SqlBuilder::select_from(alloc, "b")?;
+    ids_of_two_groups(&mut builder)
+}
+
+fn where_an_id_is(alloc: Global, ids: &str) -> Made {
+    let mut builder = SqlBuilder::select_from(alloc, "a")?;
     builder.and_where_eq("x", ids)?.or_where("y")?.sql()
 }
 
 /// A query of two groups in brackets, as a value of a condition.
 #[test]
 fn nests_a_subquery(rt: HostRuntime) -> Result<(), Fail> {
-    let mut inner = SqlBuilder::select_from(rt.alloc(), "b")?;
-    let ids = ids_of_two_groups(&mut inner)?;
-    let mut outer = SqlBuilder::select_from(rt.alloc(), "a")?;
+    let ids = ids(rt.alloc())?;
     assert_eq!(rt;
-        where_an_id_is(&mut outer, ids.as_str())?.as_str(),
+        where_an_id_is(rt.alloc(), ids.as_str())?.as_str(),
         "SELECT * FROM a WHERE x = (SELECT id FROM b WHERE (p OR q) AND (r)) OR y;"
     );
     Ok(())

@@ -1,5 +1,6 @@
 -- Calls that come to the same, whatever is called after them.
 use Rattle.std.proofs.Common.{◌≡◌, List, [], ◌∷◌, ◌++◌, Option, None, true, map, refl, ap, sym, ◌∙◌, append_assoc}
+use Rattle.std.proofs.lemmas.Bool.{false≢true}
 use Rattle.std.proofs.lemmas.List.{map-append, append-nil}
 use Rattle.std.specs.Prelude.{is_some}
 use Rattle.sql_builder.specs.Calls.{StartText, CallText, Fields, Having, Limit, Offset, Returning, ReturningId, clauses, having_in, limit_in, offset_in, returning_in}
@@ -73,7 +74,7 @@ limit_counts_last = counts_last limit_in apart (λ c r. refl) gives
 
     gives : Renews limit_in apart
     gives (Limit a) h r = (refl, refl)
-    gives _ h r = (cc, cc)
+    gives _ h r = absurd (false≢true h)
 
 pub offset_counts_last : OnlyLastCounts offset_in
 offset_counts_last = counts_last offset_in apart (λ c r. refl) gives
@@ -83,7 +84,7 @@ offset_counts_last = counts_last offset_in apart (λ c r. refl) gives
 
     gives : Renews offset_in apart
     gives (Offset a) h r = (refl, refl)
-    gives _ h r = (cc, cc)
+    gives _ h r = absurd (false≢true h)
 
 pub having_counts_last : OnlyLastCounts having_in
 having_counts_last = counts_last having_in apart (λ c r. refl) gives
@@ -93,7 +94,7 @@ having_counts_last = counts_last having_in apart (λ c r. refl) gives
 
     gives : Renews having_in apart
     gives (Having a) h r = (refl, refl)
-    gives _ h r = (cc, cc)
+    gives _ h r = absurd (false≢true h)
 
 pub returning_counts_last : OnlyLastCounts returning_in
 returning_counts_last = counts_last returning_in apart (λ c r. refl) gives
@@ -104,7 +105,7 @@ returning_counts_last = counts_last returning_in apart (λ c r. refl) gives
     gives : Renews returning_in apart
     gives (Returning a) h r = (refl, refl)
     gives ReturningId h r = (refl, refl)
-    gives _ h r = (cc, cc)
+    gives _ h r = absurd (false≢true h)
 
 pub fields_join : FieldsJoin
 fields_join start before after a b =
