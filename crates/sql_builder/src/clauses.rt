@@ -1,9 +1,10 @@
 //! What a builder keeps of its clauses.
-ghost use Rattle.std.specs.Prelude.{◌≡◌, ◌++◌, map, string_bytes, IfOk, OnOk, OnErr};
+ghost use Rattle.std.specs.List.{list_any};
+ghost use Rattle.std.specs.Prelude.{◌≡◌, ◌++◌, codes, if◌then◌else◌, map, string_bytes, IfOk, OnOk, OnErr};
 ghost use Rattle.sql_parts.specs.Error.{FailsOnlyByMemory};
 ghost use Rattle.sql_builder.specs.Builder.{condition_in_group, extend_last, join_text, union_text};
-ghost use Rattle.sql_builder.specs.Layout.{byte_atoms};
-ghost use Rattle.sql_builder.specs.Phrases.{constraint};
+ghost use Rattle.sql_builder.specs.Layout.{byte_atoms, union_opening};
+ghost use Rattle.sql_builder.specs.Phrases.{constraint, operator_text};
 
 use sql_parts::text::copies;
 use sql_parts::{SqlBuilderError, ToText};
@@ -52,6 +53,49 @@ pub(crate) struct GroupedCondition {
     /// Whether a group begins with it; the first begins one in any case.
     pub(crate) opens_group: bool,
     pub(crate) text: String,
+}
+
+impl JoinOperator {
+    /// The words of a join with the operator in force, if there is one.
+    pub(crate) fn words(operator: Option<JoinOperator>) -> &'static str
+        ensures { result.now ≡ operator_text operator }
+    {
+        match operator {
+            None => "JOIN ",
+            Some(JoinOperator::Left) => "LEFT JOIN ",
+            Some(JoinOperator::LeftOuter) => "LEFT OUTER JOIN ",
+            Some(JoinOperator::Right) => "RIGHT JOIN ",
+            Some(JoinOperator::RightOuter) => "RIGHT OUTER JOIN ",
+            Some(JoinOperator::Inner) => "INNER JOIN ",
+            Some(JoinOperator::Cross) => "CROSS JOIN ",
+        }
+    }
+}
+
+impl Union {
+    /// What stands in front of its query.
+    pub(crate) fn words(&self) -> &'static str
+        ensures { result.now ≡ union_opening self.now.all }
+    {
+        if self.all { " UNION ALL " } else { " UNION " }
+    }
+}
+
+impl GroupedCondition {
+    /// What stands in front of it, where it is not the first and several groups stand in brackets.
+    pub(crate) fn words(&self) -> &'static str
+        ensures { result.now
+            ≡ (if self.now.opens_group then codes ") AND (" else codes " OR ") }
+    {
+        if self.opens_group { ") AND (" } else { " OR " }
+    }
+}
+
+/// Whether a group begins with one of these.
+pub(crate) fn opens_group(conditions: &[GroupedCondition]) -> bool
+    ensures { result ≡ list_any (λ condition. condition.opens_group) conditions.now }
+{
+    conditions.iter().any(|condition| condition.opens_group)
 }
 
 impl Join {

@@ -7,6 +7,7 @@ mod chain;
 mod clauses;
 mod condition;
 pub mod laws;
+mod lengths;
 mod phrases;
 pub mod prelude;
 mod printing;

@@ -1,4 +1,5 @@
-//! Prints a builder's clauses as a statement or a query.
+//! Prints a builder's clauses as a statement or a query. Each call first adds up the bytes that it
+//! will write, and asks for them in one growth.
 ghost use Rattle.std.specs.List.{list_any};
 ghost use Rattle.std.specs.Prelude.{◌≡◌, ◌∷◌, ◌++◌, IsNone, IfOk, IfSome, None, Some, codes, flat_map, if◌then◌else◌, map, string_bytes};
 ghost use Rattle.sql_parts.specs.Error.{FailsOnlyByMemory};
@@ -15,7 +16,7 @@ ghost use Rattle.sql_builder.specs.Text.{fixed_piece, raw_piece};
 ghost use Rattle.sql_parts.specs.Text.{join_with};
 
 use crate::builder::SqlBuilder;
-use crate::clauses::{GroupedCondition, Join, JoinOperator, Kind, Union};
+use crate::clauses::{GroupedCondition, Join, JoinOperator, Kind, Union, opens_group};
 use sql_parts::{SqlBuilderError, ToText};
 use std::alloc::AllocError;
 
@@ -64,22 +65,6 @@ fn push_fields(out: &mut String, fields: &[String]) -> Result<(), AllocError>
         push_joined(out, ", ", fields)?;
     }
     Ok(())
-}
-
-impl GroupedCondition {
-    // What stands in front of it, where it is not the first and several groups stand in brackets.
-    fn words(&self) -> &'static str
-        ensures { result.now
-            ≡ (if self.now.opens_group then codes ") AND (" else codes " OR ") }
-    {
-        if self.opens_group { ") AND (" } else { " OR " }
-    }
-}
-
-fn opens_group(conditions: &[GroupedCondition]) -> bool
-    ensures { result ≡ list_any (λ condition. condition.opens_group) conditions.now }
-{
-    conditions.iter().any(|condition| condition.opens_group)
 }
 
 // The brackets of two neighbours are written at once.
@@ -145,22 +130,6 @@ fn push_group_by(
     Ok(())
 }
 
-impl JoinOperator {
-    fn words(operator: Option<JoinOperator>) -> &'static str
-        ensures { result.now ≡ operator_text operator }
-    {
-        match operator {
-            None => "JOIN ",
-            Some(JoinOperator::Left) => "LEFT JOIN ",
-            Some(JoinOperator::LeftOuter) => "LEFT OUTER JOIN ",
-            Some(JoinOperator::Right) => "RIGHT JOIN ",
-            Some(JoinOperator::RightOuter) => "RIGHT OUTER JOIN ",
-            Some(JoinOperator::Inner) => "INNER JOIN ",
-            Some(JoinOperator::Cross) => "CROSS JOIN ",
-        }
-    }
-}
-
 fn push_join(out: &mut String, join: &Join) -> Result<(), AllocError>
     ensures { Adds result out.old out.new (codes " " ++ join_text join.now) }
 {
@@ -189,7 +158,7 @@ fn push_union(out: &mut String, union: &Union) -> Result<(), AllocError>
     ensures { Adds result out.old out.new
         (union_opening union.now.all ++ string_bytes union.now.query) }
 {
-    out.push_str(if union.all { " UNION ALL " } else { " UNION " })?;
+    out.push_str(union.words())?;
     out.push_str(union.query.as_str())?;
     Ok(())
 }
@@ -411,15 +380,13 @@ impl SqlBuilder {
         out.push_str(")")
     }
 
-    fn push_subquery_as<S: ToText>(&self, out: &mut String, name: S) -> Result<(), SqlBuilderError>
-        ensures text { Adds result out.old out.new
-            (subquery_as byte_atoms (S.text name) self.now) }
-        ensures memory { FailsOnlyByMemory result }
+    fn push_subquery_as(&self, out: &mut String, name: &str) -> Result<(), AllocError>
+        ensures { Adds result out.old out.new (subquery_as byte_atoms name.now self.now) }
     {
         out.push_str("(")?;
         self.push_query(out)?;
         out.push_str(") AS ")?;
-        name.push_to(self.alloc, out)
+        out.push_str(name)
     }
 
     /// The statement, ended by `;`. It is refused with `NoTableName` where the table text is empty
@@ -445,7 +412,8 @@ impl SqlBuilder {
         ensures memory { IsNone (refusal self.now) → FailsOnlyByMemory result }
     {
         self.check()?;
-        let mut out = String::new(self.alloc);
+        let length = self.statement_length().saturating_add(";".len());
+        let mut out = String::with_capacity(self.alloc, length)?;
         self.push_sql(&mut out)?;
         Ok(out)
     }
@@ -468,7 +436,7 @@ impl SqlBuilder {
             Nests Query (query fixed_piece (as_fragments self.now)) (string_bytes s)) }
         ensures memory { FailsOnlyByMemory result }
     {
-        let mut query = String::new(self.alloc);
+        let mut query = String::with_capacity(self.alloc, self.query_length())?;
         self.push_query(&mut query)?;
         Ok(query)
     }
@@ -486,7 +454,7 @@ impl SqlBuilder {
             ReadsBack (query_values fixed_piece (as_fragments self.now)) (string_bytes s)) }
         ensures memory { FailsOnlyByMemory result }
     {
-        let mut out = String::new(self.alloc);
+        let mut out = String::with_capacity(self.alloc, self.values_length())?;
         self.push_values(&mut out)?;
         Ok(out)
     }
@@ -504,7 +472,8 @@ impl SqlBuilder {
             Nests Subquery (subquery fixed_piece (as_fragments self.now)) (string_bytes s)) }
         ensures memory { FailsOnlyByMemory result }
     {
-        let mut subquery = String::new(self.alloc);
+        let length = self.query_length().saturating_add("()".len());
+        let mut subquery = String::with_capacity(self.alloc, length)?;
         self.push_subquery(&mut subquery)?;
         Ok(subquery)
     }
@@ -523,8 +492,10 @@ impl SqlBuilder {
             (raw_piece (S.text name)) (as_fragments self.now)) (string_bytes s)) }
         ensures memory { FailsOnlyByMemory result }
     {
-        let mut out = String::new(self.alloc);
-        self.push_subquery_as(&mut out, name)?;
+        let name = name.to_text(self.alloc)?;
+        let length = self.query_length().saturating_add("() AS ".len());
+        let mut out = String::with_capacity(self.alloc, length.saturating_add(name.len()))?;
+        self.push_subquery_as(&mut out, name.as_str())?;
         Ok(out)
     }
 }
