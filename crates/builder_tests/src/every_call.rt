@@ -33,15 +33,15 @@ pub(crate) fn sql(builder: &SqlBuilder) -> Made {
     builder.sql()
 }
 
-fn query(builder: &SqlBuilder) -> Made {
+pub(crate) fn query(builder: &SqlBuilder) -> Made {
     builder.query()
 }
 
-fn query_values(builder: &SqlBuilder) -> Made {
+pub(crate) fn query_values(builder: &SqlBuilder) -> Made {
     builder.query_values()
 }
 
-fn subquery(builder: &SqlBuilder) -> Made {
+pub(crate) fn subquery(builder: &SqlBuilder) -> Made {
     builder.subquery()
 }
 

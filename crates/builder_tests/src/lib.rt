@@ -17,6 +17,8 @@ mod condition_calls;
 #[cfg(test)]
 mod every_call;
 #[cfg(test)]
+mod growths;
+#[cfg(test)]
 mod names;
 #[cfg(test)]
 mod refusals;
