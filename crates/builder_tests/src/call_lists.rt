@@ -1,6 +1,6 @@
 //! Calls as values.
 
-use crate::rows::{Made, is_wanted};
+use crate::rows::{Made, is_refused};
 use sql_builder::SqlBuilderError;
 use sql_builder::calls::{Call, Condition, Family, Finish, Percent, Relation, Start, run};
 use std::alloc::Global;
@@ -42,11 +42,6 @@ fn runs_a_list_of_calls(rt: HostRuntime) -> Result<(), Fail> {
         list_of_calls(rt.alloc(), &Finish::Query)?.as_str(),
         "SELECT * FROM books WHERE title NOT LIKE '%it''s%' OR price >= 1"
     );
-    assert!(rt;
-        is_wanted(
-            &list_of_calls(rt.alloc(), &Finish::Sql),
-            &Err("No set fields")
-        )
-    );
+    assert!(rt; is_refused(&list_of_calls(rt.alloc(), &Finish::Sql), "No set fields"));
     Ok(())
 }

@@ -174,3 +174,30 @@ fn adds_each_condition_by_or(rt: HostRuntime) -> Result<(), Fail> {
     }
     Ok(())
 }
+
+#[test]
+fn groups_conditions_also_empty_ones(rt: HostRuntime) -> Result<(), Fail> {
+    let rows: [(Chain, &str); 4] = [
+        (
+            |builder| builder.and_where("")?.sql(),
+            "SELECT * FROM t WHERE ;",
+        ),
+        (
+            |builder| builder.and_where("")?.or_where("b")?.sql(),
+            "SELECT * FROM t WHERE  OR b;",
+        ),
+        (
+            |builder| builder.or_where("a")?.and_where("")?.or_where("")?.sql(),
+            "SELECT * FROM t WHERE (a) AND ( OR );",
+        ),
+        (
+            |builder| builder.and_where("a")?.or_where("b")?.and_where("c")?.sql(),
+            "SELECT * FROM t WHERE (a OR b) AND (c);",
+        ),
+    ];
+    for (chain, wanted) in rows.iter() {
+        let made = made(rt.alloc(), of_t, *chain)?;
+        assert_eq!(rt; made.as_str(), *wanted, "{wanted}");
+    }
+    Ok(())
+}

@@ -1,6 +1,6 @@
 //! What `sql` lacks where it prints nothing.
 
-use crate::rows::{Start, is_wanted};
+use crate::rows::{Start, is_refused};
 use sql_builder::SqlBuilder;
 use std::test::Fail;
 
@@ -16,7 +16,7 @@ fn wants_a_table_sets_and_values(rt: HostRuntime) -> Result<(), Fail> {
     ];
     for (start, message) in rows.iter() {
         let builder = start(rt.alloc())?;
-        assert!(rt; is_wanted(&builder.sql(), &Err(*message)), "{message}");
+        assert!(rt; is_refused(&builder.sql(), message), "{message}");
     }
     Ok(())
 }

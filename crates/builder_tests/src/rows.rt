@@ -13,9 +13,6 @@ pub(crate) type Start = fn(Global) -> Result<SqlBuilder, SqlBuilderError>;
 /// constant holds, so that rows stand in their tests.
 pub(crate) type Chain = fn(&mut SqlBuilder) -> Made;
 
-/// The text that is made, or the message that it is refused with.
-pub(crate) type Wanted = Result<&'static str, &'static str>;
-
 pub(crate) fn made(alloc: Global, start: Start, chain: Chain) -> Made
     requires start { Start.IsAlwaysCallable start }
     requires chain { Chain.IsAlwaysCallable chain }
@@ -24,11 +21,10 @@ pub(crate) fn made(alloc: Global, start: Start, chain: Chain) -> Made
     chain(&mut builder)
 }
 
-/// Whether this text was made, or the refusal has this message.
-pub(crate) fn is_wanted(made: &Made, wanted: &Wanted) -> bool {
-    match (made, wanted) {
-        (Ok(text), Ok(wanted)) => text.as_str() == *wanted,
-        (Err(error), Err(message)) => error.message() == *message,
-        _ => false,
+/// Whether nothing was made, with this message.
+pub(crate) fn is_refused(made: &Made, message: &str) -> bool {
+    match made {
+        Ok(_) => false,
+        Err(error) => error.message() == message,
     }
 }
