@@ -1,9 +1,11 @@
 -- What doubling makes of a text that is cut at its first mark, and that doubled texts are told apart.
-use Rattle.std.proofs.Common.{◌≡◌, ◌≢◌, ℕ, suc, ◌<◌, List, [], ◌∷◌, ◌++◌, length, get_or, refl, arith}
-use Rattle.std.specs.Prelude.{if◌then◌else◌, ◌==◌}
+use Rattle.std.proofs.Common.{◌≡◌, ◌≢◌, ℕ, suc, ◌<◌, List, [], ◌∷◌, ◌++◌, length, get_or, Option, Some, None, refl, arith}
+use Rattle.std.specs.Borrow.{Bor}
+use Rattle.std.specs.Prelude.{MatchOption, if◌then◌else◌, ◌==◌}
 use Rattle.std.proofs.lemmas.Grind.{flat_map-append}
 use Rattle.std.proofs.lemmas.Bool.Decides.{nat_tests}
 use Rattle.std.proofs.lemmas.List.{append_cancel_right}
+use Rattle.std.proofs.lemmas.Str.Pattern.{IsSplitOnceResult, split_parts}
 use Rattle.sql_parts.specs.Quoting.{doubled, enclosed}
 
 -- a text without the mark stays as it is
@@ -24,6 +26,14 @@ pub doubled-cut : (mark : ℕ) (text before after : List ℕ) → text ≡ befor
 doubled-cut mark text before after cut unmarked =
     let here : doubled mark (mark ∷ after) ≡ mark ∷ mark ∷ doubled mark after = grind (arith, nat_tests) in
     rw (cut, doubled-append mark before (mark ∷ after), doubled-unmarked mark before unmarked, here) refl
+
+-- a text that is split at its first mark, if it has one
+pub doubled-split : (mark : ℕ) (text : List ℕ) (parts : Option (Bor (List ℕ) × Bor (List ℕ))) → IsSplitOnceResult mark text parts → mark < 128
+    → MatchOption parts (doubled mark text ≡ text) (λ x. doubled mark text ≡ x.0.now ++ (mark ∷ mark ∷ doubled mark x.1.now))
+doubled-split mark text None split low = doubled-unmarked mark text (split_parts mark text None split low)
+doubled-split mark text (Some x) split low =
+    let cut = split_parts mark text (Some x) split low in
+    doubled-cut mark text x.0.now x.1.now cut.0 cut.1
 
 -- texts that are doubled alike are the same text
 pub doubled-injective : (mark : ℕ) (one other : List ℕ) → doubled mark one ≡ doubled mark other → one ≡ other

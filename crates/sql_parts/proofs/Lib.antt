@@ -1,4 +1,5 @@
 pub mod Betweens
+pub mod Callers
 pub mod ChainCalls
 pub mod Confined
 pub mod Decimal

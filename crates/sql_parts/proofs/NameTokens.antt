@@ -11,7 +11,7 @@ use Rattle.sql_parts.specs.Tokens as tokens
 use Rattle.sql_parts.specs.Tokens.{Token, Word, Symbol, closed, is_open, is_word_byte, tokens}
 use Rattle.sql_parts.specs.declared.name.Form.{Form}
 use Rattle.sql_parts.specs.declared.name.Form.TheVariants.{Bare, Between}
-use Rattle.sql_parts.specs.declared.text.Quotes.TheVariants.{Back}
+use Rattle.sql_parts.specs.declared.quotes.Quotes.TheVariants.{Back}
 use Rattle.sql_parts.proofs.JoinedTokens.{Edged, clean-before, clean-behind, joined-closed, joined-tokens}
 use Rattle.sql_parts.proofs.TokenLaws.{between-tokens, between_closed, closed-seam, seam}
 use Rattle.sql_parts.proofs.WordTokens.{is_word, word-tokens}

@@ -4,8 +4,8 @@ use Rattle.std.proofs.Common.{ℕ, List, [], ◌∷◌, ◌++◌}
 use Rattle.std.specs.Prelude.{◌==◌, if◌then◌else◌}
 use Rattle.sql_parts.specs.Quoting.{closing}
 use Rattle.sql_parts.specs.Tokens.{Token, Word, Symbol, Open, is_blank, is_word_byte, quoted_token}
-use Rattle.sql_parts.specs.declared.text.Quotes.{Quotes}
-use Rattle.sql_parts.specs.declared.text.Quotes.TheVariants.{Single, Back, Square, Double}
+use Rattle.sql_parts.specs.declared.quotes.Quotes.{Quotes}
+use Rattle.sql_parts.specs.declared.quotes.Quotes.TheVariants.{Single, Back, Square, Double}
 
 -- Where the reader is: between two tokens, in a word, in quotes, behind what may be their closing mark, behind what may
 -- begin a comment, in a comment, or behind what may end it. What is read of a token is kept.

@@ -7,8 +7,8 @@ use Rattle.std.proofs.lemmas.Bool.{cases_Bool, cond-false, cond-true, eqb-false,
 use Rattle.std.proofs.Math.Seq.{drop-length}
 use Rattle.sql_parts.specs.Quoting.{closing}
 use Rattle.sql_parts.specs.Tokens.{Token, Word, Symbol, Open, comment, first, inside, is_blank, is_word_byte, reach, tokens, tokens_from, unquoted, quoted_token}
-use Rattle.sql_parts.specs.declared.text.Quotes.{Quotes}
-use Rattle.sql_parts.specs.declared.text.Quotes.TheVariants.{Single, Back, Square, Double}
+use Rattle.sql_parts.specs.declared.quotes.Quotes.{Quotes}
+use Rattle.sql_parts.specs.declared.quotes.Quotes.TheVariants.{Single, Back, Square, Double}
 use Rattle.sql_parts.proofs.Reader.{Mode, Between, InWord, InQuotes, InLine, InBlock, AtStar, behind_token, read, start}
 
 -- a byte that doesn't go on with a token ends it, and begins anew

@@ -1,14 +1,17 @@
 -- How a template is resolved from one place to the next.
-use Rattle.std.proofs.Common.{◌≡◌, ◌≢◌, ℕ, zero, suc, ◌+◌, ◌-◌, ◌<◌, ◌≤◌, Bool, true, false, List, [], ◌∷◌, ◌++◌, length, take, drop, Some, None, refl, sym, ap, ◌∙◌, inl, inr, arith, length-append}
+use Rattle.std.proofs.Common.{◌≡◌, ◌≢◌, ℕ, zero, suc, ◌+◌, ◌-◌, ◌<◌, ◌≤◌, Bool, true, false, List, [], ◌∷◌, ◌++◌, length, get_or, take, drop, Some, None, refl, sym, ap, subst, ◌∙◌, inl, inr, append_assoc, arith, length-append, ne_eqb}
 use Rattle.std.specs.Prelude.{MatchBool, codes, if◌then◌else◌, nat_eq}
 use Rattle.std.specs.List.{starts_with}
+use Rattle.std.specs.Str.{IsCharBoundary, IsUtf8}
 use Rattle.std.specs.Str.Pattern.{FindsText, HasMatch, LacksTextAt}
-use Rattle.std.proofs.Math.Seq.{drop-append_seam}
+use Rattle.std.proofs.Math.ListN.{get_or-append}
+use Rattle.std.proofs.Math.Seq.{drop-append_seam, take-append_seam}
 use Rattle.std.proofs.lemmas.Bool.{cases_Bool}
 use Rattle.std.proofs.lemmas.Bool.Decides.{Decides-eqb}
-use Rattle.std.proofs.lemmas.List.{drop-drop}
+use Rattle.std.proofs.lemmas.List.{append-nil, drop-drop, drop_all, get_or-drop, take-append-drop, take_all}
 use Rattle.std.proofs.lemmas.Slice.Eq.{starts_is}
-use Rattle.sql_parts.specs.Templates.{Marks, First, Cycle, Num, Nums, Name, Names, Place, Writes, counted, followed_by, opening, resolve, resolved_from, stands, supplied}
+use Rattle.std.proofs.lemmas.Str.{IsCharBoundary-after_ascii}
+use Rattle.sql_parts.specs.Templates.{Marks, First, Cycle, Num, Nums, Name, Names, Writes, counted, followed_by, opening, resolve, resolved_from, stands, supplied}
 
 -- a text that begins with another, and one that doesn't
 pub starts_with-yes : (text front rest : List ℕ) → text ≡ front ++ rest → starts_with nat_eq text front ≡ true
@@ -29,9 +32,6 @@ opening-parts (Num number) = (_, _, refl)
 opening-parts (Nums count) = (_, _, refl)
 opening-parts (Name name) = (_, _, refl)
 opening-parts Names = (_, _, refl)
-
-pub opening-some : (marks : Marks) → 0 < length (opening marks)
-opening-some marks = let parts = opening-parts marks in rw parts.2 (omega arith)
 
 pub resolved_from-drop : (marks : Marks) (seen skipped : ℕ) (text : List ℕ) → resolved_from marks seen skipped text ≡ resolved_from marks seen 0 (drop skipped text)
 resolved_from-drop marks seen zero text = refl
@@ -63,42 +63,97 @@ resolved_from-opening marks seen text behind is =
     let parts = opening-parts marks in
     ap (resolved_from marks seen 0) (is ∙ ap (λ o. o ++ behind) parts.2) ∙ opening-first marks seen parts.0 parts.1 behind parts.2
 
-nowhere : (marks : Marks) (behind : List ℕ) → [] ≢ opening marks ++ behind
-nowhere marks behind is =
-    let some = opening-some marks in
-    let none : 0 ≡ length (opening marks) + length behind = ap length is ∙ length-append (opening marks) behind in
-    absurd (omega (arith, some, none))
+-- a piece without an opening is text
+pub resolved_from-piece : (marks : Marks) (seen i : ℕ) (text : List ℕ) → i ≤ length text → ((n : ℕ) → n < i → LacksTextAt (opening marks) text n)
+    → resolved_from marks seen 0 text ≡ followed_by (Writes (take i text)) (resolved_from marks seen 0 (drop i text))
+resolved_from-piece marks seen zero text within lacks = refl
+resolved_from-piece marks seen (suc i) [] within lacks = absurd (omega (arith, within))
+resolved_from-piece marks seen (suc i) (byte ∷ text) within lacks =
+    resolved_from-text marks seen byte text (lacks 0 (omega arith))
+    ∙ ap (followed_by (Writes (byte ∷ []))) (resolved_from-piece marks seen i text (omega (arith, within)) (λ n h. lacks (suc n) (omega arith)))
 
 -- the first opening of a text
 pub resolved_from-first : (marks : Marks) (seen i : ℕ) (text behind : List ℕ)
-    → ((n : ℕ) → n < i → LacksTextAt (opening marks) text n) → drop i text ≡ opening marks ++ behind
+    → ((n : ℕ) → n < i → LacksTextAt (opening marks) text n) → i ≤ length text → drop i text ≡ opening marks ++ behind
     → resolved_from marks seen 0 text
     ≡ followed_by (Writes (take i text)) (followed_by (stands marks seen behind).0 (resolved_from marks (counted (stands marks seen behind).0 seen) 0 (drop (stands marks seen behind).1 behind)))
-resolved_from-first marks seen zero text behind lacks is = resolved_from-opening marks seen text behind is
-resolved_from-first marks seen (suc i) [] behind lacks is = absurd (nowhere marks behind is)
-resolved_from-first marks seen (suc i) (byte ∷ text) behind lacks is =
-    resolved_from-text marks seen byte text (lacks 0 (omega arith))
-    ∙ ap (followed_by (Writes (byte ∷ []))) (resolved_from-first marks seen i text behind (λ n h. lacks (suc n) (omega arith)) is)
-
-pub found-first : (marks : Marks) (seen i : ℕ) (text piece behind rest : List ℕ) (place : Place)
-    → ((n : ℕ) → n < i → LacksTextAt (opening marks) text n) → drop i text ≡ opening marks ++ behind
-    → piece ≡ take i text → place ≡ (stands marks seen behind).0 → rest ≡ drop (stands marks seen behind).1 behind
-    → resolved_from marks seen 0 text ≡ followed_by (Writes piece) (followed_by place (resolved_from marks (counted place seen) 0 rest))
-found-first marks seen i text piece behind rest place lacks is before here left = rw (before, here, left) (resolved_from-first marks seen i text behind lacks is)
+resolved_from-first marks seen i text behind lacks within is =
+    resolved_from-piece marks seen i text within lacks ∙ ap (followed_by (Writes (take i text))) (resolved_from-opening marks seen (drop i text) behind is)
 
 -- a text without an opening
 pub resolved_from-none : (marks : Marks) (seen : ℕ) (text : List ℕ)
-    → ((i : ℕ) → i ≤ length text → LacksTextAt (opening marks) text i) → resolved_from marks seen 0 text ≡ (text, [])
-resolved_from-none marks seen [] lacks = refl
-resolved_from-none marks seen (byte ∷ text) lacks =
-    resolved_from-text marks seen byte text (lacks 0 (omega arith))
-    ∙ ap (followed_by (Writes (byte ∷ []))) (resolved_from-none marks seen text (λ i h. lacks (suc i) (omega arith)))
+    → ((i : ℕ) → i < length text → LacksTextAt (opening marks) text i) → resolved_from marks seen 0 text ≡ (text, [])
+resolved_from-none marks seen text lacks =
+    resolved_from-piece marks seen (length text) text (omega arith) lacks
+    ∙ ap (λ behind. followed_by (Writes (take (length text) text)) (resolved_from marks seen 0 behind)) (drop_all (length text) text (omega arith))
+    ∙ ap (λ piece. (piece, [])) (append-nil (take (length text) text) ∙ take_all (length text) text (omega arith))
+
+-- where a text lacks the first byte of another, it lacks the other
+lacks-by-sign : (text front : List ℕ) (sign n : ℕ) → front ≡ sign ∷ drop 1 front → get_or text n 0 ≢ sign → LacksTextAt front text n
+lacks-by-sign text front sign n begins other rest is =
+    let same : n ≡ n + 0 = omega arith in
+    other (ap (λ i. get_or text i 0) same ∙ sym (get_or-drop n text 0 0) ∙ ap (λ l. get_or l 0 0) is ∙ ap (λ f. get_or (f ++ rest) 0 0) begins)
+
+-- a text up to the first sign of an opening
+pub resolved_from-sign : (marks : Marks) (seen sign : ℕ) (text piece behind : List ℕ) → opening marks ≡ sign ∷ drop 1 (opening marks)
+    → text ≡ piece ++ (sign ∷ behind) → ((i : ℕ) → i < length piece → get_or piece i 0 ≢ sign)
+    → resolved_from marks seen 0 text ≡ followed_by (Writes piece) (resolved_from marks seen 0 (take 1 (opening marks) ++ behind))
+resolved_from-sign marks seen sign text piece behind begins split other =
+    let whole = piece ++ (sign ∷ behind) in
+    let within : length piece ≤ length whole = omega (arith, length-append piece (sign ∷ behind)) in
+    let lacks : (n : ℕ) → n < length piece → LacksTextAt (opening marks) whole n =
+    λ n h. lacks-by-sign whole (opening marks) sign n begins (λ e. other n h (sym (get_or-append piece (sign ∷ behind) 0 n h) ∙ e)) in
+    ap (resolved_from marks seen 0) split ∙ resolved_from-piece marks seen (length piece) whole within lacks
+    ∙ ap (λ front. followed_by (Writes front) (resolved_from marks seen 0 (drop (length piece) whole))) (take-append_seam piece (sign ∷ behind))
+    ∙ ap (λ rest. followed_by (Writes piece) (resolved_from marks seen 0 rest)) (drop-append_seam piece (sign ∷ behind) ∙ sym (ap (λ o. take 1 o ++ behind) begins))
+
+-- a text without the sign of an opening
+pub resolved_from-signless : (marks : Marks) (seen sign : ℕ) (text : List ℕ) → opening marks ≡ sign ∷ drop 1 (opening marks)
+    → ((i : ℕ) → i < length text → get_or text i 0 ≢ sign) → resolved_from marks seen 0 text ≡ (text, [])
+resolved_from-signless marks seen sign text begins other =
+    resolved_from-none marks seen text (λ i h. lacks-by-sign text (opening marks) sign i begins (other i h))
+
+-- a text may be cut behind the sign that it begins with
+pub opening-behind_sign : (text : List ℕ) (sign : ℕ) → IsUtf8 text → text ≡ sign ∷ drop 1 text → sign < 128 → IsCharBoundary text 1
+opening-behind_sign text sign utf8 begins low =
+    IsCharBoundary-after_ascii text 0 utf8 (omega (arith, ap length begins)) (subst (λ byte. byte < 128) (sym (ap (λ l. get_or l 0 0) begins)) low)
+
+-- a sign where no opening begins
+pub resolved_from-lone_sign : (marks : Marks) (seen sign : ℕ) (behind : List ℕ) → opening marks ≡ sign ∷ drop 1 (opening marks)
+    → LacksTextAt (drop 1 (opening marks)) behind 0
+    → resolved_from marks seen 0 (take 1 (opening marks) ++ behind) ≡ followed_by (Writes (sign ∷ [])) (resolved_from marks seen 0 behind)
+resolved_from-lone_sign marks seen sign behind begins lacks =
+    ap (λ o. resolved_from marks seen 0 (take 1 o ++ behind)) begins
+    ∙ resolved_from-text marks seen sign behind (λ rest is. lacks rest (ap (drop 1) (is ∙ ap (λ o. o ++ rest) begins)))
+
+-- a sign where an opening begins
+pub resolved_from-opened : (marks : Marks) (seen : ℕ) (behind rest : List ℕ) → behind ≡ drop 1 (opening marks) ++ rest
+    → resolved_from marks seen 0 (take 1 (opening marks) ++ behind)
+    ≡ followed_by (stands marks seen rest).0 (resolved_from marks (counted (stands marks seen rest).0 seen) 0 (drop (stands marks seen rest).1 rest))
+resolved_from-opened marks seen behind rest is =
+    resolved_from-opening marks seen (take 1 (opening marks) ++ behind) rest
+    (ap (λ b. take 1 (opening marks) ++ b) is ∙ sym (append_assoc (take 1 (opening marks)) (drop 1 (opening marks)) rest) ∙ ap (λ o. o ++ rest) (take-append-drop 1 (opening marks)))
+
+-- behind the first marker of `First` all is text
+pub resolved_from-after_first : (seen : ℕ) (text : List ℕ) → 0 < seen → resolved_from First seen 0 text ≡ (text, [])
+resolved_from-after_first seen [] some = refl
+resolved_from-after_first seen (byte ∷ text) some =
+    let rest : resolved_from First seen 0 text ≡ (text, []) = resolved_from-after_first seen text some in
+    let here : stands First seen text ≡ (Writes (codes "?"), 0) = rw (ne_eqb seen 0 (λ e. omega (arith, some))) refl in
+    elim (cases_Bool (starts_with nat_eq (byte ∷ text) (codes "?"))) [
+      | inl begins ↦
+          let is : byte ∷ text ≡ codes "?" ++ text = ap (λ l. l) ((starts_is Decides-eqb (byte ∷ text) (codes "?") _ refl).0 begins) in
+          resolved_from-opening First seen (byte ∷ text) text is
+          ∙ ap (λ found. followed_by found.0 (resolved_from First (counted found.0 seen) 0 (drop found.1 text))) here
+          ∙ ap (followed_by (Writes (codes "?"))) rest ∙ ap (λ l. (l, [])) (sym is)
+      | inr differs ↦ rw differs (ap (followed_by (Writes (byte ∷ []))) rest)
+    ]
 
 -- where there are no arguments, a `?` leaves nothing to give
 pub resolve-unsupplied : (template : List ℕ) (has : Bool) → MatchBool has (HasMatch (FindsText (codes "?")) template) (FindsText (codes "?") template None)
     → resolve template (Cycle 0) ≡ (if has then None else Some (resolved_from (Cycle 0) 0 0 template))
 resolve-unsupplied template true found =
-    ap (supplied (Cycle 0)) (resolved_from-first (Cycle 0) 0 found.0 template (drop found.1 template) found.2.0 found.2.1.split)
+    ap (supplied (Cycle 0)) (resolved_from-first (Cycle 0) 0 found.0 template (drop found.1 template) found.2.0 (omega (arith, found.3, found.4)) found.2.1.split)
 resolve-unsupplied template false none =
-    let whole = resolved_from-none (Cycle 0) 0 template none in
+    let whole = resolved_from-none (Cycle 0) 0 template (λ i h. none i (omega (arith, h))) in
     ap (supplied (Cycle 0)) whole ∙ ap Some (sym whole)

@@ -6,8 +6,8 @@ use Rattle.std.proofs.lemmas.Bool.{cases_Bool, cond-false, eqb-true, false≢tru
 use Rattle.std.proofs.lemmas.List.Folds.{list_any-append}
 use Rattle.sql_parts.specs.Quoting.{closing, doubled}
 use Rattle.sql_parts.specs.Tokens.{Token, begins_with, clean, ends_with, is_edge, is_empty, is_one_of, is_open, is_word_byte, quoted_token}
-use Rattle.sql_parts.specs.declared.text.Quotes.{Quotes}
-use Rattle.sql_parts.specs.declared.text.Quotes.TheVariants.{Single, Back, Square, Double}
+use Rattle.sql_parts.specs.declared.quotes.Quotes.{Quotes}
+use Rattle.sql_parts.specs.declared.quotes.Quotes.TheVariants.{Single, Back, Square, Double}
 use Rattle.sql_parts.proofs.Reader.{Mode, Between, InWord, InQuotes, AtMark, AtDash, AtSlash, InLine, InBlock, AtStar, after, behind_token, finish, read, start, step, whole}
 
 -- a text is read up to its end, and then what follows it

@@ -127,8 +127,29 @@ names_range : bound (codes "DELETE FROM company WHERE (salary >= :min:) AND (sal
     ≡ Some (codes "DELETE FROM company WHERE (salary >= 1000) AND (salary <= 25000);")
 names_range = refl
 
-num_front : bound (codes "$12") (Num 1) (alone (number 7)) ≡ Some (codes "72")
+num_front : bound (codes "$12") (Num 1) (alone (number 7)) ≡ Some (codes "$12")
 num_front = refl
+
+num_beside : bound (codes "$1$12$1") (Num 1) (alone (number 7)) ≡ Some (codes "7$127")
+num_beside = refl
+
+num_alone : bound (codes "$1 $12") (Num 1) (alone (number 7)) ≡ Some (codes "7 $12")
+num_alone = refl
+
+num_touching : bound (codes "$1$2") (Num 2) (alone (number 5)) ≡ Some (codes "$15")
+num_touching = refl
+
+num_longer : bound (codes "7 $12") (Num 12) (alone (number 8)) ≡ Some (codes "7 8")
+num_longer = refl
+
+num_made : bound (codes "$15") (Num 1) (alone (number 7)) ≡ Some (codes "$15")
+num_made = refl
+
+num_zero_before : bound (codes "$012") (Num 12) (alone (number 8)) ≡ Some (codes "$012")
+num_zero_before = refl
+
+num_zero : bound (codes "$012") (Num 0) (alone (number 7)) ≡ Some (codes "$012")
+num_zero = refl
 
 num_one : bound (codes "$1f$2o$1o$3") (Num 1) (alone (number 10)) ≡ Some (codes "10f$2o10o$3")
 num_one = refl

@@ -4,8 +4,8 @@ use Rattle.std.proofs.lemmas.Bool.{not-true, not_from_false, or_from}
 use Rattle.std.proofs.lemmas.List.Folds.{list_any-append}
 use Rattle.sql_parts.specs.Quoting.{between, escaped}
 use Rattle.sql_parts.specs.Tokens.{Str, clean, closed, is_open, tokens, quoted_token}
-use Rattle.sql_parts.specs.declared.text.Quotes.{Quotes}
-use Rattle.sql_parts.specs.declared.text.Quotes.TheVariants.{Single, Back, Square, Double}
+use Rattle.sql_parts.specs.declared.quotes.Quotes.{Quotes}
+use Rattle.sql_parts.specs.declared.quotes.Quotes.TheVariants.{Single, Back, Square, Double}
 use Rattle.sql_parts.proofs.Reading.{tokens-read}
 use Rattle.sql_parts.proofs.Seams.{has_open, read-doubled, read-seam}
 

@@ -104,5 +104,8 @@ apart-before_a_word = refl
 apart-in_a_comment : apart (codes "a -- ?\n") (marks.First) ≡ false
 apart-in_a_comment = refl
 
-apart-before_a_digit : apart (codes "a = $12 AND b = $1") (marks.Num 1) ≡ false
-apart-before_a_digit = refl
+apart-beside_a_longer_number : apart (codes "a = $12 AND b = $1") (marks.Num 1) ≡ true
+apart-beside_a_longer_number = refl
+
+apart-longer_number : apart (codes "$12") (marks.Num 1) ≡ true
+apart-longer_number = refl

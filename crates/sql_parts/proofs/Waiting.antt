@@ -1,4 +1,5 @@
 -- The AND of each BETWEEN, looked for from the front of a list of tokens.
+use Prim.Native.Char.{code}
 use Rattle.std.proofs.Common.{◌≡◌, refl, sym, ◌∙◌, ap, ℕ, suc, ◌+◌, Bool, true, false, not, cond, ◌&&◌, ◌||◌, eqb, leb, ltb, List, [], ◌∷◌, take, ℤ, pos, ◌+ℤ◌, ◌-ℤ◌, ◌≤ℤ◌, ◌<ℤ◌, inl, inr, codes, arith}
 use Rattle.std.specs.Prelude.{int_le}
 use Rattle.std.specs.Ordering.{int_eq}
@@ -11,7 +12,7 @@ use Rattle.std.specs.Str.{bytes_eq, str_eq_ignore_ascii_case, str_to_ascii_lower
 use Rattle.std.proofs.lemmas.Bool.{cases_Bool, eqb-true, ltb-true, lt-ltb, le-ltb, false≢true}
 use Rattle.std.proofs.lemmas.Bool.Decides.{same_from_decides, Decides-int_eq, Decides-ltb}
 use Rattle.sql_parts.specs.Tokens.{Token, Word, Str, Name, Symbol, Open}
-use Rattle.sql_parts.specs.Fragments.{any_token, has_ands, is_and_of, is_between, is_joining, is_word, level, lowers, places, raises, weight}
+use Rattle.sql_parts.specs.Fragments.{any_token, has_ands, is_and_of, is_between, is_joining, is_symbol, is_word, level, lowers, places, raises, weight}
 use Rattle.sql_parts.specs.Waiting.{is_answered}
 use Rattle.sql_parts.proofs.LevelCounts.{any_place, each_place, is_at_least_0, is_zero, level_from, level_from-start, level_from-suc, level_from-zero}
 
@@ -147,33 +148,35 @@ word_apart one other (Name text) apart is = refl
 word_apart one other (Symbol byte) apart is = refl
 word_apart one other Open apart is = refl
 
+-- a token that is this sign or this keyword, as each is that raises or lowers the level
+abbrev marks : ℕ → List ℕ → Token → Bool
+marks sign keyword token = is_symbol sign token || is_word keyword token
+
+marks-apart : (sign : ℕ) (one other : List ℕ) (token : Token) → str_eq_ignore_ascii_case one other ≡ false → marks sign one token ≡ true → is_word other token ≡ false
+marks-apart sign one other (Word text) apart is = word_apart one other (Word text) apart is
+marks-apart sign one other (Str text) apart is = refl
+marks-apart sign one other (Name text) apart is = refl
+marks-apart sign one other (Symbol byte) apart is = refl
+marks-apart sign one other Open apart is = refl
+
+apart-marks : (sign : ℕ) (one other : List ℕ) (token : Token) → str_eq_ignore_ascii_case one other ≡ false → is_word one token ≡ true → marks sign other token ≡ false
+apart-marks sign one other (Word text) apart is = word_apart one other (Word text) apart is
+apart-marks sign one other (Str text) apart is = refl
+apart-marks sign one other (Name text) apart is = refl
+apart-marks sign one other (Symbol byte) apart is = absurd (false≢true is)
+apart-marks sign one other Open apart is = refl
+
 pub raises-apart : (keyword : List ℕ) (token : Token) → str_eq_ignore_ascii_case (codes "CASE") keyword ≡ false → raises token ≡ true → is_word keyword token ≡ false
-raises-apart keyword (Word text) apart is = word_apart (codes "CASE") keyword (Word text) apart is
-raises-apart keyword (Str text) apart is = refl
-raises-apart keyword (Name text) apart is = refl
-raises-apart keyword (Symbol byte) apart is = refl
-raises-apart keyword Open apart is = refl
+raises-apart keyword token apart is = marks-apart (code "(") (codes "CASE") keyword token apart is
 
 pub lowers-apart : (keyword : List ℕ) (token : Token) → str_eq_ignore_ascii_case (codes "END") keyword ≡ false → lowers token ≡ true → is_word keyword token ≡ false
-lowers-apart keyword (Word text) apart is = word_apart (codes "END") keyword (Word text) apart is
-lowers-apart keyword (Str text) apart is = refl
-lowers-apart keyword (Name text) apart is = refl
-lowers-apart keyword (Symbol byte) apart is = refl
-lowers-apart keyword Open apart is = refl
+lowers-apart keyword token apart is = marks-apart (code ")") (codes "END") keyword token apart is
 
 pub apart-raises : (keyword : List ℕ) (token : Token) → str_eq_ignore_ascii_case keyword (codes "CASE") ≡ false → is_word keyword token ≡ true → raises token ≡ false
-apart-raises keyword (Word text) apart is = word_apart keyword (codes "CASE") (Word text) apart is
-apart-raises keyword (Str text) apart is = refl
-apart-raises keyword (Name text) apart is = refl
-apart-raises keyword (Symbol byte) apart is = absurd (false≢true is)
-apart-raises keyword Open apart is = refl
+apart-raises keyword token apart is = apart-marks (code "(") keyword (codes "CASE") token apart is
 
 pub apart-lowers : (keyword : List ℕ) (token : Token) → str_eq_ignore_ascii_case keyword (codes "END") ≡ false → is_word keyword token ≡ true → lowers token ≡ false
-apart-lowers keyword (Word text) apart is = word_apart keyword (codes "END") (Word text) apart is
-apart-lowers keyword (Str text) apart is = refl
-apart-lowers keyword (Name text) apart is = refl
-apart-lowers keyword (Symbol byte) apart is = absurd (false≢true is)
-apart-lowers keyword Open apart is = refl
+apart-lowers keyword token apart is = apart-marks (code ")") keyword (codes "END") token apart is
 
 pub raises-alone : (token : Token) → raises token ≡ true → lowers token ≡ false
 raises-alone (Word text) is = word_apart (codes "CASE") (codes "END") (Word text) refl is

@@ -11,7 +11,7 @@ use Rattle.sql_parts.specs.Apart.{literal_tokens}
 use Rattle.sql_parts.specs.Literal.{LiteralValue, null, truth, whole, words, literal_text}
 use Rattle.sql_parts.specs.Text.{decimal_text}
 use Rattle.sql_parts.specs.Tokens.{Token, Word, Symbol, closed, first, is_open, is_word_byte, tokens}
-use Rattle.sql_parts.specs.declared.text.Quotes.TheVariants.{Single}
+use Rattle.sql_parts.specs.declared.quotes.Quotes.TheVariants.{Single}
 use Rattle.sql_parts.proofs.Lexing.{first-word, tokens-rule}
 use Rattle.sql_parts.proofs.TokenLaws.{between-tokens}
 

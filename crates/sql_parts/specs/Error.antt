@@ -1,7 +1,7 @@
 -- The texts of refusals, and which calls are refused for want of memory alone.
 use Rattle.std.specs.Prelude.{ℕ, List, codes, Result, IfErr}
 use Rattle.sql_parts.specs.declared.error.SqlBuilderError.{SqlBuilderError}
-use Rattle.sql_parts.specs.declared.error.SqlBuilderError.TheVariants.{NoTableName, NoValues, NoSetFields, NoArguments, Memory}
+use Rattle.sql_parts.specs.declared.error.SqlBuilderError.TheVariants.{NoTableName, NoValues, NoSetFields, NoArguments, Memory, NoGroupBy}
 
 -- a refusal's text
 abbrev pub message_text : SqlBuilderError → List ℕ
@@ -10,6 +10,7 @@ message_text NoValues = codes "No values"
 message_text NoSetFields = codes "No set fields"
 message_text NoArguments = codes "No arguments"
 message_text (Memory error) = codes "Out of memory"
+message_text NoGroupBy = codes "No group by"
 
 -- the refusal is want of memory
 abbrev pub IsMemory : SqlBuilderError → Type 0

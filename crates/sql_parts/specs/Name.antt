@@ -8,7 +8,7 @@ use Rattle.sql_parts.specs.Tokens as tokens
 use Rattle.sql_parts.specs.Tokens.{Token, Word, Str, Symbol, quoted_token}
 use Rattle.sql_parts.specs.declared.name.Form.{Form}
 use Rattle.sql_parts.specs.declared.name.Form.TheVariants.{Bare, Between}
-use Rattle.sql_parts.specs.declared.text.Quotes.TheVariants.{Back}
+use Rattle.sql_parts.specs.declared.quotes.Quotes.TheVariants.{Back}
 use Rattle.sql_parts.specs.declared.name.Told.{Told}
 use Rattle.sql_parts.specs.declared.name.Told.TheVariants.{Part, Alias}
 

@@ -2,8 +2,8 @@
 use Rattle.std.specs.Prelude.{◌≡◌, ℕ, ◌≤◌, ◌^◌, List, Option, MatchOption, drop}
 use Rattle.std.specs.Borrow.{Bor}
 use Rattle.sql_parts.specs.Templates as templates
-use Rattle.sql_parts.specs.declared.bind.Marks.{Marks}
-use Rattle.sql_parts.specs.declared.bind.Marks.TheVariants as marks
+use Rattle.sql_parts.specs.declared.marks.Marks.{Marks}
+use Rattle.sql_parts.specs.declared.marks.Marks.TheVariants as marks
 use Rattle.sql_parts.specs.declared.places.Place.{Place}
 use Rattle.sql_parts.specs.declared.places.Place.TheVariants as places
 use Rattle.sql_parts.specs.declared.places.Value.{Value}
@@ -23,15 +23,16 @@ abbrev pub value_of : Value → templates.Value
 value_of (values.Argument at) = templates.Argument at
 value_of (values.Named name) = templates.Named name.now
 
--- the place that is meant
-abbrev pub place_of : Place → templates.Place
-place_of (places.Writes text) = templates.Writes text.now
-place_of (places.Holds value) = templates.Holds (value_of value)
+-- the place that is meant, where the marks have this opening
+abbrev pub place_of : List ℕ → Place → templates.Place
+place_of opening places.Opening = templates.Writes opening
+place_of opening (places.Writes text) = templates.Writes text.now
+place_of opening (places.Holds value) = templates.Holds (value_of value)
 
 -- the number, or none where it is past the numbers of the code
 abbrev pub IsNumber : Option ℕ → ℕ → Type 0
 IsNumber found number = MatchOption found (2 ^ 64 ≤ number) (λ n. n ≡ number)
 
--- a place and the text behind it are those that are defined
-abbrev pub StandsBefore : List ℕ → Place × Bor (List ℕ) → templates.Place × ℕ → Type 0
-StandsBefore text found defined = (place_of found.0 ≡ defined.0) × (found.1.now ≡ drop defined.1 text)
+-- a place behind this opening, and the text behind the place, are those that are defined
+abbrev pub StandsBefore : List ℕ → List ℕ → Place × Bor (List ℕ) → templates.Place × ℕ → Type 0
+StandsBefore opening text found defined = (place_of opening found.0 ≡ defined.0) × (found.1.now ≡ drop defined.1 text)

@@ -1,8 +1,8 @@
 -- Texts between quotes.
 use Prim.Native.Char.{code}
 use Rattle.std.specs.Prelude.{ℕ, List, [], ◌∷◌, ◌++◌, ◌==◌, flat_map, if◌then◌else◌}
-use Rattle.sql_parts.specs.declared.text.Quotes.{Quotes}
-use Rattle.sql_parts.specs.declared.text.Quotes.TheVariants.{Single, Back, Square, Double}
+use Rattle.sql_parts.specs.declared.quotes.Quotes.{Quotes}
+use Rattle.sql_parts.specs.declared.quotes.Quotes.TheVariants.{Single, Back, Square, Double}
 
 -- the text with each byte `mark` in it written twice
 abbrev pub doubled : ℕ → List ℕ → List ℕ

@@ -52,12 +52,17 @@ named behind =
     if end == length behind then (Writes (codes ":"), 0)
     else (if end == 0 then (Writes (codes ":"), 1) else (Holds (Named (take end behind)), end + 1))
 
+-- `$` and a number: no marker where one more digit follows, and then it is text.
+abbrev pub whole_number : ℕ → List ℕ → Place × ℕ
+whole_number number behind =
+    if prefix_len is_ascii_digit behind == 0 then (Holds (Argument 0), 0) else (Writes (opening (Num number)), 0)
+
 -- What stands at an opening, and how many bytes of the text behind it belong to it, where `seen` markers stand
 -- before it.
 abbrev pub stands : Marks → ℕ → List ℕ → Place × ℕ
 stands First seen behind = if seen == 0 then (Holds (Argument 0), 0) else (Writes (codes "?"), 0)
 stands (Cycle count) seen behind = (Holds (Argument (seen % count)), 0)
-stands (Num number) seen behind = (Holds (Argument 0), 0)
+stands (Num number) seen behind = whole_number number behind
 stands (Nums count) seen behind = numbered count behind
 stands (Name name) seen behind = (Holds (Argument 0), 0)
 stands Names seen behind = named behind

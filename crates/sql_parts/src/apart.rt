@@ -6,9 +6,9 @@ ghost use Rattle.sql_parts.specs.Places.{marks_of};
 ghost use Rattle.sql_parts.specs.Templates.{resolved_from};
 ghost use Rattle.sql_parts.specs.Tokens.{begins_with, ends_with, is_separator};
 
-use crate::bind::Marks;
 use crate::error::SqlBuilderError;
-use crate::lex::is_closed;
+use crate::lexer::is_closed;
+use crate::marks::Marks;
 use crate::places::{Place, first_place, opening};
 use std::alloc::Global;
 
@@ -58,12 +58,14 @@ pub(crate) fn pieces_apart(
     ensures memory { FailsOnlyByMemory result }
 {
     let opening = opening(alloc, marks)?;
+    let opening = opening.as_str();
     let mut piece = String::new(alloc);
     let mut rest = template;
     let mut seen = 0;
-    while let Some(found) = first_place(marks, opening.as_str(), seen, rest) {
+    while let Some(found) = first_place(marks, opening, seen, rest) {
         piece.push_str(found.piece)?;
         match found.place {
+            Place::Opening => piece.push_str(opening)?,
             Place::Writes(text) => piece.push_str(text)?,
             Place::Holds(_) => {
                 if !piece_apart(seen == 0, false, piece.as_str()) {

@@ -1,12 +1,14 @@
 //! What can stand as a value in an SQL text.
-ghost use Rattle.std.specs.Prelude.{◌≡◌, pos, string_bytes, IfOk};
+ghost use Rattle.std.specs.Prelude.{◌≡◌, ◌++◌, pos, string_bytes, IfOk, OnErr, OnOk};
+ghost use Rattle.std.specs.Io.{StartsWith};
 ghost use Rattle.std.specs.Cow.{cow_str_bytes};
 ghost use Rattle.sql_parts.specs.Error.{FailsOnlyByMemory};
 ghost use Rattle.sql_parts.specs.Literal.{LiteralValue, literal_or_null, literal_text, literal_value};
 ghost use Rattle.sql_parts.specs.Literal.{truth, whole, words};
 
 use crate::error::SqlBuilderError;
-use crate::quoting::quote;
+use crate::quotes::Quotes;
+use crate::quoting::{push_enclosed, quote};
 use crate::text::ToText;
 use std::alloc::Global;
 use std::borrow::CowStr;
@@ -30,9 +32,23 @@ pub trait SqlArg: Drop {
     ghost literal: { Self → LiteralValue };
 
     /// The literal as SQL writes it. It is refused only for want of memory.
+    /// `"it's".sql_arg()` → `'it''s'`
     fn sql_arg(&self, alloc: Global) -> Result<String, SqlBuilderError>
         ensures literal { IfOk result (λ s. string_bytes s ≡ literal_text (literal self.now)) }
         ensures memory { FailsOnlyByMemory result };
+
+    /// Appends the literal to a text. A refusal, for want of memory alone, leaves the text with
+    /// what it had, and perhaps with a part of the literal behind it.
+    /// `true.push_sql_arg(text)` appends `TRUE`
+    fn push_sql_arg(&self, alloc: Global, out: &mut String) -> Result<(), SqlBuilderError>
+        ensures literal { OnOk result (string_bytes out.new
+            ≡ string_bytes out.old ++ literal_text (literal self.now)) }
+        ensures kept { OnErr result (StartsWith (string_bytes out.new) (string_bytes out.old)) }
+        ensures memory { FailsOnlyByMemory result }
+    {
+        let text = self.sql_arg(alloc)?;
+        Ok(out.push_str(text.as_str())?)
+    }
 }
 
 impl SqlArg for &str {
@@ -40,6 +56,10 @@ impl SqlArg for &str {
 
     fn sql_arg(&self, alloc: Global) -> Result<String, SqlBuilderError> {
         quote(alloc, *self)
+    }
+
+    fn push_sql_arg(&self, alloc: Global, out: &mut String) -> Result<(), SqlBuilderError> {
+        push_enclosed(alloc, out, Quotes::Single, *self)
     }
 }
 
@@ -49,6 +69,10 @@ impl SqlArg for String {
     fn sql_arg(&self, alloc: Global) -> Result<String, SqlBuilderError> {
         quote(alloc, self.as_str())
     }
+
+    fn push_sql_arg(&self, alloc: Global, out: &mut String) -> Result<(), SqlBuilderError> {
+        push_enclosed(alloc, out, Quotes::Single, self.as_str())
+    }
 }
 
 impl SqlArg for CowStr<'_> {
@@ -57,13 +81,27 @@ impl SqlArg for CowStr<'_> {
     fn sql_arg(&self, alloc: Global) -> Result<String, SqlBuilderError> {
         quote(alloc, self.as_str())
     }
+
+    fn push_sql_arg(&self, alloc: Global, out: &mut String) -> Result<(), SqlBuilderError> {
+        push_enclosed(alloc, out, Quotes::Single, self.as_str())
+    }
+}
+
+fn truth_word(value: bool) -> &'static str
+    ensures { result.now ≡ literal_text (truth value) }
+{
+    if value { "TRUE" } else { "FALSE" }
 }
 
 impl SqlArg for bool {
     ghost literal = { truth };
 
     fn sql_arg(&self, alloc: Global) -> Result<String, SqlBuilderError> {
-        Ok(String::from_str(alloc, if *self { "TRUE" } else { "FALSE" })?)
+        Ok(String::from_str(alloc, truth_word(*self))?)
+    }
+
+    fn push_sql_arg(&self, _alloc: Global, out: &mut String) -> Result<(), SqlBuilderError> {
+        Ok(out.push_str(truth_word(*self))?)
     }
 }
 
@@ -174,6 +212,15 @@ impl SqlArg for Literal {
             Literal::Text(text) => text.sql_arg(alloc),
         }
     }
+
+    fn push_sql_arg(&self, alloc: Global, out: &mut String) -> Result<(), SqlBuilderError> {
+        match self {
+            Literal::Null => Ok(out.push_str("NULL")?),
+            Literal::Truth(value) => value.push_sql_arg(alloc, out),
+            Literal::Whole(number) => number.push_sql_arg(alloc, out),
+            Literal::Text(text) => text.push_sql_arg(alloc, out),
+        }
+    }
 }
 
 impl<T: SqlArg> SqlArg for &T {
@@ -181,6 +228,10 @@ impl<T: SqlArg> SqlArg for &T {
 
     fn sql_arg(&self, alloc: Global) -> Result<String, SqlBuilderError> {
         (**self).sql_arg(alloc)
+    }
+
+    fn push_sql_arg(&self, alloc: Global, out: &mut String) -> Result<(), SqlBuilderError> {
+        (**self).push_sql_arg(alloc, out)
     }
 }
 
@@ -193,6 +244,13 @@ impl<T: SqlArg> SqlArg for Option<T> {
             Some(value) => value.sql_arg(alloc),
         }
     }
+
+    fn push_sql_arg(&self, alloc: Global, out: &mut String) -> Result<(), SqlBuilderError> {
+        match self {
+            None => Ok(out.push_str("NULL")?),
+            Some(value) => value.push_sql_arg(alloc, out),
+        }
+    }
 }
 
 impl SqlArg for Box<dyn SqlArg> {
@@ -200,5 +258,9 @@ impl SqlArg for Box<dyn SqlArg> {
 
     fn sql_arg(&self, alloc: Global) -> Result<String, SqlBuilderError> {
         (**self).sql_arg(alloc)
+    }
+
+    fn push_sql_arg(&self, alloc: Global, out: &mut String) -> Result<(), SqlBuilderError> {
+        (**self).push_sql_arg(alloc, out)
     }
 }

@@ -10,26 +10,9 @@ use crate::arg::SqlArg;
 pub use crate::bind_names::BindNames;
 use crate::binding::{Alone, LookedUp, bound_text, lacks_arguments};
 use crate::error::SqlBuilderError;
+pub use crate::marks::Marks;
 use crate::text::ToText;
 use std::alloc::Global;
-
-/// Which call of binding is meant, and so what a marker is. In contracts it is the `Marks` of
-/// `specs/Templates.antt`, by `marks_of`.
-#[derive(Clone, Copy)]
-pub enum Marks<'a> {
-    /// `bind`: the first `?`.
-    First,
-    /// `binds`: each `?`, with this many arguments.
-    Cycle(usize),
-    /// `bind_num`: `$` and this number.
-    Num(u16),
-    /// `bind_nums`: `$` and any number, with this many arguments.
-    Nums(usize),
-    /// `bind_name`: this name between colons.
-    Name(&'a str),
-    /// `bind_names`: any name between colons.
-    Names,
-}
 
 /// A text whose markers can be bound. Each call goes through the text once, from the left, and
 /// gives a new one: what is put in is not looked at again, and quotes in the text mean nothing.
@@ -39,6 +22,7 @@ pub trait Bind {
 
     /// The text with the argument in place of the first `?`. It is refused only for want of
     /// memory.
+    /// `"a = ? OR ?".bind(&"it's")` → `a = 'it''s' OR ?`
     fn bind<A: SqlArg>(&self, alloc: Global, arg: &A) -> Result<String, SqlBuilderError>
         ensures text { IfOk result (λ s. Some (string_bytes s)
             ≡ bound (template self.now) templates.First (alone (A.literal arg.now))) }
@@ -51,6 +35,8 @@ pub trait Bind {
     /// The text with the arguments in place of each `?` in turn, the first again after the last.
     /// A text with a `?` and no argument is refused as `NoArguments`, whether there is memory or
     /// not. It is else refused only for want of memory.
+    /// `"? ? ?".binds([1, "b"])` → `1 'b' 1`
+    /// `"?".binds([])` is refused as `NoArguments`
     fn binds(&self, alloc: Global, args: &[Box<dyn SqlArg>]) -> Result<String, SqlBuilderError>
         ensures text { IfOk result (λ s. Some (string_bytes s)
             ≡ bound (template self.now) (templates.Cycle (length args.now))
@@ -65,8 +51,9 @@ pub trait Bind {
         ensures memory { IsSome (resolve (template self.now) (templates.Cycle (length args.now)))
             → FailsOnlyByMemory result };
 
-    /// The text with the argument in place of each `$` and the number, also where further digits
-    /// follow. It is refused only for want of memory.
+    /// The text with the argument in place of each `$` and the number that no ASCII digit
+    /// follows. It is refused only for want of memory.
+    /// `"$1 $12".bind_num(1, &7)` → `7 $12`
     fn bind_num<A: SqlArg>(
         &self,
         alloc: Global,
@@ -84,6 +71,7 @@ pub trait Bind {
     /// The text with the arguments in place of `$1`, `$2` and so on. `$$` gives `$`, also with
     /// zeros between, and a number without an argument, or a `$` without a number, gives nothing.
     /// It is refused only for want of memory.
+    /// `"$2 $1 $$".bind_nums([1, "b"])` → `'b' 1 $`
     fn bind_nums(&self, alloc: Global, args: &[Box<dyn SqlArg>]) -> Result<String, SqlBuilderError>
         ensures text { IfOk result (λ s. Some (string_bytes s)
             ≡ bound (template self.now) (templates.Nums (length args.now))
@@ -97,6 +85,7 @@ pub trait Bind {
 
     /// The text with the argument in place of each `:name:`, from the left and without overlap; the
     /// name may be empty. It is refused only for want of memory.
+    /// `":a: :b:".bind_name(&"a", &1)` → `1 :b:`
     fn bind_name<K: ToText, A: SqlArg>(
         &self,
         alloc: Global,
@@ -115,6 +104,7 @@ pub trait Bind {
     /// The text with what the names are bound to in place of each `:name:`, and NULL where a name
     /// is bound to nothing. `::` gives `:`, and a `:` that no other one closes stays, with all
     /// behind it. It is refused only for want of memory.
+    /// `":a: :b: ::".bind_names([("a", 1)])` → `1 NULL :`
     fn bind_names<N: BindNames>(&self, alloc: Global, names: &N) -> Result<String, SqlBuilderError>
         ensures text { IfOk result (λ s. Some (string_bytes s)
             ≡ bound (template self.now) templates.Names (looked_up (N.literals names.now))) }

@@ -17,6 +17,7 @@ pub trait BindNames {
     ghost literals: { Self → List ℕ → Option LiteralValue };
 
     /// The literal of the name as SQL writes it, or none. It is refused only for want of memory.
+    /// `[("a", 1)].look_up("a")` → `Some(1)`
     fn look_up(&self, alloc: Global, name: &str) -> Result<Option<String>, SqlBuilderError>
         ensures literal { IfOk result (λ text. option_map string_bytes text
             ≡ option_map literal_text (literals self.now name.now)) }

@@ -8,9 +8,9 @@ ghost use Rattle.sql_parts.specs.Templates as templates;
 ghost use Rattle.sql_parts.specs.Templates.{alone, listed, looked_up, resolve, resolved_from, written};
 
 use crate::arg::SqlArg;
-use crate::bind::Marks;
 use crate::bind_names::BindNames;
 use crate::error::SqlBuilderError;
+use crate::marks::Marks;
 use crate::places::{Place, Value, first_place, opening};
 use std::alloc::Global;
 
@@ -46,8 +46,7 @@ impl<A: SqlArg> Literals for Alone<A> {
         _value: &Value<'_>,
         out: &mut String,
     ) -> Result<(), SqlBuilderError> {
-        let text = self.arg.sql_arg(alloc)?;
-        Ok(out.push_str(text.as_str())?)
+        self.arg.push_sql_arg(alloc, out)
     }
 }
 
@@ -66,10 +65,7 @@ impl Literals for &[Box<dyn SqlArg>] {
         };
         match found {
             None => Ok(out.push_str("NULL")?),
-            Some(arg) => {
-                let text = arg.sql_arg(alloc)?;
-                Ok(out.push_str(text.as_str())?)
-            }
+            Some(arg) => arg.push_sql_arg(alloc, out),
         }
     }
 }
@@ -121,11 +117,13 @@ fn push_bound<L: Literals>(
     ensures memory { FailsOnlyByMemory result }
 {
     let opening = opening(alloc, marks)?;
+    let opening = opening.as_str();
     let mut rest = template;
     let mut seen = 0;
-    while let Some(found) = first_place(marks, opening.as_str(), seen, rest) {
+    while let Some(found) = first_place(marks, opening, seen, rest) {
         out.push_str(found.piece)?;
         match found.place {
+            Place::Opening => out.push_str(opening)?,
             Place::Writes(text) => out.push_str(text)?,
             Place::Holds(value) => {
                 literals.push_literal(alloc, &value, out)?;
@@ -136,6 +134,9 @@ fn push_bound<L: Literals>(
     }
     Ok(out.push_str(rest)?)
 }
+
+/// How many bytes most literals have at the most.
+const LITERAL: usize = 32;
 
 /// The template with literals in place of its markers. It is refused only for want of memory.
 #[tactic(auto, using(crate::proofs::Confined::has_bound_tokens, crate::proofs::Confined::is_closed_if_apart))]
@@ -154,7 +155,7 @@ pub(crate) fn bound_text<L: Literals>(
         → IsClosedIfApart template.now (marks_of marks.now) (string_bytes s)) }
     ensures memory { FailsOnlyByMemory result }
 {
-    let mut out = String::new(alloc);
+    let mut out = String::with_capacity(alloc, template.len().saturating_add(LITERAL))?;
     push_bound(alloc, &mut out, template, marks, literals)?;
     Ok(out)
 }

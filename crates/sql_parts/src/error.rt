@@ -19,10 +19,13 @@ pub enum SqlBuilderError {
     NoArguments,
     /// A growth was refused.
     Memory(AllocError),
+    /// A query has a HAVING and no GROUP BY.
+    NoGroupBy,
 }
 
 impl SqlBuilderError {
     /// The refusal's text, which Display prints too. It can't be refused.
+    /// `SqlBuilderError::NoTableName.message()` → `No table name`
     pub fn message(&self) -> &'static str
         ensures text { result.now ≡ message_text self.now }
     {
@@ -32,6 +35,7 @@ impl SqlBuilderError {
             SqlBuilderError::NoSetFields => "No set fields",
             SqlBuilderError::NoArguments => "No arguments",
             SqlBuilderError::Memory(_) => "Out of memory",
+            SqlBuilderError::NoGroupBy => "No group by",
         }
     }
 }

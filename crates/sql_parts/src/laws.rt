@@ -9,6 +9,7 @@ ghost use Rattle.sql_parts.specs.Tokens.{clean, closed, tokens};
 
 /// Two texts whose quoted texts are equal are equal, in each of the five forms of quoting.
 /// It does nothing when it runs.
+/// `quote("a'")` → `'a'''`
 pub fn quoting_is_injective()
     ensures esc { WritesApart escaped }
     ensures quote { WritesApart quoted }
@@ -19,6 +20,7 @@ pub fn quoting_is_injective()
 
 /// A text in which each `$` stands twice is given back by `bind_nums`, and one in which each `:`
 /// stands twice by `bind_names`, whatever is bound. It does nothing when it runs.
+/// `"$$1 $$".bind_nums([7])` → `$1 $`
 pub fn doubling_is_undone()
     ensures bind_nums { (count : ℕ) → UndoesDoubling dollar (Nums count) }
     ensures bind_names { UndoesDoubling colon Names }
@@ -26,6 +28,7 @@ pub fn doubling_is_undone()
 
 /// A text without a `?` is given back by `bind`, and by `binds` of any number of arguments, none
 /// too. It does nothing when it runs.
+/// `"a = 1".bind(&7)` → `a = 1`
 pub fn unmarked_is_unchanged()
     ensures bind { LeavesWithout question_mark First }
     ensures binds { (count : ℕ) → LeavesWithout question_mark (Cycle count) }
@@ -34,6 +37,7 @@ pub fn unmarked_is_unchanged()
 /// Where a text is closed and an edge stands beside the seam, the tokens on both sides of it stay
 /// what they are, whatever the second text is; if that is closed too, so are both together. It does
 /// nothing when it runs.
+/// `is_closed("a, -- b")` → `false`
 pub fn tokens_join_at_edges()
     ensures tokens { (one other : List ℕ) → IsTrue (closed one) → IsTrue (clean one other)
         → tokens (one ++ other) ≡ tokens one ++ tokens other }
@@ -43,6 +47,7 @@ pub fn tokens_join_at_edges()
 
 /// Where the values of a template stand apart, texts in place of other texts leave the number of
 /// tokens of the bound text as it is. It does nothing when it runs.
+/// `"a = ?".bind(&"b; c")` → `a = 'b; c'`
 pub fn bound_texts_keep_the_count()
     ensures count { (template : List ℕ) (marks : Marks) (one other : Value → LiteralValue)
         → IsTrue (apart template marks) → DifferInTexts one other

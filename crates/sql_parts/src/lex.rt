@@ -6,33 +6,21 @@ ghost use Rattle.sql_parts.specs.Fragments.{balanced, dangling, has_clause_word,
 ghost use Rattle.sql_parts.specs.Lexing.{is_listed_word};
 ghost use Rattle.sql_parts.specs.Places.{marks_of};
 ghost use Rattle.sql_parts.specs.Tokens as tokens;
-ghost use Rattle.sql_parts.specs.Tokens.{begins_with, closed, has_semicolon};
+ghost use Rattle.sql_parts.specs.Tokens.{begins_with, has_semicolon};
 
 use crate::apart::pieces_apart;
-use crate::bind::Marks;
 use crate::binding::lacks_arguments;
 use crate::dangling::{Betweens, Sides};
 use crate::error::SqlBuilderError;
 use crate::levels::Level;
+pub use crate::lexer::is_closed;
 use crate::lexer::{Token, first_token};
+use crate::marks::Marks;
 use crate::words::{CLAUSE_WORDS, JOINING_WORDS, is_word_of};
 use std::alloc::Global;
 
-/// Whether each quote and each comment of the text has its end. It can't be refused.
-pub fn is_closed(text: &str) -> bool
-    ensures { result ≡ closed text.now }
-{
-    let mut rest = text;
-    while let Some((token, behind)) = first_token(rest) {
-        if matches!(token, Token::Open) {
-            return false;
-        }
-        rest = behind;
-    }
-    true
-}
-
 /// Whether a `;` is among the tokens of the text. It can't be refused.
+/// `has_semicolon("a; b")` → `true`
 pub fn has_semicolon(text: &str) -> bool
     ensures { result ≡ has_semicolon text.now }
 {
@@ -73,6 +61,7 @@ fn is_balanced_without(text: &str, outer: &[&str], first: &[&str]) -> bool
 /// Whether the text has a token, no quote or comment without an end and no `;`, and its brackets
 /// are level, `(` and CASE counted together, and `)` and END: as many close as open, and at no
 /// place have more closed than opened. Which closes which isn't asked. It can't be refused.
+/// `is_balanced("a) OR (b")` → `false`
 pub fn is_balanced(text: &str) -> bool
     ensures { result ≡ balanced text.now }
 {
@@ -81,6 +70,7 @@ pub fn is_balanced(text: &str) -> bool
 
 /// Whether the text is balanced, has no OR, AND or BETWEEN at level 0, and doesn't begin with NOT.
 /// It can't be refused.
+/// `is_operand("a OR b")` → `false`
 pub fn is_operand(text: &str) -> bool
     ensures { result ≡ operand text.now }
 {
@@ -89,6 +79,7 @@ pub fn is_operand(text: &str) -> bool
 
 /// Whether a word that begins a clause stands at level 0 of the text: as many `(` and CASE stand
 /// before it as `)` and END. It can't be refused.
+/// `has_clause_word("a UNION SELECT b")` → `true`
 pub fn has_clause_word(text: &str) -> bool
     ensures { result ≡ has_clause_word text.now }
 {
@@ -107,6 +98,7 @@ pub fn has_clause_word(text: &str) -> bool
 /// Whether an OR or AND is the first token of the text or stands right behind a token that opens,
 /// an OR, AND or NOT is the last or stands right before one that closes, or a BETWEEN has no AND of
 /// its own level behind it. It is refused only for want of memory.
+/// `has_dangling("a AND")` → `true`
 pub fn has_dangling(alloc: Global, text: &str) -> Result<bool, SqlBuilderError>
     ensures dangling { IfOk result (λ b. b ≡ dangling text.now) }
     ensures memory { FailsOnlyByMemory result }
@@ -127,6 +119,8 @@ pub fn has_dangling(alloc: Global, text: &str) -> Result<bool, SqlBuilderError>
 /// Whether the values that these marks bind stand apart in a template: no `?` lacks an argument,
 /// each piece of it is closed, and nothing but a separator or an end of the text touches a value.
 /// A text that is bound there can't leave its literal. It is refused only for want of memory.
+/// `stands_apart("a = ?", &Marks::First)` → `true`
+/// `stands_apart("a = '?'", &Marks::First)` → `false`
 pub fn stands_apart(
     alloc: Global,
     template: &str,

@@ -3,7 +3,7 @@ ghost use Rattle.std.specs.Prelude.{◌≡◌, ◌<◌, [], ◌∷◌, IfSome, M
 ghost use Rattle.std.specs.List.{prefix_len};
 ghost use Rattle.sql_parts.specs.Lexing.{IsRead, StandsFor, behind_bytes, closing_mark, seen_text};
 ghost use Rattle.sql_parts.specs.Tokens as tokens;
-ghost use Rattle.sql_parts.specs.Tokens.{inside, is_blank, is_word_byte, reach};
+ghost use Rattle.sql_parts.specs.Tokens.{closed, inside, is_blank, is_word_byte, reach};
 ghost use Rattle.sql_parts.specs.declared.lexer.Token.TheVariants as seen;
 
 /// A token of a text. What stands between quotes isn't kept.
@@ -134,4 +134,19 @@ pub(crate) fn first_token(text: &str) -> Option<(Token<'_>, &str)>
         rest = behind;
     }
     None
+}
+
+/// Whether each quote and each comment of the text has its end. It can't be refused.
+/// `is_closed("a -- b")` → `false`
+pub fn is_closed(text: &str) -> bool
+    ensures { result ≡ closed text.now }
+{
+    let mut rest = text;
+    while let Some((token, behind)) = first_token(rest) {
+        if matches!(token, Token::Open) {
+            return false;
+        }
+        rest = behind;
+    }
+    true
 }

@@ -1,5 +1,8 @@
 //! The parts of SQL statements: texts, quoted texts, literals, names, binding, and the error that
 //! all calls share.
+//!
+//! Behind an arrow in a doc comment stands what a call prints. These examples leave out the
+//! allocator, `?`, boxes and the `&` of a list.
 #![tactic(auto)]
 
 mod apart;
@@ -14,8 +17,10 @@ pub mod lending;
 mod levels;
 pub mod lex;
 mod lexer;
+mod marks;
 pub mod name;
 mod places;
+mod quotes;
 mod quoting;
 pub mod text;
 mod words;

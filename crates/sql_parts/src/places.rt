@@ -1,6 +1,7 @@
 //! What stands at a place of a template.
-ghost use Rattle.std.specs.Prelude.{◌≡◌, ◌<◌, ◌+◌, ◌*◌, ℕ, [], IfOk, IfSome, MatchOption, drop, length, string_bytes, take};
+ghost use Rattle.std.specs.Prelude.{◌≡◌, ◌<◌, ◌≤◌, ◌+◌, ◌*◌, ◌==◌, ◌∷◌, ◌++◌, ℕ, [], IfOk, IfSome, MatchOption, codes, drop, length, not, string_bytes, take};
 ghost use Rattle.std.specs.Char.{is_ascii_digit};
+ghost use Rattle.std.specs.Cow.{cow_str_bytes};
 ghost use Rattle.std.specs.List.{prefix_len};
 ghost use Rattle.std.specs.Str.Parse.{digits_value};
 ghost use Rattle.sql_parts.specs.Error.{FailsOnlyByMemory};
@@ -8,10 +9,11 @@ ghost use Rattle.sql_parts.specs.Places.{IsNumber, StandsBefore, marks_of, place
 ghost use Rattle.sql_parts.specs.Templates as templates;
 ghost use Rattle.sql_parts.specs.Templates.{Writes, counted, followed_by, named, numbered, opening, resolved_from, stands};
 
-use crate::bind::Marks;
 use crate::error::SqlBuilderError;
+use crate::marks::Marks;
 use crate::text::ToText;
 use std::alloc::Global;
+use std::borrow::CowStr;
 
 /// What a marker stands for.
 #[derive(Clone, Copy)]
@@ -25,6 +27,8 @@ pub(crate) enum Value<'t> {
 /// What stands at a place.
 #[derive(Clone, Copy)]
 pub(crate) enum Place<'t> {
+    /// The opening itself, as text.
+    Opening,
     /// A text, perhaps another than is read there.
     Writes(&'t str),
     /// A marker.
@@ -40,25 +44,37 @@ pub(crate) struct Found<'t> {
 }
 
 /// The text that every marker and every escape begins with.
-pub(crate) fn opening(alloc: Global, marks: &Marks<'_>) -> Result<String, SqlBuilderError>
-    ensures text { IfOk result (λ s. string_bytes s ≡ opening (marks_of marks.now)) }
+pub(crate) fn opening(alloc: Global, marks: &Marks<'_>) -> Result<CowStr<'static>, SqlBuilderError>
+    ensures text { IfOk result (λ s. cow_str_bytes s ≡ opening (marks_of marks.now)) }
     ensures memory { FailsOnlyByMemory result }
 {
-    let mut text = String::new(alloc);
-    match marks {
-        Marks::First | Marks::Cycle(_) => text.push('?')?,
-        Marks::Num(number) => {
-            text.push('$')?;
-            number.push_to(alloc, &mut text)?;
-        }
-        Marks::Nums(_) => text.push('$')?,
-        Marks::Name(name) => {
-            text.push(':')?;
-            text.push_str(name)?;
-            text.push(':')?;
-        }
-        Marks::Names => text.push(':')?,
-    }
+    Ok(match marks {
+        Marks::First | Marks::Cycle(_) => CowStr::Borrowed("?"),
+        Marks::Num(number) => CowStr::Owned(number_opening(alloc, *number)?),
+        Marks::Nums(_) => CowStr::Borrowed("$"),
+        Marks::Name(name) => CowStr::Owned(name_opening(alloc, name)?),
+        Marks::Names => CowStr::Borrowed(":"),
+    })
+}
+
+fn number_opening(alloc: Global, number: u16) -> Result<String, SqlBuilderError>
+    ensures text { IfOk result (λ s. string_bytes s ≡ opening (templates.Num number)) }
+    ensures memory { FailsOnlyByMemory result }
+{
+    let mut text = String::with_capacity(alloc, "$65535".len())?;
+    text.push('$')?;
+    number.push_to(alloc, &mut text)?;
+    Ok(text)
+}
+
+fn name_opening(alloc: Global, name: &str) -> Result<String, SqlBuilderError>
+    ensures text { IfOk result (λ s. string_bytes s ≡ opening (templates.Name name.now)) }
+    ensures memory { FailsOnlyByMemory result }
+{
+    let mut text = String::with_capacity(alloc, name.len().saturating_add(2))?;
+    text.push(':')?;
+    text.push_str(name)?;
+    text.push(':')?;
     Ok(text)
 }
 
@@ -87,7 +103,7 @@ fn number(text: &str) -> (Option<usize>, &str)
 
 // What stands at a `$`, where there are so many arguments.
 fn numbered(count: usize, behind: &str) -> (Place<'_>, &str)
-    ensures { StandsBefore behind.now result (numbered count behind.now) }
+    ensures { StandsBefore (codes "$") behind.now result (numbered count behind.now) }
 {
     let (number, rest) = number(behind);
     match number {
@@ -102,7 +118,7 @@ fn numbered(count: usize, behind: &str) -> (Place<'_>, &str)
 
 // What stands at a `:`.
 fn named(behind: &str) -> (Place<'_>, &str)
-    ensures { StandsBefore behind.now result (named behind.now) }
+    ensures { StandsBefore (codes ":") behind.now result (named behind.now) }
 {
     match behind.split_once(':') {
         None => (Place::Writes(":"), behind),
@@ -116,12 +132,23 @@ fn named(behind: &str) -> (Place<'_>, &str)
     }
 }
 
+fn begins_with_digit(text: &str) -> bool
+    ensures { result ≡ not (prefix_len is_ascii_digit text.now == 0) }
+{
+    match text.as_bytes().first() {
+        None => false,
+        Some(byte) => byte.is_ascii_digit(),
+    }
+}
+
 // What stands at an opening, and the text behind it.
 fn stands<'t>(marks: &Marks<'_>, seen: usize, behind: &'t str) -> (Place<'t>, &'t str)
-    ensures { StandsBefore behind.now result (stands (marks_of marks.now) seen behind.now) }
+    ensures { StandsBefore (opening (marks_of marks.now)) behind.now result
+        (stands (marks_of marks.now) seen behind.now) }
 {
     match *marks {
-        Marks::First if seen > 0 => (Place::Writes("?"), behind),
+        Marks::First if seen > 0 => (Place::Opening, behind),
+        Marks::Num(_) if begins_with_digit(behind) => (Place::Opening, behind),
         Marks::First | Marks::Num(_) | Marks::Name(_) => {
             (Place::Holds(Value::Argument(0)), behind)
         }
@@ -131,6 +158,43 @@ fn stands<'t>(marks: &Marks<'_>, seen: usize, behind: &'t str) -> (Place<'t>, &'
         }
         Marks::Nums(count) => numbered(count, behind),
         Marks::Names => named(behind),
+    }
+}
+
+// The sign that an opening begins with, and it as a text. A search for one byte takes half as long
+// as one for a text.
+fn sign(marks: &Marks<'_>) -> (char, &'static str)
+    ensures sign { let opening = opening (marks_of marks.now) in
+        opening ≡ result.0 ∷ drop 1 opening }
+    ensures text { result.1.now ≡ result.0 ∷ [] }
+    ensures one_byte { result.0 < 128 }
+{
+    match marks {
+        Marks::First | Marks::Cycle(_) => ('?', "?"),
+        Marks::Num(_) | Marks::Nums(_) => ('$', "$"),
+        Marks::Name(_) | Marks::Names => (':', ":"),
+    }
+}
+
+// What stands at a sign, and the text behind it: the sign itself, where no opening begins.
+fn stands_at_sign<'t>(
+    marks: &Marks<'_>,
+    opening: &str,
+    seen: usize,
+    behind: &'t str,
+) -> (Place<'t>, &'t str)
+    requires opening { opening.now ≡ templates.opening (marks_of marks.now) }
+    ensures found { let place = place_of (templates.opening (marks_of marks.now)) result.0 in
+        resolved_from (marks_of marks.now) seen 0
+        (take 1 (templates.opening (marks_of marks.now)) ++ behind.now)
+        ≡ followed_by place
+        (resolved_from (marks_of marks.now) (counted place seen) 0 result.1.now) }
+    ensures shorter { length result.1.now ≤ length behind.now }
+{
+    let sign = sign(marks).1;
+    match behind.strip_prefix(&opening[1..]) {
+        None => (Place::Writes(sign), behind),
+        Some(behind) => stands(marks, seen, behind),
     }
 }
 
@@ -144,15 +208,18 @@ pub(crate) fn first_place<'t>(
     requires opening { opening.now ≡ templates.opening (marks_of marks.now) }
     ensures found { MatchOption result
         (resolved_from (marks_of marks.now) seen 0 text.now ≡ (text.now, []))
-        (λ f. resolved_from (marks_of marks.now) seen 0 text.now
-        ≡ followed_by (Writes f.piece.now) (followed_by (place_of f.place)
-        (resolved_from (marks_of marks.now) (counted (place_of f.place) seen) 0 f.rest.now))) }
+        (λ f. let place = place_of (templates.opening (marks_of marks.now)) f.place in
+        resolved_from (marks_of marks.now) seen 0 text.now
+        ≡ followed_by (Writes f.piece.now) (followed_by place
+        (resolved_from (marks_of marks.now) (counted place seen) 0 f.rest.now))) }
     ensures shorter { IfSome result (λ f. length f.rest.now < length text.now) }
 {
-    match text.split_once(opening) {
-        None => None,
-        Some((piece, behind)) => {
-            let (place, rest) = stands(marks, seen, behind);
+    match marks {
+        // `bind` has one marker, so what stands behind it is copied at once.
+        Marks::First if seen > 0 => None,
+        _ => {
+            let (piece, behind) = text.split_once(sign(marks).0)?;
+            let (place, rest) = stands_at_sign(marks, opening, seen, behind);
             Some(Found { piece, place, rest })
         }
     }

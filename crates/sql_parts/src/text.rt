@@ -1,71 +1,52 @@
 //! What can be written as a text.
 
-ghost use Rattle.std.specs.Prelude.{◌≡◌, ◌++◌, ℕ, List, map, string_bytes, ◌<◌, IfOk, OnOk, OnErr};
+ghost use Rattle.std.specs.Prelude.{◌≡◌, ◌++◌, ℕ, List, length, map, string_bytes, IfOk, IfSome, OnOk, OnErr};
 ghost use Rattle.std.specs.Char.{encode_utf8};
 ghost use Rattle.std.specs.Io.{StartsWith};
 ghost use Rattle.std.specs.Cow.{cow_str_bytes};
 ghost use Rattle.sql_parts.specs.Error.{FailsOnlyByMemory};
-ghost use Rattle.sql_parts.specs.Quoting.{closing, doubled, opening};
+ghost use Rattle.sql_parts.specs.Quoting.{closing, doubled};
 ghost use Rattle.sql_parts.specs.Text.{bool_text, decimal_text, number_text, optional_text, texts};
 
 use crate::error::SqlBuilderError;
-use crate::quoting::push_doubled;
+pub use crate::quotes::Quotes;
+use crate::quotes::push_doubled;
 use std::alloc::{AllocError, Global};
 use std::borrow::CowStr;
-
-/// The marks that a text is put between.
-#[derive(Clone, Copy)]
-pub enum Quotes {
-    /// `'` and `'`, round an SQL text.
-    Single,
-    /// Two backquotes, round an SQL name.
-    Back,
-    /// `[` and `]`, round an SQL name.
-    Square,
-    /// `"` and `"`, round an SQL name.
-    Double,
-}
-
-impl Quotes {
-    /// The mark before a text.
-    pub fn opening(self) -> char
-        ensures mark { result ≡ opening self }
-        ensures one_byte { result < 128 }
-    {
-        match self {
-            Quotes::Single => '\'',
-            Quotes::Back => '`',
-            Quotes::Square => '[',
-            Quotes::Double => '"',
-        }
-    }
-
-    /// The mark behind a text, which is written twice where the text has it.
-    pub fn closing(self) -> char
-        ensures mark { result ≡ closing self }
-        ensures one_byte { result < 128 }
-    {
-        match self {
-            Quotes::Single => '\'',
-            Quotes::Back => '`',
-            Quotes::Square => ']',
-            Quotes::Double => '"',
-        }
-    }
-}
 
 /// What has a text: a user's own type has one by an implementation.
 pub trait ToText: Drop {
     /// The text, as its bytes.
     ghost text: { Self → List ℕ };
 
+    /// The text's length in bytes, where it is known without making the text.
+    /// `"it's".known_length()` → `Some(4)`
+    fn known_length(&self) -> Option<usize>
+        ensures length { IfSome result (λ n. n ≡ length (text self.now)) }
+    {
+        None
+    }
+
     /// The text. It is refused only for want of memory.
+    /// `25.to_text()` → `25`
     fn to_text(&self, alloc: Global) -> Result<String, SqlBuilderError>
         ensures text { IfOk result (λ s. string_bytes s ≡ text self.now) }
         ensures memory { FailsOnlyByMemory result };
 
+    /// The text, of a `String` without a copy. It is refused only for want of memory.
+    /// `true.into_text()` → `true`
+    fn into_text(self, alloc: Global) -> Result<String, SqlBuilderError>
+    where
+        Self: Sized,
+        ensures text { IfOk result (λ s. string_bytes s ≡ text self) }
+        ensures memory { FailsOnlyByMemory result }
+    {
+        self.to_text(alloc)
+    }
+
     /// Appends the text to another, which a refusal leaves as it was. It is refused only for want
     /// of memory.
+    /// `25.push_to(text)` appends `25`
     fn push_to(&self, alloc: Global, out: &mut String) -> Result<(), SqlBuilderError>
         ensures text { OnOk result
             (string_bytes out.new ≡ string_bytes out.old ++ text self.now) }
@@ -80,6 +61,7 @@ pub trait ToText: Drop {
     /// Appends the text to another, with each closing mark in it written twice. A refusal, for
     /// want of memory alone, leaves the other with what it had, and perhaps with a part of this
     /// behind it.
+    /// `"it's".push_doubled_to(text, Quotes::Single)` appends `it''s`
     fn push_doubled_to(
         &self,
         alloc: Global,
@@ -97,6 +79,7 @@ pub trait ToText: Drop {
 }
 
 /// The text of each item. It is refused only for want of memory.
+/// `copies([1, 2])` → `[1, 2]`
 pub fn copies<S: ToText>(alloc: Global, items: &[S]) -> Result<Vec<String>, SqlBuilderError>
     ensures copied { IfOk result (λ copied. texts copied.items ≡ map S.text items.now) }
     ensures memory { FailsOnlyByMemory result }
@@ -109,6 +92,7 @@ pub fn copies<S: ToText>(alloc: Global, items: &[S]) -> Result<Vec<String>, SqlB
 }
 
 /// A copy of the text, if there is one. It is refused only for want of memory.
+/// `copy(&Some("a"))` → `Some(a)`
 pub fn copy(alloc: Global, text: &Option<String>) -> Result<Option<String>, SqlBuilderError>
     ensures copied { IfOk result (λ copied. optional_text copied ≡ optional_text text.now) }
     ensures memory { FailsOnlyByMemory result }
@@ -121,6 +105,10 @@ pub fn copy(alloc: Global, text: &Option<String>) -> Result<Option<String>, SqlB
 
 impl ToText for &str {
     ghost text = { λ s. s.now };
+
+    fn known_length(&self) -> Option<usize> {
+        Some(self.len())
+    }
 
     fn to_text(&self, alloc: Global) -> Result<String, SqlBuilderError> {
         Ok(String::from_str(alloc, self)?)
@@ -143,8 +131,16 @@ impl ToText for &str {
 impl ToText for String {
     ghost text = { λ s. string_bytes s };
 
+    fn known_length(&self) -> Option<usize> {
+        Some(self.len())
+    }
+
     fn to_text(&self, alloc: Global) -> Result<String, SqlBuilderError> {
         Ok(String::from_str(alloc, self.as_str())?)
+    }
+
+    fn into_text(self, _alloc: Global) -> Result<String, SqlBuilderError> {
+        Ok(self)
     }
 
     fn push_to(&self, _alloc: Global, out: &mut String) -> Result<(), SqlBuilderError> {
@@ -163,6 +159,10 @@ impl ToText for String {
 
 impl ToText for CowStr<'_> {
     ghost text = { λ s. cow_str_bytes s };
+
+    fn known_length(&self) -> Option<usize> {
+        Some(self.as_str().len())
+    }
 
     fn to_text(&self, alloc: Global) -> Result<String, SqlBuilderError> {
         Ok(String::from_str(alloc, self.as_str())?)
@@ -325,6 +325,10 @@ impl ToText for isize {
 
 impl<T: ToText> ToText for &T {
     ghost text = { λ x. T.text x.now };
+
+    fn known_length(&self) -> Option<usize> {
+        (**self).known_length()
+    }
 
     fn to_text(&self, alloc: Global) -> Result<String, SqlBuilderError> {
         (**self).to_text(alloc)

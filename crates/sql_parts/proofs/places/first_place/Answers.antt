@@ -1,18 +1,23 @@
-use Rattle.std.proofs.Common.{◌++◌, ◌∙◌, sym, subst}
-use Rattle.std.specs.Str.Pattern.{LacksTextAt}
+use Rattle.std.proofs.Common.{◌∙◌, None, Some, ap, arith, rules}
+use Rattle.std.proofs.lemmas.Str.Pattern.{split_parts}
 use Rattle.sql_parts.specs.Places.{marks_of}
-use Rattle.sql_parts.proofs.Resolving.{found-first, resolved_from-none}
+use Rattle.sql_parts.specs.Templates.{Writes, followed_by}
+use Rattle.sql_parts.proofs.Resolving.{resolved_from-after_first, resolved_from-sign, resolved_from-signless}
 use Rattle.sql_parts.proofs.places.first_place.Goals as goal
 
-pub returns-in-None-clause-found : goal.returns-in-None-clause-found
-returns-in-None-clause-found c =
-    resolved_from-none (marks_of c.args.marks.now) c.args.seen c.args.text.now
-    (λ i h. subst (λ o. LacksTextAt o c.args.text.now i) c.requires.opening (c.in-None.ensures.cases i h))
+pub returns-in-First-clause-found : goal.returns-in-First-clause-found
+returns-in-First-clause-found c =
+    rw c.in-First.is (resolved_from-after_first c.args.seen c.args.text.now (omega arith))
 
-pub returns-in-Some-clause-found : goal.returns-in-Some-clause-found
-returns-in-Some-clause-found c =
-    let cut = c.in-Some.ensures.cases in
-    let is = cut.2.1.split ∙ (λ i. c.requires.opening i ++ sym cut.4 i) in
-    found-first (marks_of c.args.marks.now) c.args.seen cut.0 c.args.text.now c.in-Some.piece.now c.in-Some.behind.now c.stands.result.1.now _
-    (λ n h. subst (λ o. LacksTextAt o c.args.text.now n) c.requires.opening (cut.2.0 n h))
-    is cut.3 c.stands.ensures.0 c.stands.ensures.1
+pub returns-in_err-piece-in_default-clause-found : goal.returns-in_err-piece-in_default-clause-found
+returns-in_err-piece-in_default-clause-found c =
+    let lacks = split_parts c.sign.result.0 c.args.text.now None c.in_err-piece-in_default.ensures.cases c.sign.ensures.one_byte in
+    let none = resolved_from-signless (marks_of c.args.marks.now) c.args.seen c.sign.result.0 c.args.text.now c.sign.ensures.sign lacks in
+    search (rules, none)
+
+pub returns-in_ok-piece-in_default-clause-found : goal.returns-in_ok-piece-in_default-clause-found
+returns-in_ok-piece-in_default-clause-found c =
+    let found = c.in_ok-piece-in_default in
+    let cut = split_parts c.sign.result.0 c.args.text.now (Some (found.piece, found.behind)) found.ensures.cases c.sign.ensures.one_byte in
+    resolved_from-sign (marks_of c.args.marks.now) c.args.seen c.sign.result.0 c.args.text.now found.piece.now found.behind.now c.sign.ensures.sign cut.0 cut.1
+    ∙ ap (followed_by (Writes found.piece.now)) c.stands_at_sign.ensures.found

@@ -4,7 +4,7 @@ use Rattle.std.proofs.Common.{◌≡◌, ◌++◌, length}
 use Rattle.std.specs.Io.{StartsWith}
 use Rattle.std.specs.String.{string_bytes}
 use Rattle.sql_parts.specs.Quoting.{doubled}
-use Rattle.sql_parts.proofs.quoting.push_doubled.Given as goal
+use Rattle.sql_parts.proofs.quotes.push_doubled.Given as goal
 
 abbrev pub invariant-marks : goal.invariant-marks
 invariant-marks l =
