@@ -2,9 +2,8 @@
 use Rattle.sql_builder.specs.Handed.{Handed}
 use Rattle.sql_builder.proofs.ConditionPieces.{condition-kept}
 use Rattle.sql_builder.proofs.Takes.{Each, Joins, Takes, listed}
-use Rattle.std.proofs.Common.{◌≡◌, refl, ◌∙◌, ap, ℕ, Bool, true, false, List, [], ◌∷◌, ◌++◌, Option, None, Some, map, codes}
-use Rattle.std.specs.Prelude.{IfSome, option_map}
-use Rattle.std.specs.List.{AllByRecursion, list_all, list_any}
+use Rattle.std.proofs.Common.{◌≡◌, refl, ◌∙◌, ap, ℕ, Bool, true, false, List, [], ◌∷◌, ◌++◌, map, codes}
+use Rattle.std.specs.List.{list_all, list_any}
 use Rattle.std.proofs.lemmas.Bool.{and_from, or_from}
 use Rattle.std.proofs.lemmas.List.Folds.{list_any-append}
 use Rattle.sql_parts.specs.Fragments.{is_clause_word}
@@ -20,7 +19,8 @@ use Rattle.sql_builder.specs.Text.{Pieces, fixed_piece, quoted_piece, raw_piece}
 use Rattle.sql_builder.specs.WhereTokens as where_tokens
 use Rattle.sql_builder.proofs.Balance.{is_even-append, is_even-brackets}
 use Rattle.sql_builder.proofs.Each.{map-all}
-use Rattle.sql_builder.proofs.Handing.{PartsAre, clauses-kept}
+use Rattle.sql_builder.proofs.ClauseParts.{PartsAre, raw-parts}
+use Rattle.sql_builder.proofs.Handing.{clauses-kept}
 use Rattle.sql_builder.proofs.OwnSections.{Calm}
 use Rattle.sql_builder.proofs.OwnWords.{own-append}
 
@@ -103,28 +103,5 @@ pub clauses-calm : (start : StartText) (calls : List CallText) → CalmParts (cl
 clauses-calm start calls = clauses-kept false any Calm Calm Calm calm-takes start calls (all-any (start_handed start)) (all-any (call_handed false (call.SetFields (start_fields start)))) (calls-any calls)
 
 -- the clauses of a builder
-some-raw : (text : Option (List ℕ)) → IfSome (option_map raw_piece text) Calm
-some-raw None = tt
-some-raw (Some text) = calm-raw text
-
-unions-raw : (unions : List (Bool × List ℕ)) → AllByRecursion (λ (union : Bool × Pieces). Calm union.1) (map (λ (union : Bool × List ℕ). (union.0, raw_piece union.1)) unions)
-unions-raw [] = tt
-unions-raw (union ∷ unions) = (calm-raw union.1, unions-raw unions)
-
 pub raw-calm : (r : Clauses (List ℕ)) → CalmParts (map_clauses raw_piece r)
-raw-calm r = record {
-  table = calm-raw r.table;
-  joins = raws r.joins;
-  fields = raws r.fields;
-  sets = raws r.sets;
-  rows = raws r.rows;
-  query = some-raw r.query;
-  returning = some-raw r.returning;
-  group_fields = raws r.group_fields;
-  having = some-raw r.having;
-  groups = raws r.groups;
-  unions = unions-raw r.unions;
-  order_fields = raws r.order_fields;
-  limit = some-raw r.limit;
-  offset = some-raw r.offset;
-}
+raw-calm r = raw-parts Calm calm-raw r

@@ -24,7 +24,7 @@ use Rattle.std.proofs.lemmas.List.{append-nil}
 use Rattle.sql_builder.proofs.ConditionPieces.{condition_printed}
 use Rattle.sql_builder.specs.declared.clauses.JoinOperator.{JoinOperator}
 use Rattle.sql_builder.specs.declared.clauses.JoinOperator.TheVariants as operator
-use Rattle.sql_builder.proofs.Layouts.{sql-semicolon, Parts, fragments-printed, layout-shaped, raw-parts}
+use Rattle.sql_builder.proofs.Layouts.{sql-semicolon, Parts, fragments-printed, layout-shaped, raw-inside-parts}
 use Rattle.sql_builder.proofs.Each.{append-all, flat-all, last-some, map-all}
 use Rattle.sql_builder.proofs.Shapes.{AllInside, Behind, Inside, Shaped, Whole, all-flat, brackets-inside, inside-inside, joined-inside, none-behind, none-inside, quoted-inside, raw-inside, shape_closed, shaped, words-behind, words-inside, items-inside, raw-all}
 use Rattle.sql_builder.proofs.ConditionPieces.{condition-inside}
@@ -62,13 +62,13 @@ table_in-behind (call.AndTable table) = words-behind (codes ", ") (raw_piece tab
 table_in-behind _ = none-behind
 
 constraint_in-inside : (c : CallText) → Inside (constraint_in c)
-constraint_in-inside (call.On condition) = words-first (codes " ON ") (raw_piece condition) (record { is_closed = refl; plain = refl }) refl (raw-inside condition)
+constraint_in-inside (call.On text) = words-first (codes " ON ") (raw_piece text) (record { is_closed = refl; plain = refl }) refl (raw-inside text)
 constraint_in-inside (call.OnEq left right) =
     words-first (codes " ON ") (equation fixed_piece (raw_piece left) (raw_piece right)) (record { is_closed = refl; plain = refl }) refl (equation-inside (raw_piece left) (raw_piece right) (raw-inside left) (raw-inside right))
 constraint_in-inside _ = none-inside
 
 constraint_in-behind : (c : CallText) → Behind (constraint_in c)
-constraint_in-behind (call.On condition) = words-behind (codes " ON ") (raw_piece condition) refl
+constraint_in-behind (call.On text) = words-behind (codes " ON ") (raw_piece text) refl
 constraint_in-behind (call.OnEq left right) = words-behind (codes " ON ") (equation fixed_piece (raw_piece left) (raw_piece right)) refl
 constraint_in-behind _ = none-behind
 
@@ -257,7 +257,7 @@ adds_binary binary.SetStr field value old new is =
 pub builder_semicolon : (r : Clauses (List ℕ)) → IsTrue (has_closed_fragments (sql fixed_piece (as_fragments r)))
     → IsTrue (has_no_semicolons (sql fixed_piece (as_fragments r))) → EndsInOneSemicolon (tokens (sql byte_atoms r))
 builder_semicolon r is plain =
-    subst (λ text. EndsInOneSemicolon (tokens text)) (fragments-printed call.Sql r) (sql-semicolon (as_fragments r) (raw-parts r) is plain)
+    subst (λ text. EndsInOneSemicolon (tokens text)) (fragments-printed call.Sql r) (sql-semicolon (as_fragments r) (raw-inside-parts r) is plain)
 
 -- the `;` of a statement
 module _ (start : StartText) (calls : List CallText) where

@@ -23,10 +23,10 @@ use Rattle.sql_builder.specs.Truths.{IsAtom}
 use Rattle.sql_parts.proofs.Walks.{has_outer, is_even, is_operand, is_operand-is}
 use Rattle.sql_parts.specs.Fragments.{is_joining, operand, balanced}
 use Rattle.sql_builder.proofs.ClauseShapes.{adds, condition_keeps}
-use Rattle.sql_builder.specs.Builder.{ClauseTexts, with_condition, with_condition_text}
+use Rattle.sql_builder.specs.Builder.{ClauseTexts, with_condition, with_condition_bytes}
 use Rattle.sql_builder.specs.declared.condition.Family.{Family}
 use Rattle.sql_builder.proofs.BalancedPieces.{Balanced, balanced-joins, quoteds-balanced, raws-balanced, within}
-use Rattle.sql_builder.specs.Steps.{ConditionAdded}
+use Rattle.sql_builder.specs.Steps.{AddsConditionSealed}
 
 walked : (f : List ℕ) → operand f ≡ true → is_operand (tokens f) ≡ true
 walked f h = sym (is_operand-is (tokens f)) ∙ h
@@ -110,8 +110,8 @@ text_atom condition = λ h.
 
 adds_condition : (family : Family) (condition : ConditionText) (old new : ClauseTexts) → new ≡ with_condition family condition old → AddsCondition family condition old new
 adds_condition family condition old new is =
-    (adds (λ added. with_condition_text family added old) (condition_bytes condition) (condition_pieces condition) new (condition_keeps condition) is, text_atom condition)
+    (adds (λ added. with_condition_bytes family added old) (condition_bytes condition) (condition_pieces condition) new (condition_keeps condition) is, text_atom condition)
 
-pub condition_added : (family : Family) (condition : ConditionText) (old new : ClauseTexts) → new ≡ with_condition family condition old → ConditionAdded family condition old new
-unfolding ConditionAdded
-condition_added family condition old new is = adds_condition family condition old new is
+pub adds_condition_sealed : (family : Family) (condition : ConditionText) (old new : ClauseTexts) → new ≡ with_condition family condition old → AddsConditionSealed family condition old new
+unfolding AddsConditionSealed
+adds_condition_sealed family condition old new is = adds_condition family condition old new is

@@ -28,7 +28,8 @@ use Rattle.sql_builder.specs.declared.clauses.Kind.TheVariants as kind
 use Rattle.sql_builder.proofs.Balance.{is_even-append}
 use Rattle.sql_builder.proofs.CalmClauses.{calm-append, calm-brackets, calm-none, calm-raw}
 use Rattle.sql_builder.proofs.Each.{append-all}
-use Rattle.sql_builder.proofs.Handing.{PartsAre, clauses-kept}
+use Rattle.sql_builder.proofs.ClauseParts.{PartsAre}
+use Rattle.sql_builder.proofs.Handing.{clauses-kept}
 use Rattle.sql_builder.proofs.OwnWords.{are_fit-is, are_fit_from, even-ends, or_so}
 use Rattle.sql_builder.proofs.OwnLayouts.{Kept, Split, bare_query-split, bare_values-split, sql-split, insert-split}
 use Rattle.sql_builder.proofs.OwnSections.{AllOpen, Calm, Opens, section_pieces, sections-front, until-behind, ending-semicolon}
@@ -274,7 +275,7 @@ module _ (r : Clauses Pieces) (parts : PartsAre Balanced Balanced Balanced r) wh
 
   insert-bodies : (given : Option Pieces) → IfSome given Balanced → Bodies (insert_sections fixed_piece given r)
   insert-bodies None h = (target-balanced, (listed Balanced balanced-joins r.rows parts.rows, returned))
-  insert-bodies (Some query) h = (balanced-append (insert_target fixed_piece r) (fixed_piece (codes " ") ++ query) target-balanced h, tt)
+  insert-bodies (Some query) h = (balanced-append (insert_target fixed_piece r) (fixed_piece (codes " ") ++ query) target-balanced h, returned)
 
   statement-bodies : (k : Kind) → Bodies (statement_sections fixed_piece k r)
   statement-bodies kind.SelectFrom = query-bodies
@@ -282,7 +283,7 @@ module _ (r : Clauses Pieces) (parts : PartsAre Balanced Balanced Balanced r) wh
   statement-bodies kind.InsertInto = insert-bodies r.query parts.query
   statement-bodies kind.UpdateTable =
       (parts.table, (listed Balanced balanced-joins r.sets parts.sets, bodies-append (where_sections fixed_piece r.groups) (returning_sections r) wheres returned))
-  statement-bodies kind.DeleteFrom = (parts.table, wheres)
+  statement-bodies kind.DeleteFrom = (parts.table, bodies-append (where_sections fixed_piece r.groups) (returning_sections r) wheres returned)
 
   query-balanced : Balanced (query fixed_piece r)
   query-balanced = sections-balanced (query_sections fixed_piece r) query-bodies

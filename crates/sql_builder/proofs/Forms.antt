@@ -112,7 +112,7 @@ module _ {A B : Type 0} (word : List ℕ → List A) (word' : List ℕ → List 
   insert_in_form : (q : Option (List A)) (r : Clauses (List A))
       → map in_form (insert_sections word q r) ≡ insert_sections word' (option_map f q) (map_clauses f r)
   insert_in_form None r = simp (target_in_form, joined_in_form, optional_in_form)
-  insert_in_form (Some q) r = simp (app, words, joined_in_form)
+  insert_in_form (Some q) r = simp (app, words, joined_in_form, optional_in_form)
 
   sections_in_form : (k : Kind) (r : Clauses (List A))
       → map in_form (statement_sections word k r) ≡ statement_sections word' k (map_clauses f r)
@@ -120,7 +120,7 @@ module _ {A B : Type 0} (word : List ℕ → List A) (word' : List ℕ → List 
   sections_in_form SelectValues r = simp joined_in_form
   sections_in_form InsertInto r = insert_in_form r.query r
   sections_in_form UpdateTable r = simp (map-append, joined_in_form, where_in_form, optional_in_form)
-  sections_in_form DeleteFrom r = simp where_in_form
+  sections_in_form DeleteFrom r = simp (map-append, where_in_form, optional_in_form)
 
   layout_of_sql : (r : Clauses (List A)) → f (sql word r) ≡ sql word' (map_clauses f r)
   layout_of_sql r =

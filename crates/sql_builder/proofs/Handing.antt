@@ -6,7 +6,6 @@ use Rattle.std.specs.List.{AllByRecursion, cons_option, last_or, list_all, list_
 use Rattle.std.proofs.lemmas.Bool.{and_parts, and_from}
 use Rattle.sql_builder.specs.Calls as call
 use Rattle.sql_builder.specs.Calls.{CallText, StartText, clauses, condition_in, conditions_of, constraint_in, drops_fields, fields_in, group_fields_in, group_pieces, groups, having_in, is_join, is_select, is_values, join_after, join_in, limit_in, natural_of, offset_in, opens_group, operator_of, order_fields_in, query_in, returning_in, rows_in, sets_in, start_fields, start_table, table_in, unions_in}
-use Rattle.sql_builder.specs.Clauses.{Clauses}
 use Rattle.sql_builder.specs.Condition.{ConditionText, condition_pieces, condition_handed}
 use Rattle.sql_builder.specs.Filters.{Group, cut, in_place, last_said, since, until}
 use Rattle.sql_builder.specs.Fitting.{call_handed, field_text, start_handed}
@@ -15,28 +14,12 @@ use Rattle.sql_builder.specs.Text.{Pieces, fixed_piece, quoted_piece, raw_piece}
 use Rattle.sql_builder.specs.declared.condition.Family.{Family}
 use Rattle.sql_builder.specs.declared.clauses.JoinOperator.{JoinOperator}
 use Rattle.sql_builder.specs.declared.clauses.JoinOperator.TheVariants as operator
+use Rattle.sql_builder.proofs.ClauseParts.{PartsAre}
 use Rattle.sql_builder.proofs.Each.{append-all, cut-all}
 use Rattle.std.proofs.lemmas.List.Folds.{list_all-map}
 use Rattle.sql_builder.proofs.OwnSections.{Calm}
 use Rattle.sql_builder.proofs.Takes.{Takes, between, one, Each, joined}
 use Rattle.sql_builder.proofs.ConditionPieces.{condition-kept}
-
--- what holds of each clause's pieces
-pub record PartsAre (P F U : Pieces → Type 0) (r : Clauses Pieces) : Type 0 where
-  pub table : P r.table
-  pub joins : Each P r.joins
-  pub fields : Each F r.fields
-  pub sets : Each P r.sets
-  pub rows : Each P r.rows
-  pub query : IfSome r.query P
-  pub returning : IfSome r.returning P
-  pub group_fields : Each P r.group_fields
-  pub having : IfSome r.having P
-  pub groups : Each P r.groups
-  pub unions : AllByRecursion (λ (union : Bool × Pieces). U union.1) r.unions
-  pub order_fields : Each P r.order_fields
-  pub limit : IfSome r.limit P
-  pub offset : IfSome r.offset P
 
 join-calm : (natural : Bool) (chosen : Option JoinOperator) → Calm (fixed_piece (join_words natural chosen))
 join-calm true None = record { even = refl; no_word = refl }
@@ -103,7 +86,7 @@ module _ (enclosed : Bool) (ok : Handed → Bool) (P F U : Pieces → Type 0) (t
   table_in-kept _ all = takes.joins.none
 
   constraint_in-kept : (c : CallText) → fine enclosed ok c ≡ true → P (constraint_in c)
-  constraint_in-kept (call.On condition) all = takes.joins.append (fixed_piece (codes " ON ")) (raw_piece condition) (takes.joins.words (codes " ON ") (record { even = refl; no_word = refl })) (one takes condition all)
+  constraint_in-kept (call.On text) all = takes.joins.append (fixed_piece (codes " ON ")) (raw_piece text) (takes.joins.words (codes " ON ") (record { even = refl; no_word = refl })) (one takes text all)
   constraint_in-kept (call.OnEq left right) all = takes.joins.append (fixed_piece (codes " ON ")) _ (takes.joins.words (codes " ON ") (record { even = refl; no_word = refl })) (equation-kept left right all)
   constraint_in-kept _ all = takes.joins.none
 

@@ -61,8 +61,8 @@ last_join : (c : CallText) → is_join c ≡ false → (part : Pieces) (before c
     ≡ extend_last (constraint_in c) ((part ++ constraints calls) ∷ joins before calls)
 last_join c h part before [] = rw h (simp append-nil)
 last_join c h part before (Join table ∷ calls) = refl
-last_join c h part before (On condition ∷ calls) =
-    let d = On condition in
+last_join c h part before (On text ∷ calls) =
+    let d = On text in
     regrouped part (constraint_in d) (constraints (calls ++ c ∷ [])) (constraints calls) (constraint_in c) _ _
     (last_join c h (part ++ constraint_in d) (before ++ d ∷ []) calls)
 last_join c h part before (OnEq left right ∷ calls) =
@@ -82,13 +82,13 @@ longer_join c h before (d ∷ calls) = longer_join c h (before ++ d ∷ []) call
 -- the joins after one more call, of those before it, the operator in force and whether NATURAL waits
 abbrev pub joins_after : CallText → Bool → Option JoinOperator → List Pieces → List Pieces
 joins_after (Join table) natural operator ts = ts ++ join fixed_piece natural operator (raw_piece table) ∷ []
-joins_after (On condition) natural operator ts = extend_last (constraint_in (On condition)) ts
+joins_after (On text) natural operator ts = extend_last (constraint_in (On text)) ts
 joins_after (OnEq left right) natural operator ts = extend_last (constraint_in (OnEq left right)) ts
 joins_after _ natural operator ts = ts
 
 pub joins-snoc : (calls : List CallText) (c : CallText)
     → joins_of (calls ++ c ∷ []) ≡ joins_after c (natural_of calls) (operator_of calls) (joins_of calls)
 joins-snoc calls (Join table) = one_more_join table [] calls
-joins-snoc calls (On condition) = longer_join (On condition) refl [] calls
+joins-snoc calls (On text) = longer_join (On text) refl [] calls
 joins-snoc calls (OnEq left right) = longer_join (OnEq left right) refl [] calls
 joins-snoc calls c = longer_join c refl [] calls ∙ extend_last-nil (joins_of calls)

@@ -14,25 +14,13 @@ use Rattle.sql_builder.specs.Text.{Piece, Pieces, fixed_piece, pieces_text, raw_
 use Rattle.sql_builder.specs.declared.clauses.Kind.{Kind}
 use Rattle.sql_builder.specs.declared.clauses.Kind.TheVariants.{SelectFrom, SelectValues, InsertInto, UpdateTable, DeleteFrom}
 use Rattle.sql_parts.proofs.JoinedTokens.{Edged}
-use Rattle.sql_builder.proofs.Shapes.{AllInside, Behind, Inside, Shaped, Whole, before-each, behind-append, brackets-inside, ended-inside, ends_in_semicolon, inside-inside, joined-inside, none-behind, none-inside, raw-inside, shape_closed, shaped, statement-shaped, words-behind, words-ended, words-inside, words-item, items-inside, raw-all}
+use Rattle.sql_builder.proofs.ClauseParts.{PartsAre, raw-parts}
+use Rattle.sql_builder.proofs.Shapes.{AllInside, Behind, Inside, Shaped, Whole, before-each, behind-append, brackets-inside, ended-inside, ends_in_semicolon, inside-inside, joined-inside, none-behind, none-inside, raw-inside, shape_closed, shaped, statement-shaped, words-behind, words-ended, words-inside, words-item, items-inside}
 use Rattle.sql_builder.proofs.Runs.{text_of_layout}
 
 -- each clause is made of such pieces
-pub record Parts (r : Clauses Pieces) : Type 0 where
-  pub table : Inside r.table
-  pub joins : AllInside r.joins
-  pub fields : AllInside r.fields
-  pub sets : AllInside r.sets
-  pub rows : AllInside r.rows
-  pub query : IfSome r.query Inside
-  pub returning : IfSome r.returning Inside
-  pub group_fields : AllInside r.group_fields
-  pub having : IfSome r.having Inside
-  pub groups : AllInside r.groups
-  pub unions : AllByRecursion (λ union. Inside union.1) r.unions
-  pub order_fields : AllInside r.order_fields
-  pub limit : IfSome r.limit Inside
-  pub offset : IfSome r.offset Inside
+abbrev pub Parts : Clauses Pieces → Type 0
+Parts r = PartsAre Inside Inside Inside r
 
 -- a section whose words stand between edges
 record Good (s : Section Piece) : Type 0 where
@@ -158,10 +146,10 @@ insert-inside None r parts inside =
     first-section (codes "INSERT INTO ") (insert_target fixed_piece r) (section (codes " VALUES ") (comma_list fixed_piece r.rows) ∷ returning_sections r) (record { is_closed = refl; plain = refl }) refl (target-inside r parts)
     (record { words = record { is_closed = refl; plain = refl; begins = refl; ends = refl }; body = items-inside r.rows parts.rows }, returning-good r parts)
 insert-inside (Some rows) r parts inside =
-    first-section (codes "INSERT INTO ") (insert_target fixed_piece r ++ (fixed_piece (codes " ") ++ rows)) [] (record { is_closed = refl; plain = refl }) refl
+    first-section (codes "INSERT INTO ") (insert_target fixed_piece r ++ (fixed_piece (codes " ") ++ rows)) (returning_sections r) (record { is_closed = refl; plain = refl }) refl
     (inside-inside (insert_target fixed_piece r) (fixed_piece (codes " ") ++ rows) (target-inside r parts) (words-behind (codes " ") rows refl)
     (ended-inside (fixed_piece (codes " ")) rows (words-ended (codes " ") (record { is_closed = refl; plain = refl }) refl) inside))
-    tt
+    (returning-good r parts)
 
 pub update-inside : (r : Clauses Pieces) → Parts r → Inside (concat_sections fixed_piece (update_sections fixed_piece r))
 update-inside r parts =
@@ -171,7 +159,9 @@ update-inside r parts =
     )
 
 pub delete-inside : (r : Clauses Pieces) → Parts r → Inside (concat_sections fixed_piece (delete_sections fixed_piece r))
-delete-inside r parts = first-section (codes "DELETE FROM ") r.table (where_sections fixed_piece r.groups) (record { is_closed = refl; plain = refl }) refl parts.table (where-good r.groups parts.groups)
+delete-inside r parts =
+    first-section (codes "DELETE FROM ") r.table (where_sections fixed_piece r.groups ++ returning_sections r) (record { is_closed = refl; plain = refl }) refl parts.table
+    (all-append _ _ (where-good r.groups parts.groups) (returning-good r parts))
 
 statement-inside : (kind : Kind) (r : Clauses Pieces) → Parts r → Inside (concat_sections fixed_piece (statement_sections fixed_piece kind r))
 statement-inside SelectFrom r parts = query-inside r parts
@@ -199,31 +189,8 @@ pub sql-semicolon : (r : Clauses Pieces) → Parts r → has_closed_fragments (s
 sql-semicolon r parts is plain = ends_in_semicolon (concat_sections fixed_piece (statement_sections fixed_piece r.kind r)) (statement-inside r.kind r parts) is plain
 
 -- clauses whose texts are fragments
-raw-some : (text : Option (List ℕ)) → IfSome (option_map raw_piece text) Inside
-raw-some None = tt
-raw-some (Some text) = raw-inside text
-
-raw-unions : (unions : List (Bool × List ℕ)) → AllByRecursion (λ (union : Bool × Pieces). Inside union.1) (map (λ (union : Bool × List ℕ). (union.0, raw_piece union.1)) unions)
-raw-unions [] = tt
-raw-unions (union ∷ unions) = (raw-inside union.1, raw-unions unions)
-
-pub raw-parts : (r : Clauses (List ℕ)) → Parts (map_clauses raw_piece r)
-raw-parts r = record {
-  table = raw-inside r.table;
-  joins = raw-all r.joins;
-  fields = raw-all r.fields;
-  sets = raw-all r.sets;
-  rows = raw-all r.rows;
-  query = raw-some r.query;
-  returning = raw-some r.returning;
-  group_fields = raw-all r.group_fields;
-  having = raw-some r.having;
-  groups = raw-all r.groups;
-  unions = raw-unions r.unions;
-  order_fields = raw-all r.order_fields;
-  limit = raw-some r.limit;
-  offset = raw-some r.offset;
-}
+pub raw-inside-parts : (r : Clauses (List ℕ)) → Parts (map_clauses raw_piece r)
+raw-inside-parts r = raw-parts Inside raw-inside r
 
 -- the texts of fragments are the texts
 raw-texts : (texts : List (List ℕ)) → map pieces_text (map raw_piece texts) ≡ texts
@@ -268,12 +235,12 @@ fragments-printed finish r = text_of_layout finish (as_fragments r) ∙ ap (text
 builder-shape : (finish : FinishText) (r : Clauses (List ℕ)) (text : List ℕ) → text ≡ text_at finish r
     → HasShape (layout_at fixed_piece raw_piece finish (as_fragments r)) text
 builder-shape finish r text is = λ all.
-    ap tokens (is ∙ sym (fragments-printed finish r)) ∙ (layout-shaped finish (as_fragments r) (raw-parts r)).shape_is all
+    ap tokens (is ∙ sym (fragments-printed finish r)) ∙ (layout-shaped finish (as_fragments r) (raw-inside-parts r)).shape_is all
 
 builder-closed : (finish : FinishText) (r : Clauses (List ℕ)) (text : List ℕ) → text ≡ text_at finish r
     → IsClosedAs (layout_at fixed_piece raw_piece finish (as_fragments r)) text
 builder-closed finish r text is = λ all.
-    ap closed (is ∙ sym (fragments-printed finish r)) ∙ shape_closed (layout_at fixed_piece raw_piece finish (as_fragments r)) (layout-shaped finish (as_fragments r) (raw-parts r)) all
+    ap closed (is ∙ sym (fragments-printed finish r)) ∙ shape_closed (layout_at fixed_piece raw_piece finish (as_fragments r)) (layout-shaped finish (as_fragments r) (raw-inside-parts r)) all
 
 module _ (r : Clauses (List ℕ)) (text : List ℕ) where
   pub sql_shape : text ≡ sql byte_atoms r → HasShape (sql fixed_piece (as_fragments r)) text

@@ -25,6 +25,18 @@ delete-read : read (tokens (codes "DELETE FROM t WHERE a OR b;")) ≡ piece_clau
 unfolding piece_clauses read
 delete-read = refl
 
+-- DELETE FROM t WHERE a OR b RETURNING id;
+abbrev returned : Pieces
+returned = sql fixed_piece (clauses (call.DeleteFrom (codes "t")) (call.Cond And (Raw (codes "a")) ∷ call.Cond Or (Raw (codes "b")) ∷ call.Returning (codes "id") ∷ []))
+
+returned-clauses : piece_clauses returned ≡ (Word (codes "DELETE"), []) ∷ (Word (codes "FROM"), Word (codes "t") ∷ []) ∷ (Word (codes "WHERE"), Word (codes "a") ∷ Word (codes "OR") ∷ Word (codes "b") ∷ []) ∷ (Word (codes "RETURNING"), Word (codes "id") ∷ []) ∷ []
+unfolding piece_clauses
+returned-clauses = refl
+
+returned-read : read (tokens (codes "DELETE FROM t WHERE a OR b RETURNING id;")) ≡ piece_clauses returned
+unfolding piece_clauses read
+returned-read = refl
+
 -- SELECT * FROM t WHERE ((a) OR (b)) AND (NOT c AND d) UNION SELECT x FROM y WHERE z; the queries behind UNION may have clause words
 abbrev united : Pieces
 united =

@@ -21,7 +21,7 @@ use Rattle.sql_parts.specs.contracts.text.ToText.TheBound.{Met}
 use Rattle.sql_builder.specs.Builder.{ClauseTexts, with_order, with_returning}
 use Rattle.sql_builder.specs.Condition.{ConditionText}
 use Rattle.sql_builder.specs.Meaning.{AddsCondition}
-use Rattle.sql_builder.specs.Steps.{ConditionAdded, AddsBinary, RefusesBinary, RefusesUnary, with_unary, with_variadic}
+use Rattle.sql_builder.specs.Steps.{AddsConditionSealed, AddsBinary, RefusesBinary, RefusesUnary, with_unary, with_variadic}
 use Rattle.sql_builder.specs.contracts.builder.SqlBuilder.{the_row}
 use Rattle.sql_builder.proofs.builder.SqlBuilder.TheLaws as builder_laws
 use Rattle.sql_parts.proofs.lending.release.Met.{met as release_met}
@@ -198,7 +198,7 @@ module _ {M : Type 1} (𝓤 : Ura M) (𝓛 : Logic 𝓤) (𝓜 : Model 𝓤 𝓛
     Given-unary κs = MutBor ClauseTexts × Denots (types_at {n = 2} (also 𝓛 (F-unary ∷ []) (plain A-unary.row ∷ [])) κs)
 
     abbrev kept-adds_unary : (κs : Lfts 2) → Given-unary κs → Effect ClauseTexts
-    kept-adds_unary κs a = record { leaves = ConditionAdded a.1.0 (condition (s.text a.1.1.0)) a.0.now; refuses = IsMemory }
+    kept-adds_unary κs a = record { leaves = AddsConditionSealed a.1.0 (condition (s.text a.1.1.0)) a.0.now; refuses = IsMemory }
 
     abbrev told-adds_unary : (κs : Lfts 2) → Given-unary κs → Effect ClauseTexts
     told-adds_unary κs a = record { leaves = AddsCondition a.1.0 (condition (s.text a.1.1.0)) a.0.now; refuses = IsMemory }
@@ -209,7 +209,7 @@ module _ {M : Type 1} (𝓤 : Ura M) (𝓛 : Logic 𝓤) (𝓜 : Model 𝓤 𝓛
         → calls.Coded-unary builder 𝓛 𝓜 𝓡 1 [] F-unary A-unary asked told-adds_unary (inst_fn types-adds_unary fn) (step types-adds_unary) release (name types-adds_unary)
         → Wired 𝓡.env release_code.code
         → calls.Method-unary builder 𝓛 𝓜 𝓡 1 [] F-unary A-unary asked told-adds_unary (inst_fn types-adds_unary fn) (step types-adds_unary) release (name types-adds_unary)
-    unfolding ConditionAdded
+    unfolding AddsConditionSealed
     adds_unary asked met code closed w = calls.by-unary builder 𝓛 𝓜 𝓡 1 [] F-unary A-unary asked told-adds_unary (inst_fn types-adds_unary fn) (step types-adds_unary) release (name types-adds_unary)
         code closed met (releases w)
 
@@ -235,7 +235,7 @@ module _ {M : Type 1} (𝓤 : Ura M) (𝓛 : Logic 𝓤) (𝓜 : Model 𝓤 𝓛
     Given-binary κs = MutBor ClauseTexts × Denots (types_at {n = 3} (also 𝓛 (F-binary ∷ C-binary ∷ []) (plain A-binary.row ∷ plain B-binary.row ∷ [])) κs)
 
     abbrev kept-adds_chosen_binary : (κs : Lfts 3) → Given-binary κs → Effect ClauseTexts
-    kept-adds_chosen_binary κs a = record { leaves = ConditionAdded a.1.0 (condition a.1.1.0 (s.text a.1.1.1.0) (t.text a.1.1.1.1.0)) a.0.now; refuses = IsMemory }
+    kept-adds_chosen_binary κs a = record { leaves = AddsConditionSealed a.1.0 (condition a.1.1.0 (s.text a.1.1.1.0) (t.text a.1.1.1.1.0)) a.0.now; refuses = IsMemory }
 
     abbrev told-adds_chosen_binary : (κs : Lfts 3) → Given-binary κs → Effect ClauseTexts
     told-adds_chosen_binary κs a = record { leaves = AddsCondition a.1.0 (condition a.1.1.0 (s.text a.1.1.1.0) (t.text a.1.1.1.1.0)) a.0.now; refuses = IsMemory }
@@ -246,7 +246,7 @@ module _ {M : Type 1} (𝓤 : Ura M) (𝓛 : Logic 𝓤) (𝓜 : Model 𝓤 𝓛
         → calls.Coded-chosen-binary builder 𝓛 𝓜 𝓡 2 [] F-binary C-binary A-binary B-binary asked told-adds_chosen_binary (inst_fn types-adds_chosen_binary fn) (step types-adds_chosen_binary) release (name types-adds_chosen_binary)
         → Wired 𝓡.env release_code.code
         → calls.Method-chosen-binary builder 𝓛 𝓜 𝓡 2 [] F-binary C-binary A-binary B-binary asked told-adds_chosen_binary (inst_fn types-adds_chosen_binary fn) (step types-adds_chosen_binary) release (name types-adds_chosen_binary)
-    unfolding ConditionAdded
+    unfolding AddsConditionSealed
     adds_chosen_binary asked met code closed w = calls.by-chosen-binary builder 𝓛 𝓜 𝓡 2 [] F-binary C-binary A-binary B-binary asked told-adds_chosen_binary (inst_fn types-adds_chosen_binary fn) (step types-adds_chosen_binary) release (name types-adds_chosen_binary)
         code closed met (releases w)
 
@@ -272,7 +272,7 @@ module _ {M : Type 1} (𝓤 : Ura M) (𝓛 : Logic 𝓤) (𝓜 : Model 𝓤 𝓛
     Given-listed κs = MutBor ClauseTexts × Denots (types_at {n = 4} (also 𝓛 (F-listed ∷ C-listed ∷ []) (plain A-listed.row ∷ plain B-listed.row ∷ [])) κs)
 
     abbrev kept-adds_chosen_listed : (κs : Lfts 4) → Given-listed κs → Effect ClauseTexts
-    kept-adds_chosen_listed κs a = record { leaves = ConditionAdded a.1.0 (condition a.1.1.0 (s.text a.1.1.1.0) (map t.text a.1.1.1.1.0.now)) a.0.now; refuses = IsMemory }
+    kept-adds_chosen_listed κs a = record { leaves = AddsConditionSealed a.1.0 (condition a.1.1.0 (s.text a.1.1.1.0) (map t.text a.1.1.1.1.0.now)) a.0.now; refuses = IsMemory }
 
     abbrev told-adds_chosen_listed : (κs : Lfts 4) → Given-listed κs → Effect ClauseTexts
     told-adds_chosen_listed κs a = record { leaves = AddsCondition a.1.0 (condition a.1.1.0 (s.text a.1.1.1.0) (map t.text a.1.1.1.1.0.now)) a.0.now; refuses = IsMemory }
@@ -283,7 +283,7 @@ module _ {M : Type 1} (𝓤 : Ura M) (𝓛 : Logic 𝓤) (𝓜 : Model 𝓤 𝓛
         → calls.Coded-chosen-listed builder 𝓛 𝓜 𝓡 3 os F-listed C-listed A-listed B-listed asked told-adds_chosen_listed (inst_fn types-adds_chosen_listed fn) (step types-adds_chosen_listed) release (name types-adds_chosen_listed)
         → Wired 𝓡.env release_code.code
         → calls.Method-chosen-listed builder 𝓛 𝓜 𝓡 3 os F-listed C-listed A-listed B-listed asked told-adds_chosen_listed (inst_fn types-adds_chosen_listed fn) (step types-adds_chosen_listed) release (name types-adds_chosen_listed)
-    unfolding ConditionAdded
+    unfolding AddsConditionSealed
     adds_chosen_listed asked met code closed w = calls.by-chosen-listed builder 𝓛 𝓜 𝓡 3 os F-listed C-listed A-listed B-listed asked told-adds_chosen_listed (inst_fn types-adds_chosen_listed fn) (step types-adds_chosen_listed) release (name types-adds_chosen_listed)
         code closed met (releases w)
 
@@ -312,7 +312,7 @@ module _ {M : Type 1} (𝓤 : Ura M) (𝓛 : Logic 𝓤) (𝓜 : Model 𝓤 𝓛
     Given-ternary κs = MutBor ClauseTexts × Denots (types_at {n = 4} (also 𝓛 (F-ternary ∷ C-ternary ∷ []) (plain A-ternary.row ∷ plain B-ternary.row ∷ plain D-ternary.row ∷ [])) κs)
 
     abbrev kept-adds_chosen_ternary : (κs : Lfts 4) → Given-ternary κs → Effect ClauseTexts
-    kept-adds_chosen_ternary κs a = record { leaves = ConditionAdded a.1.0 (condition a.1.1.0 (s.text a.1.1.1.0) (t.text a.1.1.1.1.0) (u.text a.1.1.1.1.1.0)) a.0.now; refuses = IsMemory }
+    kept-adds_chosen_ternary κs a = record { leaves = AddsConditionSealed a.1.0 (condition a.1.1.0 (s.text a.1.1.1.0) (t.text a.1.1.1.1.0) (u.text a.1.1.1.1.1.0)) a.0.now; refuses = IsMemory }
 
     abbrev told-adds_chosen_ternary : (κs : Lfts 4) → Given-ternary κs → Effect ClauseTexts
     told-adds_chosen_ternary κs a = record { leaves = AddsCondition a.1.0 (condition a.1.1.0 (s.text a.1.1.1.0) (t.text a.1.1.1.1.0) (u.text a.1.1.1.1.1.0)) a.0.now; refuses = IsMemory }
@@ -323,6 +323,6 @@ module _ {M : Type 1} (𝓤 : Ura M) (𝓛 : Logic 𝓤) (𝓜 : Model 𝓤 𝓛
         → calls.Coded-chosen-ternary builder 𝓛 𝓜 𝓡 3 [] F-ternary C-ternary A-ternary B-ternary D-ternary asked told-adds_chosen_ternary (inst_fn types-adds_chosen_ternary fn) (step types-adds_chosen_ternary) release (name types-adds_chosen_ternary)
         → Wired 𝓡.env release_code.code
         → calls.Method-chosen-ternary builder 𝓛 𝓜 𝓡 3 [] F-ternary C-ternary A-ternary B-ternary D-ternary asked told-adds_chosen_ternary (inst_fn types-adds_chosen_ternary fn) (step types-adds_chosen_ternary) release (name types-adds_chosen_ternary)
-    unfolding ConditionAdded
+    unfolding AddsConditionSealed
     adds_chosen_ternary asked met code closed w = calls.by-chosen-ternary builder 𝓛 𝓜 𝓡 3 [] F-ternary C-ternary A-ternary B-ternary D-ternary asked told-adds_chosen_ternary (inst_fn types-adds_chosen_ternary fn) (step types-adds_chosen_ternary) release (name types-adds_chosen_ternary)
         code closed met (releases w)

@@ -21,7 +21,7 @@ use Rattle.sql_builder.specs.Fitting.{own, has_fit_fragments}
 use Rattle.sql_builder.specs.Reading.{Clause, piece_clauses, read, stand_with, is_union}
 use Rattle.sql_parts.proofs.Walks.{is_even}
 use Rattle.sql_parts.specs.Fragments.{is_clause_word}
-use Rattle.sql_builder.proofs.Handing.{PartsAre}
+use Rattle.sql_builder.proofs.ClauseParts.{PartsAre}
 use Rattle.sql_builder.proofs.CalmClauses.{CalmParts, calm-brackets, calm-joins, calm-target}
 use Rattle.sql_builder.proofs.Layouts as layouts
 use Rattle.sql_builder.proofs.Shapes.{Inside}
@@ -184,9 +184,9 @@ module _ (P : Pieces → Type 0) (kept : Kept P) where
   pub delete-split : (tail : Pieces) (r : Clauses Pieces) → PartsAre P P Calm r → layouts.Parts r → Ending tail → Split P (concat_sections fixed_piece (delete_sections fixed_piece r) ++ tail) (where_bodies r.groups)
   delete-split tail r parts good ending =
       plain-split (delete_sections fixed_piece r) tail
-      (before (section (codes "DELETE FROM ") r.table ∷ []) (where_sections fixed_piece r.groups)
+      (before (section (codes "DELETE FROM ") r.table ∷ []) (where_sections fixed_piece r.groups ++ returning_sections r)
       (one-section (codes "DELETE FROM ") r.table (opening refl (λ ts. refl)) parts.table)
-      (where-laid r.groups parts.groups))
+      (behind (where_sections fixed_piece r.groups) (returning_sections r) (where-laid r.groups parts.groups) (returning-laid r parts)))
       (layouts.delete-inside r good)
       ending
 
@@ -230,8 +230,10 @@ module _ (P F : Pieces → Type 0) (kept : Kept P) (field_joins : Joins F) (targ
       ending
   insert-split tail (Some rows) r parts calm good given ending =
       plain-split P kept (insert_sections fixed_piece (Some rows) r) tail
+      (before (section (codes "INSERT INTO ") (insert_target fixed_piece r ++ (fixed_piece (codes " ") ++ rows)) ∷ []) (returning_sections r)
       (one-section P kept (codes "INSERT INTO ") (insert_target fixed_piece r ++ (fixed_piece (codes " ") ++ rows)) (opening refl (λ ts. refl))
       (kept.joins.append (insert_target fixed_piece r) (fixed_piece (codes " ") ++ rows) (target-kept r parts) (kept.joins.append (fixed_piece (codes " ")) rows (kept.joins.words (codes " ") (record { even = refl; no_word = refl })) calm)))
+      (optional-laid P kept (codes " RETURNING ") r.returning (opening refl (λ ts. refl)) parts.returning))
       (layouts.insert-inside (Some rows) r good given)
       ending
 

@@ -90,15 +90,17 @@ module _ (r : ClauseTexts) (start : List ℕ) where
       → d ≡ start ++ concat_sections byte_atoms (insert_sections byte_atoms None r)
   insert_rows_added p q s t = simp (t, s, q, p, append_assoc)
 
-  pub insert_query_added : (query : List ℕ) {a b c : List ℕ}
+  pub insert_query_added : (query : List ℕ) {a b c d : List ℕ}
       → a ≡ start ++ (codes "INSERT INTO " ++ r.table)
       → b ≡ a ++ (codes " (" ++ (comma_list byte_atoms r.fields ++ codes ")"))
       → c ≡ b ++ (codes " " ++ query)
-      → c ≡ start ++ concat_sections byte_atoms (insert_sections byte_atoms (Some query) r)
-  insert_query_added query p q s = simp (s, q, p, append_assoc, append-nil)
+      → d ≡ c ++ concat_sections byte_atoms (optional_section (codes " RETURNING ") r.returning)
+      → d ≡ start ++ concat_sections byte_atoms (insert_sections byte_atoms (Some query) r)
+  insert_query_added query p q s t = simp (t, s, q, p, append_assoc)
 
-  pub delete_added : {a b : List ℕ}
+  pub delete_added : {a b c : List ℕ}
       → a ≡ start ++ (codes "DELETE FROM " ++ r.table)
       → b ≡ a ++ concat_sections byte_atoms (where_sections byte_atoms r.groups)
-      → b ≡ start ++ concat_sections byte_atoms (delete_sections byte_atoms r)
-  delete_added p q = simp (q, p, append_assoc)
+      → c ≡ b ++ concat_sections byte_atoms (optional_section (codes " RETURNING ") r.returning)
+      → c ≡ start ++ concat_sections byte_atoms (delete_sections byte_atoms r)
+  delete_added p q s = simp (s, q, p, flat_map-append, append_assoc)

@@ -12,7 +12,7 @@ use Rattle.sql_builder.specs.Text.{Pieces, fixed_piece, pieces_text, raw_piece}
 use Rattle.sql_builder.specs.declared.clauses.Kind.{Kind}
 use Rattle.sql_builder.specs.declared.clauses.Kind.TheVariants.{SelectFrom, SelectValues, InsertInto, UpdateTable, DeleteFrom}
 use Rattle.sql_builder.proofs.ClauseShapes.{printed-shaped, clauses-parts}
-use Rattle.sql_builder.proofs.Layouts.{query_shape, subquery_as_shape, subquery_shape, fragments-printed, raw-parts}
+use Rattle.sql_builder.proofs.Layouts.{query_shape, subquery_as_shape, subquery_shape, fragments-printed, raw-inside-parts}
 use Rattle.sql_builder.proofs.CalmClauses.{clauses-calm, raw-calm, CalmParts}
 use Rattle.sql_builder.proofs.OwnLayouts.{calm-kept, bare_query-split, bare_values-split, kind_bodies, split-reads, split-wheres, sql-split, where_bodies}
 use Rattle.sql_builder.proofs.WhereGroups.{calls-true, texts-true}
@@ -144,11 +144,11 @@ module _ (r : ClauseTexts) (text : List ℕ) where
   builder-is finish is = is ∙ sym (fragments-printed finish r)
 
   builder-reads : (finish : FinishText) → is_unenclosed finish ≡ true → text ≡ text_at finish r → ReadsBack (told finish) text
-  builder-reads finish bare is = text-reads finish (as_fragments r) (raw-calm r) (raw-parts r) text (builder-is finish is) bare
+  builder-reads finish bare is = text-reads finish (as_fragments r) (raw-calm r) (raw-inside-parts r) text (builder-is finish is) bare
 
   builder-true : (finish : FinishText) → text ≡ text_at finish r → HasTruthOfGroups finish r (told finish) text
   builder-true finish is = λ prints fit fit_groups facts.
-      ap (map (truth facts)) (text-wheres finish (as_fragments r) (raw-calm r) (raw-parts r) text (builder-is finish is) prints fit) ∙ texts-true facts r fit_groups
+      ap (map (truth facts)) (text-wheres finish (as_fragments r) (raw-calm r) (raw-inside-parts r) text (builder-is finish is) prints fit) ∙ texts-true facts r fit_groups
 
   pub sql_clauses : text ≡ sql byte_atoms r → ReadsBack (sql fixed_piece (as_fragments r)) text
   sql_clauses is = builder-reads Sql refl is

@@ -1,12 +1,12 @@
 -- Worked rows: what the definitions give, by computing.
 use Rattle.std.specs.Prelude.{◌≡◌, [], ◌∷◌, ◌++◌, Ok, Err, codes, refl, true, false}
-use Rattle.sql_parts.specs.declared.error.SqlBuilderError.TheVariants.{NoTableName, NoValues, NoSetFields}
+use Rattle.sql_parts.specs.declared.error.SqlBuilderError.TheVariants.{NoTableName, NoValues, NoSetFields, NoGroupBy}
 use Rattle.sql_builder.specs.Calls.{SelectFrom, SelectValues, InsertInto, UpdateTable, DeleteFrom, Natural, Left, LeftOuter, Right, RightOuter, Inner, Cross, Distinct, AndTable, Join, On, OnEq, Fields, SetFields, Field, SetField, Count, CountAs, SetTo, SetStr, Values, Select, Returning, ReturningId, GroupBy, Having, Union, UnionAll, OrderBy, OrderAsc, OrderDesc, Limit, Offset, Cond, Sql, Query, QueryValues, Subquery, SubqueryAs}
 use Rattle.sql_builder.specs.Condition.{Raw, Compare}
 use Rattle.sql_builder.specs.Statement.{pieces, statement}
 use Rattle.sql_builder.specs.Text as piece
 use Rattle.sql_parts.specs.Quoting.{quoted}
-use Rattle.sql_builder.specs.declared.condition.Family.TheVariants.{And}
+use Rattle.sql_builder.specs.declared.condition.Family.TheVariants.{And, Or}
 use Rattle.sql_builder.specs.declared.condition.Relation.TheVariants.{Gt}
 
 no_table : statement (SelectFrom []) [] Sql ≡ Err NoTableName
@@ -62,12 +62,37 @@ row_drops_query : statement (InsertInto (codes "t"))
     Values (codes "3" ∷ []) ∷ []) Sql ≡ Ok (codes "INSERT INTO t (a) VALUES (3);")
 row_drops_query = refl
 
-delete_returning : statement (DeleteFrom (codes "t")) (ReturningId ∷ []) Sql ≡ Ok (codes "DELETE FROM t;")
+delete_returning : statement (DeleteFrom (codes "t")) (ReturningId ∷ []) Sql ≡ Ok (codes "DELETE FROM t RETURNING id;")
 delete_returning = refl
 
-having_alone : statement (SelectFrom (codes "t")) (Having (codes "a > 1") ∷ []) Sql
-    ≡ Ok (codes "SELECT * FROM t;")
+delete_where_returning : statement (DeleteFrom (codes "t"))
+    (Cond And (Raw (codes "a")) ∷ Cond Or (Raw (codes "b")) ∷ Returning (codes "id") ∷ []) Sql
+    ≡ Ok (codes "DELETE FROM t WHERE a OR b RETURNING id;")
+delete_where_returning = refl
+
+insert_query_returning : statement (InsertInto (codes "t"))
+    (Field (codes "a") ∷ Select (codes "SELECT 2") ∷ ReturningId ∷ []) Sql
+    ≡ Ok (codes "INSERT INTO t (a) SELECT 2 RETURNING id;")
+insert_query_returning = refl
+
+having_alone : statement (SelectFrom (codes "t")) (Having (codes "a > 1") ∷ []) Sql ≡ Err NoGroupBy
 having_alone = refl
+
+having_without_table : statement (SelectFrom []) (Having (codes "a") ∷ []) Sql ≡ Err NoTableName
+having_without_table = refl
+
+having_without_table_query : statement (SelectFrom []) (Having (codes "a") ∷ []) Query ≡ Err NoGroupBy
+having_without_table_query = refl
+
+having_of_update : statement (UpdateTable (codes "t")) (SetTo (codes "a") (codes "1") ∷ Having (codes "b") ∷ []) Sql
+    ≡ Ok (codes "UPDATE t SET a = 1;")
+having_of_update = refl
+
+having_of_values : statement (SelectValues (codes "1" ∷ [])) (Having (codes "b") ∷ []) Sql ≡ Ok (codes "SELECT 1;")
+having_of_values = refl
+
+having_of_values_query : statement (SelectValues (codes "1" ∷ [])) (Having (codes "b") ∷ []) Query ≡ Err NoGroupBy
+having_of_values_query = refl
 
 having_of_groups : statement (SelectFrom (codes "t")) (Having (codes "a > 1") ∷ GroupBy (codes "a") ∷ [])
     Sql ≡ Ok (codes "SELECT * FROM t GROUP BY a HAVING a > 1;")

@@ -9,7 +9,7 @@ use Rattle.std.specs.List.{AllByRecursion, list_all, list_any}
 use Rattle.sql_parts.specs.Quoting.{quoted}
 use Rattle.sql_parts.specs.Text.{join_with}
 use Rattle.sql_parts.specs.Tokens.{Symbol, Token, begins_with, clean, closed, ends_with, has_semicolon, is_edge, is_empty, is_open, is_semicolon, tokens}
-use Rattle.sql_parts.specs.declared.text.Quotes.TheVariants.{Single}
+use Rattle.sql_parts.specs.declared.quotes.Quotes.TheVariants.{Single}
 use Rattle.sql_parts.proofs.JoinedTokens.{Edged, begins-append, clean-behind}
 use Rattle.sql_parts.proofs.TokenLaws.{between-tokens, between_closed, closed-shut, seam}
 use Rattle.sql_builder.specs.Phrases.{in_brackets, comma_list}

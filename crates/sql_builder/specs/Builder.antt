@@ -86,7 +86,7 @@ with_join table r =
 
 -- a constraint of the last join; where there is none, nothing changes
 abbrev pub with_on : List ℕ → ClauseTexts → ClauseTexts
-with_on condition r = record r { joins = extend_last (constraint byte_atoms condition) r.joins }
+with_on text r = record r { joins = extend_last (constraint byte_atoms text) r.joins }
 
 -- these fields, after those that are there
 abbrev pub with_fields : List (List ℕ) → ClauseTexts → ClauseTexts
@@ -151,13 +151,13 @@ abbrev pub with_alternative : List ℕ → ClauseTexts → ClauseTexts
 with_alternative condition r = record r { groups = join_last (codes " OR ") condition r.groups }
 
 -- a condition's text, of a call of this family
-abbrev pub with_condition_text : Family → List ℕ → ClauseTexts → ClauseTexts
-with_condition_text And condition r = with_group condition r
-with_condition_text Or condition r = with_alternative condition r
+abbrev pub with_condition_bytes : Family → List ℕ → ClauseTexts → ClauseTexts
+with_condition_bytes And condition r = with_group condition r
+with_condition_bytes Or condition r = with_alternative condition r
 
 -- a condition, of a call of this family
 abbrev pub with_condition : Family → ConditionText → ClauseTexts → ClauseTexts
-with_condition family condition r = with_condition_text family (condition_bytes condition) r
+with_condition family condition r = with_condition_bytes family (condition_bytes condition) r
 
 -- there is a join that a constraint can join
 abbrev pub HasJoin : ClauseTexts → Type 0

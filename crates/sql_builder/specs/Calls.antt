@@ -122,7 +122,7 @@ natural_of calls = any_unfollowed is_natural is_join calls
 
 -- the constraint that a call adds to the join before it
 abbrev pub constraint_in : CallText → Pieces
-constraint_in (On condition) = constraint fixed_piece (raw_piece condition)
+constraint_in (On text) = constraint fixed_piece (raw_piece text)
 constraint_in (OnEq left right) =
     constraint fixed_piece (equation fixed_piece (raw_piece left) (raw_piece right))
 constraint_in _ = []

@@ -91,7 +91,7 @@ encloses_fields _ _ = false
 abbrev pub call_handed : Bool → CallText → List Handed
 call_handed enclosed (call.AndTable table) = Bare table ∷ []
 call_handed enclosed (call.Join table) = Bare table ∷ []
-call_handed enclosed (call.On condition) = Bare condition ∷ []
+call_handed enclosed (call.On text) = Bare text ∷ []
 call_handed enclosed (call.OnEq left right) = Bare left ∷ Bare right ∷ []
 call_handed enclosed (call.Fields fields) = map (field_text enclosed) fields
 call_handed enclosed (call.SetFields fields) = map (field_text enclosed) fields

@@ -1,7 +1,7 @@
 -- A statement as a list of sections, over any kind of atom A: bytes, or pieces.
 use Rattle.std.specs.Prelude.{ℕ, List, [], ◌∷◌, ◌++◌, Option, None, Some, Bool, true, false, map, codes, flat_map}
 use Rattle.sql_parts.specs.declared.error.SqlBuilderError.{SqlBuilderError}
-use Rattle.sql_parts.specs.declared.error.SqlBuilderError.TheVariants.{NoTableName, NoValues, NoSetFields}
+use Rattle.sql_parts.specs.declared.error.SqlBuilderError.TheVariants.{NoTableName, NoValues, NoSetFields, NoGroupBy}
 use Rattle.sql_builder.specs.Clauses.{Clauses}
 use Rattle.sql_builder.specs.Phrases.{comma_list, in_brackets}
 use Rattle.sql_parts.specs.Text.{join_with}
@@ -105,7 +105,7 @@ module _ {A : Type 0} (word : List ℕ → List A) where
       section (codes "INSERT INTO ") (insert_target r) ∷ section (codes " VALUES ") (comma_list word r.rows)
       ∷ returning_sections r
   insert_sections (Some query) r =
-      section (codes "INSERT INTO ") (insert_target r ++ (word (codes " ") ++ query)) ∷ []
+      section (codes "INSERT INTO ") (insert_target r ++ (word (codes " ") ++ query)) ∷ returning_sections r
 
   -- UPDATE
   abbrev pub update_sections : Clauses (List A) → List (Section A)
@@ -115,7 +115,7 @@ module _ {A : Type 0} (word : List ℕ → List A) where
 
   -- DELETE
   abbrev pub delete_sections : Clauses (List A) → List (Section A)
-  delete_sections r = section (codes "DELETE FROM ") r.table ∷ where_sections r.groups
+  delete_sections r = section (codes "DELETE FROM ") r.table ∷ (where_sections r.groups ++ returning_sections r)
 
   -- the statement of each kind
   abbrev pub statement_sections : Kind → Clauses (List A) → List (Section A)
@@ -165,9 +165,18 @@ abbrev pub refuse_no_rows : {T : Type 0} → Option T → List T → Option SqlB
 refuse_no_rows None rows = refuse_empty NoValues rows
 refuse_no_rows (Some query) rows = None
 
+-- HAVING without a GROUP BY
+abbrev pub refuse_no_group_by : {T : Type 0} → Option T → List T → Option SqlBuilderError
+refuse_no_group_by None fields = None
+refuse_no_group_by (Some having) fields = refuse_empty NoGroupBy fields
+
+-- what a query refuses
+abbrev pub query_refusal : Clauses (List ℕ) → Option SqlBuilderError
+query_refusal r = refuse_no_group_by r.having r.group_fields
+
 -- what `sql` refuses of a statement of each kind, no table first
 abbrev pub refusal_of : Kind → Clauses (List ℕ) → Option SqlBuilderError
-refusal_of SelectFrom r = refuse_no_table r.table None
+refusal_of SelectFrom r = refuse_no_table r.table (query_refusal r)
 refusal_of SelectValues r = refuse_empty NoValues r.fields
 refusal_of InsertInto r = refuse_no_table r.table (refuse_no_rows r.query r.rows)
 refusal_of UpdateTable r = refuse_no_table r.table (refuse_empty NoSetFields r.sets)

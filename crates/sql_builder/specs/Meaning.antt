@@ -2,7 +2,7 @@
 use Rattle.std.specs.Prelude.{◌≡◌, ℕ, Bool, true, false, not, ◌&&◌, IfOk, IsTrue, List, [], ◌∷◌, codes, map}
 use Rattle.sql_parts.specs.Fragments.{balanced, has_clause_word, operand}
 use Rattle.sql_parts.specs.Tokens.{Token, tokens}
-use Rattle.sql_builder.specs.Builder.{ClauseTexts, with_condition_text}
+use Rattle.sql_builder.specs.Builder.{ClauseTexts, with_condition_bytes}
 use Rattle.sql_builder.specs.Calls.{CallText, FinishText, StartText, Sql, Query, Subquery, SubqueryAs, groups}
 use Rattle.sql_builder.specs.Condition.{ConditionText, condition_bytes, condition_pieces, has_operands}
 use Rattle.sql_builder.specs.Fitting.{has_balanced_fragments, has_fit_fragments, has_fit_groups}
@@ -92,5 +92,5 @@ IsAtomIfOperands condition ts = IsTrue (has_operands condition) → IsAtom ts
 -- closed; where they are operands, and it is no condition handed in as it stands, it is an atom.
 abbrev pub AddsCondition : Family → ConditionText → ClauseTexts → ClauseTexts → Type 0
 AddsCondition family condition old new =
-    AddsText (λ added. with_condition_text family added old) (condition_bytes condition) (condition_pieces condition) new
+    AddsText (λ added. with_condition_bytes family added old) (condition_bytes condition) (condition_pieces condition) new
     × IsAtomIfOperands condition (tokens (condition_bytes condition))

@@ -3,7 +3,7 @@ use Rattle.std.specs.Prelude.{ℕ, List, Option, None, Some, Result, Ok, Err}
 use Rattle.sql_parts.specs.declared.error.SqlBuilderError.{SqlBuilderError}
 use Rattle.sql_builder.specs.Calls.{StartText, CallText, FinishText, Sql, Query, QueryValues, Subquery, SubqueryAs, clauses}
 use Rattle.sql_builder.specs.Clauses.{Clauses, map_clauses}
-use Rattle.sql_builder.specs.Layout.{byte_atoms, query, query_values, refusal, sql, subquery, subquery_as}
+use Rattle.sql_builder.specs.Layout.{byte_atoms, query, query_refusal, query_values, refusal, sql, subquery, subquery_as}
 use Rattle.sql_builder.specs.Text.{Pieces, fixed_piece, pieces_text, raw_piece}
 
 -- the refusal where there is one, else the value
@@ -11,10 +11,13 @@ abbrev pub unless_refused : {X : Type 0} → Option SqlBuilderError → X → Re
 unless_refused None x = Ok x
 unless_refused (Some refusal) x = Err refusal
 
--- what a finish refuses: `sql` alone refuses anything
+-- what a finish refuses; `query_values` prints no HAVING, and refuses nothing
 abbrev pub refusal_at : FinishText → Clauses (List ℕ) → Option SqlBuilderError
 refusal_at Sql r = refusal r
-refusal_at _ r = None
+refusal_at Query r = query_refusal r
+refusal_at QueryValues r = None
+refusal_at Subquery r = query_refusal r
+refusal_at (SubqueryAs name) r = query_refusal r
 
 -- what a finish lays out: `word` gives the atoms of the product's own texts, `raw` of those handed in
 abbrev pub layout_at : {A : Type 0} → (List ℕ → List A) → (List ℕ → List A) → FinishText → Clauses (List A)

@@ -27,7 +27,7 @@ use Rattle.sql_builder.specs.declared.steps.UnaryClause.TheVariants as unary
 abbrev pub with_unary : UnaryClause → List ℕ → ClauseTexts → ClauseTexts
 with_unary unary.AndTable table r = with_table table r
 with_unary unary.Join table r = with_join table r
-with_unary unary.On condition r = with_on condition r
+with_unary unary.On constraint r = with_on constraint r
 with_unary unary.Field field r = with_fields (field ∷ []) r
 with_unary unary.SetField field r = with_fields_set (field ∷ []) r
 with_unary unary.Count field r = with_fields (count byte_atoms field ∷ []) r
@@ -98,7 +98,7 @@ with_call call.Cross r = with_operator operator.Cross r
 with_call call.Distinct r = with_distinct r
 with_call (call.AndTable table) r = with_unary unary.AndTable table r
 with_call (call.Join table) r = with_unary unary.Join table r
-with_call (call.On condition) r = with_unary unary.On condition r
+with_call (call.On constraint) r = with_unary unary.On constraint r
 with_call (call.OnEq left right) r = with_binary binary.OnEq left right r
 with_call (call.Fields fields) r = with_variadic variadic.Fields fields r
 with_call (call.SetFields fields) r = with_variadic variadic.SetFields fields r
@@ -123,9 +123,9 @@ with_call (call.Limit limit) r = with_unary unary.Limit limit r
 with_call (call.Offset offset) r = with_unary unary.Offset offset r
 with_call (call.Cond family condition) r = with_condition family condition r
 
--- what a call of this family says that adds this condition, as a word, so that the condition stays one term in proofs
-unfoldable pub ConditionAdded : Family → ConditionText → ClauseTexts → ClauseTexts → Type 0
-ConditionAdded family condition old new = AddsCondition family condition old new
+-- `AddsCondition` as a word that does not unfold by itself, so that the condition stays one term in proofs
+unfoldable pub AddsConditionSealed : Family → ConditionText → ClauseTexts → ClauseTexts → Type 0
+AddsConditionSealed family condition old new = AddsCondition family condition old new
 
 -- whether a condition is the NOT form
 abbrev pub is_negated : Sense → Bool

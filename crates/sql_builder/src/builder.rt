@@ -108,12 +108,13 @@ impl SqlBuilder {
         ensures made { IfOk result (λ b. b ≡ new_clauses kind (S.text table) []) }
         ensures memory { FailsOnlyByMemory result }
     {
-        let table = table.to_text(alloc)?;
+        let table = table.into_text(alloc)?;
         Ok(SqlBuilder::new(alloc, kind, table, Vec::new(alloc)))
     }
 
     /// A SELECT from this table, told nothing else. It is refused only for want of memory, as is
     /// each of the four starts below.
+    /// `select_from("t")` → `SELECT * FROM t;`
     pub fn select_from<S: ToText>(alloc: Global, table: S) -> Result<SqlBuilder, SqlBuilderError>
         ensures made { IfOk result (λ b. b ≡ started (SelectFrom (S.text table))) }
         ensures memory { FailsOnlyByMemory result }
@@ -122,6 +123,7 @@ impl SqlBuilder {
     }
 
     /// A SELECT of these values, without a table.
+    /// `select_values([1, 2])` → `SELECT 1, 2;`
     pub fn select_values<S: ToText>(
         alloc: Global,
         values: &[S],
@@ -129,12 +131,18 @@ impl SqlBuilder {
         ensures made { IfOk result (λ b. b ≡ started (SelectValues (map S.text values.now))) }
         ensures memory { FailsOnlyByMemory result }
     {
-        let values = copies(alloc, values)?;
-        let table = String::new(alloc);
-        Ok(SqlBuilder::new(alloc, Kind::SelectValues, table, values))
+        Ok(SqlBuilder::of_values(alloc, copies(alloc, values)?))
+    }
+
+    /// A SELECT of these very values, without a table.
+    pub(crate) fn of_values(alloc: Global, values: Vec<String>) -> SqlBuilder
+        ensures made { result ≡ started (SelectValues (texts values.items)) }
+    {
+        SqlBuilder::new(alloc, Kind::SelectValues, String::new(alloc), values)
     }
 
     /// An INSERT into this table, told nothing else.
+    /// `insert_into("t").field("a").values([1])` → `INSERT INTO t (a) VALUES (1);`
     pub fn insert_into<S: ToText>(alloc: Global, table: S) -> Result<SqlBuilder, SqlBuilderError>
         ensures made { IfOk result (λ b. b ≡ started (InsertInto (S.text table))) }
         ensures memory { FailsOnlyByMemory result }
@@ -143,6 +151,7 @@ impl SqlBuilder {
     }
 
     /// An UPDATE of this table, told nothing else.
+    /// `update_table("t").set("a", 1)` → `UPDATE t SET a = 1;`
     pub fn update_table<S: ToText>(alloc: Global, table: S) -> Result<SqlBuilder, SqlBuilderError>
         ensures made { IfOk result (λ b. b ≡ started (UpdateTable (S.text table))) }
         ensures memory { FailsOnlyByMemory result }
@@ -151,6 +160,7 @@ impl SqlBuilder {
     }
 
     /// A DELETE from this table, told nothing else.
+    /// `delete_from("t")` → `DELETE FROM t;`
     pub fn delete_from<S: ToText>(alloc: Global, table: S) -> Result<SqlBuilder, SqlBuilderError>
         ensures made { IfOk result (λ b. b ≡ started (DeleteFrom (S.text table))) }
         ensures memory { FailsOnlyByMemory result }
@@ -159,6 +169,7 @@ impl SqlBuilder {
     }
 
     /// An equal builder. It is refused only for want of memory.
+    /// `.field("a").clone().field("b")` → `SELECT a, b FROM t;`
     pub fn clone(&self) -> Result<SqlBuilder, SqlBuilderError>
         ensures equal { IfOk result (λ b. b ≡ self.now) }
         ensures memory { FailsOnlyByMemory result }

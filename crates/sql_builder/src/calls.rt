@@ -1,11 +1,11 @@
 //! Lists of calls, as values, and the statement that a list makes.
-ghost use Rattle.std.specs.Prelude.{◌≡◌, ◌⊎◌, [], map, IfErr, IfOk, IfSome, IsNone, IsTrue, Ok, OnOk, string_bytes};
+ghost use Rattle.std.specs.Prelude.{◌≡◌, ◌++◌, ◌⊎◌, [], map, IfErr, IfOk, IfSome, IsNone, IsTrue, Ok, OnErr, OnOk, string_bytes};
 ghost use Rattle.sql_parts.specs.Error.{FailsOnlyByMemory, IsMemory};
 ghost use Rattle.sql_builder.specs.Views.{call_view, finish_view, start_view};
 ghost use Rattle.sql_builder.specs.Builder.{with_condition};
 ghost use Rattle.sql_builder.specs.Condition.{condition_view};
 ghost use Rattle.sql_builder.specs.Steps.{with_call};
-ghost use Rattle.sql_builder.specs.Calls.{clauses, kind_of, operator_in};
+ghost use Rattle.sql_builder.specs.Calls.{clauses, kind_of};
 ghost use Rattle.sql_builder.specs.Clauses.{map_clauses};
 ghost use Rattle.sql_builder.specs.Meaning.{HasBalancedFragments, HasFitFragments, HasTruthOf, condition_groups, is_nested, is_unenclosed, prints_where};
 ghost use Rattle.sql_builder.specs.Fitting.{has_fit_conditions};
@@ -20,7 +20,7 @@ use crate::clauses::JoinOperator;
 pub use crate::condition::{Condition, Family, Percent, Relation};
 use crate::steps::{BinaryClause, UnaryClause, VariadicClause};
 use sql_parts::SqlBuilderError;
-use std::alloc::Global;
+use std::alloc::{AllocError, Global};
 
 /// How a list of calls begins.
 #[derive(Drop)]
@@ -125,7 +125,24 @@ pub enum Finish {
     SubqueryAs(String),
 }
 
-fn begin(alloc: Global, start: &Start) -> Result<SqlBuilder, SqlBuilderError>
+/// The builder that a start makes, which keeps the start's texts. It is refused only for want of
+/// memory.
+/// `begin(Start::SelectFrom("t")).sql()` → `SELECT * FROM t;`
+pub fn begin(alloc: Global, start: Start) -> Result<SqlBuilder, SqlBuilderError>
+    ensures made { IfOk result (λ b. b
+        ≡ map_clauses pieces_text (clauses (start_view start) [])) }
+    ensures memory { FailsOnlyByMemory result }
+{
+    match start {
+        Start::SelectFrom(table) => SqlBuilder::select_from(alloc, table),
+        Start::SelectValues(values) => Ok(SqlBuilder::of_values(alloc, values)),
+        Start::InsertInto(table) => SqlBuilder::insert_into(alloc, table),
+        Start::UpdateTable(table) => SqlBuilder::update_table(alloc, table),
+        Start::DeleteFrom(table) => SqlBuilder::delete_from(alloc, table),
+    }
+}
+
+fn begin_lent(alloc: Global, start: &Start) -> Result<SqlBuilder, SqlBuilderError>
     ensures made { IfOk result (λ b. b
         ≡ map_clauses pieces_text (clauses (start_view start.now) [])) }
     ensures memory { FailsOnlyByMemory result }
@@ -139,75 +156,106 @@ fn begin(alloc: Global, start: &Start) -> Result<SqlBuilder, SqlBuilderError>
     }
 }
 
-// The operator that a call chooses for the joins to come.
-fn operator_in(call: &Call) -> Option<JoinOperator>
-    ensures { result ≡ operator_in (call_view call.now) }
-{
-    match call {
-        Call::Left => Some(JoinOperator::Left),
-        Call::LeftOuter => Some(JoinOperator::LeftOuter),
-        Call::Right => Some(JoinOperator::Right),
-        Call::RightOuter => Some(JoinOperator::RightOuter),
-        Call::Inner => Some(JoinOperator::Inner),
-        Call::Cross => Some(JoinOperator::Cross),
-        _ => None,
-    }
+// Makes a call, whether it is lent or handed over, but for those whose arms are given.
+macro_rules! make_call {
+    ($builder:ident, $call:ident, $($arms:tt)*) => {
+        match $call {
+            Call::Natural => $builder.natural = true,
+            Call::Left => $builder.operator = Some(JoinOperator::Left),
+            Call::LeftOuter => $builder.operator = Some(JoinOperator::LeftOuter),
+            Call::Right => $builder.operator = Some(JoinOperator::Right),
+            Call::RightOuter => $builder.operator = Some(JoinOperator::RightOuter),
+            Call::Inner => $builder.operator = Some(JoinOperator::Inner),
+            Call::Cross => $builder.operator = Some(JoinOperator::Cross),
+            Call::Distinct => $builder.distinct = true,
+            Call::AndTable(table) => $builder.push_unary(UnaryClause::AndTable, table)?,
+            Call::Join(table) => $builder.push_unary(UnaryClause::Join, table)?,
+            Call::On(constraint) => $builder.push_unary(UnaryClause::On, constraint)?,
+            Call::Field(field) => $builder.push_unary(UnaryClause::Field, field)?,
+            Call::SetField(field) => $builder.push_unary(UnaryClause::SetField, field)?,
+            Call::Count(field) => $builder.push_unary(UnaryClause::Count, field)?,
+            Call::Select(query) => $builder.push_unary(UnaryClause::Select, query)?,
+            Call::Returning(fields) => $builder.push_unary(UnaryClause::Returning, fields)?,
+            Call::GroupBy(field) => $builder.push_unary(UnaryClause::GroupBy, field)?,
+            Call::Having(condition) => $builder.push_unary(UnaryClause::Having, condition)?,
+            Call::Union(query) => $builder.push_unary(UnaryClause::Union, query)?,
+            Call::UnionAll(query) => $builder.push_unary(UnaryClause::UnionAll, query)?,
+            Call::OrderAsc(field) => $builder.push_unary(UnaryClause::OrderAsc, field)?,
+            Call::OrderDesc(field) => $builder.push_unary(UnaryClause::OrderDesc, field)?,
+            Call::Limit(limit) => $builder.push_unary(UnaryClause::Limit, limit)?,
+            Call::Offset(offset) => $builder.push_unary(UnaryClause::Offset, offset)?,
+            Call::OnEq(left, right) => $builder.push_binary(BinaryClause::OnEq, left, right)?,
+            Call::CountAs(field, name) => $builder.push_binary(BinaryClause::CountAs, field, name)?,
+            Call::SetTo(field, value) => $builder.push_binary(BinaryClause::SetTo, field, value)?,
+            Call::SetStr(field, value) => $builder.push_binary(BinaryClause::SetStr, field, value)?,
+            Call::ReturningId => $builder.put_returning("id")?,
+            $($arms)*
+        }
+    };
 }
 
-fn make(builder: &mut SqlBuilder, call: &Call) -> Result<(), SqlBuilderError>
+/// Makes a call of a builder, which keeps the call's texts. It is refused only for want of memory,
+/// and then leaves the builder as it was.
+/// `{ let mut b = begin(Start::SelectFrom("t")); make(&mut b, Call::Field("a")); b.sql() }` →
+/// `SELECT a FROM t;`
+pub fn make(builder: &mut SqlBuilder, call: Call) -> Result<(), SqlBuilderError>
+    ensures made { OnOk result (builder.new ≡ with_call (call_view call) builder.old) }
+    ensures refused { OnErr result (builder.new ≡ builder.old) }
+    ensures memory { FailsOnlyByMemory result }
+{
+    make_call!(builder, call,
+        Call::Fields(fields) => append(&mut builder.fields, fields)?,
+        Call::SetFields(fields) => builder.fields = fields,
+        Call::Values(values) => builder.push_variadic(VariadicClause::Values, &values)?,
+        Call::OrderBy(field, descending) => builder.push_order(descending, field)?,
+        Call::Cond(family, condition) => make_condition(builder, family, condition)?,
+    );
+    Ok(())
+}
+
+fn make_lent(builder: &mut SqlBuilder, call: &Call) -> Result<(), SqlBuilderError>
     ensures made { OnOk result (builder.new ≡ with_call (call_view call.now) builder.old) }
     ensures memory { FailsOnlyByMemory result }
 {
-    match call {
-        Call::Natural => builder.natural = true,
-        Call::Left | Call::LeftOuter | Call::Right | Call::RightOuter | Call::Inner | Call::Cross =>
-            {
-                builder.operator = operator_in(call);
-            }
-        Call::Distinct => builder.distinct = true,
-        Call::AndTable(table) => builder.push_unary(UnaryClause::AndTable, table)?,
-        Call::Join(table) => builder.push_unary(UnaryClause::Join, table)?,
-        Call::On(constraint) => builder.push_unary(UnaryClause::On, constraint)?,
-        Call::Field(field) => builder.push_unary(UnaryClause::Field, field)?,
-        Call::SetField(field) => builder.push_unary(UnaryClause::SetField, field)?,
-        Call::Count(field) => builder.push_unary(UnaryClause::Count, field)?,
-        Call::Select(query) => builder.push_unary(UnaryClause::Select, query)?,
-        Call::Returning(fields) => builder.push_unary(UnaryClause::Returning, fields)?,
-        Call::GroupBy(field) => builder.push_unary(UnaryClause::GroupBy, field)?,
-        Call::Having(condition) => builder.push_unary(UnaryClause::Having, condition)?,
-        Call::Union(query) => builder.push_unary(UnaryClause::Union, query)?,
-        Call::UnionAll(query) => builder.push_unary(UnaryClause::UnionAll, query)?,
-        Call::OrderAsc(field) => builder.push_unary(UnaryClause::OrderAsc, field)?,
-        Call::OrderDesc(field) => builder.push_unary(UnaryClause::OrderDesc, field)?,
-        Call::Limit(limit) => builder.push_unary(UnaryClause::Limit, limit)?,
-        Call::Offset(offset) => builder.push_unary(UnaryClause::Offset, offset)?,
-        Call::OnEq(left, right) => builder.push_binary(BinaryClause::OnEq, left, right)?,
-        Call::CountAs(field, name) => builder.push_binary(BinaryClause::CountAs, field, name)?,
-        Call::SetTo(field, value) => builder.push_binary(BinaryClause::SetTo, field, value)?,
-        Call::SetStr(field, value) => builder.push_binary(BinaryClause::SetStr, field, value)?,
-        Call::Fields(fields) => builder.push_variadic(VariadicClause::Fields, fields.as_slice())?,
-        Call::SetFields(fields) => builder.push_variadic(
-            VariadicClause::SetFields,
-            fields.as_slice(),
-        )?,
-        Call::Values(values) => builder.push_variadic(VariadicClause::Values, values.as_slice())?,
-        Call::ReturningId => builder.put_returning("id")?,
+    make_call!(builder, call,
+        Call::Fields(fields) => builder.push_variadic(VariadicClause::Fields, fields)?,
+        Call::SetFields(fields) => builder.push_variadic(VariadicClause::SetFields, fields)?,
+        Call::Values(values) => builder.push_variadic(VariadicClause::Values, values)?,
         Call::OrderBy(field, descending) => builder.push_order(*descending, field)?,
-        Call::Cond(family, condition) => make_condition(builder, *family, condition)?,
-    }
+        Call::Cond(family, condition) => {
+            let text = condition.to_text(builder.alloc)?;
+            builder.push_condition(*family, text)?
+        }
+    );
     Ok(())
+}
+
+// Lists of fields are moved, since they may be long.
+fn append(fields: &mut Vec<String>, mut further: Vec<String>) -> Result<(), AllocError>
+    ensures appended { OnOk result (fields.new.items ≡ fields.old.items ++ further.items) }
+    ensures refused { OnErr result (fields.new.items ≡ fields.old.items) }
+{
+    if fields.is_empty() {
+        *fields = further;
+        return Ok(());
+    }
+    fields.append(&mut further)
 }
 
 fn make_condition(
     builder: &mut SqlBuilder,
     family: Family,
-    condition: &Condition,
+    condition: Condition,
 ) -> Result<(), SqlBuilderError>
     ensures made { OnOk result (builder.new
-        ≡ with_condition family (condition_view condition.now) builder.old) }
+        ≡ with_condition family (condition_view condition) builder.old) }
+    ensures refused { OnErr result (builder.new ≡ builder.old) }
     ensures memory { FailsOnlyByMemory result }
 {
-    let text = condition.to_text(builder.alloc)?;
+    let text = match condition {
+        Condition::Raw(condition) => condition,
+        condition => condition.to_text(builder.alloc)?,
+    };
     builder.push_condition(family, text)
 }
 
@@ -217,14 +265,16 @@ fn build(alloc: Global, start: &Start, calls: &[Call]) -> Result<SqlBuilder, Sql
         (clauses (start_view start.now) (map call_view calls.now))) }
     ensures memory { FailsOnlyByMemory result }
 {
-    let mut builder = begin(alloc, start)?;
+    let mut builder = begin_lent(alloc, start)?;
     for call in calls {
-        make(&mut builder, call)?;
+        make_lent(&mut builder, call)?;
     }
     Ok(builder)
 }
 
-fn print(builder: &SqlBuilder, finish: &Finish) -> Result<String, SqlBuilderError>
+/// Prints a builder. It is refused as the printing call that is meant, or for want of memory.
+/// `print(&begin(Start::SelectFrom("t")), &Finish::Query)` → `SELECT * FROM t`
+pub fn print(builder: &SqlBuilder, finish: &Finish) -> Result<String, SqlBuilderError>
     ensures text { IfOk result (λ s. string_bytes s
         ≡ text_at (finish_view finish.now) builder.now) }
     ensures refused { IfSome (refusal_at (finish_view finish.now) builder.now)
@@ -254,6 +304,7 @@ fn print(builder: &SqlBuilder, finish: &Finish) -> Result<String, SqlBuilderErro
 /// group's conditions. Where each fragment is balanced, those behind a UNION too, what `query` and
 /// `subquery_as` print is balanced, and what `subquery` prints is an operand without an outer word
 /// that begins a clause.
+/// `run(&Start::SelectFrom("t"), &[Call::Field("a")], &Finish::Sql)` → `SELECT a FROM t;`
 pub fn run(
     alloc: Global,
     start: &Start,

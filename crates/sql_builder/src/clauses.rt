@@ -92,34 +92,34 @@ impl GroupedCondition {
 }
 
 /// Whether a group begins with one of these.
-pub(crate) fn opens_group(conditions: &[GroupedCondition]) -> bool
+pub(crate) fn any_opens_group(conditions: &[GroupedCondition]) -> bool
     ensures { result ≡ list_any (λ condition. condition.opens_group) conditions.now }
 {
     conditions.iter().any(|condition| condition.opens_group)
 }
 
 impl Join {
-    fn push(&mut self, condition: String) -> Result<(), SqlBuilderError>
+    fn push(&mut self, text: String) -> Result<(), SqlBuilderError>
         ensures ok { OnOk result (join_text self.new
-            ≡ join_text self.old ++ constraint byte_atoms (string_bytes condition)) }
+            ≡ join_text self.old ++ constraint byte_atoms (string_bytes text)) }
         ensures err { OnErr result (join_text self.new ≡ join_text self.old) }
         ensures memory { FailsOnlyByMemory result }
     {
-        self.constraints.push(condition)?;
+        self.constraints.push(text)?;
         Ok(())
     }
 }
 
 /// A constraint of the last join. Where there is none, nothing is done.
-pub(crate) fn constrain_last(joins: &mut [Join], condition: String) -> Result<(), SqlBuilderError>
+pub(crate) fn constrain_last(joins: &mut [Join], text: String) -> Result<(), SqlBuilderError>
     ensures ok { OnOk result (map join_text joins.new
-        ≡ extend_last (constraint byte_atoms (string_bytes condition))
+        ≡ extend_last (constraint byte_atoms (string_bytes text))
         (map join_text joins.old)) }
     ensures err { OnErr result (map join_text joins.new ≡ map join_text joins.old) }
     ensures memory { FailsOnlyByMemory result }
 {
     match joins.last_mut() {
-        Some(join) => join.push(condition),
+        Some(join) => join.push(text),
         None => Ok(()),
     }
 }

@@ -6,7 +6,7 @@ ghost use Rattle.sql_builder.specs.Condition.{Between, Compare, InList, InQuery,
 ghost use Rattle.sql_builder.specs.Layout.{byte_atoms};
 ghost use Rattle.sql_builder.specs.Phrases.{comma_list};
 
-use crate::phrases::{infix, push_items, push_quoted};
+use crate::phrases::{infix, push_items, push_quoted, room, room_of_all};
 use sql_parts::text::Quotes;
 use sql_parts::{SqlBuilderError, ToText};
 use std::alloc::Global;
@@ -131,21 +131,26 @@ impl Condition {
     }
 }
 
-// A field and words behind it, with NOT between them where the condition is the NOT form.
+// A field and words behind it, with NOT between them where the condition is the NOT form, and with
+// room for what comes behind.
 fn field_and_words<S: ToText>(
     alloc: Global,
     negated: bool,
     field: S,
     words: &str,
+    behind: usize,
 ) -> Result<String, SqlBuilderError>
     ensures made { IfOk result (λ s. string_bytes s
         ≡ S.text field ++ (not_text negated ++ words.now)) }
     ensures memory { FailsOnlyByMemory result }
 {
-    let mut text = field.to_text(alloc)?;
-    if negated {
-        text.push_str(" NOT")?;
-    }
+    let not = if negated { " NOT" } else { "" };
+    let ahead = room(&field)
+        .saturating_add(not.len())
+        .saturating_add(words.len());
+    let mut text = String::with_capacity(alloc, ahead.saturating_add(behind))?;
+    field.push_to(alloc, &mut text)?;
+    text.push_str(not)?;
     text.push_str(words)?;
     Ok(text)
 }
@@ -169,7 +174,7 @@ pub(crate) fn is_null<S: ToText>(alloc: Global, field: S) -> Result<String, SqlB
     ensures made { IfOk result (λ s. string_bytes s ≡ condition_bytes (IsNull (S.text field))) }
     ensures memory { FailsOnlyByMemory result }
 {
-    field_and_words(alloc, false, field, " IS NULL")
+    field_and_words(alloc, false, field, " IS NULL", 0)
 }
 
 /// A field that is not NULL.
@@ -178,7 +183,7 @@ pub(crate) fn is_not_null<S: ToText>(alloc: Global, field: S) -> Result<String, 
         ≡ condition_bytes (IsNotNull (S.text field))) }
     ensures memory { FailsOnlyByMemory result }
 {
-    field_and_words(alloc, false, field, " IS NOT NULL")
+    field_and_words(alloc, false, field, " IS NOT NULL", 0)
 }
 
 // A mask with its percent signs, between single quotes.
@@ -211,7 +216,8 @@ pub(crate) fn like<S: ToText, T: ToText>(
         ≡ condition_bytes (Like negated percent (S.text field) (T.text mask))) }
     ensures memory { FailsOnlyByMemory result }
 {
-    let mut text = field_and_words(alloc, negated, field, " LIKE ")?;
+    let behind = "'%%'".len().saturating_add(room(&mask));
+    let mut text = field_and_words(alloc, negated, field, " LIKE ", behind)?;
     push_mask(alloc, &mut text, percent, mask)?;
     Ok(text)
 }
@@ -227,7 +233,8 @@ pub(crate) fn in_list<S: ToText, T: ToText>(
         ≡ condition_bytes (InList negated (S.text field) (map T.text values.now))) }
     ensures memory { FailsOnlyByMemory result }
 {
-    let mut text = field_and_words(alloc, negated, field, " IN (")?;
+    let behind = room_of_all(", ", values).saturating_add(")".len());
+    let mut text = field_and_words(alloc, negated, field, " IN (", behind)?;
     push_items(alloc, &mut text, values)?;
     text.push_str(")")?;
     Ok(text)
@@ -277,7 +284,8 @@ pub(crate) fn in_quoted<S: ToText, T: ToText>(
         ≡ condition_bytes (InQuoted negated (S.text field) (map T.text values.now))) }
     ensures memory { FailsOnlyByMemory result }
 {
-    let mut text = field_and_words(alloc, negated, field, " IN (")?;
+    let behind = room_of_all(", ''", values).saturating_add(")".len());
+    let mut text = field_and_words(alloc, negated, field, " IN (", behind)?;
     push_quoted_items(alloc, &mut text, values)?;
     text.push_str(")")?;
     Ok(text)
@@ -294,7 +302,8 @@ pub(crate) fn in_query<S: ToText, T: ToText>(
         ≡ condition_bytes (InQuery negated (S.text field) (T.text query))) }
     ensures memory { FailsOnlyByMemory result }
 {
-    let mut text = field_and_words(alloc, negated, field, " IN (")?;
+    let behind = room(&query).saturating_add(")".len());
+    let mut text = field_and_words(alloc, negated, field, " IN (", behind)?;
     query.push_to(alloc, &mut text)?;
     text.push_str(")")?;
     Ok(text)
@@ -312,7 +321,10 @@ pub(crate) fn between<S: ToText, T: ToText, U: ToText>(
         (Between negated (S.text field) (T.text least) (U.text greatest))) }
     ensures memory { FailsOnlyByMemory result }
 {
-    let mut text = field_and_words(alloc, negated, field, " BETWEEN ")?;
+    let behind = room(&least)
+        .saturating_add(" AND ".len())
+        .saturating_add(room(&greatest));
+    let mut text = field_and_words(alloc, negated, field, " BETWEEN ", behind)?;
     least.push_to(alloc, &mut text)?;
     text.push_str(" AND ")?;
     greatest.push_to(alloc, &mut text)?;

@@ -15,6 +15,7 @@ pub use sql_parts::laws::{
 };
 
 /// `fields` of a list and then of another is `fields` of the two joined.
+/// `.fields(["a"]).fields(["b"])` → `SELECT a, b FROM t;`
 #[tactic(auto, using(crate::proofs::LaterCalls::fields_join))]
 pub fn fields_join()
     ensures joined { FieldsJoin }
@@ -22,6 +23,7 @@ pub fn fields_join()
 
 /// Of the calls of `limit`, of `offset`, of `having` and of `returning`, only the last of each
 /// counts; `returning_id` is a `returning`.
+/// `.limit(1).limit(2)` → `SELECT * FROM t LIMIT 2;`
 #[tactic(auto, using(crate::proofs::LaterCalls::limit_counts_last, crate::proofs::LaterCalls::offset_counts_last, crate::proofs::LaterCalls::having_counts_last, crate::proofs::LaterCalls::returning_counts_last))]
 pub fn only_last_counts()
     ensures limit { OnlyLastCounts limit_in }
@@ -33,6 +35,7 @@ pub fn only_last_counts()
 /// Where the texts handed in as they stand are closed, what a condition call, `on_eq`, `set`,
 /// `set_str` or `count_as` adds has the tokens of its parts, where a text that it quotes is one
 /// token, and is closed.
+/// `update_table("t").set_str("a", "b; c")` → `UPDATE t SET a = 'b; c';`
 #[tactic(auto, using(crate::proofs::ClauseShapes::condition_keeps, crate::proofs::ClauseShapes::equation_keeps, crate::proofs::ClauseShapes::quoted_equation_keeps, crate::proofs::ClauseShapes::count_as_keeps))]
 pub fn added_texts_keep_tokens()
     ensures conditions { ConditionsKeepTokens }
@@ -44,6 +47,7 @@ pub fn added_texts_keep_tokens()
 /// A condition whose texts are operands, but one that is handed in as it stands, is an atom: its
 /// truth is what is known of its tokens. Of an IN that is asked of its field alone, and of what
 /// stands in its brackets that it is balanced.
+/// `is_operand("a OR b")` → `false`
 #[tactic(auto, using(crate::proofs::ConditionAtoms::condition_atom))]
 pub fn conditions_are_atoms()
     ensures { ConditionsAreAtoms }
@@ -51,6 +55,7 @@ pub fn conditions_are_atoms()
 
 /// Where each fragment that `sql` prints is closed and has no `;` among its tokens, the tokens of
 /// the statement have one `;`, and it is the last; the same of a builder and its texts.
+/// `.field("';'")` → `SELECT ';' FROM t;`
 #[tactic(auto, using(crate::proofs::ClauseShapes::last_semicolon, crate::proofs::ClauseShapes::builder_semicolon))]
 pub fn only_the_end_is_a_semicolon()
     ensures last { (start : StartText) (calls : List CallText) → IfOk (pieces start calls Sql)
@@ -61,6 +66,7 @@ pub fn only_the_end_is_a_semicolon()
 
 /// What `sql`, `query` and `query_values` print of a list of calls reads back as the clauses that
 /// the list says, where its fragments before the first UNION are fit.
+/// `has_clause_word("a FROM b")` → `true`
 #[tactic(auto, using(crate::proofs::ReadBack::statements_read_back))]
 pub fn statements_read_back()
     ensures { StatementsReadBack }
@@ -70,6 +76,7 @@ pub fn statements_read_back()
 /// may stand in what a call puts between brackets, in a field of an INSERT that `sql` prints, and
 /// in a query behind UNION), the fragments that are printed are fit: what `run` asks of them for
 /// clauses, for WHERE and for nesting.
+/// `is_balanced("a) OR (b")` → `false`
 #[tactic(auto, using(crate::proofs::FitTexts::fit_fragments, crate::proofs::FitTexts::fit_conditions, crate::proofs::FitTexts::balanced_fragments))]
 pub fn fit_texts_make_fit_fragments()
     ensures fragments { FitTextsMakeFitFragments }
@@ -82,6 +89,7 @@ pub fn fit_texts_make_fit_fragments()
 /// BETWEEN on the left owns the AND; of a NOT the exchange, where no outer OR, AND or BETWEEN is behind
 /// it; of brackets round what is balanced and has no outer clause word that of the inside; of a
 /// WHERE of such conditions the least over its groups of the greatest over a group's conditions.
+/// `.and_where("a").or_where("b").and_where("c")` → `SELECT * FROM t WHERE (a OR b) AND (c);`
 #[tactic(auto, using(crate::proofs::TruthLaws::of_or, crate::proofs::TruthLaws::of_and, crate::proofs::TruthLaws::of_not, crate::proofs::TruthLaws::of_brackets, crate::proofs::TruthLaws::of_where))]
 pub fn truth_follows_the_form()
     ensures of_or { TruthOfOr }
@@ -93,6 +101,7 @@ pub fn truth_follows_the_form()
 
 /// What is balanced is an operand between brackets, without an outer clause word, whatever it
 /// holds.
+/// `is_operand("(a OR b)")` → `true`
 #[tactic(auto, using(crate::proofs::TruthLaws::brackets_make_operands))]
 pub fn brackets_make_operands()
     ensures { BracketsMakeOperands }
@@ -103,6 +112,7 @@ pub fn brackets_make_operands()
 /// and false where q is true. Of `(a) OR (b)` and `NOT c AND d`, where a is false, b and d are true
 /// and c is unknown: unknown. And groups need their brackets: where a is true and c false, so is
 /// `(a OR b) AND (c)`, but `a OR b AND c` is true.
+/// `.and_where("a OR b").and_where("c")` → `SELECT * FROM t WHERE (a OR b) AND (c);`
 #[tactic(auto, using(crate::proofs::MeaningRows::unknown_or, crate::proofs::MeaningRows::unknown_not, crate::proofs::MeaningRows::unknown_group, crate::proofs::MeaningRows::true_group, crate::proofs::MeaningRows::unknown_whole, crate::proofs::MeaningRows::false_group, crate::proofs::MeaningRows::false_whole, crate::proofs::MeaningRows::own_brackets, crate::proofs::MeaningRows::own_not, crate::proofs::MeaningRows::own_whole, crate::proofs::MeaningRows::with_brackets, crate::proofs::MeaningRows::without_brackets))]
 pub fn worked_truths()
     ensures unknown_or { IsValued (range_and_case False) (codes "p OR q") Unknown }

@@ -2,7 +2,7 @@
 //! stops at the greatest `usize`; the writes don't rest on it.
 
 use crate::builder::SqlBuilder;
-use crate::clauses::{GroupedCondition, Join, JoinOperator, Kind, Union, opens_group};
+use crate::clauses::{GroupedCondition, Join, JoinOperator, Kind, Union, any_opens_group};
 
 fn sum(lengths: &[usize]) -> usize {
     let mut sum = 0usize;
@@ -71,7 +71,7 @@ fn further_conditions(conditions: &[GroupedCondition]) -> usize {
 fn conditions(conditions: &[GroupedCondition]) -> usize {
     match conditions {
         [first, further @ ..] => {
-            let words = if opens_group(further) {
+            let words = if any_opens_group(further) {
                 " WHERE ()"
             } else {
                 " WHERE "
@@ -99,27 +99,25 @@ impl SqlBuilder {
         } else {
             "SELECT "
         };
-        match self.fields.is_empty() {
-            true => words.len().saturating_add("*".len()),
-            false => list(words, &self.fields),
+        if self.fields.is_empty() {
+            words.len().saturating_add("*".len())
+        } else {
+            list(words, &self.fields)
         }
     }
 
     fn group_by_length(&self) -> usize {
-        match self.group_fields.is_empty() {
-            true => 0,
-            false => list(" GROUP BY ", &self.group_fields).saturating_add(optional(
-                " HAVING ",
-                &self.having,
-            )),
+        if self.group_fields.is_empty() {
+            return 0;
         }
+        list(" GROUP BY ", &self.group_fields).saturating_add(optional(" HAVING ", &self.having))
     }
 
     fn order_by_length(&self) -> usize {
-        match self.unions.is_empty() && !self.order_fields.is_empty() {
-            true => list(" ORDER BY ", &self.order_fields),
-            false => 0,
+        if self.order_fields.is_empty() || !self.unions.is_empty() {
+            return 0;
         }
+        list(" ORDER BY ", &self.order_fields)
     }
 
     /// The bytes of the query.
@@ -145,15 +143,13 @@ impl SqlBuilder {
     fn insert_length(&self) -> usize {
         let rows = match &self.query {
             Some(query) => " ".len().saturating_add(query.len()),
-            None => list(" VALUES ", &self.rows).saturating_add(optional(
-                " RETURNING ",
-                &self.returning,
-            )),
+            None => list(" VALUES ", &self.rows),
         };
         sum(&[
             tables("INSERT INTO ", self),
             list(" ()", &self.fields),
             rows,
+            optional(" RETURNING ", &self.returning),
         ])
     }
 
@@ -169,9 +165,11 @@ impl SqlBuilder {
                 conditions(&self.conditions),
                 optional(" RETURNING ", &self.returning),
             ]),
-            Kind::DeleteFrom => {
-                tables("DELETE FROM ", self).saturating_add(conditions(&self.conditions))
-            }
+            Kind::DeleteFrom => sum(&[
+                tables("DELETE FROM ", self),
+                conditions(&self.conditions),
+                optional(" RETURNING ", &self.returning),
+            ]),
         }
     }
 }

@@ -1,4 +1,8 @@
 //! A builder of SQL statements, and lists of its calls as values.
+//!
+//! Behind an arrow in a doc comment stands what a call prints. These examples leave out the
+//! allocator, `?` and the `&` of a list. One that begins with a dot is told to `select_from("t")`,
+//! and where it leaves a builder, the arrow is that of `sql`.
 #![tactic(auto)]
 
 mod builder;

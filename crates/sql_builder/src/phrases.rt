@@ -9,6 +9,23 @@ use sql_parts::text::Quotes;
 use sql_parts::{SqlBuilderError, ToText};
 use std::alloc::Global;
 
+/// How many bytes most texts have at the most whose length isn't known before they are made.
+const SHORT: usize = 24;
+
+/// Room for a text, so that what it is a part of is made in one growth.
+pub(crate) fn room<S: ToText>(text: &S) -> usize {
+    text.known_length().unwrap_or(SHORT)
+}
+
+/// Room for texts with `between` between them.
+pub(crate) fn room_of_all<S: ToText>(between: &str, items: &[S]) -> usize {
+    let mut sum = 0usize;
+    for item in items {
+        sum = sum.saturating_add(room(item)).saturating_add(between.len());
+    }
+    sum
+}
+
 /// Two texts with words between them.
 pub(crate) fn infix<S: ToText, T: ToText>(
     alloc: Global,
@@ -20,7 +37,12 @@ pub(crate) fn infix<S: ToText, T: ToText>(
         ≡ S.text left ++ (words.now ++ T.text right)) }
     ensures memory { FailsOnlyByMemory result }
 {
-    let mut text = left.to_text(alloc)?;
+    let room = words
+        .len()
+        .saturating_add(room(&left))
+        .saturating_add(room(&right));
+    let mut text = String::with_capacity(alloc, room)?;
+    left.push_to(alloc, &mut text)?;
     text.push_str(words)?;
     right.push_to(alloc, &mut text)?;
     Ok(text)
@@ -67,7 +89,12 @@ pub(crate) fn quoted_equation<S: ToText, T: ToText>(
         ≡ equation byte_atoms (S.text field) (quoted (T.text value))) }
     ensures memory { FailsOnlyByMemory result }
 {
-    let mut text = field.to_text(alloc)?;
+    let room = " = ''"
+        .len()
+        .saturating_add(room(&field))
+        .saturating_add(room(&value));
+    let mut text = String::with_capacity(alloc, room)?;
+    field.push_to(alloc, &mut text)?;
     push_quoted(alloc, &mut text, " = ", &value)?;
     Ok(text)
 }
@@ -77,7 +104,8 @@ pub(crate) fn count<S: ToText>(alloc: Global, field: S) -> Result<String, SqlBui
     ensures made { IfOk result (λ s. string_bytes s ≡ count byte_atoms (S.text field)) }
     ensures memory { FailsOnlyByMemory result }
 {
-    let mut text = String::from_str(alloc, "COUNT(")?;
+    let mut text = String::with_capacity(alloc, "COUNT()".len().saturating_add(room(&field)))?;
+    text.push_str("COUNT(")?;
     field.push_to(alloc, &mut text)?;
     text.push_str(")")?;
     Ok(text)
@@ -93,7 +121,12 @@ pub(crate) fn count_as<S: ToText, T: ToText>(
         ≡ count_as byte_atoms (S.text field) (T.text name)) }
     ensures memory { FailsOnlyByMemory result }
 {
-    let mut text = String::from_str(alloc, "COUNT(")?;
+    let room = "COUNT() AS "
+        .len()
+        .saturating_add(room(&field))
+        .saturating_add(room(&name));
+    let mut text = String::with_capacity(alloc, room)?;
+    text.push_str("COUNT(")?;
     field.push_to(alloc, &mut text)?;
     text.push_str(") AS ")?;
     name.push_to(alloc, &mut text)?;
@@ -110,10 +143,10 @@ pub(crate) fn order<S: ToText>(
         ≡ order byte_atoms descending (S.text field)) }
     ensures memory { FailsOnlyByMemory result }
 {
-    let mut text = field.to_text(alloc)?;
-    if descending {
-        text.push_str(" DESC")?;
-    }
+    let words = if descending { " DESC" } else { "" };
+    let mut text = String::with_capacity(alloc, words.len().saturating_add(room(&field)))?;
+    field.push_to(alloc, &mut text)?;
+    text.push_str(words)?;
     Ok(text)
 }
 
@@ -156,7 +189,9 @@ pub(crate) fn row<S: ToText>(alloc: Global, values: &[S]) -> Result<String, SqlB
     ensures made { IfOk result (λ s. string_bytes s ≡ row byte_atoms (map S.text values.now)) }
     ensures memory { FailsOnlyByMemory result }
 {
-    let mut text = String::from_str(alloc, "(")?;
+    let room = "()".len().saturating_add(room_of_all(", ", values));
+    let mut text = String::with_capacity(alloc, room)?;
+    text.push_str("(")?;
     push_items(alloc, &mut text, values)?;
     text.push_str(")")?;
     Ok(text)

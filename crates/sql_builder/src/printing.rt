@@ -6,7 +6,7 @@ ghost use Rattle.sql_parts.specs.Error.{FailsOnlyByMemory};
 ghost use Rattle.sql_builder.specs.Builder.{condition_in_group, group_texts, join_text, union_text};
 ghost use Rattle.sql_builder.specs.Steps.{Adds};
 ghost use Rattle.sql_parts.specs.Text.{optional_text, texts};
-ghost use Rattle.sql_builder.specs.Layout.{byte_atoms, concat_sections, delete_sections, fields_or_star, group_by_sections, insert_sections, is_no_text, optional_section, order_by_sections, query, query_values, refusal, select_opening, sql, statement_sections, subquery, subquery_as, union_opening, update_sections, where_sections};
+ghost use Rattle.sql_builder.specs.Layout.{byte_atoms, concat_sections, delete_sections, fields_or_star, group_by_sections, insert_sections, is_no_text, optional_section, order_by_sections, query, query_refusal, query_values, refusal, select_opening, sql, statement_sections, subquery, subquery_as, union_opening, update_sections, where_sections};
 ghost use Rattle.sql_builder.specs.Calls.{Query, Sql, Subquery, SubqueryAs};
 ghost use Rattle.sql_builder.specs.Meaning.{HasTruthOfGroups, Nests, ReadsBack};
 ghost use Rattle.sql_builder.specs.Phrases.{comma_list, further_table, operator_text};
@@ -16,7 +16,7 @@ ghost use Rattle.sql_builder.specs.Text.{fixed_piece, raw_piece};
 ghost use Rattle.sql_parts.specs.Text.{join_with};
 
 use crate::builder::SqlBuilder;
-use crate::clauses::{GroupedCondition, Join, JoinOperator, Kind, Union, opens_group};
+use crate::clauses::{GroupedCondition, Join, JoinOperator, Kind, Union, any_opens_group};
 use sql_parts::{SqlBuilderError, ToText};
 use std::alloc::AllocError;
 
@@ -93,7 +93,7 @@ fn push_conditions(
     ensures { Adds result out.old out.new (concat_sections byte_atoms
         (where_sections byte_atoms (group_texts (first.now ∷ further.now)))) }
 {
-    let is_bracketed = opens_group(further);
+    let is_bracketed = any_opens_group(further);
     out.push_str(if is_bracketed { " WHERE (" } else { " WHERE " })?;
     out.push_str(first.text.as_str())?;
     push_further_conditions(out, further)?;
@@ -287,6 +287,7 @@ impl SqlBuilder {
         )?;
         push_fields_of_insert(out, &self.fields)?;
         push_query_of_insert(out, query)?;
+        push_optional(out, " RETURNING ", &self.returning)?;
         Ok(())
     }
 
@@ -322,6 +323,7 @@ impl SqlBuilder {
             &self.further_tables,
         )?;
         push_where(out, &self.conditions)?;
+        push_optional(out, " RETURNING ", &self.returning)?;
         Ok(())
     }
 
@@ -348,6 +350,15 @@ fn has_no_table(table: &str, further: &[String]) -> bool
 }
 
 impl SqlBuilder {
+    fn check_query(&self) -> Result<(), SqlBuilderError>
+        ensures { result ≡ unless_refused (query_refusal self.now) tt }
+    {
+        if self.having.is_some() && self.group_fields.is_empty() {
+            return Err(SqlBuilderError::NoGroupBy);
+        }
+        Ok(())
+    }
+
     fn check(&self) -> Result<(), SqlBuilderError>
         ensures { result ≡ unless_refused (refusal self.now) tt }
     {
@@ -356,6 +367,7 @@ impl SqlBuilder {
             return Err(SqlBuilderError::NoTableName);
         }
         match self.kind {
+            Kind::SelectFrom => self.check_query(),
             Kind::SelectValues if self.fields.is_empty() => Err(SqlBuilderError::NoValues),
             Kind::InsertInto if self.query.is_none() && self.rows.is_empty() => {
                 Err(SqlBuilderError::NoValues)
@@ -391,12 +403,15 @@ impl SqlBuilder {
 
     /// The statement, ended by `;`. It is refused with `NoTableName` where the table text is empty
     /// and the statement is no SELECT of values; then with `NoValues` where an INSERT has neither
-    /// rows nor a query, or a SELECT of values no value, and with `NoSetFields` where an UPDATE
-    /// sets nothing; each whether there is memory or not, and else only for want of memory.
+    /// rows nor a query, or a SELECT of values no value, with `NoSetFields` where an UPDATE sets
+    /// nothing, and with `NoGroupBy` where a SELECT from a table has a HAVING and no GROUP BY; each
+    /// whether there is memory or not, and else only for want of memory.
     ///
     /// Where the builder's texts before the first UNION are balanced and, but between brackets,
     /// without an outer word that begins a clause, it reads back as the builder's clauses, and the
     /// truth of a WHERE is the least over the builder's groups.
+    /// `.sql()` → `SELECT * FROM t;`
+    /// `select_from("").sql()` is refused as `NoTableName`
     #[tactic(auto, using(crate::proofs::Layouts::sql_shape, crate::proofs::Layouts::sql_closed, crate::proofs::ReadBack::sql_clauses, crate::proofs::ReadBack::sql_truth))]
     pub fn sql(&self) -> Result<String, SqlBuilderError>
         ensures text { IfOk result (λ s. string_bytes s ≡ sql byte_atoms self.now) }
@@ -418,9 +433,12 @@ impl SqlBuilder {
         Ok(out)
     }
 
-    /// The query, on a builder of any kind. It is refused only for want of memory, as is each call
-    /// below. It reads back, and has the truth of its groups, as what `sql` prints; where the
-    /// builder's texts are balanced, also behind UNION, so is the query.
+    /// The query, on a builder of any kind. It is refused with `NoGroupBy` where there is a HAVING
+    /// and no GROUP BY, whether there is memory or not, and else only for want of memory. It reads
+    /// back, and has the truth of its groups, as what `sql` prints; where the builder's texts are
+    /// balanced, also behind UNION, so is the query.
+    /// `.query()` → `SELECT * FROM t`
+    /// `.having("a").query()` is refused as `NoGroupBy`
     #[tactic(auto, using(crate::proofs::Layouts::query_shape, crate::proofs::Layouts::query_closed, crate::proofs::ReadBack::query_clauses, crate::proofs::ReadBack::query_truth, crate::proofs::ReadBack::query_nests))]
     pub fn query(&self) -> Result<String, SqlBuilderError>
         ensures text { IfOk result (λ s. string_bytes s ≡ query byte_atoms self.now) }
@@ -434,15 +452,18 @@ impl SqlBuilder {
             HasTruthOfGroups Query self.now (query fixed_piece (as_fragments self.now)) (string_bytes s)) }
         ensures nests { IfOk result (λ s.
             Nests Query (query fixed_piece (as_fragments self.now)) (string_bytes s)) }
-        ensures memory { FailsOnlyByMemory result }
+        ensures refused { IfSome (query_refusal self.now) (λ refusal. result ≡ Err refusal) }
+        ensures memory { IsNone (query_refusal self.now) → FailsOnlyByMemory result }
     {
+        self.check_query()?;
         let mut query = String::with_capacity(self.alloc, self.query_length())?;
         self.push_query(&mut query)?;
         Ok(query)
     }
 
-    /// `SELECT` and the fields, nothing else, on a builder of any kind. It reads back as what `sql`
-    /// prints.
+    /// `SELECT` and the fields, nothing else, on a builder of any kind. It is refused only for want
+    /// of memory. It reads back as what `sql` prints.
+    /// `select_values([1, 2]).query_values()` → `SELECT 1, 2`
     #[tactic(auto, using(crate::proofs::Layouts::query_values_shape, crate::proofs::Layouts::query_values_closed, crate::proofs::ReadBack::query_values_clauses))]
     pub fn query_values(&self) -> Result<String, SqlBuilderError>
         ensures text { IfOk result (λ s. string_bytes s ≡ query_values byte_atoms self.now) }
@@ -460,7 +481,8 @@ impl SqlBuilder {
     }
 
     /// The query in brackets: an operand without an outer word that begins a clause, where the
-    /// builder's texts are balanced.
+    /// builder's texts are balanced. It is refused as `query` is.
+    /// `.subquery()` → `(SELECT * FROM t)`
     #[tactic(auto, using(crate::proofs::Layouts::subquery_shape, crate::proofs::Layouts::subquery_closed, crate::proofs::ReadBack::subquery_nests))]
     pub fn subquery(&self) -> Result<String, SqlBuilderError>
         ensures text { IfOk result (λ s. string_bytes s ≡ subquery byte_atoms self.now) }
@@ -470,8 +492,10 @@ impl SqlBuilder {
             IsClosedAs (subquery fixed_piece (as_fragments self.now)) (string_bytes s)) }
         ensures nests { IfOk result (λ s.
             Nests Subquery (subquery fixed_piece (as_fragments self.now)) (string_bytes s)) }
-        ensures memory { FailsOnlyByMemory result }
+        ensures refused { IfSome (query_refusal self.now) (λ refusal. result ≡ Err refusal) }
+        ensures memory { IsNone (query_refusal self.now) → FailsOnlyByMemory result }
     {
+        self.check_query()?;
         let length = self.query_length().saturating_add("()".len());
         let mut subquery = String::with_capacity(self.alloc, length)?;
         self.push_subquery(&mut subquery)?;
@@ -479,7 +503,8 @@ impl SqlBuilder {
     }
 
     /// The query in brackets, `AS` and the name: balanced, where the builder's texts and the name
-    /// are.
+    /// are. It is refused as `query` is.
+    /// `.subquery_as("s")` → `(SELECT * FROM t) AS s`
     #[tactic(auto, using(crate::proofs::Layouts::subquery_as_shape, crate::proofs::Layouts::subquery_as_closed, crate::proofs::ReadBack::subquery_as_nests))]
     pub fn subquery_as<S: ToText>(&self, name: S) -> Result<String, SqlBuilderError>
         ensures text { IfOk result (λ s. string_bytes s
@@ -490,9 +515,11 @@ impl SqlBuilder {
             (raw_piece (S.text name)) (as_fragments self.now)) (string_bytes s)) }
         ensures nests { IfOk result (λ s. Nests (SubqueryAs (S.text name)) (subquery_as fixed_piece
             (raw_piece (S.text name)) (as_fragments self.now)) (string_bytes s)) }
-        ensures memory { FailsOnlyByMemory result }
+        ensures refused { IfSome (query_refusal self.now) (λ refusal. result ≡ Err refusal) }
+        ensures memory { IsNone (query_refusal self.now) → FailsOnlyByMemory result }
     {
-        let name = name.to_text(self.alloc)?;
+        self.check_query()?;
+        let name = name.into_text(self.alloc)?;
         let length = self.query_length().saturating_add("() AS ".len());
         let mut out = String::with_capacity(self.alloc, length.saturating_add(name.len()))?;
         self.push_subquery_as(&mut out, name.as_str())?;

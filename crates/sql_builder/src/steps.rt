@@ -2,7 +2,7 @@
 //! clause is meant, and one that adds a condition.
 ghost use Rattle.std.specs.Prelude.{◌≡◌, [], ◌∷◌, ◌++◌, map, codes, string_bytes, IfErr, OnOk, OnErr};
 ghost use Rattle.sql_parts.specs.Error.{FailsOnlyByMemory};
-ghost use Rattle.sql_builder.specs.Builder.{with_condition_text, with_order, with_returning};
+ghost use Rattle.sql_builder.specs.Builder.{with_condition_bytes, with_order, with_returning};
 ghost use Rattle.sql_builder.specs.Steps.{AddsBinary, RefusesBinary, RefusesUnary, Tells, with_binary, with_unary, with_variadic};
 ghost use Rattle.sql_parts.specs.Text.{texts};
 
@@ -58,7 +58,7 @@ impl SqlBuilder {
     fn push_table<S: ToText>(&mut self, table: S) -> Result<(), SqlBuilderError>
         ensures { Tells result self.old self.new (with_table (S.text table)) }
     {
-        let table = table.to_text(self.alloc)?;
+        let table = table.into_text(self.alloc)?;
         self.further_tables.push(table)?;
         Ok(())
     }
@@ -66,7 +66,7 @@ impl SqlBuilder {
     fn push_join<S: ToText>(&mut self, table: S) -> Result<(), SqlBuilderError>
         ensures { Tells result self.old self.new (with_join (S.text table)) }
     {
-        let table = table.to_text(self.alloc)?;
+        let table = table.into_text(self.alloc)?;
         self.joins.push(Join {
             natural: self.natural,
             operator: self.operator,
@@ -94,7 +94,7 @@ impl SqlBuilder {
         ensures { Tells result self.old self.new (with_fields_set (S.text field ∷ [])) }
     {
         let mut fields = Vec::new(self.alloc);
-        fields.push(field.to_text(self.alloc)?)?;
+        fields.push(field.into_text(self.alloc)?)?;
         self.fields = fields;
         Ok(())
     }
@@ -109,7 +109,7 @@ impl SqlBuilder {
     fn put_query<S: ToText>(&mut self, query: S) -> Result<(), SqlBuilderError>
         ensures { Tells result self.old self.new (with_query (S.text query)) }
     {
-        self.query = Some(query.to_text(self.alloc)?);
+        self.query = Some(query.into_text(self.alloc)?);
         self.rows = Vec::new(self.alloc);
         Ok(())
     }
@@ -117,28 +117,28 @@ impl SqlBuilder {
     pub(crate) fn put_returning<S: ToText>(&mut self, fields: S) -> Result<(), SqlBuilderError>
         ensures { Tells result self.old self.new (with_returning (S.text fields)) }
     {
-        self.returning = Some(fields.to_text(self.alloc)?);
+        self.returning = Some(fields.into_text(self.alloc)?);
         Ok(())
     }
 
     fn push_group_field<S: ToText>(&mut self, field: S) -> Result<(), SqlBuilderError>
         ensures { Tells result self.old self.new (with_group_field (S.text field)) }
     {
-        self.group_fields.push(field.to_text(self.alloc)?)?;
+        self.group_fields.push(field.into_text(self.alloc)?)?;
         Ok(())
     }
 
     fn put_having<S: ToText>(&mut self, condition: S) -> Result<(), SqlBuilderError>
         ensures { Tells result self.old self.new (with_having (S.text condition)) }
     {
-        self.having = Some(condition.to_text(self.alloc)?);
+        self.having = Some(condition.into_text(self.alloc)?);
         Ok(())
     }
 
     fn push_union<S: ToText>(&mut self, all: bool, query: S) -> Result<(), SqlBuilderError>
         ensures { Tells result self.old self.new (with_union all (S.text query)) }
     {
-        let query = query.to_text(self.alloc)?;
+        let query = query.into_text(self.alloc)?;
         self.unions.push(Union { all, query })?;
         Ok(())
     }
@@ -158,14 +158,14 @@ impl SqlBuilder {
     fn put_limit<S: ToText>(&mut self, limit: S) -> Result<(), SqlBuilderError>
         ensures { Tells result self.old self.new (with_limit (S.text limit)) }
     {
-        self.limit = Some(limit.to_text(self.alloc)?);
+        self.limit = Some(limit.into_text(self.alloc)?);
         Ok(())
     }
 
     fn put_offset<S: ToText>(&mut self, offset: S) -> Result<(), SqlBuilderError>
         ensures { Tells result self.old self.new (with_offset (S.text offset)) }
     {
-        self.offset = Some(offset.to_text(self.alloc)?);
+        self.offset = Some(offset.into_text(self.alloc)?);
         Ok(())
     }
 
@@ -176,7 +176,7 @@ impl SqlBuilder {
         condition: String,
     ) -> Result<(), SqlBuilderError>
         ensures { Tells result self.old self.new
-            (with_condition_text family (string_bytes condition)) }
+            (with_condition_bytes family (string_bytes condition)) }
     {
         self.conditions.push(GroupedCondition {
             opens_group: matches!(family, Family::And),
@@ -201,8 +201,8 @@ impl SqlBuilder {
             UnaryClause::AndTable => self.push_table(text),
             UnaryClause::Join => self.push_join(text),
             UnaryClause::On if self.joins.is_empty() => Ok(()),
-            UnaryClause::On => self.push_constraint(text.to_text(alloc)?),
-            UnaryClause::Field => self.push_field(text.to_text(alloc)?),
+            UnaryClause::On => self.push_constraint(text.into_text(alloc)?),
+            UnaryClause::Field => self.push_field(text.into_text(alloc)?),
             UnaryClause::SetField => self.set_only_field(text),
             UnaryClause::Count => self.push_field(count(alloc, text)?),
             UnaryClause::Select => self.put_query(text),

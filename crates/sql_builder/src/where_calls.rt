@@ -1,8 +1,8 @@
-//! The condition calls: twenty-five conditions, each in the family that opens a group of its own,
-//! and in the one that joins the last group by OR and opens one only where there is none. Each
-//! gives the builder back; it is refused only for want of memory, and then leaves the builder as it
-//! was. Where its texts are operands, what it adds is an atom of truth, but of a condition that is
-//! handed in as it stands.
+//! The condition calls: each condition in the family that opens a group of its own, and in the one
+//! that joins the last group by OR and opens one only where there is none. Each gives the builder
+//! back; it is refused only for want of memory, and then leaves the builder as it was. Where its
+//! texts are operands, what it adds is an atom of truth, but of a condition that is handed in as it
+//! stands.
 ghost use Rattle.std.specs.Prelude.{◌≡◌, IfOk, false, map, true};
 ghost use Rattle.sql_parts.specs.Error.{FailsOnlyByMemory};
 ghost use Rattle.sql_builder.specs.Steps.{is_negated};
@@ -36,9 +36,9 @@ impl SqlBuilder {
     ghost use Rattle.sql_builder.specs.Chaining.{IsUnchangedIfHeldErr};
     ghost use Rattle.sql_parts.specs.Lending.{IsHeldChangedSoThat};
     ghost use Rattle.sql_builder.specs.Condition.{Raw, Compare, Like, IsNull, IsNotNull, InList, InQuoted, InQuery, Between};
-    ghost use Rattle.sql_builder.specs.Steps.{ConditionAdded, is_negated};
+    ghost use Rattle.sql_builder.specs.Steps.{AddsConditionSealed, is_negated};
 
-    #[tactic(auto, using(crate::proofs::ConditionAtoms::condition_added))]
+    #[tactic(auto, using(crate::proofs::ConditionAtoms::adds_condition_sealed))]
     fn hold_raw<S: ToText>(
         &mut self,
         family: Family,
@@ -46,15 +46,15 @@ impl SqlBuilder {
     ) -> Result<Held<'_, SqlBuilder>, SqlBuilderError>
         ensures* refused { sem 𝓛 (IsUnchangedIfHeldErr self.entry result) }
         ensures changed { IsHeldChangedSoThat self.entry
-            (ConditionAdded family (Raw (S.text condition)) self.old) result }
+            (AddsConditionSealed family (Raw (S.text condition)) self.old) result }
         ensures memory { FailsOnlyByMemory result }
     {
-        let text = condition.to_text(self.alloc)?;
+        let text = condition.into_text(self.alloc)?;
         self.push_condition(family, text)?;
         Ok(Held(self))
     }
 
-    #[tactic(auto, using(crate::proofs::ConditionAtoms::condition_added))]
+    #[tactic(auto, using(crate::proofs::ConditionAtoms::adds_condition_sealed))]
     fn hold_is_null<S: ToText>(
         &mut self,
         family: Family,
@@ -62,7 +62,7 @@ impl SqlBuilder {
     ) -> Result<Held<'_, SqlBuilder>, SqlBuilderError>
         ensures* refused { sem 𝓛 (IsUnchangedIfHeldErr self.entry result) }
         ensures changed { IsHeldChangedSoThat self.entry
-            (ConditionAdded family (IsNull (S.text field)) self.old) result }
+            (AddsConditionSealed family (IsNull (S.text field)) self.old) result }
         ensures memory { FailsOnlyByMemory result }
     {
         let text = is_null(self.alloc, field)?;
@@ -70,7 +70,7 @@ impl SqlBuilder {
         Ok(Held(self))
     }
 
-    #[tactic(auto, using(crate::proofs::ConditionAtoms::condition_added))]
+    #[tactic(auto, using(crate::proofs::ConditionAtoms::adds_condition_sealed))]
     fn hold_is_not_null<S: ToText>(
         &mut self,
         family: Family,
@@ -78,7 +78,7 @@ impl SqlBuilder {
     ) -> Result<Held<'_, SqlBuilder>, SqlBuilderError>
         ensures* refused { sem 𝓛 (IsUnchangedIfHeldErr self.entry result) }
         ensures changed { IsHeldChangedSoThat self.entry
-            (ConditionAdded family (IsNotNull (S.text field)) self.old) result }
+            (AddsConditionSealed family (IsNotNull (S.text field)) self.old) result }
         ensures memory { FailsOnlyByMemory result }
     {
         let text = is_not_null(self.alloc, field)?;
@@ -86,7 +86,7 @@ impl SqlBuilder {
         Ok(Held(self))
     }
 
-    #[tactic(auto, using(crate::proofs::ConditionAtoms::condition_added))]
+    #[tactic(auto, using(crate::proofs::ConditionAtoms::adds_condition_sealed))]
     fn hold_compare<S: ToText, T: ToText>(
         &mut self,
         family: Family,
@@ -96,7 +96,7 @@ impl SqlBuilder {
     ) -> Result<Held<'_, SqlBuilder>, SqlBuilderError>
         ensures* refused { sem 𝓛 (IsUnchangedIfHeldErr self.entry result) }
         ensures changed { IsHeldChangedSoThat self.entry
-            (ConditionAdded family (Compare relation (S.text field) (T.text value)) self.old) result }
+            (AddsConditionSealed family (Compare relation (S.text field) (T.text value)) self.old) result }
         ensures memory { FailsOnlyByMemory result }
     {
         let text = compare(self.alloc, relation, field, value)?;
@@ -104,7 +104,7 @@ impl SqlBuilder {
         Ok(Held(self))
     }
 
-    #[tactic(auto, using(crate::proofs::ConditionAtoms::condition_added))]
+    #[tactic(auto, using(crate::proofs::ConditionAtoms::adds_condition_sealed))]
     fn hold_like<S: ToText, T: ToText>(
         &mut self,
         family: Family,
@@ -114,7 +114,7 @@ impl SqlBuilder {
     ) -> Result<Held<'_, SqlBuilder>, SqlBuilderError>
         ensures* refused { sem 𝓛 (IsUnchangedIfHeldErr self.entry result) }
         ensures changed { IsHeldChangedSoThat self.entry
-            (ConditionAdded family (Like false percent (S.text field) (T.text mask)) self.old) result }
+            (AddsConditionSealed family (Like false percent (S.text field) (T.text mask)) self.old) result }
         ensures memory { FailsOnlyByMemory result }
     {
         let text = like(self.alloc, false, percent, field, mask)?;
@@ -122,7 +122,7 @@ impl SqlBuilder {
         Ok(Held(self))
     }
 
-    #[tactic(auto, using(crate::proofs::ConditionAtoms::condition_added))]
+    #[tactic(auto, using(crate::proofs::ConditionAtoms::adds_condition_sealed))]
     fn hold_not_like<S: ToText, T: ToText>(
         &mut self,
         family: Family,
@@ -132,7 +132,7 @@ impl SqlBuilder {
     ) -> Result<Held<'_, SqlBuilder>, SqlBuilderError>
         ensures* refused { sem 𝓛 (IsUnchangedIfHeldErr self.entry result) }
         ensures changed { IsHeldChangedSoThat self.entry
-            (ConditionAdded family (Like true percent (S.text field) (T.text mask)) self.old) result }
+            (AddsConditionSealed family (Like true percent (S.text field) (T.text mask)) self.old) result }
         ensures memory { FailsOnlyByMemory result }
     {
         let text = like(self.alloc, true, percent, field, mask)?;
@@ -140,7 +140,7 @@ impl SqlBuilder {
         Ok(Held(self))
     }
 
-    #[tactic(auto, using(crate::proofs::ConditionAtoms::condition_added))]
+    #[tactic(auto, using(crate::proofs::ConditionAtoms::adds_condition_sealed))]
     fn hold_in_list<S: ToText, T: ToText>(
         &mut self,
         family: Family,
@@ -150,7 +150,7 @@ impl SqlBuilder {
     ) -> Result<Held<'_, SqlBuilder>, SqlBuilderError>
         ensures* refused { sem 𝓛 (IsUnchangedIfHeldErr self.entry result) }
         ensures changed { IsHeldChangedSoThat self.entry
-            (ConditionAdded family (InList (is_negated sense) (S.text field) (map T.text values.now)) self.old) result }
+            (AddsConditionSealed family (InList (is_negated sense) (S.text field) (map T.text values.now)) self.old) result }
         ensures memory { FailsOnlyByMemory result }
     {
         let text = in_list(self.alloc, sense.is_negated(), field, values)?;
@@ -158,7 +158,7 @@ impl SqlBuilder {
         Ok(Held(self))
     }
 
-    #[tactic(auto, using(crate::proofs::ConditionAtoms::condition_added))]
+    #[tactic(auto, using(crate::proofs::ConditionAtoms::adds_condition_sealed))]
     fn hold_in_quoted<S: ToText, T: ToText>(
         &mut self,
         family: Family,
@@ -168,7 +168,7 @@ impl SqlBuilder {
     ) -> Result<Held<'_, SqlBuilder>, SqlBuilderError>
         ensures* refused { sem 𝓛 (IsUnchangedIfHeldErr self.entry result) }
         ensures changed { IsHeldChangedSoThat self.entry
-            (ConditionAdded family (InQuoted (is_negated sense) (S.text field) (map T.text values.now)) self.old) result }
+            (AddsConditionSealed family (InQuoted (is_negated sense) (S.text field) (map T.text values.now)) self.old) result }
         ensures memory { FailsOnlyByMemory result }
     {
         let text = in_quoted(self.alloc, sense.is_negated(), field, values)?;
@@ -176,7 +176,7 @@ impl SqlBuilder {
         Ok(Held(self))
     }
 
-    #[tactic(auto, using(crate::proofs::ConditionAtoms::condition_added))]
+    #[tactic(auto, using(crate::proofs::ConditionAtoms::adds_condition_sealed))]
     fn hold_in_query<S: ToText, T: ToText>(
         &mut self,
         family: Family,
@@ -186,7 +186,7 @@ impl SqlBuilder {
     ) -> Result<Held<'_, SqlBuilder>, SqlBuilderError>
         ensures* refused { sem 𝓛 (IsUnchangedIfHeldErr self.entry result) }
         ensures changed { IsHeldChangedSoThat self.entry
-            (ConditionAdded family (InQuery (is_negated sense) (S.text field) (T.text query)) self.old) result }
+            (AddsConditionSealed family (InQuery (is_negated sense) (S.text field) (T.text query)) self.old) result }
         ensures memory { FailsOnlyByMemory result }
     {
         let text = in_query(self.alloc, sense.is_negated(), field, query)?;
@@ -194,7 +194,7 @@ impl SqlBuilder {
         Ok(Held(self))
     }
 
-    #[tactic(auto, using(crate::proofs::ConditionAtoms::condition_added))]
+    #[tactic(auto, using(crate::proofs::ConditionAtoms::adds_condition_sealed))]
     fn hold_between<S: ToText, T: ToText, U: ToText>(
         &mut self,
         family: Family,
@@ -205,7 +205,7 @@ impl SqlBuilder {
     ) -> Result<Held<'_, SqlBuilder>, SqlBuilderError>
         ensures* refused { sem 𝓛 (IsUnchangedIfHeldErr self.entry result) }
         ensures changed { IsHeldChangedSoThat self.entry
-            (ConditionAdded family (Between (is_negated sense) (S.text field) (T.text least) (U.text greatest)) self.old) result }
+            (AddsConditionSealed family (Between (is_negated sense) (S.text field) (T.text least) (U.text greatest)) self.old) result }
         ensures memory { FailsOnlyByMemory result }
     {
         let text = between(self.alloc, sense.is_negated(), field, least, greatest)?;
@@ -225,6 +225,7 @@ impl SqlBuilder {
     ghost use Rattle.sql_builder.specs.declared.condition.Relation.TheVariants.{Eq, Ne, Gt, Ge, Lt, Le};
 
     /// Adds the condition as it stands, in a group of its own.
+    /// `.and_where("a").and_where("b")` → `SELECT * FROM t WHERE (a) AND (b);`
     pub fn and_where<S: ToText>(&mut self, condition: S) -> Result<&mut Self, SqlBuilderError>
         ensures* refused { sem 𝓛 (IsUnchangedIfErr self.entry result) }
         ensures changed { IsChangedSoThat self.entry
@@ -235,6 +236,7 @@ impl SqlBuilder {
     }
 
     /// Adds `field IS NULL`, in a group of its own.
+    /// `.and_where_is_null("a")` → `SELECT * FROM t WHERE a IS NULL;`
     pub fn and_where_is_null<S: ToText>(&mut self, field: S) -> Result<&mut Self, SqlBuilderError>
         ensures* refused { sem 𝓛 (IsUnchangedIfErr self.entry result) }
         ensures changed { IsChangedSoThat self.entry
@@ -245,6 +247,7 @@ impl SqlBuilder {
     }
 
     /// Adds `field IS NOT NULL`, in a group of its own.
+    /// `.and_where_is_not_null("a")` → `SELECT * FROM t WHERE a IS NOT NULL;`
     pub fn and_where_is_not_null<S: ToText>(
         &mut self,
         field: S,
@@ -258,6 +261,7 @@ impl SqlBuilder {
     }
 
     /// Adds `field = value`, in a group of its own.
+    /// `.and_where_eq("a", 1)` → `SELECT * FROM t WHERE a = 1;`
     pub fn and_where_eq<S: ToText, T: ToText>(
         &mut self,
         field: S,
@@ -272,6 +276,7 @@ impl SqlBuilder {
     }
 
     /// Adds `field <> value`, in a group of its own.
+    /// `.and_where_ne("a", 1)` → `SELECT * FROM t WHERE a <> 1;`
     pub fn and_where_ne<S: ToText, T: ToText>(
         &mut self,
         field: S,
@@ -286,6 +291,7 @@ impl SqlBuilder {
     }
 
     /// Adds `field > value`, in a group of its own.
+    /// `.and_where_gt("a", 1)` → `SELECT * FROM t WHERE a > 1;`
     pub fn and_where_gt<S: ToText, T: ToText>(
         &mut self,
         field: S,
@@ -300,6 +306,7 @@ impl SqlBuilder {
     }
 
     /// Adds `field >= value`, in a group of its own.
+    /// `.and_where_ge("a", 1)` → `SELECT * FROM t WHERE a >= 1;`
     pub fn and_where_ge<S: ToText, T: ToText>(
         &mut self,
         field: S,
@@ -314,6 +321,7 @@ impl SqlBuilder {
     }
 
     /// Adds `field < value`, in a group of its own.
+    /// `.and_where_lt("a", 1)` → `SELECT * FROM t WHERE a < 1;`
     pub fn and_where_lt<S: ToText, T: ToText>(
         &mut self,
         field: S,
@@ -328,6 +336,7 @@ impl SqlBuilder {
     }
 
     /// Adds `field <= value`, in a group of its own.
+    /// `.and_where_le("a", 1)` → `SELECT * FROM t WHERE a <= 1;`
     pub fn and_where_le<S: ToText, T: ToText>(
         &mut self,
         field: S,
@@ -342,6 +351,7 @@ impl SqlBuilder {
     }
 
     /// Adds `field LIKE` the mask, as `quote` writes it, in a group of its own.
+    /// `.and_where_like("a", "it's")` → `SELECT * FROM t WHERE a LIKE 'it''s';`
     pub fn and_where_like<S: ToText, T: ToText>(
         &mut self,
         field: S,
@@ -357,6 +367,7 @@ impl SqlBuilder {
 
     /// Adds `field LIKE` `%` and the mask, which `quote` writes together, in a group of its
     /// own.
+    /// `.and_where_like_right("a", "it's")` → `SELECT * FROM t WHERE a LIKE '%it''s';`
     pub fn and_where_like_right<S: ToText, T: ToText>(
         &mut self,
         field: S,
@@ -372,6 +383,7 @@ impl SqlBuilder {
 
     /// Adds `field LIKE` the mask and `%`, which `quote` writes together, in a group of its
     /// own.
+    /// `.and_where_like_left("a", "it's")` → `SELECT * FROM t WHERE a LIKE 'it''s%';`
     pub fn and_where_like_left<S: ToText, T: ToText>(
         &mut self,
         field: S,
@@ -387,6 +399,7 @@ impl SqlBuilder {
 
     /// Adds `field LIKE` `%`, the mask and `%`, which `quote` writes together, in a group of
     /// its own.
+    /// `.and_where_like_any("a", "it's")` → `SELECT * FROM t WHERE a LIKE '%it''s%';`
     pub fn and_where_like_any<S: ToText, T: ToText>(
         &mut self,
         field: S,
@@ -401,6 +414,7 @@ impl SqlBuilder {
     }
 
     /// Adds `field NOT LIKE` the mask, as `quote` writes it, in a group of its own.
+    /// `.and_where_not_like("a", "it's")` → `SELECT * FROM t WHERE a NOT LIKE 'it''s';`
     pub fn and_where_not_like<S: ToText, T: ToText>(
         &mut self,
         field: S,
@@ -416,6 +430,7 @@ impl SqlBuilder {
 
     /// Adds `field NOT LIKE` `%` and the mask, which `quote` writes together, in a group of its
     /// own.
+    /// `.and_where_not_like_right("a", "it's")` → `SELECT * FROM t WHERE a NOT LIKE '%it''s';`
     pub fn and_where_not_like_right<S: ToText, T: ToText>(
         &mut self,
         field: S,
@@ -431,6 +446,7 @@ impl SqlBuilder {
 
     /// Adds `field NOT LIKE` the mask and `%`, which `quote` writes together, in a group of its
     /// own.
+    /// `.and_where_not_like_left("a", "it's")` → `SELECT * FROM t WHERE a NOT LIKE 'it''s%';`
     pub fn and_where_not_like_left<S: ToText, T: ToText>(
         &mut self,
         field: S,
@@ -446,6 +462,7 @@ impl SqlBuilder {
 
     /// Adds `field NOT LIKE` `%`, the mask and `%`, which `quote` writes together, in a group
     /// of its own.
+    /// `.and_where_not_like_any("a", "it's")` → `SELECT * FROM t WHERE a NOT LIKE '%it''s%';`
     pub fn and_where_not_like_any<S: ToText, T: ToText>(
         &mut self,
         field: S,
@@ -460,6 +477,7 @@ impl SqlBuilder {
     }
 
     /// Adds `field IN (..)` of these values, in a group of its own.
+    /// `.and_where_in("a", [1, 2])` → `SELECT * FROM t WHERE a IN (1, 2);`
     pub fn and_where_in<S: ToText, T: ToText>(
         &mut self,
         field: S,
@@ -475,6 +493,7 @@ impl SqlBuilder {
     }
 
     /// Adds `field IN (..)` of these values, each as `quote` writes it, in a group of its own.
+    /// `.and_where_in_quoted("a", ["b", "it's"])` → `SELECT * FROM t WHERE a IN ('b', 'it''s');`
     pub fn and_where_in_quoted<S: ToText, T: ToText>(
         &mut self,
         field: S,
@@ -490,6 +509,7 @@ impl SqlBuilder {
     }
 
     /// Adds `field IN (query)`, in a group of its own.
+    /// `.and_where_in_query("a", "SELECT 1")` → `SELECT * FROM t WHERE a IN (SELECT 1);`
     pub fn and_where_in_query<S: ToText, T: ToText>(
         &mut self,
         field: S,
@@ -504,6 +524,7 @@ impl SqlBuilder {
     }
 
     /// Adds `field BETWEEN least AND greatest`, in a group of its own.
+    /// `.and_where_between("a", 1, 2)` → `SELECT * FROM t WHERE a BETWEEN 1 AND 2;`
     pub fn and_where_between<S: ToText, T: ToText, U: ToText>(
         &mut self,
         field: S,
@@ -520,6 +541,7 @@ impl SqlBuilder {
     }
 
     /// Adds `field NOT IN (..)` of these values, in a group of its own.
+    /// `.and_where_not_in("a", [1, 2])` → `SELECT * FROM t WHERE a NOT IN (1, 2);`
     pub fn and_where_not_in<S: ToText, T: ToText>(
         &mut self,
         field: S,
@@ -536,6 +558,8 @@ impl SqlBuilder {
 
     /// Adds `field NOT IN (..)` of these values, each as `quote` writes it, in a group of its
     /// own.
+    /// `.and_where_not_in_quoted("a", ["b", "it's"])` →
+    /// `SELECT * FROM t WHERE a NOT IN ('b', 'it''s');`
     pub fn and_where_not_in_quoted<S: ToText, T: ToText>(
         &mut self,
         field: S,
@@ -551,6 +575,7 @@ impl SqlBuilder {
     }
 
     /// Adds `field NOT IN (query)`, in a group of its own.
+    /// `.and_where_not_in_query("a", "SELECT 1")` → `SELECT * FROM t WHERE a NOT IN (SELECT 1);`
     pub fn and_where_not_in_query<S: ToText, T: ToText>(
         &mut self,
         field: S,
@@ -565,6 +590,7 @@ impl SqlBuilder {
     }
 
     /// Adds `field NOT BETWEEN least AND greatest`, in a group of its own.
+    /// `.and_where_not_between("a", 1, 2)` → `SELECT * FROM t WHERE a NOT BETWEEN 1 AND 2;`
     pub fn and_where_not_between<S: ToText, T: ToText, U: ToText>(
         &mut self,
         field: S,
@@ -582,6 +608,7 @@ impl SqlBuilder {
 
     /// Adds the condition as it stands: joins the last group by OR, and opens one where there
     /// is none.
+    /// `.and_where("a").or_where("b")` → `SELECT * FROM t WHERE a OR b;`
     pub fn or_where<S: ToText>(&mut self, condition: S) -> Result<&mut Self, SqlBuilderError>
         ensures* refused { sem 𝓛 (IsUnchangedIfErr self.entry result) }
         ensures changed { IsChangedSoThat self.entry
@@ -592,6 +619,7 @@ impl SqlBuilder {
     }
 
     /// Adds `field IS NULL`: joins the last group by OR, and opens one where there is none.
+    /// `.and_where("b").or_where_is_null("a")` → `SELECT * FROM t WHERE b OR a IS NULL;`
     pub fn or_where_is_null<S: ToText>(&mut self, field: S) -> Result<&mut Self, SqlBuilderError>
         ensures* refused { sem 𝓛 (IsUnchangedIfErr self.entry result) }
         ensures changed { IsChangedSoThat self.entry
@@ -602,6 +630,7 @@ impl SqlBuilder {
     }
 
     /// Adds `field IS NOT NULL`: joins the last group by OR, and opens one where there is none.
+    /// `.and_where("b").or_where_is_not_null("a")` → `SELECT * FROM t WHERE b OR a IS NOT NULL;`
     pub fn or_where_is_not_null<S: ToText>(
         &mut self,
         field: S,
@@ -615,6 +644,7 @@ impl SqlBuilder {
     }
 
     /// Adds `field = value`: joins the last group by OR, and opens one where there is none.
+    /// `.and_where("b").or_where_eq("a", 1)` → `SELECT * FROM t WHERE b OR a = 1;`
     pub fn or_where_eq<S: ToText, T: ToText>(
         &mut self,
         field: S,
@@ -629,6 +659,7 @@ impl SqlBuilder {
     }
 
     /// Adds `field <> value`: joins the last group by OR, and opens one where there is none.
+    /// `.and_where("b").or_where_ne("a", 1)` → `SELECT * FROM t WHERE b OR a <> 1;`
     pub fn or_where_ne<S: ToText, T: ToText>(
         &mut self,
         field: S,
@@ -643,6 +674,7 @@ impl SqlBuilder {
     }
 
     /// Adds `field > value`: joins the last group by OR, and opens one where there is none.
+    /// `.and_where("b").or_where_gt("a", 1)` → `SELECT * FROM t WHERE b OR a > 1;`
     pub fn or_where_gt<S: ToText, T: ToText>(
         &mut self,
         field: S,
@@ -657,6 +689,7 @@ impl SqlBuilder {
     }
 
     /// Adds `field >= value`: joins the last group by OR, and opens one where there is none.
+    /// `.and_where("b").or_where_ge("a", 1)` → `SELECT * FROM t WHERE b OR a >= 1;`
     pub fn or_where_ge<S: ToText, T: ToText>(
         &mut self,
         field: S,
@@ -671,6 +704,7 @@ impl SqlBuilder {
     }
 
     /// Adds `field < value`: joins the last group by OR, and opens one where there is none.
+    /// `.and_where("b").or_where_lt("a", 1)` → `SELECT * FROM t WHERE b OR a < 1;`
     pub fn or_where_lt<S: ToText, T: ToText>(
         &mut self,
         field: S,
@@ -685,6 +719,7 @@ impl SqlBuilder {
     }
 
     /// Adds `field <= value`: joins the last group by OR, and opens one where there is none.
+    /// `.and_where("b").or_where_le("a", 1)` → `SELECT * FROM t WHERE b OR a <= 1;`
     pub fn or_where_le<S: ToText, T: ToText>(
         &mut self,
         field: S,
@@ -700,6 +735,7 @@ impl SqlBuilder {
 
     /// Adds `field LIKE` the mask, as `quote` writes it: joins the last group by OR, and opens
     /// one where there is none.
+    /// `.and_where("b").or_where_like("a", "it's")` → `SELECT * FROM t WHERE b OR a LIKE 'it''s';`
     pub fn or_where_like<S: ToText, T: ToText>(
         &mut self,
         field: S,
@@ -715,6 +751,8 @@ impl SqlBuilder {
 
     /// Adds `field LIKE` `%` and the mask, which `quote` writes together: joins the last group
     /// by OR, and opens one where there is none.
+    /// `.and_where("b").or_where_like_right("a", "it's")` →
+    /// `SELECT * FROM t WHERE b OR a LIKE '%it''s';`
     pub fn or_where_like_right<S: ToText, T: ToText>(
         &mut self,
         field: S,
@@ -730,6 +768,8 @@ impl SqlBuilder {
 
     /// Adds `field LIKE` the mask and `%`, which `quote` writes together: joins the last group
     /// by OR, and opens one where there is none.
+    /// `.and_where("b").or_where_like_left("a", "it's")` →
+    /// `SELECT * FROM t WHERE b OR a LIKE 'it''s%';`
     pub fn or_where_like_left<S: ToText, T: ToText>(
         &mut self,
         field: S,
@@ -745,6 +785,8 @@ impl SqlBuilder {
 
     /// Adds `field LIKE` `%`, the mask and `%`, which `quote` writes together: joins the last
     /// group by OR, and opens one where there is none.
+    /// `.and_where("b").or_where_like_any("a", "it's")` →
+    /// `SELECT * FROM t WHERE b OR a LIKE '%it''s%';`
     pub fn or_where_like_any<S: ToText, T: ToText>(
         &mut self,
         field: S,
@@ -760,6 +802,8 @@ impl SqlBuilder {
 
     /// Adds `field NOT LIKE` the mask, as `quote` writes it: joins the last group by OR, and
     /// opens one where there is none.
+    /// `.and_where("b").or_where_not_like("a", "it's")` →
+    /// `SELECT * FROM t WHERE b OR a NOT LIKE 'it''s';`
     pub fn or_where_not_like<S: ToText, T: ToText>(
         &mut self,
         field: S,
@@ -775,6 +819,8 @@ impl SqlBuilder {
 
     /// Adds `field NOT LIKE` `%` and the mask, which `quote` writes together: joins the last
     /// group by OR, and opens one where there is none.
+    /// `.and_where("b").or_where_not_like_right("a", "it's")` →
+    /// `SELECT * FROM t WHERE b OR a NOT LIKE '%it''s';`
     pub fn or_where_not_like_right<S: ToText, T: ToText>(
         &mut self,
         field: S,
@@ -790,6 +836,8 @@ impl SqlBuilder {
 
     /// Adds `field NOT LIKE` the mask and `%`, which `quote` writes together: joins the last
     /// group by OR, and opens one where there is none.
+    /// `.and_where("b").or_where_not_like_left("a", "it's")` →
+    /// `SELECT * FROM t WHERE b OR a NOT LIKE 'it''s%';`
     pub fn or_where_not_like_left<S: ToText, T: ToText>(
         &mut self,
         field: S,
@@ -805,6 +853,8 @@ impl SqlBuilder {
 
     /// Adds `field NOT LIKE` `%`, the mask and `%`, which `quote` writes together: joins the
     /// last group by OR, and opens one where there is none.
+    /// `.and_where("b").or_where_not_like_any("a", "it's")` →
+    /// `SELECT * FROM t WHERE b OR a NOT LIKE '%it''s%';`
     pub fn or_where_not_like_any<S: ToText, T: ToText>(
         &mut self,
         field: S,
@@ -820,6 +870,7 @@ impl SqlBuilder {
 
     /// Adds `field IN (..)` of these values: joins the last group by OR, and opens one where
     /// there is none.
+    /// `.and_where("b").or_where_in("a", [1, 2])` → `SELECT * FROM t WHERE b OR a IN (1, 2);`
     pub fn or_where_in<S: ToText, T: ToText>(
         &mut self,
         field: S,
@@ -836,6 +887,8 @@ impl SqlBuilder {
 
     /// Adds `field IN (..)` of these values, each as `quote` writes it: joins the last group by
     /// OR, and opens one where there is none.
+    /// `.and_where("b").or_where_in_quoted("a", ["b", "it's"])` →
+    /// `SELECT * FROM t WHERE b OR a IN ('b', 'it''s');`
     pub fn or_where_in_quoted<S: ToText, T: ToText>(
         &mut self,
         field: S,
@@ -851,6 +904,8 @@ impl SqlBuilder {
     }
 
     /// Adds `field IN (query)`: joins the last group by OR, and opens one where there is none.
+    /// `.and_where("b").or_where_in_query("a", "SELECT 1")` →
+    /// `SELECT * FROM t WHERE b OR a IN (SELECT 1);`
     pub fn or_where_in_query<S: ToText, T: ToText>(
         &mut self,
         field: S,
@@ -866,6 +921,8 @@ impl SqlBuilder {
 
     /// Adds `field BETWEEN least AND greatest`: joins the last group by OR, and opens one where
     /// there is none.
+    /// `.and_where("b").or_where_between("a", 1, 2)` →
+    /// `SELECT * FROM t WHERE b OR a BETWEEN 1 AND 2;`
     pub fn or_where_between<S: ToText, T: ToText, U: ToText>(
         &mut self,
         field: S,
@@ -883,6 +940,8 @@ impl SqlBuilder {
 
     /// Adds `field NOT IN (..)` of these values: joins the last group by OR, and opens one
     /// where there is none.
+    /// `.and_where("b").or_where_not_in("a", [1, 2])` →
+    /// `SELECT * FROM t WHERE b OR a NOT IN (1, 2);`
     pub fn or_where_not_in<S: ToText, T: ToText>(
         &mut self,
         field: S,
@@ -899,6 +958,8 @@ impl SqlBuilder {
 
     /// Adds `field NOT IN (..)` of these values, each as `quote` writes it: joins the last
     /// group by OR, and opens one where there is none.
+    /// `.and_where("b").or_where_not_in_quoted("a", ["b", "it's"])` →
+    /// `SELECT * FROM t WHERE b OR a NOT IN ('b', 'it''s');`
     pub fn or_where_not_in_quoted<S: ToText, T: ToText>(
         &mut self,
         field: S,
@@ -915,6 +976,8 @@ impl SqlBuilder {
 
     /// Adds `field NOT IN (query)`: joins the last group by OR, and opens one where there is
     /// none.
+    /// `.and_where("b").or_where_not_in_query("a", "SELECT 1")` →
+    /// `SELECT * FROM t WHERE b OR a NOT IN (SELECT 1);`
     pub fn or_where_not_in_query<S: ToText, T: ToText>(
         &mut self,
         field: S,
@@ -930,6 +993,8 @@ impl SqlBuilder {
 
     /// Adds `field NOT BETWEEN least AND greatest`: joins the last group by OR, and opens one
     /// where there is none.
+    /// `.and_where("b").or_where_not_between("a", 1, 2)` →
+    /// `SELECT * FROM t WHERE b OR a NOT BETWEEN 1 AND 2;`
     pub fn or_where_not_between<S: ToText, T: ToText, U: ToText>(
         &mut self,
         field: S,

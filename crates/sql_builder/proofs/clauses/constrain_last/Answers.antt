@@ -10,7 +10,7 @@ use Rattle.sql_builder.proofs.clauses.constrain_last.Goals as goal
 pub returns-in-Some-clause-ok : goal.returns-in-Some-clause-ok
 returns-in-Some-clause-ok c =
     let item = c.in-Some.ensures.item in
-    let added = constraint byte_atoms (string_bytes c.args.condition) in
+    let added = constraint byte_atoms (string_bytes c.args.text) in
     on_ok_weaker c.push.result
     (λ e. last_extended join_text c.args.joins.now c.push.new.self c.in-Some.join.now added (omega arith) (e ∙ ap (λ j. join_text j ++ added) item.1)) c.push.ensures.ok
 

@@ -8,4 +8,5 @@ returns c =
     rw (← c.self.view_is) (insert_query_added (the_view c.self.inside) (string_bytes c.args.out.now) c.args.query.now
     (rw (c.as_str.ensures.value, c.deref.ensures.value) at c.in_ok-push_tables.ensures)
     (rw (c.deref-2.ensures.value) at c.in_ok-push_fields_of_insert.ensures)
-    c.in_ok-push_query_of_insert.ensures)
+    c.in_ok-push_query_of_insert.ensures
+    c.in_ok-push_optional.ensures)
