@@ -5,7 +5,8 @@ pub mod LineTexts
 pub mod Pieces
 pub mod Prefixes
 pub mod Reasons
-pub mod References
 pub mod Rows
 pub mod SoFar
+pub mod Splits
+pub mod Told
 pub mod Unread

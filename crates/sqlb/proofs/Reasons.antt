@@ -4,10 +4,10 @@ use Rattle.std.specs.Prelude.{Option, None, Some, Result, Ok, Err, IfErr, IfSome
 use Rattle.std.specs.Str.{is_utf8}
 use Rattle.sql_builder.specs.Error.{IsMemory}
 use Rattle.sql_builder.specs.SqlBuilderError.{SqlBuilderError}
-use Rattle.sql_builder.specs.SqlBuilderError.TheVariants.{NoSetFields, NoValues}
+use Rattle.sql_builder.specs.SqlBuilderError.TheVariants.{NoGroupBy, NoSetFields, NoValues}
 use Rattle.sql_builder.specs.Calls.{StartText, CallText, FinishText, Sql, Query, QueryValues, Subquery, SubqueryAs, clauses}
 use Rattle.sql_builder.specs.Clauses.{Clauses, map_clauses}
-use Rattle.sql_builder.specs.Layout.{refusal_of, refuse_empty, refuse_no_rows, refuse_no_table}
+use Rattle.sql_builder.specs.Layout.{query_refusal, refusal_of, refuse_empty, refuse_no_group_by, refuse_no_rows, refuse_no_table}
 use Rattle.sql_builder.specs.Statement.{layout_at, refusal_at, statement, text_unless_refused, unless_refused}
 use Rattle.sql_builder.specs.Text.{Pieces, fixed_piece, pieces_text, raw_piece}
 use Rattle.sql_builder.specs.declared.clauses.Kind.{Kind}
@@ -40,7 +40,7 @@ command_of-holds_no_memory : (line : List ℕ) → IfErr (command_of line) Holds
 unfolding command_of
 command_of-holds_no_memory line = by_text (is_utf8 line) line
 
--- what `sql` refuses is never want of memory
+-- what a finish refuses is never want of memory
 
 abbrev HoldNoMemory : Option SqlBuilderError → Type 0
 HoldNoMemory o = IfSome o (λ refusal. ¬ (IsMemory refusal))
@@ -49,23 +49,26 @@ by_table : (table : List ℕ) (other : Option SqlBuilderError) → HoldNoMemory 
 by_table [] other h = λ is. is
 by_table (byte ∷ bytes) other h = h
 
-by_values : (values : List (List ℕ)) → HoldNoMemory (refuse_empty NoValues values)
-by_values [] = λ is. is
-by_values (value ∷ values) = tt
-
-by_sets : (sets : List (List ℕ)) → HoldNoMemory (refuse_empty NoSetFields sets)
-by_sets [] = λ is. is
-by_sets (set ∷ sets) = tt
+by_empty : {T : Type 0} (refusal : SqlBuilderError) → ¬ (IsMemory refusal) → (items : List T) → HoldNoMemory (refuse_empty refusal items)
+by_empty refusal no_memory [] = no_memory
+by_empty refusal no_memory (item ∷ items) = tt
 
 by_rows : (query : Option (List ℕ)) (rows : List (List ℕ)) → HoldNoMemory (refuse_no_rows query rows)
-by_rows None rows = by_values rows
+by_rows None rows = by_empty NoValues (λ is. is) rows
 by_rows (Some query) rows = tt
 
+by_having : (having : Option (List ℕ)) (fields : List (List ℕ)) → HoldNoMemory (refuse_no_group_by having fields)
+by_having None fields = tt
+by_having (Some having) fields = by_empty NoGroupBy (λ is. is) fields
+
+by_query : (r : Clauses (List ℕ)) → HoldNoMemory (query_refusal r)
+by_query r = by_having r.having r.group_fields
+
 by_kind : (kind : Kind) (r : Clauses (List ℕ)) → HoldNoMemory (refusal_of kind r)
-by_kind SelectFrom r = by_table r.table None tt
-by_kind SelectValues r = by_values r.fields
+by_kind SelectFrom r = by_table r.table (query_refusal r) (by_query r)
+by_kind SelectValues r = by_empty NoValues (λ is. is) r.fields
 by_kind InsertInto r = by_table r.table (refuse_no_rows r.query r.rows) (by_rows r.query r.rows)
-by_kind UpdateTable r = by_table r.table (refuse_empty NoSetFields r.sets) (by_sets r.sets)
+by_kind UpdateTable r = by_table r.table (refuse_empty NoSetFields r.sets) (by_empty NoSetFields (λ is. is) r.sets)
 by_kind DeleteFrom r = by_table r.table None tt
 
 by_refusal : (o : Option SqlBuilderError) (printed : Pieces) → HoldNoMemory o → IfErr (finish_answer (text_unless_refused (unless_refused o printed))) HoldsNoMemory
@@ -74,10 +77,10 @@ by_refusal (Some refusal) printed h = h
 
 by_finish : (finish : FinishText) (r : Clauses (List ℕ)) → HoldNoMemory (refusal_at finish r)
 by_finish Sql r = by_kind r.kind r
-by_finish Query r = tt
+by_finish Query r = by_query r
 by_finish QueryValues r = tt
-by_finish Subquery r = tt
-by_finish (SubqueryAs name) r = tt
+by_finish Subquery r = by_query r
+by_finish (SubqueryAs name) r = by_query r
 
 finish-holds_no_memory : (start : StartText) (calls : List CallText) (finish : FinishText) → IfErr (finish_answer (statement start calls finish)) HoldsNoMemory
 finish-holds_no_memory start calls finish =

@@ -9,6 +9,7 @@ use Rattle.std.proofs.lemmas.List.{append-nil, length-map, map-append}
 use Rattle.std.proofs.lemmas.List.Elements.{filter_map-append}
 use Rattle.std.proofs.lemmas.Grind.{common_steps, flat_map-append}
 use Rattle.sqlb.proofs.Pieces.{begins}
+use Rattle.sql_builder.specs.Builder.{ClauseTexts}
 use Rattle.sql_builder.proofs.Snoc.{any_unfollowed-snoc, since-snoc}
 use Rattle.sql_builder.specs.Calls.{StartText, CallText}
 use Rattle.sqlb.specs.Device.{Wrote}
@@ -16,7 +17,8 @@ use Rattle.sql_builder.specs.Filters.{since, until}
 use Rattle.sqlb.specs.Lines.{lines, CommandResult, command_of, Starts, Calls, Finishes}
 use Rattle.sqlb.specs.Output.{OpenStatement, answer, answer_at, answers, call_in, end_fault, fault_at, first, is_finish, is_inside, is_start, open_statement, open_statement_in, output, printed_line, output_text, start_in}
 use Rattle.sqlb.specs.Ran.{AreWhole, Ran}
-use Rattle.sqlb.specs.Script.{open_after}
+use Rattle.sqlb.specs.Script.{told, told_after, told_answer}
+use Rattle.sqlb.proofs.Told.{open_after, told-after, told-answer, told-is_some}
 use Rattle.sqlb.specs.declared.fault.Fault.{Fault}
 use Rattle.sqlb.specs.declared.fault.Fault.TheVariants.{At, Memory, Read, Write}
 use Rattle.sqlb.specs.declared.fault.Reason.{Reason}
@@ -24,8 +26,6 @@ use Rattle.sqlb.specs.declared.fault.Reason.TheVariants.{NoEnd}
 
 abbrev pub Answer : Type 0
 Answer = Result (Option (List ℕ)) Reason
-
--- the statement that is open after one more line
 
 -- an open statement with these calls after its own
 abbrev with_calls : List CallText → OpenStatement → OpenStatement
@@ -113,21 +113,21 @@ line_text t = sym (append-nil (t ++ codes "\n"))
 abbrev no_end : Bool → ℕ → List (ℕ × Reason)
 no_end is_open n = if is_open then (n, NoEnd) ∷ [] else []
 
--- how far a run has come: the lines before this one are all accepted, and the texts that they finish are written
-pub record SoFar (old new : Option (List ℕ)) (text : List ℕ) (number : ℕ) (script : Option OpenStatement) (rest : List ℕ) : Type 0 where
+-- how far a run has come: the lines before those ahead are all accepted, and the texts that they finish are written
+pub record SoFar (old new : Option (List ℕ)) (text : List ℕ) (number : ℕ) (script : Option ClauseTexts) (ahead : List (List ℕ)) : Type 0 where
   pub done : List CommandResult
   pub texts : List (Option (List ℕ))
-  pub split : map command_of (lines text) ≡ done ++ map command_of (lines rest)
+  pub split : map command_of (lines text) ≡ done ++ map command_of ahead
   pub counted : number ≡ length done
   pub accepted : answers_from [] done ≡ map Ok texts
-  pub open_now : script ≡ open_statement done
+  pub open_now : script ≡ option_map told (open_statement done)
   pub written : Appends old new (joined_texts texts)
 
-pub so_far-first : (old : Option (List ℕ)) (text : List ℕ) → SoFar old old text 0 None text
+pub so_far-first : (old : Option (List ℕ)) (text : List ℕ) → SoFar old old text 0 None (lines text)
 unfolding open_statement
 so_far-first old text = record { done = []; texts = []; split = refl; counted = refl; accepted = refl; open_now = refl; written = Appends-nil old }
 
-module _ (old new : Option (List ℕ)) (text : List ℕ) (number : ℕ) (script : Option OpenStatement) (rest : List ℕ) (so_far : SoFar old new text number script rest) where
+module _ (old new : Option (List ℕ)) (text : List ℕ) (number : ℕ) (script : Option ClauseTexts) (ahead : List (List ℕ)) (so_far : SoFar old new text number script ahead) where
   counted-texts : number ≡ length so_far.texts
   counted-texts =
       let accept : Option (List ℕ) → Answer = λ text. Ok text in
@@ -138,32 +138,32 @@ module _ (old new : Option (List ℕ)) (text : List ℕ) (number : ℕ) (script 
       length-answers_from before (s ∷ ss) = ap suc (length-answers_from (before ++ s ∷ []) ss)
 
   -- what the answers are, from here on
-  answers-split : answers (map command_of (lines text)) ≡ map Ok so_far.texts ++ answers_from so_far.done (map command_of (lines rest))
+  answers-split : answers (map command_of (lines text)) ≡ map Ok so_far.texts ++ answers_from so_far.done (map command_of ahead)
   answers-split =
-      answers-is (map command_of (lines text)) ∙ ap (answers_from []) so_far.split ∙ answers_from-append [] so_far.done (map command_of (lines rest))
-      ∙ ap (λ (l : List Answer). l ++ answers_from so_far.done (map command_of (lines rest))) so_far.accepted
+      answers-is (map command_of (lines text)) ∙ ap (answers_from []) so_far.split ∙ answers_from-append [] so_far.done (map command_of ahead)
+      ∙ ap (λ (l : List Answer). l ++ answers_from so_far.done (map command_of ahead)) so_far.accepted
 
   -- the statements, from here on
-  statements-split : (output text).statements ≡ finished_texts so_far.texts ++ filter_map printed_line (until is_err (answers_from so_far.done (map command_of (lines rest))))
+  statements-split : (output text).statements ≡ finished_texts so_far.texts ++ filter_map printed_line (until is_err (answers_from so_far.done (map command_of ahead)))
   unfolding output
   statements-split =
       ap (λ (l : List Answer). filter_map printed_line (until is_err l)) answers-split
-      ∙ ap (filter_map printed_line) (until-accepted so_far.texts (answers_from so_far.done (map command_of (lines rest))))
-      ∙ filter_map-append printed_line (map Ok so_far.texts) (until is_err (answers_from so_far.done (map command_of (lines rest))))
+      ∙ ap (filter_map printed_line) (until-accepted so_far.texts (answers_from so_far.done (map command_of ahead)))
+      ∙ filter_map-append printed_line (map Ok so_far.texts) (until is_err (answers_from so_far.done (map command_of ahead)))
 
-  fault-split : (output text).fault ≡ first (filter_map fault_at (enumerate_from (1 + number) (answers_from so_far.done (map command_of (lines rest)))) ++ end_fault (map command_of (lines text)))
+  fault-split : (output text).fault ≡ first (filter_map fault_at (enumerate_from (1 + number) (answers_from so_far.done (map command_of ahead))) ++ end_fault (map command_of (lines text)))
   unfolding output
   fault-split =
       ap (λ (l : List Answer). first (filter_map fault_at (enumerate_from 1 l) ++ end_fault (map command_of (lines text)))) answers-split
-      ∙ ap (λ (l : List (ℕ × Reason)). first (l ++ end_fault (map command_of (lines text)))) (faults-accepted 1 so_far.texts (answers_from so_far.done (map command_of (lines rest))))
-      ∙ ap (λ (n : ℕ). first (filter_map fault_at (enumerate_from (1 + n) (answers_from so_far.done (map command_of (lines rest)))) ++ end_fault (map command_of (lines text)))) (sym counted-texts)
+      ∙ ap (λ (l : List (ℕ × Reason)). first (l ++ end_fault (map command_of (lines text)))) (faults-accepted 1 so_far.texts (answers_from so_far.done (map command_of ahead)))
+      ∙ ap (λ (n : ℕ). first (filter_map fault_at (enumerate_from (1 + n) (answers_from so_far.done (map command_of ahead))) ++ end_fault (map command_of (lines text)))) (sym counted-texts)
 
   -- memory runs out
   pub stops-whole : AreWhole (joined_texts so_far.texts) (output text).statements
-  stops-whole = (finished_texts so_far.texts, filter_map printed_line (until is_err (answers_from so_far.done (map command_of (lines rest)))), statements-split, refl)
+  stops-whole = (finished_texts so_far.texts, filter_map printed_line (until is_err (answers_from so_far.done (map command_of ahead))), statements-split, refl)
 
   -- the end of the lines
-  module _ (end : lines rest ≡ []) where
+  module _ (end : ahead ≡ []) where
     all_done : map command_of (lines text) ≡ so_far.done
     all_done = so_far.split ∙ ap (λ (ls : List (List ℕ)). so_far.done ++ map command_of ls) end ∙ append-nil so_far.done
 
@@ -174,7 +174,7 @@ module _ (old new : Option (List ℕ)) (text : List ℕ) (number : ℕ) (script 
     ends-fault =
         fault-split ∙ ap (λ (ls : List (List ℕ)). first (filter_map fault_at (enumerate_from (1 + number) (answers_from so_far.done (map command_of ls))) ++ end_fault (map command_of (lines text)))) end
         ∙ ap (λ (commands : List CommandResult). first (end_fault commands)) all_done
-        ∙ ap (λ (o : Option OpenStatement). first (no_end (is_some o) (length so_far.done))) (sym so_far.open_now)
+        ∙ ap (λ (b : Bool). first (no_end b (length so_far.done))) (sym (ap is_some so_far.open_now ∙ told-is_some (open_statement so_far.done)))
         ∙ ap (λ (n : ℕ). first (no_end (is_some script) n)) (sym so_far.counted)
         ∙ by (is_some script)
       where
@@ -183,44 +183,48 @@ module _ (old new : Option (List ℕ)) (text : List ℕ) (number : ℕ) (script 
         by false = refl
 
   -- one more line
-  module _ (line remaining : List ℕ) (next : lines rest ≡ line ∷ lines remaining) where
-    answer-here : answer (open_statement so_far.done) (command_of line) ≡ answer script (command_of line)
-    answer-here = ap (λ (o : Option OpenStatement). answer o (command_of line)) (sym so_far.open_now)
+  module _ (line : List ℕ) (remaining : List (List ℕ)) (next : ahead ≡ line ∷ remaining) where
+    answer-here : answer (open_statement so_far.done) (command_of line) ≡ told_answer script (command_of line)
+    answer-here = told-answer (open_statement so_far.done) (command_of line) ∙ ap (λ (o : Option ClauseTexts). told_answer o (command_of line)) (sym so_far.open_now)
 
     -- the line is accepted
-    pub so_far-next : (newer : Option (List ℕ)) (after : Option OpenStatement) (o : Option (List ℕ)) → answer script (command_of line) ≡ Ok o → after ≡ open_after script (command_of line)
+    pub so_far-next : (newer : Option (List ℕ)) (after : Option ClauseTexts) (o : Option (List ℕ)) → told_answer script (command_of line) ≡ Ok o → after ≡ told_after script (command_of line)
         → Appends new newer (joined_texts (o ∷ [])) → SoFar old newer text (number + 1) after remaining
     so_far-next newer after o accepts opens now = record {
       done = so_far.done ++ command_of line ∷ [];
       texts = so_far.texts ++ o ∷ [];
-      split = so_far.split ∙ ap (λ (ls : List (List ℕ)). so_far.done ++ map command_of ls) next ∙ sym (append_assoc so_far.done (command_of line ∷ []) (map command_of (lines remaining)));
+      split = so_far.split ∙ ap (λ (ls : List (List ℕ)). so_far.done ++ map command_of ls) next ∙ sym (append_assoc so_far.done (command_of line ∷ []) (map command_of remaining));
       counted = omega (arith, so_far.counted, length-append so_far.done (command_of line ∷ []));
       accepted = answers_from-append [] so_far.done (command_of line ∷ []) ∙ ap (λ (l : List Answer). l ++ answer (open_statement so_far.done) (command_of line) ∷ []) so_far.accepted
           ∙ ap (λ (a : Answer). map Ok so_far.texts ++ a ∷ []) (answer-here ∙ accepts) ∙ sym (map-append Ok so_far.texts (o ∷ []));
-      open_now = opens ∙ ap (λ (w : Option OpenStatement). open_after w (command_of line)) so_far.open_now ∙ sym (open_statement-snoc so_far.done (command_of line));
+      open_now = opens ∙ ap (λ (w : Option ClauseTexts). told_after w (command_of line)) so_far.open_now ∙ sym (told-after (open_statement so_far.done) (command_of line))
+          ∙ ap (option_map told) (sym (open_statement-snoc so_far.done (command_of line)));
       written = subst (Appends old newer) (sym (joined_texts-append so_far.texts (o ∷ []))) (Appends-trans old new newer (joined_texts so_far.texts) (joined_texts (o ∷ [])) so_far.written now);
     }
 
     -- the line is refused
-    module _ (reason : Reason) (refused : answer script (command_of line) ≡ Err reason) where
-      refused-here : answers_from so_far.done (map command_of (lines rest)) ≡ Err reason ∷ answers_from (so_far.done ++ command_of line ∷ []) (map command_of (lines remaining))
+    module _ (reason : Reason) (refused : told_answer script (command_of line) ≡ Err reason) where
+      refused-here : answers_from so_far.done (map command_of ahead) ≡ Err reason ∷ answers_from (so_far.done ++ command_of line ∷ []) (map command_of remaining)
       refused-here = ap (λ (ls : List (List ℕ)). answers_from so_far.done (map command_of ls)) next
-          ∙ ap (λ (a : Answer). a ∷ answers_from (so_far.done ++ command_of line ∷ []) (map command_of (lines remaining))) (answer-here ∙ refused)
+          ∙ ap (λ (a : Answer). a ∷ answers_from (so_far.done ++ command_of line ∷ []) (map command_of remaining)) (answer-here ∙ refused)
 
       pub refused-written : joined_texts so_far.texts ≡ output_text (output text)
       refused-written = ap (flat_map (λ statement. statement)) (sym (statements-split ∙ ap (λ (l : List Answer). finished_texts so_far.texts ++ filter_map printed_line (until is_err l)) refused-here ∙ append-nil (finished_texts so_far.texts)))
+
+      pub refused-by_open : answer (open_statement so_far.done) (command_of line) ≡ Err reason
+      refused-by_open = answer-here ∙ refused
 
       pub refused-fault : (output text).fault ≡ Some (number + 1, reason)
       refused-fault = fault-split ∙ ap (λ (l : List Answer). first (filter_map fault_at (enumerate_from (1 + number) l) ++ end_fault (map command_of (lines text)))) refused-here
           ∙ ap (λ (n : ℕ). Some (n, reason)) (omega arith)
 
     -- the line's statement is written in part
-    pub stops-in : (t : List ℕ) (part : List ℕ) → answer script (command_of line) ≡ Ok (Some t) → StartsWith (joined_texts (Some t ∷ [])) part
+    pub stops-in : (t : List ℕ) (part : List ℕ) → told_answer script (command_of line) ≡ Ok (Some t) → StartsWith (joined_texts (Some t ∷ [])) part
         → StartsWith (output_text (output text)) (joined_texts so_far.texts ++ part)
     stops-in t part accepts starts =
-        let later = filter_map printed_line (until is_err (answers_from (so_far.done ++ command_of line ∷ []) (map command_of (lines remaining)))) in
-        let here : answers_from so_far.done (map command_of (lines rest)) ≡ Ok (Some t) ∷ answers_from (so_far.done ++ command_of line ∷ []) (map command_of (lines remaining))
-        = ap (λ (ls : List (List ℕ)). answers_from so_far.done (map command_of ls)) next ∙ ap (λ (a : Answer). a ∷ answers_from (so_far.done ++ command_of line ∷ []) (map command_of (lines remaining))) (answer-here ∙ accepts) in
+        let later = filter_map printed_line (until is_err (answers_from (so_far.done ++ command_of line ∷ []) (map command_of remaining))) in
+        let here : answers_from so_far.done (map command_of ahead) ≡ Ok (Some t) ∷ answers_from (so_far.done ++ command_of line ∷ []) (map command_of remaining)
+        = ap (λ (ls : List (List ℕ)). answers_from so_far.done (map command_of ls)) next ∙ ap (λ (a : Answer). a ∷ answers_from (so_far.done ++ command_of line ∷ []) (map command_of remaining)) (answer-here ∙ accepts) in
         let whole : output_text (output text) ≡ joined_texts so_far.texts ++ joined_texts (Some t ∷ []) ++ flat_map (λ statement. statement) later
         = ap (flat_map (λ statement. statement)) (statements-split ∙ ap (λ (l : List Answer). finished_texts so_far.texts ++ filter_map printed_line (until is_err l)) here)
         ∙ flat_map-append (λ statement. statement) (finished_texts so_far.texts) ((t ++ codes "\n") ∷ later)
@@ -229,7 +233,7 @@ module _ (old new : Option (List ℕ)) (text : List ℕ) (number : ℕ) (script 
         subst (λ (all : List ℕ). StartsWith all (joined_texts so_far.texts ++ part)) (sym whole) (begins (joined_texts so_far.texts) part (joined_texts (Some t ∷ [])) (flat_map (λ statement. statement) later) starts)
 
     -- a write that fails in the line's statement fails the run
-    pub fails-in : {T : Type 0} (newer : Option (List ℕ)) (t : List ℕ) (fault : Fault) (result : Result T Fault) (failed : Bool) → answer script (command_of line) ≡ Ok (Some t)
+    pub fails-in : {T : Type 0} (newer : Option (List ℕ)) (t : List ℕ) (fault : Fault) (result : Result T Fault) (failed : Bool) → told_answer script (command_of line) ≡ Ok (Some t)
         → (part : List ℕ) × Appends new newer part × Wrote {T = Unit {0}} (Err fault) part (t ++ codes "\n") failed → result ≡ Err fault
         → (written : List ℕ) × Appends old newer written × Ran result written (output text)
     fails-in newer t Write result failed accepts wrote is =

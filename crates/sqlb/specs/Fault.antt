@@ -3,6 +3,10 @@ use Rattle.std.specs.Prelude.{ℕ, List, ◌++◌, codes, decimal}
 use Rattle.sql_builder.specs.Error.{message_text}
 use Rattle.sqlb.specs.declared.fault.Reason.{Reason}
 use Rattle.sqlb.specs.declared.fault.Reason.TheVariants.{UnknownCall, WrongArguments, NoStatement, StatementOpen, NoEnd, NotUtf8, Builder}
+use Rattle.sql_builder.specs.SqlBuilderError.{SqlBuilderError}
+use Rattle.sql_builder.specs.SqlBuilderError.TheVariants as builder
+use Rattle.sqlb.specs.declared.fault.LineError.{LineError}
+use Rattle.sqlb.specs.declared.fault.LineError.TheVariants as line
 use Rattle.sqlb.specs.declared.fault.Fault.{Fault}
 use Rattle.sqlb.specs.declared.fault.Fault.TheVariants.{At, Memory, Read, Write}
 
@@ -29,3 +33,8 @@ fault_status (At line reason) = 1
 fault_status Memory = 1
 fault_status Read = 2
 fault_status Write = 2
+
+-- a refusal of the builder as what a line answers: want of memory is no reason of a line
+abbrev pub refused_by : SqlBuilderError → LineError
+refused_by (builder.Memory error) = line.Memory
+refused_by refusal = line.Refused (Builder refusal)

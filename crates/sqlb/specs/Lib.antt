@@ -4,6 +4,7 @@ pub mod Fault
 pub mod Lines
 pub mod Names
 pub mod Output
+pub mod Parts
 pub mod Ran
 pub mod Script
 pub mod Tables

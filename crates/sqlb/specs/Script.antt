@@ -1,13 +1,21 @@
 -- What the lines of an input do one after another.
-use Rattle.std.specs.Prelude.{◌≡◌, [], ◌∷◌, ◌++◌, Option, Some, None, Result, Ok, Err, option_map}
+use Rattle.std.specs.Prelude.{◌≡◌, ℕ, List, [], Option, Some, None, Result, Ok, Err, option_map}
+use Rattle.sql_builder.specs.Builder.{ClauseTexts}
+use Rattle.sql_builder.specs.Calls.{FinishText, clauses}
+use Rattle.sql_builder.specs.Clauses.{map_clauses}
+use Rattle.sql_builder.specs.SqlBuilderError.{SqlBuilderError}
+use Rattle.sql_builder.specs.Statement.{refusal_at, text_at, unless_refused}
+use Rattle.sql_builder.specs.Steps.{with_call}
+use Rattle.sql_builder.specs.Text.{pieces_text}
 use Rattle.sql_builder.specs.Views.{start_view, call_view, finish_view}
 use Rattle.sqlb.specs.Lines.{CommandText, CommandResult, Starts, Calls, Finishes}
-use Rattle.sqlb.specs.Output.{OpenStatement}
+use Rattle.sqlb.specs.Output.{OpenStatement, finish_answer}
 use Rattle.sqlb.specs.declared.fault.Reason.{Reason}
+use Rattle.sqlb.specs.declared.fault.Reason.TheVariants.{NoStatement, StatementOpen}
 use Rattle.sqlb.specs.declared.lines.Command.{Command}
 use Rattle.sqlb.specs.declared.lines.Command.TheVariants as command
-use Rattle.sqlb.specs.declared.lines.LineError.{LineError}
-use Rattle.sqlb.specs.declared.lines.LineError.TheVariants.{Refused, Memory}
+use Rattle.sqlb.specs.declared.fault.LineError.{LineError}
+use Rattle.sqlb.specs.declared.fault.LineError.TheVariants.{Refused, Memory}
 
 -- a command, each text as its bytes
 abbrev pub command_text : Command → CommandText
@@ -15,14 +23,30 @@ command_text (command.Start start) = Starts (start_view start)
 command_text (command.Call call) = Calls (call_view call)
 command_text (command.Finish finish) = Finishes (finish_view finish)
 
--- the statement that is open after a line, by what was open before it
-abbrev pub open_after : Option OpenStatement → CommandResult → Option OpenStatement
-open_after before (Ok (Starts start)) = Some (record { start = start; calls = [] })
-open_after before (Ok (Calls call)) =
-    option_map (λ open_statement. record { start = open_statement.start; calls = open_statement.calls ++ call ∷ [] })
-    before
-open_after before (Ok (Finishes finish)) = None
-open_after before (Err reason) = before
+-- what an open statement has told its builder
+abbrev pub told : OpenStatement → ClauseTexts
+told open_statement = map_clauses pieces_text (clauses open_statement.start open_statement.calls)
+
+-- the text that a finish prints of what a builder was told, or why it is refused
+abbrev pub printed : FinishText → ClauseTexts → Result (List ℕ) SqlBuilderError
+printed finish r = unless_refused (refusal_at finish r) (text_at finish r)
+
+-- what a line answers, by what the statement that it is inside of has told its builder
+abbrev pub told_answer : Option ClauseTexts → CommandResult → Result (Option (List ℕ)) Reason
+told_answer inside (Err reason) = Err reason
+told_answer None (Ok (Starts start)) = Ok None
+told_answer (Some r) (Ok (Starts start)) = Err StatementOpen
+told_answer None (Ok (Calls call)) = Err NoStatement
+told_answer (Some r) (Ok (Calls call)) = Ok None
+told_answer None (Ok (Finishes finish)) = Err NoStatement
+told_answer (Some r) (Ok (Finishes finish)) = finish_answer (printed finish r)
+
+-- what the open statement has told its builder after a line
+abbrev pub told_after : Option ClauseTexts → CommandResult → Option ClauseTexts
+told_after before (Ok (Starts start)) = Some (told (record { start = start; calls = [] }))
+told_after before (Ok (Calls call)) = option_map (with_call call) before
+told_after before (Ok (Finishes finish)) = None
+told_after before (Err reason) = before
 
 -- A call answers what is wanted, unless memory runs out.
 abbrev pub Answers : {V W : Type 0} → (V → W) → Result V LineError → Result W Reason → Type 0

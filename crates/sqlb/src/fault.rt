@@ -3,6 +3,7 @@ ghost use Rattle.std.specs.Prelude.{◌≡◌};
 ghost use Rattle.sqlb.specs.Fault.{fault_status, reason_text};
 
 use sql_builder::SqlBuilderError;
+use std::alloc::AllocError;
 
 /// Why a line is not accepted.
 #[derive(Debug, Drop)]
@@ -34,6 +35,40 @@ pub enum Fault {
     Read,
     /// A write answered an error, or took no byte.
     Write,
+}
+
+/// Why a line is not run.
+#[derive(Drop)]
+pub(crate) enum LineError {
+    /// It is not accepted.
+    Refused(Reason),
+    /// A growth was refused.
+    Memory,
+}
+
+impl From<AllocError> for LineError {
+    ghost use Rattle.std.specs.Prelude.{◌≡◌};
+    ghost use Rattle.sqlb.specs.declared.fault.LineError.TheVariants.{Memory};
+
+    ghost from_gives = { λ _ error. error ≡ Memory };
+
+    fn from(_: AllocError) -> LineError {
+        LineError::Memory
+    }
+}
+
+impl From<SqlBuilderError> for LineError {
+    ghost use Rattle.std.specs.Prelude.{◌≡◌};
+    ghost use Rattle.sqlb.specs.Fault.{refused_by};
+
+    ghost from_gives = { λ refusal error. error ≡ refused_by refusal };
+
+    fn from(refusal: SqlBuilderError) -> LineError {
+        match refusal {
+            SqlBuilderError::Memory(_) => LineError::Memory,
+            refusal => LineError::Refused(Reason::Builder(refusal)),
+        }
+    }
 }
 
 impl Reason {

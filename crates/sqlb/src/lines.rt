@@ -1,18 +1,19 @@
 //! Takes an input apart into lines, and reads what each says.
 ghost use Rattle.std.specs.Prelude.{◌≡◌, ◌==◌, ◌∷◌, ◌<◌};
-ghost use Rattle.std.specs.Prelude.{IfOk, Some, length, map, position};
-ghost use Rattle.sqlb.specs.Lines.{command_in, command_of, command_with, flag_in, lines, parts_of};
+ghost use Rattle.std.specs.Prelude.{IfOk, Some, length, ok_or, position};
+ghost use Rattle.sqlb.specs.Lines.{command_in, command_of, command_with, flag_in, lines};
 ghost use Rattle.sqlb.specs.Lines.{binary_command, flagged_command, nullary_command};
 ghost use Rattle.sqlb.specs.Lines.{unary_command, variadic_command};
 ghost use Rattle.sqlb.specs.Script.{Answers, command_text};
-ghost use Rattle.sqlb.specs.declared.names.Meaning.TheVariants.{Where};
+ghost use Rattle.sqlb.specs.declared.fault.Reason.TheVariants.{WrongArguments};
 
 use crate::endings::Ending;
-use crate::fault::Reason;
+use crate::fault::{LineError, Reason};
 use crate::names::{Binary, Flagged, Meaning, Nullary, Unary, Variadic};
+use crate::parts::Parts;
 use crate::texts::{text, texts};
 use sql_builder::calls::{Call, Family, Finish, Start};
-use std::alloc::{AllocError, AllocFailed, Global};
+use std::alloc::{AllocError, Global};
 use std::str;
 
 /// What a line says.
@@ -24,37 +25,6 @@ pub(crate) enum Command {
     Call(Call),
     /// It prints the open statement.
     Finish(Finish),
-}
-
-/// Why a line is not run.
-#[derive(Drop)]
-pub(crate) enum LineError {
-    /// It is not accepted.
-    Refused(Reason),
-    /// A growth was refused.
-    Memory,
-}
-
-impl From<AllocError> for LineError {
-    ghost use Rattle.std.specs.Prelude.{◌≡◌};
-    ghost use Rattle.sqlb.specs.declared.lines.LineError.TheVariants.{Memory};
-
-    ghost from_gives = { λ _ error. error ≡ Memory };
-
-    fn from(_: AllocError) -> LineError {
-        LineError::Memory
-    }
-}
-
-impl<T: Drop> From<AllocFailed<T>> for LineError {
-    ghost use Rattle.std.specs.Prelude.{◌≡◌};
-    ghost use Rattle.sqlb.specs.declared.lines.LineError.TheVariants.{Memory};
-
-    ghost from_gives = { λ _ error. error ≡ Memory };
-
-    fn from(_: AllocFailed<T>) -> LineError {
-        LineError::Memory
-    }
 }
 
 fn find_line_feed(text: &[u8]) -> Option<usize>
@@ -73,12 +43,6 @@ pub(crate) fn split_line(text: &[u8]) -> (&[u8], &[u8])
         Some(end) => (&text[..end], &text[end + 1..]),
         None => (text, &[]),
     }
-}
-
-fn split_parts(alloc: Global, line: &str) -> Result<Vec<&str>, AllocError>
-    ensures { IfOk result (λ split. map (λ part. part.now) split.items ≡ parts_of line.now) }
-{
-    line.split('\t').collect(alloc)
 }
 
 impl Nullary {
@@ -161,9 +125,8 @@ impl Flagged {
 }
 
 impl Variadic {
-    fn command(self, alloc: Global, arguments: &[&str]) -> Result<Command, AllocError>
-        ensures { IfOk result (λ c. command_text c
-            ≡ variadic_command self (map (λ argument. argument.now) arguments.now)) }
+    fn command(self, alloc: Global, arguments: Parts<'_>) -> Result<Command, AllocError>
+        ensures { IfOk result (λ c. command_text c ≡ variadic_command self arguments.entry) }
     {
         let arguments = texts(alloc, arguments)?;
         Ok(match self {
@@ -175,64 +138,56 @@ impl Variadic {
     }
 }
 
-fn read_flag(text: &str) -> Option<bool>
-    ensures { result ≡ flag_in text.now }
+fn read_flag(text: &str) -> Result<bool, LineError>
+    ensures { Answers (λ flag. flag) result (ok_or (flag_in text.now) WrongArguments) }
 {
     match text {
-        "true" => Some(true),
-        "false" => Some(false),
-        _ => None,
-    }
-}
-
-fn read_condition(
-    alloc: Global,
-    family: Family,
-    ending: Ending,
-    arguments: &[&str],
-) -> Result<Command, LineError>
-    ensures { Answers command_text result (command_with (Some (Where family ending))
-        (map (λ argument. argument.now) arguments.now)) }
-{
-    match ending.condition(alloc, arguments)? {
-        Some(condition) => Ok(Command::Call(Call::Cond(family, condition))),
-        None => Err(LineError::Refused(Reason::WrongArguments)),
+        "true" => Ok(true),
+        "false" => Ok(false),
+        _ => Err(LineError::Refused(Reason::WrongArguments)),
     }
 }
 
 fn read_arguments(
     alloc: Global,
-    meaning: Option<Meaning>,
-    arguments: &[&str],
+    meaning: Meaning,
+    arguments: Parts<'_>,
 ) -> Result<Command, LineError>
-    ensures { Answers command_text result
-        (command_with meaning (map (λ argument. argument.now) arguments.now)) }
+    ensures { Answers command_text result (command_with (Some meaning) arguments.entry) }
 {
-    let Some(meaning) = meaning else {
-        return Err(LineError::Refused(Reason::UnknownCall));
-    };
-    match (meaning, arguments) {
-        (Meaning::Nullary(meaning), []) => Ok(meaning.command()),
-        (Meaning::Unary(meaning), [argument]) => Ok(meaning.command(alloc, argument)?),
-        (Meaning::Binary(meaning), [first, second]) => Ok(meaning.command(alloc, first, second)?),
-        (Meaning::Flagged(meaning), [argument, flag]) => match read_flag(flag) {
-            Some(flag) => Ok(meaning.command(alloc, argument, flag)?),
-            None => Err(LineError::Refused(Reason::WrongArguments)),
-        },
-        (Meaning::Variadic(meaning), _) => Ok(meaning.command(alloc, arguments)?),
-        (Meaning::Where(family, ending), _) => read_condition(alloc, family, ending, arguments),
-        _ => Err(LineError::Refused(Reason::WrongArguments)),
+    match meaning {
+        Meaning::Nullary(meaning) => {
+            arguments.none()?;
+            Ok(meaning.command())
+        }
+        Meaning::Unary(meaning) => Ok(meaning.command(alloc, arguments.one()?)?),
+        Meaning::Binary(meaning) => {
+            let (first, second) = arguments.two()?;
+            Ok(meaning.command(alloc, first, second)?)
+        }
+        Meaning::Flagged(meaning) => {
+            let (argument, flag) = arguments.two()?;
+            Ok(meaning.command(alloc, argument, read_flag(flag)?)?)
+        }
+        Meaning::Variadic(meaning) => Ok(meaning.command(alloc, arguments)?),
+        Meaning::Where(family, ending) => {
+            let condition = ending.condition(alloc, arguments)?;
+            Ok(Command::Call(Call::Cond(family, condition)))
+        }
     }
 }
 
 fn read_text(alloc: Global, text: &str) -> Result<Command, LineError>
     ensures { Answers command_text result (command_in text.now) }
 {
-    let parts = split_parts(alloc, text)?;
-    let Some((name, arguments)) = parts.split_first() else {
+    let mut parts = Parts::of(text);
+    let Some(name) = parts.next() else {
         return Err(LineError::Refused(Reason::UnknownCall));
     };
-    read_arguments(alloc, Meaning::of(name), arguments)
+    match Meaning::of(name) {
+        Some(meaning) => read_arguments(alloc, meaning, parts),
+        None => Err(LineError::Refused(Reason::UnknownCall)),
+    }
 }
 
 /// What a line says. It is refused with `NotUtf8`, `UnknownCall` or `WrongArguments`, the first

@@ -1,15 +1,17 @@
 //! Reads lines of calls from standard input, and prints the statements that they make.
 #![tactic(auto)]
 
+#[cfg(test)]
+mod device_tests;
 mod endings;
 mod fault;
 mod input;
 mod lines;
 mod names;
 mod output;
+mod parts;
 mod run;
 mod script;
-mod tables;
 #[cfg(test)]
 mod tests;
 mod texts;

@@ -4,7 +4,6 @@ ghost use Rattle.sqlb.specs.Names.{calls, condition_call, meaning_of};
 ghost use Rattle.sqlb.specs.Tables.{found_in};
 
 use crate::endings::Ending;
-use crate::tables::find_in;
 use sql_builder::calls::Family;
 
 /// What a name stands for, by how many arguments it takes.
@@ -92,52 +91,6 @@ pub(crate) enum Variadic {
     Values,
 }
 
-const CALLS: [(&str, Meaning); 43] = [
-    ("select_from", Meaning::Unary(Unary::SelectFrom)),
-    ("insert_into", Meaning::Unary(Unary::InsertInto)),
-    ("update_table", Meaning::Unary(Unary::UpdateTable)),
-    ("delete_from", Meaning::Unary(Unary::DeleteFrom)),
-    ("select_values", Meaning::Variadic(Variadic::SelectValues)),
-    ("natural", Meaning::Nullary(Nullary::Natural)),
-    ("left", Meaning::Nullary(Nullary::Left)),
-    ("left_outer", Meaning::Nullary(Nullary::LeftOuter)),
-    ("right", Meaning::Nullary(Nullary::Right)),
-    ("right_outer", Meaning::Nullary(Nullary::RightOuter)),
-    ("inner", Meaning::Nullary(Nullary::Inner)),
-    ("cross", Meaning::Nullary(Nullary::Cross)),
-    ("distinct", Meaning::Nullary(Nullary::Distinct)),
-    ("returning_id", Meaning::Nullary(Nullary::ReturningId)),
-    ("and_table", Meaning::Unary(Unary::AndTable)),
-    ("join", Meaning::Unary(Unary::Join)),
-    ("on", Meaning::Unary(Unary::On)),
-    ("field", Meaning::Unary(Unary::Field)),
-    ("set_field", Meaning::Unary(Unary::SetField)),
-    ("count", Meaning::Unary(Unary::Count)),
-    ("select", Meaning::Unary(Unary::Select)),
-    ("returning", Meaning::Unary(Unary::Returning)),
-    ("group_by", Meaning::Unary(Unary::GroupBy)),
-    ("having", Meaning::Unary(Unary::Having)),
-    ("union", Meaning::Unary(Unary::Union)),
-    ("union_all", Meaning::Unary(Unary::UnionAll)),
-    ("order_asc", Meaning::Unary(Unary::OrderAsc)),
-    ("order_desc", Meaning::Unary(Unary::OrderDesc)),
-    ("limit", Meaning::Unary(Unary::Limit)),
-    ("offset", Meaning::Unary(Unary::Offset)),
-    ("on_eq", Meaning::Binary(Binary::OnEq)),
-    ("count_as", Meaning::Binary(Binary::CountAs)),
-    ("set", Meaning::Binary(Binary::SetTo)),
-    ("set_str", Meaning::Binary(Binary::SetStr)),
-    ("order_by", Meaning::Flagged(Flagged::OrderBy)),
-    ("fields", Meaning::Variadic(Variadic::Fields)),
-    ("set_fields", Meaning::Variadic(Variadic::SetFields)),
-    ("values", Meaning::Variadic(Variadic::Values)),
-    ("sql", Meaning::Nullary(Nullary::Sql)),
-    ("query", Meaning::Nullary(Nullary::Query)),
-    ("query_values", Meaning::Nullary(Nullary::QueryValues)),
-    ("subquery", Meaning::Nullary(Nullary::Subquery)),
-    ("subquery_as", Meaning::Unary(Unary::SubqueryAs)),
-];
-
 // A condition of this family, where the name is the prefix and an ending.
 fn condition_call(family: Family, prefix: &str, name: &str) -> Option<Meaning>
     ensures { result ≡ condition_call family prefix.now name.now }
@@ -151,7 +104,52 @@ fn condition_call(family: Family, prefix: &str, name: &str) -> Option<Meaning>
 fn other_call(name: &str) -> Option<Meaning>
     ensures { result ≡ found_in calls name.now }
 {
-    find_in(&CALLS, name)
+    Some(match name {
+        "select_from" => Meaning::Unary(Unary::SelectFrom),
+        "insert_into" => Meaning::Unary(Unary::InsertInto),
+        "update_table" => Meaning::Unary(Unary::UpdateTable),
+        "delete_from" => Meaning::Unary(Unary::DeleteFrom),
+        "select_values" => Meaning::Variadic(Variadic::SelectValues),
+        "natural" => Meaning::Nullary(Nullary::Natural),
+        "left" => Meaning::Nullary(Nullary::Left),
+        "left_outer" => Meaning::Nullary(Nullary::LeftOuter),
+        "right" => Meaning::Nullary(Nullary::Right),
+        "right_outer" => Meaning::Nullary(Nullary::RightOuter),
+        "inner" => Meaning::Nullary(Nullary::Inner),
+        "cross" => Meaning::Nullary(Nullary::Cross),
+        "distinct" => Meaning::Nullary(Nullary::Distinct),
+        "returning_id" => Meaning::Nullary(Nullary::ReturningId),
+        "and_table" => Meaning::Unary(Unary::AndTable),
+        "join" => Meaning::Unary(Unary::Join),
+        "on" => Meaning::Unary(Unary::On),
+        "field" => Meaning::Unary(Unary::Field),
+        "set_field" => Meaning::Unary(Unary::SetField),
+        "count" => Meaning::Unary(Unary::Count),
+        "select" => Meaning::Unary(Unary::Select),
+        "returning" => Meaning::Unary(Unary::Returning),
+        "group_by" => Meaning::Unary(Unary::GroupBy),
+        "having" => Meaning::Unary(Unary::Having),
+        "union" => Meaning::Unary(Unary::Union),
+        "union_all" => Meaning::Unary(Unary::UnionAll),
+        "order_asc" => Meaning::Unary(Unary::OrderAsc),
+        "order_desc" => Meaning::Unary(Unary::OrderDesc),
+        "limit" => Meaning::Unary(Unary::Limit),
+        "offset" => Meaning::Unary(Unary::Offset),
+        "on_eq" => Meaning::Binary(Binary::OnEq),
+        "count_as" => Meaning::Binary(Binary::CountAs),
+        "set" => Meaning::Binary(Binary::SetTo),
+        "set_str" => Meaning::Binary(Binary::SetStr),
+        "order_by" => Meaning::Flagged(Flagged::OrderBy),
+        "fields" => Meaning::Variadic(Variadic::Fields),
+        "set_fields" => Meaning::Variadic(Variadic::SetFields),
+        "values" => Meaning::Variadic(Variadic::Values),
+        "sql" => Meaning::Nullary(Nullary::Sql),
+        "query" => Meaning::Nullary(Nullary::Query),
+        "query_values" => Meaning::Nullary(Nullary::QueryValues),
+        "subquery" => Meaning::Nullary(Nullary::Subquery),
+        "subquery_as" => Meaning::Unary(Unary::SubqueryAs),
+        _ => return None,
+    })
 }
 
 impl Meaning {

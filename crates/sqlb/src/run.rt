@@ -6,9 +6,9 @@ ghost use Rattle.sqlb.specs.Output.{output};
 ghost use Rattle.sqlb.specs.Ran.{EndsUnlessStopped, FailsOnlyToWrite, NamesNoMemory};
 ghost use Rattle.sqlb.specs.Ran.{LosesOnlyIfDeviceFails, Ran, UnlessWriteFails};
 
-use crate::fault::{Fault, Reason};
+use crate::fault::{Fault, LineError, Reason};
 use crate::input::read_all;
-use crate::lines::{LineError, split_line};
+use crate::lines::split_line;
 use crate::output::write_parts;
 use crate::script::Script;
 use crate::watched::Watched;

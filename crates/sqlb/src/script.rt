@@ -1,40 +1,28 @@
 //! Runs lines one after another.
 ghost use Rattle.std.specs.Prelude.{◌≡◌, None, OnErr, OnOk, is_some, option_map, string_bytes};
 ghost use Rattle.sqlb.specs.Lines.{command_of};
-ghost use Rattle.sqlb.specs.Output.{answer};
-ghost use Rattle.sqlb.specs.Script.{Answers, open_after};
+ghost use Rattle.sqlb.specs.Script.{Answers, told_after, told_answer};
 
-use crate::fault::Reason;
-use crate::lines::{Command, LineError, read_line};
-use sql_builder::SqlBuilderError;
-use sql_builder::calls::{Call, Finish, Start, run};
+use crate::fault::{LineError, Reason};
+use crate::lines::{Command, read_line};
+use sql_builder::SqlBuilder;
+use sql_builder::calls::{Call, Finish, Start, begin, make, print};
 use std::alloc::Global;
 use std::marker::Model;
 
-/// A statement that no finish has ended yet.
-#[derive(Drop)]
-struct Statement {
-    start: Start,
-    calls: Vec<Call>,
-}
-
-/// The statement that is open, if one is.
+/// The builder of the statement that is open, if one is. Contracts see what it was told.
 #[derive(Drop)]
 pub(crate) struct Script {
-    statement: Option<Statement>,
+    builder: Option<SqlBuilder>,
 }
 
 impl Model for Script {
-    ghost use Rattle.std.specs.Prelude.{Option, map, option_map};
-    ghost use Rattle.sql_builder.specs.Views.{call_view, start_view};
-    ghost use Rattle.sqlb.specs.Output.{OpenStatement};
+    ghost use Rattle.std.specs.Prelude.{List, Option, ℕ};
+    ghost use Rattle.sql_builder.specs.Clauses.{Clauses};
 
-    ghost Value = { Option OpenStatement };
+    ghost Value = { Option (Clauses (List ℕ)) };
 
-    ghost view = { λ s. option_map (λ statement. record {
-      start = start_view statement.start;
-      calls = map call_view statement.calls.items;
-    }) s.statement };
+    ghost view = { λ script. script.builder };
 }
 
 impl Script {
@@ -45,14 +33,14 @@ impl Script {
     pub(crate) fn new() -> Self
         ensures closed { result ≡ None }
     {
-        Script { statement: None }
+        Script { builder: None }
     }
 
     /// Whether a statement is open.
     pub(crate) fn is_open(&self) -> bool
         ensures is_open { result ≡ is_some self.now }
     {
-        self.statement.is_some()
+        self.builder.is_some()
     }
 
     /// Runs a line, and gives the statement that it finishes. Where it is refused, by the first
@@ -63,67 +51,57 @@ impl Script {
         line: &[u8],
     ) -> Result<Option<String>, LineError>
         ensures answer { Answers (option_map (λ s. string_bytes s)) result
-            (answer self.old (command_of line.now)) }
-        ensures after { OnOk result (self.new ≡ open_after self.old (command_of line.now)) }
+            (told_answer self.old (command_of line.now)) }
+        ensures after { OnOk result (self.new ≡ told_after self.old (command_of line.now)) }
         ensures err { OnErr result (self.new ≡ self.old) }
     {
         match read_line(alloc, line)? {
             Command::Start(start) => self.take_start(alloc, start),
             Command::Call(call) => self.take_call(call),
-            Command::Finish(finish) => self.take_finish(alloc, &finish),
+            Command::Finish(finish) => self.take_finish(&finish),
         }
     }
 
     fn take_start(&mut self, alloc: Global, start: Start) -> Result<Option<String>, LineError>
         ensures answer { Answers (option_map (λ s. string_bytes s)) result
-            (answer self.old (Ok (Starts (start_view start)))) }
+            (told_answer self.old (Ok (Starts (start_view start)))) }
         ensures after { OnOk result
-            (self.new ≡ open_after self.old (Ok (Starts (start_view start)))) }
+            (self.new ≡ told_after self.old (Ok (Starts (start_view start)))) }
         ensures err { OnErr result (self.new ≡ self.old) }
     {
-        if self.statement.is_some() {
+        if self.builder.is_some() {
             return Err(LineError::Refused(Reason::StatementOpen));
         }
-        self.statement = Some(Statement {
-            start,
-            calls: Vec::new(alloc),
-        });
+        self.builder = Some(begin(alloc, start)?);
         Ok(None)
     }
 
     fn take_call(&mut self, call: Call) -> Result<Option<String>, LineError>
         ensures answer { Answers (option_map (λ s. string_bytes s)) result
-            (answer self.old (Ok (Calls (call_view call)))) }
+            (told_answer self.old (Ok (Calls (call_view call)))) }
         ensures after { OnOk result
-            (self.new ≡ open_after self.old (Ok (Calls (call_view call)))) }
+            (self.new ≡ told_after self.old (Ok (Calls (call_view call)))) }
         ensures err { OnErr result (self.new ≡ self.old) }
     {
-        match &mut self.statement {
-            None => Err(LineError::Refused(Reason::NoStatement)),
-            Some(statement) => {
-                statement.calls.push(call)?;
-                Ok(None)
-            }
-        }
-    }
-
-    fn take_finish(&mut self, alloc: Global, finish: &Finish) -> Result<Option<String>, LineError>
-        ensures answer { Answers (option_map (λ s. string_bytes s)) result
-            (answer self.old (Ok (Finishes (finish_view finish.now)))) }
-        ensures after { OnOk result
-            (self.new ≡ open_after self.old (Ok (Finishes (finish_view finish.now)))) }
-        ensures err { OnErr result (self.new ≡ self.old) }
-    {
-        let Some(statement) = &self.statement else {
+        let Some(builder) = &mut self.builder else {
             return Err(LineError::Refused(Reason::NoStatement));
         };
-        match run(alloc, &statement.start, &statement.calls, finish) {
-            Ok(text) => {
-                self.statement = None;
-                Ok(Some(text))
-            }
-            Err(SqlBuilderError::Memory(_)) => Err(LineError::Memory),
-            Err(refusal) => Err(LineError::Refused(Reason::Builder(refusal))),
-        }
+        make(builder, call)?;
+        Ok(None)
+    }
+
+    fn take_finish(&mut self, finish: &Finish) -> Result<Option<String>, LineError>
+        ensures answer { Answers (option_map (λ s. string_bytes s)) result
+            (told_answer self.old (Ok (Finishes (finish_view finish.now)))) }
+        ensures after { OnOk result
+            (self.new ≡ told_after self.old (Ok (Finishes (finish_view finish.now)))) }
+        ensures err { OnErr result (self.new ≡ self.old) }
+    {
+        let Some(builder) = &self.builder else {
+            return Err(LineError::Refused(Reason::NoStatement));
+        };
+        let text = print(builder, finish)?;
+        self.builder = None;
+        Ok(Some(text))
     }
 }

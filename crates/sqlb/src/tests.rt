@@ -14,7 +14,7 @@ use std::test::Fail;
 
 /// Gives a few bytes a call, and fails at one call alone.
 #[derive(Drop)]
-struct Slow<'a> {
+pub(crate) struct Slow<'a> {
     rest: &'a [u8],
     step: usize,
     calls: usize,
@@ -23,7 +23,7 @@ struct Slow<'a> {
 }
 
 impl<'a> Slow<'a> {
-    fn new(rest: &'a [u8], step: usize, fails_at: usize) -> Self
+    pub(crate) fn new(rest: &'a [u8], step: usize, fails_at: usize) -> Self
         requires { 0 < step }
     {
         Slow {
@@ -53,22 +53,22 @@ impl<'a> Read for Slow<'a> {
     }
 }
 
-const HELD: usize = 128;
+pub(crate) const HELD: usize = 128;
 
 /// Takes a few bytes a write into a few places, and fails at one call alone, a write or a flush.
 #[derive(Drop)]
-struct Small {
+pub(crate) struct Small {
     bytes: [u8; HELD],
     len: usize,
     room: usize,
     step: usize,
-    calls: usize,
+    pub(crate) calls: usize,
     fails_at: usize,
     ghost fits: { (len ≤ room) × (room ≤ 128) },
 }
 
 impl Small {
-    fn new(room: usize, step: usize, fails_at: usize) -> Self
+    pub(crate) fn new(room: usize, step: usize, fails_at: usize) -> Self
         requires { room ≤ 128 }
     {
         Small {
@@ -81,7 +81,7 @@ impl Small {
         }
     }
 
-    fn held(&self) -> &[u8] {
+    pub(crate) fn held(&self) -> &[u8] {
         &self.bytes[..self.len]
     }
 }
@@ -306,7 +306,7 @@ const ROWS: [Row; 32] = [
 ];
 
 /// What is printed of a fault, and its exit status.
-fn fault_line(alloc: Global, answer: Result<(), Fault>) -> (Vec<u8>, u8) {
+pub(crate) fn fault_line(alloc: Global, answer: Result<(), Fault>) -> (Vec<u8>, u8) {
     let mut line = Watched::new(Vec::new(alloc));
     let status = match answer {
         Ok(()) => 0,
@@ -338,9 +338,9 @@ fn prints_what_the_lines_say(rt: HostRuntime) -> Result<(), Fail> {
     Ok(())
 }
 
-const TWO: &[u8] = b"select_from\tt\nsql\nselect_from\tbooks\nfield\ttitle\nsql\n";
+pub(crate) const TWO: &[u8] = b"select_from\tt\nsql\nselect_from\tbooks\nfield\ttitle\nsql\n";
 
-const TWO_PRINTS: &[u8] = b"SELECT * FROM t;\nSELECT title FROM books;\n";
+pub(crate) const TWO_PRINTS: &[u8] = b"SELECT * FROM t;\nSELECT title FROM books;\n";
 
 #[test]
 fn a_read_that_fails_ends_the_run(rt: HostRuntime) -> Result<(), Fail> {

@@ -5,7 +5,8 @@ use Rattle.std.proofs.KnownBytes.{Appends-nil}
 use Rattle.std.proofs.lemmas.Bool.Decides.{nat_tests}
 use Rattle.std.proofs.lemmas.Result.{err_from_is_err_and}
 use Rattle.sqlb.proofs.Reasons.{refused-holds_no_memory}
-use Rattle.sqlb.proofs.SoFar.{ends-fault, ends-written, fails-in, joined_texts, line_text, lines-empty, refused-fault, refused-written, so_far-first, so_far-next, stops-whole}
+use Rattle.sqlb.proofs.SoFar.{ends-fault, ends-written, fails-in, joined_texts, line_text, lines-empty, refused-by_open, refused-fault, refused-written, so_far-first, so_far-next, stops-whole}
+use Rattle.sqlb.specs.Lines.{lines}
 use Rattle.sqlb.proofs.run.run_lines.Goals as goal
 
 pub lines-init : goal.lines-init
@@ -16,7 +17,7 @@ returns-in_err-write_parts-in-Ok-Some-clause-ran g c =
     let accepts = rw c.in-Ok-Some.field-0-is at c.in-Ok-Some.ensures.answer in
     let wrote = rw c.as_bytes.ensures.value at c.in_err-write_parts-in-Ok-Some.ensures.wrote in
     let p = err_from_is_err_and c.from_residual.result c.from_residual.ensures.1 in
-    fails-in _ _ _ _ _ _ c.lines.invariant.3 _ c.split_line.result.1.now c.split_line.ensures.lines _ _ _ _ _ accepts wrote (rw (p.1, p.2))
+    fails-in _ _ _ _ _ _ c.lines.invariant.3 _ (lines c.split_line.result.1.now) c.split_line.ensures.lines _ _ _ _ _ accepts wrote (rw (p.1, p.2))
 
 pub lines-preserved-in-Ok-Some : goal.lines-preserved-in-Ok-Some
 lines-preserved-in-Ok-Some g c =
@@ -25,7 +26,7 @@ lines-preserved-in-Ok-Some g c =
       wrote.2.1,
       c.write_parts.ensures.ended ∙ c.lines.invariant.1,
       omega (arith, c.lines.invariant.2, c.split_line.ensures.shorter),
-      so_far-next _ _ _ _ _ _ c.lines.invariant.3 _ c.split_line.result.1.now c.split_line.ensures.lines _ _ _ accepts c.in-Ok-Some.ensures.after
+      so_far-next _ _ _ _ _ _ c.lines.invariant.3 _ (lines c.split_line.result.1.now) c.split_line.ensures.lines _ _ _ accepts c.in-Ok-Some.ensures.after
           (subst (Appends _ _) (wrote.2.0 ∙ line_text _) wrote.1),
     )
 
@@ -35,7 +36,7 @@ lines-preserved g c =
       c.lines.invariant.0,
       c.lines.invariant.1,
       omega (arith, c.lines.invariant.2, c.split_line.ensures.shorter),
-      so_far-next _ _ _ _ _ _ c.lines.invariant.3 _ c.split_line.result.1.now c.split_line.ensures.lines _ _ _ accepts c.in-Ok-None.ensures.after (Appends-nil _),
+      so_far-next _ _ _ _ _ _ c.lines.invariant.3 _ (lines c.split_line.result.1.now) c.split_line.ensures.lines _ _ _ accepts c.in-Ok-None.ensures.after (Appends-nil _),
     )
 
 pub returns-in-Err-Refused-clause-ran : goal.returns-in-Err-Refused-clause-ran
@@ -45,8 +46,8 @@ returns-in-Err-Refused-clause-ran g c =
       joined_texts so_far.texts,
       so_far.written,
       (
-        rw c.in-Err-Refused.field-0-is (refused-fault _ _ _ _ _ _ so_far _ c.split_line.result.1.now c.split_line.ensures.lines _ refused),
-        refused-written _ _ _ _ _ _ so_far _ c.split_line.result.1.now c.split_line.ensures.lines _ refused,
+        rw c.in-Err-Refused.field-0-is (refused-fault _ _ _ _ _ _ so_far _ (lines c.split_line.result.1.now) c.split_line.ensures.lines _ refused),
+        refused-written _ _ _ _ _ _ so_far _ (lines c.split_line.result.1.now) c.split_line.ensures.lines _ refused,
       ),
     )
 
@@ -74,4 +75,5 @@ returns-clause-ran g c =
 pub returns-in-Err-Refused-clause-no_memory : goal.returns-in-Err-Refused-clause-no_memory
 returns-in-Err-Refused-clause-no_memory g c =
     let refused = rw c.in-Err-Refused.field-0-is at c.in-Err-Refused.ensures.answer in
-    rw c.in-Err-Refused.field-0-is (refused-holds_no_memory c.lines.script c.split_line.result.0.now _ refused)
+    rw c.in-Err-Refused.field-0-is (refused-holds_no_memory _ c.split_line.result.0.now _
+    (refused-by_open _ _ _ _ _ _ c.lines.invariant.3 _ (lines c.split_line.result.1.now) c.split_line.ensures.lines _ refused))

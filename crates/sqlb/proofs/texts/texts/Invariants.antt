@@ -1,6 +1,9 @@
-use Rattle.std.proofs.Common.{◌≡◌, map, take}
+use Rattle.std.proofs.Common.{◌≡◌, ◌++◌, length, map}
 use Rattle.std.specs.Prelude.{string_bytes}
 use Rattle.sqlb.proofs.texts.texts.Given as goal
 
-abbrev pub invariant-loop-argument : goal.invariant-loop-argument
-invariant-loop-argument l = map (λ text. string_bytes text) l.texts.items ≡ map (λ argument. argument.now) (take l.argument-index l.arguments)
+abbrev pub invariant-arguments : goal.invariant-arguments
+invariant-arguments l = map (λ text. string_bytes text) l.texts.items ++ l.arguments ≡ l.fn.arguments
+
+abbrev pub decreases-arguments : goal.decreases-arguments
+decreases-arguments l = length l.arguments

@@ -1,0 +1,60 @@
+-- What a builder was told stands for the open statement.
+use Rattle.std.proofs.Common.{◌≡◌, ℕ, List, [], ◌∷◌, ◌++◌, Option, None, Some, Result, Ok, Err, String, string_bytes, refl, ap, sym}
+use Rattle.std.specs.Prelude.{IfSome, is_some, option_map}
+use Rattle.sql_builder.specs.Builder.{ClauseTexts}
+use Rattle.sql_builder.specs.Calls.{StartText, CallText, FinishText, clauses}
+use Rattle.sql_builder.specs.Clauses.{Clauses, map_clauses}
+use Rattle.sql_builder.specs.SqlBuilderError.{SqlBuilderError}
+use Rattle.sql_builder.specs.Statement.{layout_at, refusal_at, pieces_at, text_at, text_unless_refused, unless_refused}
+use Rattle.sql_builder.specs.Text.{Pieces, fixed_piece, pieces_text, raw_piece}
+use Rattle.sql_builder.proofs.Runs.{clauses-snoc, text_of_layout}
+use Rattle.sqlb.specs.Lines.{CommandResult, Starts, Calls, Finishes}
+use Rattle.sqlb.specs.Output.{OpenStatement, answer, finish_answer}
+use Rattle.sqlb.specs.Script.{printed, told, told_after, told_answer}
+
+printed-pieces : (finish : FinishText) (r : Clauses Pieces)
+    → text_unless_refused (pieces_at finish r) ≡ printed finish (map_clauses pieces_text r)
+printed-pieces finish r = by (refusal_at finish (map_clauses pieces_text r))
+  where
+    by : (o : Option SqlBuilderError) → text_unless_refused (unless_refused o (layout_at fixed_piece raw_piece finish r))
+        ≡ unless_refused o (text_at finish (map_clauses pieces_text r))
+    by None = ap Ok (text_of_layout finish r)
+    by (Some refusal) = refl
+
+-- the statement that is open after a line, by what was open before it
+abbrev pub open_after : Option OpenStatement → CommandResult → Option OpenStatement
+open_after before (Ok (Starts start)) = Some (record { start = start; calls = [] })
+open_after before (Ok (Calls call)) =
+    option_map (λ open_statement. record { start = open_statement.start; calls = open_statement.calls ++ call ∷ [] })
+    before
+open_after before (Ok (Finishes finish)) = None
+open_after before (Err reason) = before
+
+pub told-answer : (o : Option OpenStatement) (s : CommandResult) → answer o s ≡ told_answer (option_map told o) s
+told-answer o (Err reason) = refl
+told-answer None (Ok (Starts start)) = refl
+told-answer (Some inside) (Ok (Starts start)) = refl
+told-answer None (Ok (Calls call)) = refl
+told-answer (Some inside) (Ok (Calls call)) = refl
+told-answer None (Ok (Finishes finish)) = refl
+told-answer (Some inside) (Ok (Finishes finish)) = ap finish_answer (printed-pieces finish (clauses inside.start inside.calls))
+
+pub told-after : (o : Option OpenStatement) (s : CommandResult) → option_map told (open_after o s) ≡ told_after (option_map told o) s
+told-after o (Err reason) = refl
+told-after o (Ok (Starts start)) = refl
+told-after o (Ok (Finishes finish)) = refl
+told-after None (Ok (Calls call)) = refl
+told-after (Some inside) (Ok (Calls call)) = ap (λ r. Some r) (clauses-snoc inside.start inside.calls call)
+
+pub told-is_some : (o : Option OpenStatement) → is_some (option_map told o) ≡ is_some o
+told-is_some None = refl
+told-is_some (Some inside) = refl
+
+-- a text that was printed is what the finish answers
+pub prints_told : {Z : Type 0} (finish : FinishText) (r : ClauseTexts) (s : String Z) (result : Result (String Z) SqlBuilderError) → result ≡ Ok s
+    → string_bytes s ≡ text_at finish r → IfSome (refusal_at finish r) (λ refusal. result ≡ Err refusal) → finish_answer (printed finish r) ≡ Ok (Some (string_bytes s))
+prints_told finish r s result is text = by (refusal_at finish r)
+  where
+    by : (o : Option SqlBuilderError) → IfSome o (λ refusal. result ≡ Err refusal) → finish_answer (unless_refused o (text_at finish r)) ≡ Ok (Some (string_bytes s))
+    by None refused = ap (λ (t : List ℕ). Ok (Some t)) (sym text)
+    by (Some refusal) refused = cc

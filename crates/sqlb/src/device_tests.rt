@@ -1,0 +1,64 @@
+//! Runs and faults over devices that fail at each of their calls.
+
+use crate::fault::{Fault, Reason};
+use crate::output::write_fault;
+use crate::run::run_input;
+use crate::tests::{HELD, Slow, Small, TWO, TWO_PRINTS, fault_line};
+use crate::watched::Watched;
+use std::test::Fail;
+
+/// How many bytes a write takes, and how many writes print `TWO_PRINTS`: each statement and each
+/// line feed behind one is written by itself.
+const STEPS: [(usize, usize); 4] = [(1, 42), (5, 11), (16, 5), (HELD, 4)];
+
+#[test]
+fn each_write_that_fails_ends_the_run(rt: HostRuntime) -> Result<(), Fail> {
+    for (step, calls) in STEPS {
+        for at in 1..=calls + 1 {
+            let mut reader = Watched::new(Slow::new(TWO, 7, 0));
+            let mut writer = Watched::new(Small::new(HELD, step, at));
+            let answer = run_input(rt.alloc(), &mut reader, &mut writer);
+            let fails = at <= calls;
+            assert_eq!(rt; writer.failed(), fails, "step {step} at {at}");
+            let writer = writer.into_inner();
+            assert_eq!(rt; writer.calls, at.min(calls), "step {step} at {at}");
+            assert!(rt;
+                TWO_PRINTS.starts_with(writer.held()),
+                "step {step} at {at}"
+            );
+            assert_eq!(rt; writer.held() == TWO_PRINTS, !fails, "step {step} at {at}");
+            let (line, exit) = fault_line(rt.alloc(), answer);
+            let wanted: &[u8] = if fails { b"write failed\n" } else { b"" };
+            assert_eq!(rt; line.as_slice(), wanted, "step {step} at {at}");
+            assert_eq!(rt; exit, if fails { 2 } else { 0 }, "step {step} at {at}");
+        }
+    }
+    Ok(())
+}
+
+#[test]
+fn each_write_of_a_fault_that_fails_is_answered(rt: HostRuntime) -> Result<(), Fail> {
+    let faults: [(Fault, &[u8]); 4] = [
+        (
+            Fault::At(12, Reason::UnknownCall),
+            b"line 12: unknown call\n",
+        ),
+        (Fault::Memory, b"Out of memory\n"),
+        (Fault::Read, b"read failed\n"),
+        (Fault::Write, b"write failed\n"),
+    ];
+    for (fault, line) in faults.iter() {
+        for at in 1..=line.len() + 1 {
+            let mut writer = Watched::new(Small::new(HELD, 1, at));
+            let answer = write_fault(fault, &mut writer);
+            let fails = at <= line.len();
+            assert_eq!(rt; matches!(answer, Err(Fault::Write)), fails, "at {at}");
+            assert_eq!(rt; answer.is_ok(), !fails, "at {at}");
+            assert_eq!(rt; writer.failed(), fails, "at {at}");
+            let writer = writer.into_inner();
+            assert_eq!(rt; writer.calls, at.min(line.len()), "at {at}");
+            assert_eq!(rt; writer.held(), &line[..at - 1], "at {at}");
+        }
+    }
+    Ok(())
+}
