@@ -1,9 +1,8 @@
 //! Clones: each has every clause of its builder, and neither sees what the other is told.
 
 use crate::every_call::{
-    EVERY_START_AND_FINISH, Finish, sql, tell_every_call, tell_every_call_after,
+    EVERY_START_AND_FINISH, Finish, Made, sql, tell_every_call, tell_every_call_after,
 };
-use crate::rows::Made;
 use sql_builder::{SqlBuilder, SqlBuilderError};
 use std::test::Fail;
 
@@ -26,6 +25,22 @@ fn a_clone_is_a_builder_of_its_own(rt: HostRuntime) -> Result<(), Fail> {
     let made = join_to_clone(&builder)?;
     assert_eq!(rt; made.as_str(), "SELECT * FROM a NATURAL LEFT JOIN b;");
     assert!(rt; is_printed(&builder, sql, "SELECT * FROM a;")?);
+    Ok(())
+}
+
+fn tell_apart(builder: &mut SqlBuilder) -> Made {
+    let mut clone = builder.clone()?;
+    builder.or_where("b")?;
+    clone.or_where("c")?.and_where("d")?.sql()
+}
+
+#[test]
+fn a_clone_does_not_see_what_its_builder_is_told(rt: HostRuntime) -> Result<(), Fail> {
+    let mut builder = SqlBuilder::select_from(rt.alloc(), "t")?;
+    builder.and_where("a")?;
+    let made = tell_apart(&mut builder)?;
+    assert_eq!(rt; made.as_str(), "SELECT * FROM t WHERE (a OR c) AND (d);");
+    assert!(rt; is_printed(&builder, sql, "SELECT * FROM t WHERE a OR b;")?);
     Ok(())
 }
 

@@ -1,10 +1,16 @@
 //! One call of each case after each start, and what each finish prints of it.
 
-use crate::rows::{Made, Start};
 use sql_builder::{SqlBuilder, SqlBuilderError};
 use std::alloc::Global;
 use std::test::Fail;
 
+/// What a builder prints, or why it prints nothing.
+pub(crate) type Made = Result<String, SqlBuilderError>;
+
+/// The call that begins a builder.
+pub(crate) type Start = fn(Global) -> Result<SqlBuilder, SqlBuilderError>;
+
+/// The call that prints a builder.
 pub(crate) type Finish = fn(&SqlBuilder) -> Made;
 
 type Started = Result<SqlBuilder, SqlBuilderError>;
@@ -70,7 +76,11 @@ pub(crate) const EVERY_START_AND_FINISH: [(Start, Finish, &str); 9] = [
         sql,
         "UPDATE t, u SET p = 1, q = 'it''s' WHERE (r) AND (s > 7) RETURNING id;",
     ),
-    (delete_from, sql, "DELETE FROM t, u WHERE (r) AND (s > 7);"),
+    (
+        delete_from,
+        sql,
+        "DELETE FROM t, u WHERE (r) AND (s > 7) RETURNING id;",
+    ),
     (
         delete_from,
         query,

@@ -1,8 +1,7 @@
 //! A builder that prints twice. `tests/growths` runs each of these with each of its growths refused,
 //! and reads what is shown.
 
-use crate::every_call::{Finish, query, query_values, sql, subquery};
-use crate::rows::Made;
+use crate::every_call::{Finish, Made, query, query_values, sql, subquery};
 use sql_builder::{SqlBuilder, SqlBuilderError};
 use std::alloc::Global;
 use std::io::Write;

@@ -1,6 +1,8 @@
 //! What the tests of fragments answer, through the calls themselves.
 use sql_parts::bind::Marks;
-use sql_parts::laws::{bound_texts_keep_the_count, tokens_join_at_edges};
+use sql_parts::laws::{
+    bound_texts_keep_the_count, doubling_is_undone, tokens_join_at_edges, unmarked_is_unchanged,
+};
 use sql_parts::lex::{
     has_clause_word, has_dangling, has_semicolon, is_balanced, is_closed, is_operand, stands_apart,
 };
@@ -60,8 +62,8 @@ const TEMPLATES: &[(&str, Marks<'static>, bool)] = &[
     ("a.?", Marks::First, false),
     ("$1a", Marks::Nums(1), false),
     ("a -- ?\n", Marks::First, false),
-    ("a = $12 AND b = $1", Marks::Num(1), false),
-    ("$12", Marks::Num(1), false),
+    ("a = $12 AND b = $1", Marks::Num(1), true),
+    ("$12", Marks::Num(1), true),
     ("b = $1", Marks::Num(1), true),
     ("x", Marks::Cycle(0), true),
     ("é = ?", Marks::First, true),
@@ -82,7 +84,9 @@ fn tests_templates(rt: HostRuntime) -> Result<(), Fail> {
 }
 
 #[test]
-fn states_the_laws_of_tokens() {
+fn states_the_laws_of_templates() {
+    doubling_is_undone();
+    unmarked_is_unchanged();
     tokens_join_at_edges();
     bound_texts_keep_the_count();
 }

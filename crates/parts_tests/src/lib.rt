@@ -1,12 +1,12 @@
-//! Tests of `sql_parts`: what no clause says, and rows through the calls themselves.
+//! Tests of `sql_parts` that aren't rows; rows of calls stand in `tests/calls.md` and `docs/CALLS.md`.
 #![tactic(auto)]
 
 #[cfg(test)]
 mod bind_sample;
 #[cfg(test)]
-mod binding;
-#[cfg(test)]
 mod fragments;
+#[cfg(test)]
+mod hostile;
 #[cfg(test)]
 mod names;
 #[cfg(test)]

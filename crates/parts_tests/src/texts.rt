@@ -131,7 +131,9 @@ fn doubles<T: ToText>(alloc: Global, value: T, wanted: &str) -> Result<bool, Sql
 }
 
 fn has_literal<A: SqlArg>(alloc: Global, value: A, wanted: &str) -> Result<bool, SqlBuilderError> {
-    Ok(value.sql_arg(alloc)?.as_str() == wanted)
+    let mut pushed = String::new(alloc);
+    value.push_sql_arg(alloc, &mut pushed)?;
+    Ok(pushed.as_str() == wanted && value.sql_arg(alloc)?.as_str() == wanted)
 }
 
 #[test]
@@ -147,6 +149,31 @@ fn appends_the_text_of_a_value(rt: HostRuntime) -> Result<(), Fail> {
     );
     assert!(rt; appends(heap, -5, "a -5")?, "number");
     assert!(rt; appends(heap, Id(7), "a it's 7")?, "own type");
+    Ok(())
+}
+
+#[test]
+fn knows_lengths(rt: HostRuntime) -> Result<(), Fail> {
+    let foo = String::from_str(rt.alloc(), "foo")?;
+    assert_eq!(rt; "é".known_length(), Some(2), "&str");
+    assert_eq!(rt; foo.known_length(), Some(3), "String");
+    assert_eq!(rt; (&foo).known_length(), Some(3), "&String");
+    assert_eq!(rt;
+        CowStr::<Global>::Borrowed("foo").known_length(),
+        Some(3),
+        "CowStr"
+    );
+    assert_eq!(rt; 5.known_length(), None, "number");
+    Ok(())
+}
+
+#[test]
+fn keeps_a_string_that_is_handed_in(rt: HostRuntime) -> Result<(), Fail> {
+    let mut foo = String::with_capacity(rt.alloc(), 100)?;
+    foo.push_str("foo")?;
+    let text = foo.into_text(rt.alloc())?;
+    assert_eq!(rt; text.as_str(), "foo");
+    assert!(rt; text.capacity() >= 100, "a copy has no room to spare");
     Ok(())
 }
 
@@ -350,6 +377,7 @@ fn tells_why_a_call_is_refused(rt: HostRuntime) -> Result<(), Fail> {
         (SqlBuilderError::NoTableName, "No table name"),
         (SqlBuilderError::NoValues, "No values"),
         (SqlBuilderError::NoSetFields, "No set fields"),
+        (SqlBuilderError::NoGroupBy, "No group by"),
         (SqlBuilderError::NoArguments, "No arguments"),
         (SqlBuilderError::Memory(AllocError), "Out of memory"),
         (SqlBuilderError::from(AllocError), "Out of memory"),

@@ -9,7 +9,7 @@ use Rattle.sql_builder.specs.Fitting.{has_fit_texts}
 use Rattle.sql_builder.specs.Meaning.{HasTruthOf, condition_groups}
 use Rattle.sql_builder.specs.declared.condition.Family.TheVariants.{And}
 use Rattle.sql_parts.specs.Tokens.{Token, tokens}
-use Rattle.builder_tests.proofs.callers.books_where.Goals as goal
+use Rattle.callers.proofs.lists.books_where.Goals as goal
 
 -- what the two tests said of a text
 asked : (text : List ℕ) (level words : Bool) → level ≡ balanced text → level ≡ true → words ≡ has_clause_word text → words ≡ false → is_fit (Bare text) ≡ true

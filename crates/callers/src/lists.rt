@@ -1,19 +1,30 @@
-//! What a caller knows who asks the tests of fragments before it hands a text in.
-ghost use Rattle.std.specs.Prelude.{◌≡◌, ◌&&◌, [], ◌∷◌, IfOk, IfSome, is_some, string_bytes};
+//! Lists of calls, as values.
+ghost use Rattle.std.specs.Prelude.{◌≡◌, ◌&&◌, [], ◌∷◌, codes, is_some, map, string_bytes, IfOk, IfSome, Ok};
+ghost use Rattle.sql_builder.specs.Calls.{SelectFrom, Sql};
 ghost use Rattle.sql_builder.specs.Handed.{Bare, is_fit};
 ghost use Rattle.sql_builder.specs.Meaning.{HasTruthOf};
-ghost use Rattle.sql_parts.specs.Tokens.{tokens};
+ghost use Rattle.sql_builder.specs.Statement.{statement};
+ghost use Rattle.sql_builder.specs.Tokens.{tokens};
+ghost use Rattle.sql_builder.specs.Views.{call_view};
 
 use sql_builder::SqlBuilderError;
 use sql_builder::calls::{Call, Condition, Family, Finish, Start, run};
 use sql_builder::laws::fit_texts_make_fit_fragments;
 use sql_builder::lex::{has_clause_word, is_balanced};
 use std::alloc::Global;
-use std::test::Fail;
+
+/// The statement that these calls make of the table of books.
+pub fn of_books(alloc: Global, calls: &[Call]) -> Result<String, SqlBuilderError>
+    ensures statement { IfOk result (λ s. statement (SelectFrom (codes "books"))
+        (map call_view calls.now) Sql ≡ Ok (string_bytes s)) }
+{
+    let start = Start::SelectFrom(String::from_str(alloc, "books")?);
+    run(alloc, &start, calls, &Finish::Sql)
+}
 
 /// The books that meet both conditions, where these leave the statement as it is: its WHERE is
 /// true where both of them are, whatever they say.
-fn books_where(alloc: Global, one: &str, other: &str) -> Result<Option<String>, SqlBuilderError>
+pub fn books_where(alloc: Global, one: &str, other: &str) -> Result<Option<String>, SqlBuilderError>
     ensures asked { IfOk result (λ found. is_some found
         ≡ (is_fit (Bare one.now) && is_fit (Bare other.now))) }
     ensures truth { IfOk result (λ found. IfSome found (λ statement. HasTruthOf
@@ -30,18 +41,4 @@ fn books_where(alloc: Global, one: &str, other: &str) -> Result<Option<String>, 
     let condition = Condition::Raw(String::from_str(alloc, other)?);
     calls.push(Call::Cond(Family::And, condition))?;
     Ok(Some(run(alloc, &start, &calls, &Finish::Sql)?))
-}
-
-#[test]
-fn hands_in_what_leaves_the_statement_as_it_is(rt: HostRuntime) -> Result<(), Fail> {
-    let made = books_where(rt.alloc(), "price < 9 OR new", "stock > 0")?;
-    assert_eq!(rt;
-        made.as_deref(),
-        Some("SELECT * FROM books WHERE (price < 9 OR new) AND (stock > 0);")
-    );
-    let refused = books_where(rt.alloc(), "a) OR (b", "stock > 0")?;
-    assert!(rt; refused.is_none(), "brackets that close too early");
-    let refused = books_where(rt.alloc(), "stock > 0", "a UNION SELECT b")?;
-    assert!(rt; refused.is_none(), "a word that begins a clause");
-    Ok(())
 }

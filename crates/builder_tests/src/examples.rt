@@ -1,0 +1,78 @@
+//! Each example of the crate `callers` runs once.
+
+use callers::chains::{dearer, limit, titles_printed};
+use callers::lists::{books_where, of_books};
+use callers::strangers::{filled, titled};
+use callers::values::{Cents, Column, above, between, title};
+use sql_builder::SqlBuilderError;
+use sql_builder::prelude::*;
+use std::alloc::Global;
+use std::test::Fail;
+
+#[test]
+fn writes_values(rt: HostRuntime) -> Result<(), Fail> {
+    let alloc = rt.alloc();
+    assert_eq!(rt; above(alloc, Cents(900))?.as_str(), "price > 900");
+    assert_eq!(rt; title(alloc)?.as_str(), "b.title");
+    assert_eq!(rt; between(alloc, 5, 9)?.as_str(), "price BETWEEN 5 AND 9");
+    Ok(())
+}
+
+fn cheapest(alloc: Global) -> Result<String, SqlBuilderError> {
+    let mut builder = SqlBuilder::select_from(alloc, "books")?;
+    builder.field(Column::Title)?.order_asc(Column::Price)?;
+    limit(&mut builder, Some(2))?;
+    builder.sql()
+}
+
+#[test]
+fn makes_chains(rt: HostRuntime) -> Result<(), Fail> {
+    let alloc = rt.alloc();
+    assert_eq!(rt;
+        cheapest(alloc)?.as_str(),
+        "SELECT title FROM books ORDER BY price LIMIT 2;"
+    );
+    assert_eq!(rt;
+        titles_printed(alloc, None)?.as_str(),
+        "SELECT title FROM books;"
+    );
+    assert_eq!(rt;
+        dearer(alloc, 9)?.as_str(),
+        "SELECT title FROM books WHERE price > 9;"
+    );
+    Ok(())
+}
+
+#[test]
+fn quotes_strangers_texts(rt: HostRuntime) -> Result<(), Fail> {
+    let alloc = rt.alloc();
+    assert_eq!(rt;
+        titled(alloc, "it's; --")?.as_str(),
+        "SELECT * FROM books WHERE title = 'it''s; --';"
+    );
+    let mut args: Vec<Box<dyn SqlArg>> = Vec::new(alloc);
+    args.push(Box::new(alloc, 7)?)?;
+    assert_eq!(rt;
+        filled(alloc, "a = ?", args.as_slice())?.as_deref(),
+        Some("a = 7")
+    );
+    let refused = filled(alloc, "a = '?'", args.as_slice())?;
+    assert!(rt; refused.is_none(), "a marker between quotes");
+    Ok(())
+}
+
+#[test]
+fn hands_in_what_leaves_the_statement_as_it_is(rt: HostRuntime) -> Result<(), Fail> {
+    let alloc = rt.alloc();
+    assert_eq!(rt; of_books(alloc, &[])?.as_str(), "SELECT * FROM books;");
+    let made = books_where(alloc, "price < 9 OR new", "stock > 0")?;
+    assert_eq!(rt;
+        made.as_deref(),
+        Some("SELECT * FROM books WHERE (price < 9 OR new) AND (stock > 0);")
+    );
+    let refused = books_where(alloc, "a) OR (b", "stock > 0")?;
+    assert!(rt; refused.is_none(), "brackets that close too early");
+    let refused = books_where(alloc, "stock > 0", "a UNION SELECT b")?;
+    assert!(rt; refused.is_none(), "a word that begins a clause");
+    Ok(())
+}

@@ -1,0 +1,16 @@
+-- The columns of the table of books.
+use Rattle.std.specs.Prelude.{ℕ, List, Option, Some, None, codes}
+use Rattle.sql_builder.specs.Builder.{ClauseTexts, with_limit}
+use Rattle.sql_builder.specs.Texts.{decimal_text}
+use Rattle.callers.specs.declared.values.Column.{Column}
+use Rattle.callers.specs.declared.values.Column.TheVariants.{Title, Price}
+
+-- a column's name
+abbrev pub column_text : Column → List ℕ
+column_text Title = codes "title"
+column_text Price = codes "price"
+
+-- at most so many, where that is said
+abbrev pub limited : Option ℕ → ClauseTexts → ClauseTexts
+limited None r = r
+limited (Some most) r = with_limit (decimal_text most) r

@@ -1,0 +1,8 @@
+//! Examples for those who call `sql_parts` and `sql_builder` in code with contracts of its own: each
+//! is proved. `docs/CALLING.md` reads them one by one.
+#![tactic(auto)]
+
+pub mod chains;
+pub mod lists;
+pub mod strangers;
+pub mod values;
