@@ -1,0 +1,87 @@
+"""Builds the programs that are measured, each optimized. Each function answers where a program is, or None where it can't be had."""
+import os
+import shutil
+import subprocess
+import sys
+
+BENCH = os.path.dirname(os.path.realpath(__file__))
+ROOT = os.path.dirname(BENCH)
+
+
+def say(text):
+    print(text, file=sys.stderr, flush=True)
+
+
+def is_there(tool):
+    return shutil.which(tool) is not None
+
+
+def is_same(folder, other):
+    return subprocess.run(["diff", "-rq", folder, other], capture_output=True).returncode == 0
+
+
+def made(program, words, folder, log):
+    """Runs a command that makes a program, with what it says in a file, and answers the program."""
+    with open(log, "wb") as out:
+        status = subprocess.run(words, cwd=folder, stdin=subprocess.DEVNULL, stdout=out, stderr=out).returncode
+    if status:
+        say(f"`{' '.join(words)}` failed in {folder}: {log} has what it said")
+    return program if status == 0 else None
+
+
+def sqlb(work):
+    """The program of the repository, as `rt run` proves and builds it; without `rt` the one that is there."""
+    folder = f"{ROOT}/crates/sqlb"
+    program = f"{folder}/out/sqlb"
+    if not is_there("rt"):
+        return program if os.path.isfile(program) else None
+    say("proving and building sqlb")
+    return made(program, ["rt", "run"], folder, f"{work}/sqlb.log")
+
+
+def copy_crate(name, copy):
+    """Copies a crate, with what was proved of it, where no copy is there that is the same."""
+    crate = f"{ROOT}/crates/{name}"
+    parts = [part for part in ("src", "specs", "proofs") if os.path.isdir(f"{crate}/{part}")]
+    if all(is_same(f"{crate}/{part}", f"{copy}/{part}") for part in parts):
+        return
+    shutil.rmtree(copy, ignore_errors=True)
+    os.makedirs(copy)
+    for part in (*parts, "out"):
+        if os.path.isdir(f"{crate}/{part}"):
+            subprocess.run(["cp", "-a", f"{crate}/{part}", copy], check=True)
+
+
+def library(work):
+    """Our program of the library's calls, as `rt run` proves and builds it in a project beside copies of the crates."""
+    if not is_there("rt"):
+        return None
+    say("proving and building the library's calls")
+    project = f"{work}/project"
+    for name in ("sql_parts", "sql_builder"):
+        copy_crate(name, f"{project}/crates/{name}")
+    folder = f"{project}/crates/bench_library"
+    os.makedirs(f"{folder}/src", exist_ok=True)
+    shutil.copyfile(f"{BENCH}/library/main.rt.txt", f"{folder}/src/main.rt")
+    with open(f"{project}/crates.txt", "w", encoding="utf-8") as file:
+        file.write("sql_parts:\nsql_builder: sql_parts\nbench_library: sql_builder sql_parts anyhow\n")
+    return made(f"{folder}/out/bench_library", ["rt", "run", "--", "name", "0"], folder, f"{work}/library.log")
+
+
+def is_original(folder):
+    return os.path.isfile(f"{folder}/lib.rs.txt")
+
+
+def original(work, sources):
+    """The folder of both programs over the Rust crate, whose sources are in another."""
+    folder = f"{work}/original"
+    if not is_original(sources) or not is_there("cargo"):
+        return None
+    say("building the Rust crate")
+    shutil.copytree(f"{BENCH}/original", folder, dirs_exist_ok=True)
+    os.makedirs(f"{folder}/crate/src", exist_ok=True)
+    for name in ("arg", "bind", "error", "lib", "name", "prelude"):
+        shutil.copyfile(f"{sources}/{name}.rs.txt", f"{folder}/crate/src/{name}.rs")
+    programs = f"{folder}/target/release"
+    words = ["cargo", "build", "--release", "--offline", "--target-dir", "target"]
+    return made(programs, words, folder, f"{work}/cargo.log")

@@ -1,0 +1,53 @@
+"""Runs programs and measures them. A program is a list of words, and reads a file."""
+import os
+import re
+import subprocess
+import sys
+
+TIME = "/usr/bin/time"
+
+
+def run(words, source, out=os.devnull):
+    """Runs a program, with its output to a file, and gives what it used."""
+    with open(source, "rb") as read, open(out, "wb") as written:
+        process = subprocess.Popen(words, stdin=read, stdout=written)
+        _, status, usage = os.wait4(process.pid, 0)
+    process.returncode = os.waitstatus_to_exitcode(status)
+    if process.returncode:
+        sys.exit(f"{' '.join(words)} < {source} ended with status {process.returncode}")
+    return usage
+
+
+def seconds(words, source):
+    """The processor time of one run."""
+    usage = run(words, source)
+    return usage.ru_utime + usage.ru_stime
+
+
+def least_seconds(programs, rounds):
+    """The least processor time of each program, which take turns; each is its words and its file."""
+    taken = [[seconds(*program) for program in programs] for _ in range(rounds)]
+    return [min(times) for times in zip(*taken)]
+
+
+def megabytes(words, source, work):
+    """The greatest memory of one run. It is asked of `time`, which is small: what runs a program counts as part of it."""
+    file = f"{work}/memory"
+    run([TIME, "-f", "%M", "-o", file, *words], source)
+    with open(file, encoding="utf-8") as read:
+        return int(read.read()) / 1024
+
+
+def count(words, source, file):
+    """The instructions of one run, by callgrind, which writes its file."""
+    run(["valgrind", "-q", "--tool=callgrind", f"--callgrind-out-file={file}", *words], source)
+    with open(file, encoding="utf-8") as read:
+        return int(re.search(r"^(?:summary|totals): (\d+)", read.read(), re.MULTILINE)[1])
+
+
+def profile(file, most):
+    """The functions that took the most instructions of a run, each with its part, of the file that callgrind wrote."""
+    words = ["callgrind_annotate", "--threshold=100", file]
+    told = subprocess.run(words, capture_output=True, text=True, check=True).stdout
+    found = re.findall(r"^ *[\d,]+ \( *([\d.]+)%\) +\S*?:([^/\n]*?) \[", told, re.MULTILINE)
+    return [f"{float(part):5.1f} % {name}" for part, name in found[:most]]

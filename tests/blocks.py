@@ -1,0 +1,213 @@
+"""Reads pages: their blocks of code and their tables; and blocks of Rust as statements with the comments behind them."""
+
+import re
+from dataclasses import dataclass, field
+
+ITEM_WORDS = ("use ", "pub ", "fn ", "struct ", "enum ", "impl ", "impl<", "trait ", "const ", "mod ", "#[")
+# A comment right above further code is of the statement before it only where it is a statement of SQL.
+PRINTED = re.compile(r"(SELECT|INSERT INTO|UPDATE|DELETE FROM) ")
+TOKEN = re.compile(r"""//[^\n]*|"(?:[^"\\]|\\.)*"|'(?:[^'\\\n]|\\(?:.|u\{[0-9a-f]+\}))'|[()\[\]{};]|\n|[^\n]""", re.S)
+
+
+@dataclass
+class Block:
+    """A block of code: the page and line where it begins, the word behind its fence, and its lines."""
+
+    page: str
+    line: int
+    language: str
+    is_fenced: bool = True
+    lines: list = field(default_factory=list)
+
+    @property
+    def text(self):
+        return "\n".join(self.lines) + "\n"
+
+    @property
+    def place(self):
+        return f"{self.page}:{self.line}"
+
+
+@dataclass
+class Table:
+    """A table: the code in the text before it, its head, and its rows, each with its line."""
+
+    page: str
+    line: int
+    before: list
+    head: list
+    rows: list
+
+
+@dataclass
+class Statement:
+    """A statement: where it begins in its block, its code, and what the comment behind it says, if there is one."""
+
+    line: int
+    code: str
+    says: str = ""
+
+    @property
+    def is_item(self):
+        return self.code.startswith(ITEM_WORDS)
+
+
+def split_spans(text):
+    """The text split at its code, as Markdown reads it: what is no code, and code, in turn."""
+    parts = re.split(r"(?<!`)(`+)(?!`)(.+?)(?<!`)\1(?!`)", text)
+    code = [it[1:-1] if re.fullmatch(r" .*\S.* ", it) else it for it in parts[2::3]]
+    return [it for pair in zip(parts[::3], [*code, ""]) for it in pair][:-1]
+
+
+def code_spans(text):
+    return split_spans(text)[1::2]
+
+
+def cells(row):
+    """The cells of a table's row, where a `|` in a text has a backslash before it."""
+    return [it.strip().replace("\\|", "|") for it in re.split(r"(?<!\\)\|", row.strip())[1:-1]]
+
+
+class Page:
+    """The blocks and the tables of a page, in their order."""
+
+    def __init__(self, name, text):
+        self.name, self.parts, self.paragraph, self.last = name, [], [], ""
+        self.open, self.fence, self.is_list = None, "", False
+        for number, line in enumerate(text.split("\n"), 1):
+            self.read(number, line)
+        self.end()
+
+    def end(self):
+        """Ends an open block or table."""
+        if isinstance(self.open, Block):
+            while self.open.lines and not self.open.lines[-1].strip():
+                self.open.lines.pop()
+        if self.open:
+            self.parts.append(self.open)
+            self.last = ""
+        self.open, self.fence = None, ""
+
+    def read(self, number, line):
+        if self.fence:
+            self.read_fenced(line)
+        elif fence := re.match(r"\s*(```+)(\w*)\s*$", line):
+            self.end()
+            self.open, self.fence = Block(self.name, number + 1, fence[2] or "text"), fence[1]
+        elif re.match(r"    \S", line) and not self.is_list and not self.paragraph or self.goes_on_indented(line):
+            self.open = self.open or Block(self.name, number, "text", False)
+            self.open.lines.append(line[4:])
+        elif line.startswith("|"):
+            self.read_row(number, line)
+        else:
+            self.end()
+            self.read_prose(line)
+
+    def goes_on_indented(self, line):
+        return isinstance(self.open, Block) and re.match(r"    |\s*$", line)
+
+    def read_fenced(self, line):
+        if line.strip() == self.fence:
+            self.end()
+        else:
+            self.open.lines.append(line)
+
+    def read_row(self, number, line):
+        if not isinstance(self.open, Table):
+            self.end()
+            self.open = Table(self.name, number, code_spans(self.last), cells(line), [])
+        elif number > self.open.line + 1:
+            self.open.rows.append((number, cells(line)))
+
+    def read_prose(self, line):
+        if not line.strip():
+            self.paragraph = []
+            return
+        self.is_list = bool(re.match(r"\s*([-*]|\d+\.) ", line)) or self.is_list and line.startswith(" ")
+        self.paragraph.append(line)
+        self.last = " ".join(self.paragraph)
+
+
+class Splitter:
+    """Splits a text of Rust into its statements, and gives each the comment behind it: on the line where it ends, or on the lines
+    right below, where a blank line or the end follows these."""
+
+    def __init__(self, text):
+        self.found, self.code, self.depth, self.line, self.begin = [], "", 0, 1, 1
+        self.ended, self.note, self.note_end = 0, [], 0
+        tokens = TOKEN.findall(text)
+        for at, token in enumerate(tokens):
+            self.read(token, "".join(tokens[at + 1 : at + 40]))
+            self.line += token.count("\n")
+        self.close_note(self.line + 1)
+        self.end()
+
+    def read(self, token, behind):
+        if token.startswith("//"):
+            if self.depth == 0 and not self.code.strip():
+                self.take_note(token[2:].strip())
+            return
+        self.depth += (token in "([{") - (token in ")]}") if len(token) == 1 else 0
+        if self.code.strip() or token.strip():
+            if not self.code.strip():
+                self.close_note(self.line)
+                self.begin = self.line
+            self.code += token
+        if self.depth == 0 and (token == ";" or token == "}" and self.ends_behind_brace(behind)):
+            self.end()
+
+    def ends_behind_brace(self, behind):
+        return not self.code.lstrip().startswith(("let ", "use ")) and not re.match(r"\s*([.?;,)]|else\b)", behind)
+
+    def end(self):
+        if self.code.strip():
+            self.found.append(Statement(self.begin, self.code.strip()))
+            self.ended = self.line
+        self.code = ""
+
+    def take_note(self, text):
+        if self.found and self.line == self.ended:
+            self.found[-1].says = text
+        elif self.found and not self.found[-1].says and self.line == max(self.ended, self.note_end) + 1:
+            self.note.append(text)
+            self.note_end = self.line
+
+    def close_note(self, line):
+        """A comment on lines of its own is of the statement above, unless code stands right below it that the comment may be of."""
+        if self.note and (line > self.note_end + 1 or PRINTED.match(self.note[0])):
+            self.found[-1].says = " ".join(self.note)
+        self.note, self.note_end = [], 0
+
+
+def statements(text):
+    return Splitter(text).found
+
+
+def without_texts(code):
+    """The code without what stands in texts and comments."""
+    return "".join('""' if it.startswith('"') else "" if it.startswith("//") else it for it in TOKEN.findall(code))
+
+
+def imports(code, before=""):
+    """What a `use` brings in, by its name; what ends in `*` by its whole path."""
+    code = code.removesuffix(";").strip()
+    if inside := re.fullmatch(r"(.*?)\{(.*)\}", code, re.S):
+        found = {}
+        for part in split_commas(inside[2]):
+            found |= imports(part, before + inside[1].strip())
+        return found
+    path = before + code
+    name = path if path.endswith("*") else path.split(" as ")[-1].split("::")[-1].strip()
+    return {name: path} if code else {}
+
+
+def split_commas(text):
+    """The parts of a text between commas that stand in no brackets."""
+    parts, depth = [""], 0
+    for token in TOKEN.findall(text):
+        depth += (token in "([{") - (token in ")]}") if len(token) == 1 else 0
+        if token == "," and depth == 0:
+            parts.append("")
+        else:
+            parts[-1] += token
+    return [it.strip() for it in parts if it.strip()]
