@@ -1,5 +1,5 @@
 -- What a caller proves of a bound text: its pieces and literals one after another.
-use Rattle.std.proofs.Common.{◌≡◌, ℕ, List, [], ◌∷◌, ◌++◌, Option, Some, None, option_map, Result, Ok, Err, IfOk, String, string_bytes, refl, sym, ap, ◌∙◌, append_assoc, append-nil, length, map, subst}
+use Rattle.std.proofs.Common.{◌≡◌, ℕ, List, [], ◌∷◌, ◌++◌, Option, Some, None, option_map, Result, Ok, Err, IfOk, String, string_bytes, sym, ap, ◌∙◌, append_assoc, append-nil, length, map, subst}
 use Rattle.std.proofs.lemmas.List.{length-map, map-append}
 use Rattle.std.specs.declared.dyn_box.DynBox.{DynBox}
 use base.Stored.{Coded, Gv}

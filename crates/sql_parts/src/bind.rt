@@ -8,7 +8,7 @@ ghost use Rattle.sql_parts.specs.declared.error.SqlBuilderError.TheVariants.{NoA
 
 use crate::arg::SqlArg;
 pub use crate::bind_names::BindNames;
-use crate::binding::{Alone, LookedUp, bound_text, lacks_arguments};
+use crate::binding::{Alone, LookedUp, Repeated, bound_text, lacks_arguments};
 use crate::error::SqlBuilderError;
 pub use crate::marks::Marks;
 use crate::text::ToText;
@@ -135,7 +135,8 @@ impl Bind for &str {
         num: u16,
         arg: &A,
     ) -> Result<String, SqlBuilderError> {
-        bound_text(alloc, self, &Marks::Num(num), &Alone { arg })
+        let argument = Repeated::new(alloc, arg)?;
+        bound_text(alloc, self, &Marks::Num(num), &argument)
     }
 
     fn bind_nums(
@@ -153,7 +154,8 @@ impl Bind for &str {
         arg: &A,
     ) -> Result<String, SqlBuilderError> {
         let name = name.to_text(alloc)?;
-        bound_text(alloc, self, &Marks::Name(name.as_str()), &Alone { arg })
+        let argument = Repeated::new(alloc, arg)?;
+        bound_text(alloc, self, &Marks::Name(name.as_str()), &argument)
     }
 
     fn bind_names<N: BindNames>(

@@ -1,5 +1,5 @@
 //! One pass over a template, which puts literals in place of its markers.
-ghost use Rattle.std.specs.Prelude.{◌≡◌, ◌++◌, IfOk, None, OnOk, Some, if◌then◌else◌, map, string_bytes};
+ghost use Rattle.std.specs.Prelude.{◌≡◌, ◌++◌, ⊤, IfOk, None, OnOk, Some, if◌then◌else◌, map, string_bytes};
 ghost use Rattle.sql_parts.specs.Apart.{HasBoundTokens, IsClosedIfApart, IsSupplied};
 ghost use Rattle.sql_parts.specs.Error.{FailsOnlyByMemory};
 ghost use Rattle.sql_parts.specs.Literal.{LiteralValue, literal_text};
@@ -19,6 +19,9 @@ pub(crate) trait Literals: Drop {
     /// The literal of each value.
     ghost literals: { Self → templates.Value → LiteralValue };
 
+    /// That a text which is kept of a literal is its text.
+    ghost is_kept: { Self → Type 0 } = { λ _. ⊤ };
+
     /// Appends the literal of a value. It is refused only for want of memory.
     fn push_literal(
         &self,
@@ -26,12 +29,13 @@ pub(crate) trait Literals: Drop {
         value: &Value<'_>,
         out: &mut String,
     ) -> Result<(), SqlBuilderError>
+        requires kept { is_kept self.now }
         ensures text { OnOk result (string_bytes out.new
             ≡ string_bytes out.old ++ literal_text (literals self.now (value_of value.now))) }
         ensures memory { FailsOnlyByMemory result };
 }
 
-/// One argument for every value.
+/// One argument, for a template with one value.
 #[derive(Drop)]
 pub(crate) struct Alone<A> {
     pub(crate) arg: A,
@@ -47,6 +51,42 @@ impl<A: SqlArg> Literals for Alone<A> {
         out: &mut String,
     ) -> Result<(), SqlBuilderError> {
         self.arg.push_sql_arg(alloc, out)
+    }
+}
+
+/// One argument for every value, and its literal's text, which is made once for all of them.
+#[derive(Drop)]
+pub(crate) struct Repeated<A> {
+    arg: A,
+    text: String,
+}
+
+impl<A: SqlArg> Repeated<A> {
+    /// It is refused only for want of memory.
+    pub(crate) fn new(alloc: Global, arg: A) -> Result<Self, SqlBuilderError>
+        ensures arg { IfOk result (λ repeated. repeated.arg ≡ arg) }
+        ensures text { IfOk result (λ repeated.
+            string_bytes repeated.text ≡ literal_text (A.literal arg)) }
+        ensures memory { FailsOnlyByMemory result }
+    {
+        let text = arg.sql_arg(alloc)?;
+        Ok(Repeated { arg, text })
+    }
+}
+
+impl<A: SqlArg> Literals for Repeated<A> {
+    ghost literals = { λ repeated. alone (A.literal repeated.arg) };
+
+    ghost is_kept = { λ repeated.
+        string_bytes repeated.text ≡ literal_text (A.literal repeated.arg) };
+
+    fn push_literal(
+        &self,
+        _alloc: Global,
+        _value: &Value<'_>,
+        out: &mut String,
+    ) -> Result<(), SqlBuilderError> {
+        Ok(out.push_str(self.text.as_str())?)
     }
 }
 
@@ -112,6 +152,7 @@ fn push_bound<L: Literals>(
     marks: &Marks<'_>,
     literals: &L,
 ) -> Result<(), SqlBuilderError>
+    requires kept { L.is_kept literals.now }
     ensures text { OnOk result (string_bytes out.new ≡ string_bytes out.old
         ++ written (L.literals literals.now) (resolved_from (marks_of marks.now) 0 0 template.now)) }
     ensures memory { FailsOnlyByMemory result }
@@ -146,6 +187,7 @@ pub(crate) fn bound_text<L: Literals>(
     marks: &Marks<'_>,
     literals: &L,
 ) -> Result<String, SqlBuilderError>
+    requires kept { L.is_kept literals.now }
     ensures text { IfOk result (λ s. string_bytes s
         ≡ written (L.literals literals.now) (resolved_from (marks_of marks.now) 0 0 template.now)) }
     ensures tokens { IfOk result (λ s. IsSupplied template.now (marks_of marks.now)
