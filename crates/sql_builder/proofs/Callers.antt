@@ -1,16 +1,16 @@
 -- What a chain of calls has told a builder, and the statement of its calls.
-use Rattle.std.proofs.Common.{◌≡◌, ℕ, List, [], ◌∷◌, ◌++◌, Option, None, Some, Bool, true, false, Result, Ok, Err, IfOk, IfErr, String, string_bytes, map, codes, refl, sym, ap, ◌∙◌, subst, append_assoc, append-nil}
+use Rattle.std.proofs.Common.{◌≡◌, ℕ, List, [], ◌∷◌, ◌++◌, false, Result, Ok, Err, IfOk, String, string_bytes, refl, sym, ap, ◌∙◌, subst, append_assoc, append-nil}
 use Rattle.std.specs.List.{list_any}
 use Rattle.std.specs.Prelude.{IfSome, IsTrue}
 use Rattle.sql_parts.specs.Tokens.{Token, Symbol, closed, is_semicolon, tokens}
 use Rattle.sql_parts.specs.declared.error.SqlBuilderError.{SqlBuilderError}
 use Rattle.sql_builder.specs.Builder.{ClauseTexts, started}
-use Rattle.sql_builder.specs.Calls.{CallText, FinishText, StartText, Sql, Having, SetFields, clauses}
-use Rattle.sql_builder.specs.Clauses.{Clauses, map_clauses}
+use Rattle.sql_builder.specs.Calls.{CallText, FinishText, StartText, clauses}
+use Rattle.sql_builder.specs.Clauses.{map_clauses}
 use Rattle.sql_builder.specs.Shape.{EndsInOneSemicolon, HasClosedFragments, shape}
 use Rattle.sql_builder.specs.Statement.{refusal_at, statement, text_at}
 use Rattle.sql_builder.specs.Steps.{with_call}
-use Rattle.sql_builder.specs.Text.{Pieces, pieces_text}
+use Rattle.sql_builder.specs.Text.{pieces_text}
 use Rattle.sql_builder.proofs.ClauseShapes.{statement_closed, statement_shape}
 use Rattle.sql_builder.proofs.Runs.{clauses-snoc, clauses-start, statement_printed}
 

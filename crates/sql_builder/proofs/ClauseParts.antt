@@ -1,5 +1,5 @@
 -- What holds of the pieces of each clause.
-use Rattle.std.proofs.Common.{ℕ, Bool, List, [], ◌∷◌, Option, None, Some, map}
+use Rattle.std.proofs.Common.{ℕ, Bool, List, Option, None, Some, map}
 use Rattle.std.specs.Prelude.{IfSome, option_map}
 use Rattle.std.specs.List.{AllByRecursion}
 use Rattle.sql_builder.specs.Clauses.{Clauses, map_clauses}
