@@ -11,7 +11,7 @@ use crate::arg::SqlArg;
 use crate::bind_names::BindNames;
 use crate::error::SqlBuilderError;
 use crate::marks::Marks;
-use crate::places::{Place, Value, first_place, opening};
+use crate::places::{Place, Value, behind_sign, first_place, opening};
 use std::alloc::Global;
 
 /// What the values of a template stand for.
@@ -159,9 +159,10 @@ fn push_bound<L: Literals>(
 {
     let opening = opening(alloc, marks)?;
     let opening = opening.as_str();
+    let behind_sign = behind_sign(marks, opening);
     let mut rest = template;
     let mut seen = 0;
-    while let Some(found) = first_place(marks, opening, seen, rest) {
+    while let Some(found) = first_place(marks, behind_sign, seen, rest) {
         out.push_str(found.piece)?;
         match found.place {
             Place::Opening => out.push_str(opening)?,

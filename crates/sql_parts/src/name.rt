@@ -250,6 +250,18 @@ impl SqlName {
         }
     }
 
+    // Room for the name, as long as no part has a mark to double.
+    fn room(&self) -> usize {
+        let mut room = self.first.len().saturating_add("``".len());
+        for part in &self.rest {
+            room = room.saturating_add(part.len()).saturating_add(".``".len());
+        }
+        match &self.alias {
+            Some(alias) => room.saturating_add(alias.len()).saturating_add(" AS ``".len()),
+            None => room,
+        }
+    }
+
     #[tactic(auto, using(crate::proofs::NameTokens::name_is, crate::proofs::NameTokens::name_closed))]
     fn print(&self, form: Form) -> Result<String, SqlBuilderError>
         ensures text { IfOk result (λ s. string_bytes s ≡ name_text (written_in form) self.now) }
@@ -259,7 +271,7 @@ impl SqlName {
             → IsTrue (closed (string_bytes s))) }
         ensures memory { FailsOnlyByMemory result }
     {
-        let mut out = String::new(self.alloc);
+        let mut out = String::with_capacity(self.alloc, self.room())?;
         self.push_in(&mut out, form)?;
         Ok(out)
     }

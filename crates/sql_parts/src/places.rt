@@ -176,14 +176,22 @@ fn sign(marks: &Marks<'_>) -> (char, &'static str)
     }
 }
 
+/// What an opening has behind its sign.
+pub(crate) fn behind_sign<'o>(marks: &Marks<'_>, opening: &'o str) -> &'o str
+    requires opening { opening.now ≡ templates.opening (marks_of marks.now) }
+    ensures rest { result.now ≡ drop 1 (templates.opening (marks_of marks.now)) }
+{
+    &opening[sign(marks).1.len()..]
+}
+
 // What stands at a sign, and the text behind it: the sign itself, where no opening begins.
 fn stands_at_sign<'t>(
     marks: &Marks<'_>,
-    opening: &str,
+    behind_sign: &str,
     seen: usize,
     behind: &'t str,
 ) -> (Place<'t>, &'t str)
-    requires opening { opening.now ≡ templates.opening (marks_of marks.now) }
+    requires opening { behind_sign.now ≡ drop 1 (templates.opening (marks_of marks.now)) }
     ensures found { let place = place_of (templates.opening (marks_of marks.now)) result.0 in
         resolved_from (marks_of marks.now) seen 0
         (take 1 (templates.opening (marks_of marks.now)) ++ behind.now)
@@ -191,9 +199,8 @@ fn stands_at_sign<'t>(
         (resolved_from (marks_of marks.now) (counted place seen) 0 result.1.now) }
     ensures shorter { length result.1.now ≤ length behind.now }
 {
-    let sign = sign(marks).1;
-    match behind.strip_prefix(&opening[1..]) {
-        None => (Place::Writes(sign), behind),
+    match behind.strip_prefix(behind_sign) {
+        None => (Place::Writes(sign(marks).1), behind),
         Some(behind) => stands(marks, seen, behind),
     }
 }
@@ -201,11 +208,11 @@ fn stands_at_sign<'t>(
 /// The first place of a text where something stands, if `seen` markers stand before the text.
 pub(crate) fn first_place<'t>(
     marks: &Marks<'_>,
-    opening: &str,
+    behind_sign: &str,
     seen: usize,
     text: &'t str,
 ) -> Option<Found<'t>>
-    requires opening { opening.now ≡ templates.opening (marks_of marks.now) }
+    requires opening { behind_sign.now ≡ drop 1 (templates.opening (marks_of marks.now)) }
     ensures found { MatchOption result
         (resolved_from (marks_of marks.now) seen 0 text.now ≡ (text.now, []))
         (λ f. let place = place_of (templates.opening (marks_of marks.now)) f.place in
@@ -219,7 +226,7 @@ pub(crate) fn first_place<'t>(
         Marks::First if seen > 0 => None,
         _ => {
             let (piece, behind) = text.split_once(sign(marks).0)?;
-            let (place, rest) = stands_at_sign(marks, opening, seen, behind);
+            let (place, rest) = stands_at_sign(marks, behind_sign, seen, behind);
             Some(Found { piece, place, rest })
         }
     }

@@ -5,21 +5,16 @@ use Rattle.sql_parts.specs.Templates.{opening, resolved_from}
 use Rattle.sql_parts.proofs.Resolving.{opening-behind_sign, resolved_from-lone_sign, resolved_from-opened}
 use Rattle.sql_parts.proofs.places.stands_at_sign.Goals as goal
 
-pub range_from-requires : goal.range_from-requires
-range_from-requires c = λ some. opening-behind_sign c.args.opening.now c.sign.result.0 c.utf8.opening (c.requires.opening ∙ c.sign.ensures.sign ∙ ap (λ o. c.sign.result.0 ∷ drop 1 o) (sym c.requires.opening)) c.sign.ensures.one_byte
-
 pub returns-in-None-clause-found : goal.returns-in-None-clause-found
 returns-in-None-clause-found c =
-    let more : c.range_from.result.now ≡ drop 1 (opening (marks_of c.args.marks.now)) = c.range_from.ensures.value ∙ ap (drop 1) c.requires.opening in
     let rest = resolved_from (marks_of c.args.marks.now) c.args.seen 0 c.args.behind.now in
     resolved_from-lone_sign (marks_of c.args.marks.now) c.args.seen c.sign.result.0 c.args.behind.now c.sign.ensures.sign
-    (subst (λ m. LacksTextAt m c.args.behind.now 0) more c.in-None.ensures.cases)
+    (subst (λ m. LacksTextAt m c.args.behind.now 0) c.requires.opening c.in-None.ensures.cases)
     ∙ ap (λ sign. (sign ++ rest.0, rest.1)) (sym c.sign.ensures.text)
 
 pub returns-in-Some-clause-found : goal.returns-in-Some-clause-found
 returns-in-Some-clause-found c =
     let marks = marks_of c.args.marks.now in
-    let more : c.range_from.result.now ≡ drop 1 (opening marks) = c.range_from.ensures.value ∙ ap (drop 1) c.requires.opening in
     let cut = c.in-Some.ensures.cases in
-    let split : c.args.behind.now ≡ drop 1 (opening marks) ++ c.in-Some.behind.now = cut.1.1 ∙ (λ i. more i ++ sym cut.2 i) in
+    let split : c.args.behind.now ≡ drop 1 (opening marks) ++ c.in-Some.behind.now = cut.1.1 ∙ (λ i. c.requires.opening i ++ sym cut.2 i) in
     rw (c.stands.ensures.0, c.stands.ensures.1) (resolved_from-opened marks c.args.seen c.args.behind.now c.in-Some.behind.now split)
