@@ -1,8 +1,10 @@
 //! Texts, literals, names and bound values.
-ghost use Rattle.std.specs.Prelude.{◌≡◌, ◌++◌, codes, pos, string_bytes, IfOk};
+ghost use Rattle.std.specs.Prelude.{◌≡◌, ◌++◌, codes, pos, string_bytes, IfOk, IsTrue};
 ghost use Rattle.sql_builder.specs.Error.{FailsOnlyByMemory};
 ghost use Rattle.sql_builder.specs.Literal.{whole};
+ghost use Rattle.sql_builder.specs.Quoting.{quoted};
 ghost use Rattle.sql_builder.specs.Texts.{decimal_text};
+ghost use Rattle.sql_builder.specs.Tokens.{closed};
 ghost use Rattle.callers.specs.Columns.{column_text};
 
 use sql_builder::prelude::*;
@@ -40,6 +42,15 @@ impl SqlArg for Cents {
     fn sql_arg(&self, alloc: Global) -> Result<String, SqlBuilderError> {
         self.0.sql_arg(alloc)
     }
+}
+
+/// The condition of this title, whatever text it is.
+pub fn of_title(alloc: Global, title: &str) -> Result<String, SqlBuilderError>
+    ensures text { IfOk result (λ s. string_bytes s ≡ codes "title = " ++ quoted title.now) }
+    ensures closed { IfOk result (λ s. IsTrue (closed (string_bytes s))) }
+    ensures memory { FailsOnlyByMemory result }
+{
+    "title = ?".bind(alloc, &title)
 }
 
 /// The condition of a price above this one.
