@@ -257,7 +257,9 @@ impl SqlName {
             room = room.saturating_add(part.len()).saturating_add(".``".len());
         }
         match &self.alias {
-            Some(alias) => room.saturating_add(alias.len()).saturating_add(" AS ``".len()),
+            Some(alias) => room
+                .saturating_add(alias.len())
+                .saturating_add(" AS ``".len()),
             None => room,
         }
     }
