@@ -79,3 +79,15 @@ pub fn between(alloc: Global, least: u64, most: u64) -> Result<String, SqlBuilde
     args.push(Box::new(alloc, most)?)?;
     "price BETWEEN ? AND ?".binds(alloc, args.as_slice())
 }
+
+/// The condition of this title in this shop, whatever texts they are.
+pub fn sold_in(alloc: Global, title: &str, shop: &str) -> Result<String, SqlBuilderError>
+    ensures text { IfOk result (λ s. string_bytes s ≡ codes "title = "
+        ++ (quoted title.now ++ (codes " AND shop = " ++ quoted shop.now))) }
+    ensures memory { FailsOnlyByMemory result }
+{
+    let mut args: Vec<Box<dyn SqlArg>> = Vec::new(alloc);
+    args.push(Box::new(alloc, String::from_str(alloc, title)?)?)?;
+    args.push(Box::new(alloc, String::from_str(alloc, shop)?)?)?;
+    "title = ? AND shop = ?".binds(alloc, args.as_slice())
+}

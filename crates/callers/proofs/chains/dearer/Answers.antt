@@ -1,5 +1,5 @@
-use Rattle.std.proofs.Common.{◌≡◌, codes, [], ◌∷◌, append_assoc, append-nil, List}
-use Rattle.sql_builder.specs.Calls.{CallText, Cond, Field, SelectFrom, Sql}
+use Rattle.std.proofs.Common.{codes, append_assoc, append-nil}
+use Rattle.sql_builder.specs.Calls.{Cond, Field, SelectFrom, Sql}
 use Rattle.sql_builder.specs.Condition.{Compare}
 use Rattle.sql_builder.specs.declared.condition.Family.TheVariants.{And}
 use Rattle.sql_builder.specs.declared.condition.Relation.TheVariants.{Gt}

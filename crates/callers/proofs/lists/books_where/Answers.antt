@@ -1,14 +1,14 @@
 use Rattle.sql_builder.specs.Handed.{Bare, is_fit}
-use Rattle.std.proofs.Common.{◌≡◌, refl, sym, ◌∙◌, ap, subst, List, [], ◌∷◌, ℕ, Bool, true, false, not, ◌&&◌, codes, map, string_bytes, append-nil}
+use Rattle.std.proofs.Common.{◌≡◌, refl, sym, ◌∙◌, ap, subst, List, [], ◌∷◌, ℕ, Bool, true, false, not, codes, map, string_bytes, append-nil}
 use Rattle.std.proofs.lemmas.Bool.{and_from}
 use Rattle.sql_parts.specs.Fragments.{balanced, has_clause_word}
 use Rattle.sql_builder.specs.Views.{call_view}
-use Rattle.sql_builder.specs.Calls.{CallText, Cond, SelectFrom, Sql}
+use Rattle.sql_builder.specs.Calls.{Cond, SelectFrom, Sql}
 use Rattle.sql_builder.specs.Condition.{Raw}
 use Rattle.sql_builder.specs.Fitting.{has_fit_texts}
 use Rattle.sql_builder.specs.Meaning.{HasTruthOf, condition_groups}
 use Rattle.sql_builder.specs.declared.condition.Family.TheVariants.{And}
-use Rattle.sql_parts.specs.Tokens.{Token, tokens}
+use Rattle.sql_parts.specs.Tokens.{tokens}
 use Rattle.callers.proofs.lists.books_where.Goals as goal
 
 -- what the two tests said of a text

@@ -1,5 +1,5 @@
-use Rattle.std.proofs.Common.{◌≡◌, codes, [], ◌∷◌, ◌++◌, string_bytes, append_assoc, append-nil, List, refl}
-use Rattle.sql_builder.specs.Calls.{CallText, Cond, SelectFrom, Sql}
+use Rattle.std.proofs.Common.{codes, string_bytes, refl}
+use Rattle.sql_builder.specs.Calls.{Cond, SelectFrom, Sql}
 use Rattle.sql_builder.specs.Condition.{Compare}
 use Rattle.sql_builder.specs.declared.condition.Family.TheVariants.{And}
 use Rattle.sql_builder.specs.declared.condition.Relation.TheVariants.{Eq}

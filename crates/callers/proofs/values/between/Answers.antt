@@ -1,4 +1,4 @@
-use Rattle.std.proofs.Common.{codes, pos, [], ◌∷◌, refl}
+use Rattle.std.proofs.Common.{codes, pos, refl}
 use base.Stored.{coded_ℕ}
 use Rattle.sql_parts.specs.Literal.{whole}
 use Rattle.sql_parts.proofs.Callers.{binds_in_turn, reads_lent, reads_none, reads_pushed}
