@@ -1,5 +1,6 @@
 -- What follows `and_where` and `or_where` in the names of lines, and the condition that each adds.
 use Rattle.std.specs.Prelude.{ℕ, List, [], ◌∷◌, Option, Some, None, true, false, codes}
+use Rattle.std.specs.Option.{option_or}
 use Rattle.sql_builder.specs.Condition as condition
 use Rattle.sql_builder.specs.Condition.{ConditionText}
 use Rattle.sql_builder.specs.declared.condition.Percent.TheVariants as percent
@@ -8,9 +9,9 @@ use Rattle.sqlb.specs.Tables.{found_in}
 use Rattle.sqlb.specs.declared.endings.Ending.{Ending}
 use Rattle.sqlb.specs.declared.endings.Ending.TheVariants.{Raw, IsNull, IsNotNull, Compare, Like, InList, InQuoted, InQuery, Between}
 
--- each ending, and the condition that it adds, but for its texts
-unfoldable pub endings : List (List ℕ × Ending)
-endings =
+-- the endings of a condition by itself, of NULL, and of comparisons, and what each adds, but for its texts
+unfoldable pub comparisons : List (List ℕ × Ending)
+comparisons =
     (codes "", Raw) ∷
     (codes "_is_null", IsNull) ∷
     (codes "_is_not_null", IsNotNull) ∷
@@ -20,6 +21,11 @@ endings =
     (codes "_ge", Compare relation.Ge) ∷
     (codes "_lt", Compare relation.Lt) ∷
     (codes "_le", Compare relation.Le) ∷
+    []
+
+-- those of LIKE
+unfoldable pub likes : List (List ℕ × Ending)
+likes =
     (codes "_like", Like false percent.Plain) ∷
     (codes "_like_right", Like false percent.Right) ∷
     (codes "_like_left", Like false percent.Left) ∷
@@ -28,6 +34,11 @@ endings =
     (codes "_not_like_right", Like true percent.Right) ∷
     (codes "_not_like_left", Like true percent.Left) ∷
     (codes "_not_like_any", Like true percent.Any) ∷
+    []
+
+-- those of IN and BETWEEN
+unfoldable pub memberships : List (List ℕ × Ending)
+memberships =
     (codes "_in", InList false) ∷
     (codes "_in_quoted", InQuoted false) ∷
     (codes "_in_query", InQuery false) ∷
@@ -40,7 +51,9 @@ endings =
 
 -- what an ending stands for; endings are compared exactly
 unfoldable pub ending_of : List ℕ → Option Ending
-ending_of ending = found_in endings ending
+ending_of ending =
+    option_or (found_in comparisons ending)
+    (option_or (found_in likes ending) (found_in memberships ending))
 
 -- the condition that an ending makes of its arguments, if they fit
 abbrev pub condition_of : Ending → List (List ℕ) → Option ConditionText

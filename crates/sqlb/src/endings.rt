@@ -2,12 +2,14 @@
 ghost use Rattle.std.specs.Prelude.{◌≡◌, ok_or};
 ghost use Rattle.sql_builder.specs.Condition.{condition_view};
 ghost use Rattle.sqlb.specs.Endings.{condition_of, ending_of};
+ghost use Rattle.sqlb.specs.Endings.{comparisons, likes, memberships};
+ghost use Rattle.sqlb.specs.Tables.{found_in};
 ghost use Rattle.sqlb.specs.Script.{Answers};
 ghost use Rattle.sqlb.specs.declared.fault.Reason.TheVariants.{WrongArguments};
 
 use crate::fault::LineError;
 use crate::parts::Parts;
-use crate::texts::{text, texts};
+use crate::texts::{first_and_others, one_text, three_texts, two_texts};
 use sql_builder::calls::{Condition, Percent, Relation};
 use std::alloc::Global;
 
@@ -27,9 +29,19 @@ pub(crate) enum Ending {
 
 impl Ending {
     /// What follows `and_where` or `or_where`, if it is known. Endings are compared exactly.
-    #[tactic(auto, unfolding(crate::specs::Endings::ending_of, crate::specs::Endings::endings))]
+    #[tactic(auto, unfolding(crate::specs::Endings::ending_of))]
     pub(crate) fn of(ending: &str) -> Option<Ending>
         ensures ending { result ≡ ending_of ending.now }
+    {
+        Ending::comparison(ending)
+            .or_else(|| Ending::like(ending))
+            .or_else(|| Ending::membership(ending))
+    }
+
+    // The endings of a condition by itself, of NULL, and of comparisons.
+    #[tactic(auto, unfolding(crate::specs::Endings::comparisons))]
+    fn comparison(ending: &str) -> Option<Ending>
+        ensures { result ≡ found_in comparisons ending.now }
     {
         Some(match ending {
             "" => Ending::Raw,
@@ -41,6 +53,16 @@ impl Ending {
             "_ge" => Ending::Compare(Relation::Ge),
             "_lt" => Ending::Compare(Relation::Lt),
             "_le" => Ending::Compare(Relation::Le),
+            _ => return None,
+        })
+    }
+
+    // The endings of LIKE.
+    #[tactic(auto, unfolding(crate::specs::Endings::likes))]
+    fn like(ending: &str) -> Option<Ending>
+        ensures { result ≡ found_in likes ending.now }
+    {
+        Some(match ending {
             "_like" => Ending::Like(false, Percent::Plain),
             "_like_right" => Ending::Like(false, Percent::Right),
             "_like_left" => Ending::Like(false, Percent::Left),
@@ -49,6 +71,16 @@ impl Ending {
             "_not_like_right" => Ending::Like(true, Percent::Right),
             "_not_like_left" => Ending::Like(true, Percent::Left),
             "_not_like_any" => Ending::Like(true, Percent::Any),
+            _ => return None,
+        })
+    }
+
+    // The endings of IN and BETWEEN.
+    #[tactic(auto, unfolding(crate::specs::Endings::memberships))]
+    fn membership(ending: &str) -> Option<Ending>
+        ensures { result ≡ found_in memberships ending.now }
+    {
+        Some(match ending {
             "_in" => Ending::InList(false),
             "_in_quoted" => Ending::InQuoted(false),
             "_in_query" => Ending::InQuery(false),
@@ -66,39 +98,38 @@ impl Ending {
     pub(crate) fn condition(
         self,
         alloc: Global,
-        mut arguments: Parts<'_>,
+        arguments: Parts<'_>,
     ) -> Result<Condition, LineError>
         ensures condition { Answers condition_view result
             (ok_or (condition_of self arguments.entry) WrongArguments) }
     {
         match self {
-            Ending::Raw => Ok(Condition::Raw(text(alloc, arguments.one()?)?)),
-            Ending::IsNull => Ok(Condition::IsNull(text(alloc, arguments.one()?)?)),
-            Ending::IsNotNull => Ok(Condition::IsNotNull(text(alloc, arguments.one()?)?)),
+            Ending::Raw => Ok(Condition::Raw(one_text(alloc, arguments)?)),
+            Ending::IsNull => Ok(Condition::IsNull(one_text(alloc, arguments)?)),
+            Ending::IsNotNull => Ok(Condition::IsNotNull(one_text(alloc, arguments)?)),
             Ending::Compare(relation) => {
-                let (field, value) = arguments.two()?;
-                Ok(Condition::Compare(relation, text(alloc, field)?, text(alloc, value)?))
+                let (field, value) = two_texts(alloc, arguments)?;
+                Ok(Condition::Compare(relation, field, value))
             }
             Ending::Like(negated, percent) => {
-                let (field, mask) = arguments.two()?;
-                Ok(Condition::Like(negated, percent, text(alloc, field)?, text(alloc, mask)?))
+                let (field, mask) = two_texts(alloc, arguments)?;
+                Ok(Condition::Like(negated, percent, field, mask))
             }
             Ending::InList(negated) => {
-                let field = arguments.first()?;
-                Ok(Condition::InList(negated, text(alloc, field)?, texts(alloc, arguments)?))
+                let (field, values) = first_and_others(alloc, arguments)?;
+                Ok(Condition::InList(negated, field, values))
             }
             Ending::InQuoted(negated) => {
-                let field = arguments.first()?;
-                Ok(Condition::InQuoted(negated, text(alloc, field)?, texts(alloc, arguments)?))
+                let (field, values) = first_and_others(alloc, arguments)?;
+                Ok(Condition::InQuoted(negated, field, values))
             }
             Ending::InQuery(negated) => {
-                let (field, query) = arguments.two()?;
-                Ok(Condition::InQuery(negated, text(alloc, field)?, text(alloc, query)?))
+                let (field, query) = two_texts(alloc, arguments)?;
+                Ok(Condition::InQuery(negated, field, query))
             }
             Ending::Between(negated) => {
-                let (field, least, greatest) = arguments.three()?;
-                let (field, least) = (text(alloc, field)?, text(alloc, least)?);
-                Ok(Condition::Between(negated, field, least, text(alloc, greatest)?))
+                let (field, least, greatest) = three_texts(alloc, arguments)?;
+                Ok(Condition::Between(negated, field, least, greatest))
             }
         }
     }

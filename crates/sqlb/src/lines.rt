@@ -1,19 +1,18 @@
 //! Takes an input apart into lines, and reads what each says.
 ghost use Rattle.std.specs.Prelude.{◌≡◌, ◌==◌, ◌∷◌, ◌<◌};
-ghost use Rattle.std.specs.Prelude.{IfOk, Some, length, ok_or, position};
+ghost use Rattle.std.specs.Prelude.{Some, length, ok_or, position};
 ghost use Rattle.sqlb.specs.Lines.{command_in, command_of, command_with, flag_in, lines};
-ghost use Rattle.sqlb.specs.Lines.{binary_command, flagged_command, nullary_command};
-ghost use Rattle.sqlb.specs.Lines.{unary_command, variadic_command};
 ghost use Rattle.sqlb.specs.Script.{Answers, command_text};
 ghost use Rattle.sqlb.specs.declared.fault.Reason.TheVariants.{WrongArguments};
+ghost use Rattle.sqlb.specs.declared.names.Meaning.TheVariants as takes;
 
 use crate::endings::Ending;
 use crate::fault::{LineError, Reason};
 use crate::names::{Binary, Flagged, Meaning, Nullary, Unary, Variadic};
 use crate::parts::Parts;
-use crate::texts::{text, texts};
+use crate::texts::{one_text, text, texts, two_texts};
 use sql_builder::calls::{Call, Family, Finish, Start};
-use std::alloc::{AllocError, Global};
+use std::alloc::Global;
 use std::str;
 
 /// What a line says.
@@ -46,10 +45,12 @@ pub(crate) fn split_line(text: &[u8]) -> (&[u8], &[u8])
 }
 
 impl Nullary {
-    fn command(self) -> Command
-        ensures { command_text result ≡ nullary_command self }
+    fn command(self, arguments: Parts<'_>) -> Result<Command, LineError>
+        ensures { Answers command_text result
+            (command_with (Some (takes.Nullary self)) arguments.entry) }
     {
-        match self {
+        arguments.none()?;
+        Ok(match self {
             Nullary::Natural => Command::Call(Call::Natural),
             Nullary::Left => Command::Call(Call::Left),
             Nullary::LeftOuter => Command::Call(Call::LeftOuter),
@@ -63,15 +64,16 @@ impl Nullary {
             Nullary::Query => Command::Finish(Finish::Query),
             Nullary::QueryValues => Command::Finish(Finish::QueryValues),
             Nullary::Subquery => Command::Finish(Finish::Subquery),
-        }
+        })
     }
 }
 
 impl Unary {
-    fn command(self, alloc: Global, argument: &str) -> Result<Command, AllocError>
-        ensures { IfOk result (λ c. command_text c ≡ unary_command self argument.now) }
+    fn command(self, alloc: Global, arguments: Parts<'_>) -> Result<Command, LineError>
+        ensures { Answers command_text result
+            (command_with (Some (takes.Unary self)) arguments.entry) }
     {
-        let argument = text(alloc, argument)?;
+        let argument = one_text(alloc, arguments)?;
         Ok(match self {
             Unary::SelectFrom => Command::Start(Start::SelectFrom(argument)),
             Unary::InsertInto => Command::Start(Start::InsertInto(argument)),
@@ -99,11 +101,11 @@ impl Unary {
 }
 
 impl Binary {
-    fn command(self, alloc: Global, first: &str, second: &str) -> Result<Command, AllocError>
-        ensures { IfOk result (λ c. command_text c ≡ binary_command self first.now second.now) }
+    fn command(self, alloc: Global, arguments: Parts<'_>) -> Result<Command, LineError>
+        ensures { Answers command_text result
+            (command_with (Some (takes.Binary self)) arguments.entry) }
     {
-        let first = text(alloc, first)?;
-        let second = text(alloc, second)?;
+        let (first, second) = two_texts(alloc, arguments)?;
         Ok(Command::Call(match self {
             Binary::OnEq => Call::OnEq(first, second),
             Binary::CountAs => Call::CountAs(first, second),
@@ -114,9 +116,12 @@ impl Binary {
 }
 
 impl Flagged {
-    fn command(self, alloc: Global, argument: &str, flag: bool) -> Result<Command, AllocError>
-        ensures { IfOk result (λ c. command_text c ≡ flagged_command self argument.now flag) }
+    fn command(self, alloc: Global, arguments: Parts<'_>) -> Result<Command, LineError>
+        ensures { Answers command_text result
+            (command_with (Some (takes.Flagged self)) arguments.entry) }
     {
+        let (argument, flag) = arguments.two()?;
+        let flag = read_flag(flag)?;
         let argument = text(alloc, argument)?;
         Ok(match self {
             Flagged::OrderBy => Command::Call(Call::OrderBy(argument, flag)),
@@ -125,8 +130,9 @@ impl Flagged {
 }
 
 impl Variadic {
-    fn command(self, alloc: Global, arguments: Parts<'_>) -> Result<Command, AllocError>
-        ensures { IfOk result (λ c. command_text c ≡ variadic_command self arguments.entry) }
+    fn command(self, alloc: Global, arguments: Parts<'_>) -> Result<Command, LineError>
+        ensures { Answers command_text result
+            (command_with (Some (takes.Variadic self)) arguments.entry) }
     {
         let arguments = texts(alloc, arguments)?;
         Ok(match self {
@@ -156,20 +162,11 @@ fn read_arguments(
     ensures { Answers command_text result (command_with (Some meaning) arguments.entry) }
 {
     match meaning {
-        Meaning::Nullary(meaning) => {
-            arguments.none()?;
-            Ok(meaning.command())
-        }
-        Meaning::Unary(meaning) => Ok(meaning.command(alloc, arguments.one()?)?),
-        Meaning::Binary(meaning) => {
-            let (first, second) = arguments.two()?;
-            Ok(meaning.command(alloc, first, second)?)
-        }
-        Meaning::Flagged(meaning) => {
-            let (argument, flag) = arguments.two()?;
-            Ok(meaning.command(alloc, argument, read_flag(flag)?)?)
-        }
-        Meaning::Variadic(meaning) => Ok(meaning.command(alloc, arguments)?),
+        Meaning::Nullary(meaning) => meaning.command(arguments),
+        Meaning::Unary(meaning) => meaning.command(alloc, arguments),
+        Meaning::Binary(meaning) => meaning.command(alloc, arguments),
+        Meaning::Flagged(meaning) => meaning.command(alloc, arguments),
+        Meaning::Variadic(meaning) => meaning.command(alloc, arguments),
         Meaning::Where(family, ending) => {
             let condition = ending.condition(alloc, arguments)?;
             Ok(Command::Call(Call::Cond(family, condition)))

@@ -1,6 +1,7 @@
 //! The names that a line may begin with.
 ghost use Rattle.std.specs.Prelude.{◌≡◌};
-ghost use Rattle.sqlb.specs.Names.{calls, condition_call, meaning_of};
+ghost use Rattle.sqlb.specs.Names.{condition_call, meaning_of, other_call};
+ghost use Rattle.sqlb.specs.Names.{ends, finishes, joins, lists, starts};
 ghost use Rattle.sqlb.specs.Tables.{found_in};
 
 use crate::endings::Ending;
@@ -99,10 +100,10 @@ fn condition_call(family: Family, prefix: &str, name: &str) -> Option<Meaning>
     Some(Meaning::Where(family, Ending::of(ending)?))
 }
 
-// Another call.
-#[tactic(auto, unfolding(crate::specs::Names::calls))]
-fn other_call(name: &str) -> Option<Meaning>
-    ensures { result ≡ found_in calls name.now }
+// The names that open a statement.
+#[tactic(auto, unfolding(crate::specs::Names::starts))]
+fn start_call(name: &str) -> Option<Meaning>
+    ensures { result ≡ found_in starts name.now }
 {
     Some(match name {
         "select_from" => Meaning::Unary(Unary::SelectFrom),
@@ -110,6 +111,17 @@ fn other_call(name: &str) -> Option<Meaning>
         "update_table" => Meaning::Unary(Unary::UpdateTable),
         "delete_from" => Meaning::Unary(Unary::DeleteFrom),
         "select_values" => Meaning::Variadic(Variadic::SelectValues),
+        _ => return None,
+    })
+}
+
+// The names of tables and of joins.
+#[tactic(auto, unfolding(crate::specs::Names::joins))]
+fn join_call(name: &str) -> Option<Meaning>
+    ensures { result ≡ found_in joins name.now }
+{
+    Some(match name {
+        "and_table" => Meaning::Unary(Unary::AndTable),
         "natural" => Meaning::Nullary(Nullary::Natural),
         "left" => Meaning::Nullary(Nullary::Left),
         "left_outer" => Meaning::Nullary(Nullary::LeftOuter),
@@ -117,32 +129,61 @@ fn other_call(name: &str) -> Option<Meaning>
         "right_outer" => Meaning::Nullary(Nullary::RightOuter),
         "inner" => Meaning::Nullary(Nullary::Inner),
         "cross" => Meaning::Nullary(Nullary::Cross),
-        "distinct" => Meaning::Nullary(Nullary::Distinct),
-        "returning_id" => Meaning::Nullary(Nullary::ReturningId),
-        "and_table" => Meaning::Unary(Unary::AndTable),
         "join" => Meaning::Unary(Unary::Join),
         "on" => Meaning::Unary(Unary::On),
+        "on_eq" => Meaning::Binary(Binary::OnEq),
+        _ => return None,
+    })
+}
+
+// The names of lists of fields and of rows.
+#[tactic(auto, unfolding(crate::specs::Names::lists))]
+fn list_call(name: &str) -> Option<Meaning>
+    ensures { result ≡ found_in lists name.now }
+{
+    Some(match name {
+        "distinct" => Meaning::Nullary(Nullary::Distinct),
         "field" => Meaning::Unary(Unary::Field),
+        "fields" => Meaning::Variadic(Variadic::Fields),
         "set_field" => Meaning::Unary(Unary::SetField),
+        "set_fields" => Meaning::Variadic(Variadic::SetFields),
         "count" => Meaning::Unary(Unary::Count),
+        "count_as" => Meaning::Binary(Binary::CountAs),
+        "set" => Meaning::Binary(Binary::SetTo),
+        "set_str" => Meaning::Binary(Binary::SetStr),
+        "values" => Meaning::Variadic(Variadic::Values),
         "select" => Meaning::Unary(Unary::Select),
         "returning" => Meaning::Unary(Unary::Returning),
+        "returning_id" => Meaning::Nullary(Nullary::ReturningId),
+        _ => return None,
+    })
+}
+
+// The names of groups, order, limits and unions.
+#[tactic(auto, unfolding(crate::specs::Names::ends))]
+fn end_call(name: &str) -> Option<Meaning>
+    ensures { result ≡ found_in ends name.now }
+{
+    Some(match name {
         "group_by" => Meaning::Unary(Unary::GroupBy),
         "having" => Meaning::Unary(Unary::Having),
-        "union" => Meaning::Unary(Unary::Union),
-        "union_all" => Meaning::Unary(Unary::UnionAll),
+        "order_by" => Meaning::Flagged(Flagged::OrderBy),
         "order_asc" => Meaning::Unary(Unary::OrderAsc),
         "order_desc" => Meaning::Unary(Unary::OrderDesc),
         "limit" => Meaning::Unary(Unary::Limit),
         "offset" => Meaning::Unary(Unary::Offset),
-        "on_eq" => Meaning::Binary(Binary::OnEq),
-        "count_as" => Meaning::Binary(Binary::CountAs),
-        "set" => Meaning::Binary(Binary::SetTo),
-        "set_str" => Meaning::Binary(Binary::SetStr),
-        "order_by" => Meaning::Flagged(Flagged::OrderBy),
-        "fields" => Meaning::Variadic(Variadic::Fields),
-        "set_fields" => Meaning::Variadic(Variadic::SetFields),
-        "values" => Meaning::Variadic(Variadic::Values),
+        "union" => Meaning::Unary(Unary::Union),
+        "union_all" => Meaning::Unary(Unary::UnionAll),
+        _ => return None,
+    })
+}
+
+// The names that print a statement.
+#[tactic(auto, unfolding(crate::specs::Names::finishes))]
+fn finish_call(name: &str) -> Option<Meaning>
+    ensures { result ≡ found_in finishes name.now }
+{
+    Some(match name {
         "sql" => Meaning::Nullary(Nullary::Sql),
         "query" => Meaning::Nullary(Nullary::Query),
         "query_values" => Meaning::Nullary(Nullary::QueryValues),
@@ -150,6 +191,18 @@ fn other_call(name: &str) -> Option<Meaning>
         "subquery_as" => Meaning::Unary(Unary::SubqueryAs),
         _ => return None,
     })
+}
+
+// Another call.
+#[tactic(auto, unfolding(crate::specs::Names::other_call))]
+fn other_call(name: &str) -> Option<Meaning>
+    ensures { result ≡ other_call name.now }
+{
+    start_call(name)
+        .or_else(|| join_call(name))
+        .or_else(|| list_call(name))
+        .or_else(|| end_call(name))
+        .or_else(|| finish_call(name))
 }
 
 impl Meaning {
