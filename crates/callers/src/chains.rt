@@ -5,6 +5,7 @@ ghost use Rattle.sql_builder.specs.Calls.{Cond, Field, SelectFrom, Sql};
 ghost use Rattle.sql_builder.specs.Condition.{Compare};
 ghost use Rattle.sql_builder.specs.Error.{FailsOnlyByMemory};
 ghost use Rattle.sql_builder.specs.Layout.{byte_atoms, sql};
+ghost use Rattle.sql_builder.specs.Quoting.{quoted};
 ghost use Rattle.sql_builder.specs.Statement.{statement};
 ghost use Rattle.sql_builder.specs.Texts.{decimal_text};
 ghost use Rattle.sql_builder.specs.declared.condition.Family.TheVariants.{And};
@@ -62,5 +63,24 @@ pub fn dearer(alloc: Global, price: u64) -> Result<String, SqlBuilderError>
     SqlBuilder::select_from(alloc, "books")?
         .field("title")?
         .and_where_gt("price", price)?
+        .sql()
+}
+
+/// Sets a title and a price where books cost less than a most.
+pub fn repriced(
+    alloc: Global,
+    title: &str,
+    price: u64,
+    most: u64,
+) -> Result<String, SqlBuilderError>
+    ensures text { IfOk result (λ s. string_bytes s ≡ codes "UPDATE books SET title = "
+        ++ (quoted title.now ++ (codes ", price = " ++ (decimal_text price
+        ++ (codes " WHERE price < " ++ (decimal_text most ++ codes ";")))))) }
+    ensures memory { FailsOnlyByMemory result }
+{
+    SqlBuilder::update_table(alloc, "books")?
+        .set_str("title", title)?
+        .set("price", price)?
+        .and_where_lt("price", most)?
         .sql()
 }

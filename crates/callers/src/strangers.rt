@@ -1,10 +1,18 @@
 //! Strangers' values in statements.
 ghost use Rattle.std.specs.Prelude.{◌≡◌, ◌∷◌, ◌++◌, codes, length, map, option_map, string_bytes, IfOk, IfSome, IsTrue, Some};
-ghost use Rattle.sql_builder.specs.Shape.{EndsInOneSemicolon};
 ghost use Rattle.sql_builder.specs.Apart.{bound_tokens};
+ghost use Rattle.sql_builder.specs.Builder.{started, with_condition};
+ghost use Rattle.sql_builder.specs.Calls.{SelectFrom};
+ghost use Rattle.sql_builder.specs.Condition.{Compare};
+ghost use Rattle.sql_builder.specs.Error.{FailsOnlyByMemory};
+ghost use Rattle.sql_builder.specs.Quoting.{quoted};
+ghost use Rattle.sql_builder.specs.Shape.{EndsInOneSemicolon};
 ghost use Rattle.sql_builder.specs.Templates as templates;
 ghost use Rattle.sql_builder.specs.Templates.{listed, resolve};
 ghost use Rattle.sql_builder.specs.Tokens.{Str, closed, tokens};
+ghost use Rattle.sql_builder.specs.declared.condition.Family.TheVariants.{And};
+ghost use Rattle.sql_builder.specs.declared.condition.Relation.TheVariants.{Eq};
+ghost use Rattle.callers.specs.Columns.{by_author};
 
 use sql_builder::SqlBuilderError;
 use sql_builder::lex::stands_apart;
@@ -39,4 +47,36 @@ pub fn filled(
         return Ok(None);
     }
     Ok(Some(template.binds(alloc, args)?))
+}
+
+/// What is told of the books of this title, and of this author where one is given.
+pub fn sought(
+    alloc: Global,
+    title: &str,
+    author: Option<&str>,
+) -> Result<SqlBuilder, SqlBuilderError>
+    ensures told { IfOk result (λ b. b ≡ by_author (option_map (λ s. s.now) author.entry)
+        (with_condition And (Compare Eq (codes "title") (quoted title.now))
+        (started (SelectFrom (codes "books"))))) }
+    ensures memory { FailsOnlyByMemory result }
+{
+    let mut builder = SqlBuilder::select_from(alloc, "books")?;
+    builder.and_where_eq("title", quote(alloc, title)?)?;
+    if let Some(author) = author {
+        builder.and_where_eq("author", quote(alloc, author)?)?;
+    }
+    Ok(builder)
+}
+
+/// The same as a statement.
+pub fn sought_printed(
+    alloc: Global,
+    title: &str,
+    author: Option<&str>,
+) -> Result<String, SqlBuilderError>
+    ensures closed { IfOk result (λ s. IsTrue (closed (string_bytes s))) }
+    ensures memory { FailsOnlyByMemory result }
+{
+    let builder = sought(alloc, title, author)?;
+    builder.sql()
 }

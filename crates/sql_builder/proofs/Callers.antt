@@ -8,11 +8,11 @@ use Rattle.sql_builder.specs.Builder.{ClauseTexts, started}
 use Rattle.sql_builder.specs.Calls.{CallText, FinishText, StartText, clauses}
 use Rattle.sql_builder.specs.Clauses.{map_clauses}
 use Rattle.sql_builder.specs.Shape.{EndsInOneSemicolon, HasClosedFragments, shape}
-use Rattle.sql_builder.specs.Statement.{refusal_at, statement, text_at}
+use Rattle.sql_builder.specs.Statement.{layout_at, refusal_at, statement, text_at}
 use Rattle.sql_builder.specs.Steps.{with_call}
-use Rattle.sql_builder.specs.Text.{pieces_text}
+use Rattle.sql_builder.specs.Text.{fixed_piece, pieces_text, raw_piece}
 use Rattle.sql_builder.proofs.ClauseShapes.{statement_closed, statement_shape}
-use Rattle.sql_builder.proofs.Runs.{clauses-snoc, clauses-start, statement_printed}
+use Rattle.sql_builder.proofs.Runs.{clauses-snoc, clauses-start, statement_printed, text_of_layout}
 
 -- the clauses after calls, one after another
 abbrev pub with_calls : List CallText → ClauseTexts → ClauseTexts
@@ -46,11 +46,13 @@ begun start made = record { is = made }
 pub and_call : {start : StartText} {calls : List CallText} {r now : ClauseTexts} (c : CallText) → now ≡ with_call c r → Told start calls r → Told start (calls ++ c ∷ []) now
 and_call {start} {calls} c changed told = record { is = changed ∙ ap (with_call c) told.is ∙ sym (with_calls-snoc calls c (started start)) }
 
--- what is printed then
+-- what is printed then: the pieces that the calls make, one after another
 pub chain_text : {Z E : Type 0} {start : StartText} {calls : List CallText} {r : ClauseTexts} {text : List ℕ} (finish : FinishText) (result : Result (String Z) E) → Told start calls r
-    → IfOk result (λ s. string_bytes s ≡ text_at finish r) → text_at finish (with_calls calls (started start)) ≡ text → IfOk result (λ s. string_bytes s ≡ text)
+    → IfOk result (λ s. string_bytes s ≡ text_at finish r)
+    → pieces_text (layout_at fixed_piece raw_piece finish (clauses start calls)) ≡ text → IfOk result (λ s. string_bytes s ≡ text)
 chain_text finish (Err e) told printed is = tt
-chain_text finish (Ok s) told printed is = printed ∙ ap (text_at finish) told.is ∙ is
+chain_text {start = start} {calls = calls} finish (Ok s) told printed is =
+    printed ∙ ap (text_at finish) (told.is ∙ with_calls-read start calls) ∙ sym (text_of_layout finish (clauses start calls)) ∙ is
 
 -- it is the statement of the calls
 pub chain_statement : {Z : Type 0} {start : StartText} {calls : List CallText} {r : ClauseTexts} (finish : FinishText) (result : Result (String Z) SqlBuilderError) → Told start calls r

@@ -1,4 +1,4 @@
-use Rattle.std.proofs.Common.{codes, append_assoc, append-nil}
+use Rattle.std.proofs.Common.{codes, refl}
 use Rattle.sql_builder.specs.Calls.{Cond, Field, SelectFrom, Sql}
 use Rattle.sql_builder.specs.Condition.{Compare}
 use Rattle.sql_builder.specs.declared.condition.Family.TheVariants.{And}
@@ -12,7 +12,7 @@ returns-clause-text c =
     let told = and_call (Cond And (Compare Gt (codes "price") (decimal_text c.args.price))) c.in_ok-and_where_gt.ensures.changed.1.0.0
     (and_call (Field (codes "title")) c.in_ok-field.ensures.changed.1
     (begun (SelectFrom (codes "books")) c.in_ok-select_from.ensures.made)) in
-    chain_text Sql c.sql.result told c.sql.ensures.text (simp (append_assoc, append-nil))
+    chain_text Sql c.sql.result told c.sql.ensures.text refl
 
 pub returns-clause-statement : goal.returns-clause-statement
 returns-clause-statement c =

@@ -1,0 +1,57 @@
+use Rattle.std.proofs.Common.{◌≡◌, [], ◌∷◌, List, ℕ, Option, None, Some, codes, option_map, true, refl}
+use Rattle.std.specs.Prelude.{IsNone}
+use Rattle.sql_builder.specs.Builder.{ClauseTexts, started, with_condition}
+use Rattle.sql_builder.specs.Calls.{CallText, Cond, SelectFrom, Sql}
+use Rattle.sql_builder.specs.Condition.{Compare}
+use Rattle.sql_builder.specs.Layout.{refusal}
+use Rattle.sql_builder.specs.Shape.{HasClosedFragments}
+use Rattle.sql_builder.specs.declared.condition.Family.TheVariants.{And}
+use Rattle.sql_builder.specs.declared.condition.Relation.TheVariants.{Eq}
+use Rattle.sql_parts.specs.Literal.{words}
+use Rattle.sql_parts.specs.Quoting.{quoted}
+use Rattle.sql_parts.specs.Tokens.{closed}
+use Rattle.sql_parts.proofs.WordTokens.{literal-closed}
+use Rattle.sql_builder.proofs.Callers.{Told, and_call, begun, chain_closed}
+use Rattle.sql_builder.proofs.Refusals.{call_keeps}
+use Rattle.callers.specs.Columns.{by_author}
+use Rattle.callers.proofs.strangers.sought_printed.Goals as goal
+
+-- a condition on a column's text between quotes, and the calls of each case
+abbrev asked : List ℕ → List ℕ → CallText
+asked column text = Cond And (Compare Eq column (quoted text))
+
+abbrev calls : List ℕ → Option (List ℕ) → List CallText
+calls title None = asked (codes "title") title ∷ []
+calls title (Some author) = asked (codes "title") title ∷ asked (codes "author") author ∷ []
+
+abbrev of_title : List ℕ → ClauseTexts
+of_title title = with_condition And (Compare Eq (codes "title") (quoted title)) (started (SelectFrom (codes "books")))
+
+told : (title : List ℕ) (author : Option (List ℕ)) (r : ClauseTexts) → r ≡ by_author author (of_title title) → Told (SelectFrom (codes "books")) (calls title author) r
+told title None r is = and_call (asked (codes "title") title) is (begun (SelectFrom (codes "books")) refl)
+told title (Some author) r is =
+    and_call (asked (codes "author") author) is
+    (and_call (asked (codes "title") title) refl (begun (SelectFrom (codes "books")) refl))
+
+one : (q : List ℕ) → closed q ≡ true → HasClosedFragments (SelectFrom (codes "books")) (Cond And (Compare Eq (codes "title") q) ∷ []) Sql
+one q is = rw is refl
+
+two : (q p : List ℕ) → closed q ≡ true → closed p ≡ true
+    → HasClosedFragments (SelectFrom (codes "books")) (Cond And (Compare Eq (codes "title") q) ∷ Cond And (Compare Eq (codes "author") p) ∷ []) Sql
+two q p is also = rw is (rw also refl)
+
+fragments : (title : List ℕ) (author : Option (List ℕ)) → HasClosedFragments (SelectFrom (codes "books")) (calls title author) Sql
+fragments title None = one (quoted title) (literal-closed (words title))
+fragments title (Some author) = two (quoted title) (quoted author) (literal-closed (words title)) (literal-closed (words author))
+
+keeps : (author : Option (List ℕ)) (r : ClauseTexts) → IsNone (refusal r) → IsNone (refusal (by_author author r))
+keeps None r none = none
+keeps (Some author) r none = call_keeps (asked (codes "author") author) r refl none
+
+pub returns-clause-closed : goal.returns-clause-closed
+returns-clause-closed c =
+    let author = option_map (λ s. s.now) c.args.author in
+    chain_closed Sql c.sql.result (told c.args.title.now author _ c.in_ok-builder.ensures.told) c.sql.ensures.text c.sql.ensures.refused (fragments c.args.title.now author)
+
+pub returns-clause-memory : goal.returns-clause-memory
+returns-clause-memory c = c.sql.ensures.memory (rw c.in_ok-builder.ensures.told (keeps (option_map (λ s. s.now) c.args.author) _ refl))
