@@ -66,7 +66,7 @@ pub fn dearer(alloc: Global, price: u64) -> Result<String, SqlBuilderError>
         .sql()
 }
 
-/// Sets a title and a price where books cost less than a most.
+/// Gives the books that cost less than `most` this title and this price.
 pub fn repriced(
     alloc: Global,
     title: &str,

@@ -39,7 +39,7 @@ joins =
     (codes "on_eq", takes.Binary binary.OnEq) ∷
     []
 
--- those of lists of fields and of rows
+-- those of what is selected, set, inserted and returned: fields, values and rows
 unfoldable pub lists : List (List ℕ × Meaning)
 lists =
     (codes "distinct", takes.Nullary nullary.Distinct) ∷

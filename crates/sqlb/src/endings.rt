@@ -1,10 +1,9 @@
 //! What follows `and_where` and `or_where` in the names of lines: which condition is added.
 ghost use Rattle.std.specs.Prelude.{◌≡◌, ok_or};
 ghost use Rattle.sql_builder.specs.Condition.{condition_view};
-ghost use Rattle.sqlb.specs.Endings.{condition_of, ending_of};
-ghost use Rattle.sqlb.specs.Endings.{comparisons, likes, memberships};
-ghost use Rattle.sqlb.specs.Tables.{found_in};
+ghost use Rattle.sqlb.specs.Endings.{comparisons, condition_of, ending_of, likes, memberships};
 ghost use Rattle.sqlb.specs.Script.{Answers};
+ghost use Rattle.sqlb.specs.Tables.{found_in};
 ghost use Rattle.sqlb.specs.declared.fault.Reason.TheVariants.{WrongArguments};
 
 use crate::fault::LineError;

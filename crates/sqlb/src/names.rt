@@ -136,7 +136,7 @@ fn join_call(name: &str) -> Option<Meaning>
     })
 }
 
-// The names of lists of fields and of rows.
+// The names of what is selected, set, inserted and returned: fields, values and rows.
 #[tactic(auto, unfolding(crate::specs::Names::lists))]
 fn list_call(name: &str) -> Option<Meaning>
     ensures { result ≡ found_in lists name.now }
