@@ -32,6 +32,17 @@ pub fn titled(alloc: Global, title: &str) -> Result<String, SqlBuilderError>
         .sql()
 }
 
+/// The same statement, as a template with one marker.
+pub fn titled_bound(alloc: Global, title: &str) -> Result<String, SqlBuilderError>
+    ensures tokens { IfOk result (λ s. tokens (string_bytes s)
+        ≡ tokens (codes "SELECT * FROM books WHERE title =") ++ (Str title.now ∷ tokens (codes ";"))) }
+    ensures closed { IfOk result (λ s. IsTrue (closed (string_bytes s))) }
+    ensures semicolon { IfOk result (λ s. EndsInOneSemicolon (tokens (string_bytes s))) }
+    ensures memory { FailsOnlyByMemory result }
+{
+    "SELECT * FROM books WHERE title = ?;".bind(alloc, &title)
+}
+
 /// The template with the values in it, where they stand apart.
 pub fn filled(
     alloc: Global,
