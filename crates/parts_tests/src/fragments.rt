@@ -170,22 +170,3 @@ fn tests_conditions(rt: HostRuntime) -> Result<(), Fail> {
     }
     Ok(())
 }
-
-/// Brackets that never close, as deep as the text is long.
-#[test]
-fn tests_deep_brackets(rt: HostRuntime) -> Result<(), Fail> {
-    let text = "(".repeat(rt.alloc(), 100_000)?;
-    assert_eq!(rt; is_balanced(text.as_str()), false, "they are balanced");
-    assert_eq!(rt; is_operand(text.as_str()), false, "they are an operand");
-    assert_eq!(rt;
-        has_clause_word(text.as_str()),
-        false,
-        "they have a clause word"
-    );
-    assert_eq!(rt;
-        has_dangling(rt.alloc(), text.as_str())?,
-        false,
-        "they dangle"
-    );
-    Ok(())
-}

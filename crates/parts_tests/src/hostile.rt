@@ -179,16 +179,3 @@ fn binds_a_stranger_in_each_short_text(rt: HostRuntime) -> Result<(), Fail> {
     }
     Ok(())
 }
-
-/// Brackets that never close, by the tests that the module `fragments` doesn't ask of them.
-#[test]
-fn reads_deep_brackets(rt: HostRuntime) -> Result<(), Fail> {
-    let text = "(".repeat(rt.alloc(), 100_000)?;
-    assert!(rt; is_closed(text.as_str()), "they are closed");
-    assert!(rt; !has_semicolon(text.as_str()), "they have no semicolon");
-    for (marks, call, _) in MARKS.iter() {
-        let apart = stands_apart(rt.alloc(), text.as_str(), marks)?;
-        assert!(rt; apart, "they stand apart by {call}");
-    }
-    Ok(())
-}
