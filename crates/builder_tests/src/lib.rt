@@ -12,5 +12,3 @@ mod examples;
 mod growths;
 #[cfg(test)]
 mod stated_laws;
-#[cfg(test)]
-mod texts;

@@ -4,9 +4,7 @@
 #[cfg(test)]
 mod bind_sample;
 #[cfg(test)]
-mod fragments;
-#[cfg(test)]
-mod hostile;
+mod laws;
 #[cfg(test)]
 mod names;
 #[cfg(test)]
