@@ -1,8 +1,6 @@
 //! Reads lines of calls from standard input, and prints the statements that they make.
 #![tactic(auto)]
 
-#[cfg(test)]
-mod device_tests;
 mod endings;
 mod fault;
 mod input;
@@ -12,8 +10,6 @@ mod output;
 mod parts;
 mod run;
 mod script;
-#[cfg(test)]
-mod tests;
 mod texts;
 mod watched;
 
