@@ -2,7 +2,7 @@
 use Rattle.std.proofs.Common.{◌≡◌, ℕ, List, [], ◌∷◌, ◌++◌, Option, None, Some, Result, Ok, Err, String, string_bytes, refl, ap, sym}
 use Rattle.std.specs.Prelude.{IfSome, is_some, option_map}
 use Rattle.sql_builder.specs.Builder.{ClauseTexts}
-use Rattle.sql_builder.specs.Calls.{StartText, CallText, FinishText, clauses}
+use Rattle.sql_builder.specs.Calls.{FinishText, clauses}
 use Rattle.sql_builder.specs.Clauses.{Clauses, map_clauses}
 use Rattle.sql_builder.specs.SqlBuilderError.{SqlBuilderError}
 use Rattle.sql_builder.specs.Statement.{layout_at, refusal_at, pieces_at, text_at, text_unless_refused, unless_refused}

@@ -40,6 +40,17 @@ pub(crate) fn write_parts<W: Write>(writer: &mut Watched<W>, parts: &[&[u8]]) ->
     Ok(())
 }
 
+/// Writes the text and a line feed, and stops at the first write that fails.
+pub(crate) fn write_line<W: Write>(writer: &mut Watched<W>, text: &str) -> Result<(), Fault>
+    requires not_failed { writer.old.failed ≡ false }
+    ensures wrote { (written : List ℕ) × Appends (W.contents writer.old.inner)
+        (W.contents writer.new.inner) written
+        × Wrote result written (text.now ++ codes "\n") writer.new.failed }
+    ensures ended { writer.new.ended ≡ writer.old.ended }
+{
+    write_parts(writer, &[text.as_bytes(), b"\n"])
+}
+
 /// The most digits that a `usize` has.
 const MOST_DIGITS: usize = 20;
 

@@ -9,7 +9,7 @@ ghost use Rattle.sqlb.specs.Ran.{LosesOnlyIfDeviceFails, Ran, UnlessWriteFails};
 use crate::fault::{Fault, LineError, Reason};
 use crate::input::read_all;
 use crate::lines::split_line;
-use crate::output::write_parts;
+use crate::output::write_line;
 use crate::script::Script;
 use crate::watched::Watched;
 use std::alloc::Global;
@@ -32,7 +32,7 @@ fn run_lines<W: Write>(alloc: Global, text: &[u8], writer: &mut Watched<W>) -> R
         number += 1;
         rest = after;
         match script.take_line(alloc, line) {
-            Ok(Some(statement)) => write_parts(writer, &[statement.as_bytes(), b"\n"])?,
+            Ok(Some(statement)) => write_line(writer, &statement)?,
             Ok(None) => {}
             Err(LineError::Refused(reason)) => return Err(Fault::At(number, reason)),
             Err(LineError::Memory) => return Err(Fault::Memory),

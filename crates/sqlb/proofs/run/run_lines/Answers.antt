@@ -12,19 +12,19 @@ use Rattle.sqlb.proofs.run.run_lines.Goals as goal
 pub lines-init : goal.lines-init
 lines-init g c = (c.requires.not_failed, refl, omega arith, rw c.new-script.ensures.closed (so_far-first _ c.args.text.now))
 
-pub returns-in_err-write_parts-in-Ok-Some-clause-ran : goal.returns-in_err-write_parts-in-Ok-Some-clause-ran
-returns-in_err-write_parts-in-Ok-Some-clause-ran g c =
+pub returns-in_err-write_line-in-Ok-Some-clause-ran : goal.returns-in_err-write_line-in-Ok-Some-clause-ran
+returns-in_err-write_line-in-Ok-Some-clause-ran g c =
     let accepts = rw c.in-Ok-Some.field-0-is at c.in-Ok-Some.ensures.answer in
-    let wrote = rw c.as_bytes.ensures.value at c.in_err-write_parts-in-Ok-Some.ensures.wrote in
+    let wrote = rw c.deref.ensures at c.in_err-write_line-in-Ok-Some.ensures.wrote in
     let p = err_from_is_err_and c.from_residual.result c.from_residual.ensures.1 in
     fails-in _ _ _ _ _ _ c.lines.invariant.3 _ (lines c.split_line.result.1.now) c.split_line.ensures.lines _ _ _ _ _ accepts wrote (rw (p.1, p.2))
 
 pub lines-preserved-in-Ok-Some : goal.lines-preserved-in-Ok-Some
 lines-preserved-in-Ok-Some g c =
     let accepts = rw c.in-Ok-Some.field-0-is at c.in-Ok-Some.ensures.answer in
-    let wrote = rw c.as_bytes.ensures.value at c.in_ok-write_parts-in-Ok-Some.ensures.wrote in (
+    let wrote = rw c.deref.ensures at c.in_ok-write_line-in-Ok-Some.ensures.wrote in (
       wrote.2.1,
-      c.write_parts.ensures.ended ∙ c.lines.invariant.1,
+      c.write_line.ensures.ended ∙ c.lines.invariant.1,
       omega (arith, c.lines.invariant.2, c.split_line.ensures.shorter),
       so_far-next _ _ _ _ _ _ c.lines.invariant.3 _ (lines c.split_line.result.1.now) c.split_line.ensures.lines _ _ _ accepts c.in-Ok-Some.ensures.after
           (subst (Appends _ _) (wrote.2.0 ∙ line_text _) wrote.1),
