@@ -1,32 +1,11 @@
 //! A builder that prints twice. `tests/growths` runs each of these with each of its growths refused,
 //! and reads what is shown.
 
+use crate::every_call::{Finish, Made, query, query_values, sql, subquery};
 use sql_builder::{SqlBuilder, SqlBuilderError};
 use std::alloc::Global;
 use std::io::Write;
 use std::test::Fail;
-
-/// What a builder prints, or why it prints nothing.
-pub(crate) type Made = Result<String, SqlBuilderError>;
-
-/// The call that prints a builder.
-pub(crate) type Finish = fn(&SqlBuilder) -> Made;
-
-pub(crate) fn sql(builder: &SqlBuilder) -> Made {
-    builder.sql()
-}
-
-pub(crate) fn query(builder: &SqlBuilder) -> Made {
-    builder.query()
-}
-
-pub(crate) fn query_values(builder: &SqlBuilder) -> Made {
-    builder.query_values()
-}
-
-pub(crate) fn subquery(builder: &SqlBuilder) -> Made {
-    builder.subquery()
-}
 
 fn tell_joins(builder: &mut SqlBuilder) -> Result<(), SqlBuilderError> {
     builder.left().join("b")?.on_eq("b.x", "a.x")?.join("c")?;

@@ -1,6 +1,8 @@
 //! Reads lines of calls from standard input, and prints the statements that they make.
 #![tactic(auto)]
 
+#[cfg(test)]
+mod device_tests;
 mod endings;
 mod fault;
 mod input;
@@ -10,6 +12,8 @@ mod output;
 mod parts;
 mod run;
 mod script;
+#[cfg(test)]
+mod tests;
 mod texts;
 mod watched;
 

@@ -1,7 +1,8 @@
 //! Clones: each has every clause of its builder, and neither sees what the other is told.
 
-use crate::every_call::{EVERY_START_AND_FINISH, tell_every_call, tell_every_call_after};
-use crate::growths::{Finish, Made, sql};
+use crate::every_call::{
+    EVERY_START_AND_FINISH, Finish, Made, sql, tell_every_call, tell_every_call_after,
+};
 use sql_builder::{SqlBuilder, SqlBuilderError};
 use std::test::Fail;
 

@@ -1,12 +1,17 @@
 //! One call of each case after each start, and what each finish prints of it.
 
-use crate::growths::{Finish, Made, query, query_values, sql, subquery};
 use sql_builder::{SqlBuilder, SqlBuilderError};
 use std::alloc::Global;
 use std::test::Fail;
 
+/// What a builder prints, or why it prints nothing.
+pub(crate) type Made = Result<String, SqlBuilderError>;
+
 /// The call that begins a builder.
 pub(crate) type Start = fn(Global) -> Result<SqlBuilder, SqlBuilderError>;
+
+/// The call that prints a builder.
+pub(crate) type Finish = fn(&SqlBuilder) -> Made;
 
 type Started = Result<SqlBuilder, SqlBuilderError>;
 
@@ -28,6 +33,22 @@ fn update_table(alloc: Global) -> Started {
 
 fn delete_from(alloc: Global) -> Started {
     SqlBuilder::delete_from(alloc, "t")
+}
+
+pub(crate) fn sql(builder: &SqlBuilder) -> Made {
+    builder.sql()
+}
+
+pub(crate) fn query(builder: &SqlBuilder) -> Made {
+    builder.query()
+}
+
+pub(crate) fn query_values(builder: &SqlBuilder) -> Made {
+    builder.query_values()
+}
+
+pub(crate) fn subquery(builder: &SqlBuilder) -> Made {
+    builder.subquery()
 }
 
 fn subquery_as(builder: &SqlBuilder) -> Made {

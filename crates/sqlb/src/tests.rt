@@ -413,6 +413,31 @@ fn a_buffered_run_is_flushed(rt: HostRuntime) -> Result<(), Fail> {
     Ok(())
 }
 
+/// The stored run's input, twice over.
+const STORED_TWICE: &[u8] = b"select_from\tcompany\nfield\tid\nfield\tname\n\
+    and_where_gt\tsalary\t25000\nsql\n\
+    select_from\tcompany\nfield\tid\nfield\tname\nand_where_gt\tsalary\t25000\nsql\n";
+
+const STORED_TWICE_PRINTS: &[u8] = b"SELECT id, name FROM company WHERE salary > 25000;\n\
+    SELECT id, name FROM company WHERE salary > 25000;\n";
+
+/// Shows what a run has written into a few places, and its fault, on standard output.
+/// `tests/growths` runs it with each of its growths refused, and reads what is shown.
+#[test]
+fn shows_what_is_written_into_places(rt: HostRuntime) -> Result<(), Fail> {
+    let mut reader = Watched::new(STORED_TWICE);
+    let mut writer = Watched::new(Small::new(HELD, HELD, 0));
+    let answer = run_input(rt.alloc(), &mut reader, &mut writer);
+    let writer = writer.into_inner();
+    let _ = rt.stdout().write_all(writer.held());
+    if let Err(fault) = &answer {
+        let _ = write_fault(fault, &mut Watched::new(rt.stdout()));
+    }
+    assert!(rt; answer.is_ok());
+    assert_eq!(rt; writer.held(), STORED_TWICE_PRINTS);
+    Ok(())
+}
+
 const FOUR: &[u8] = b"select_from\tt\nsql\nselect_from\tbooks\nfield\ttitle\nsql\n\
     select_from\tt\nsql\nselect_from\tbooks\nfield\ttitle\nsql\n";
 
