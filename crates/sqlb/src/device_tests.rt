@@ -2,8 +2,7 @@
 
 use crate::fault::{Fault, Reason};
 use crate::output::write_fault;
-use crate::run::run_input;
-use crate::tests::{HELD, Slow, Small, TWO, TWO_PRINTS, fault_line};
+use crate::tests::{HELD, Slow, Small, TWO, TWO_PRINTS, run_over};
 use crate::watched::Watched;
 use std::test::Fail;
 
@@ -15,22 +14,23 @@ const STEPS: [(usize, usize); 4] = [(1, 42), (5, 11), (16, 5), (HELD, 4)];
 fn each_write_that_fails_ends_the_run(rt: HostRuntime) -> Result<(), Fail> {
     for (step, calls) in STEPS {
         for at in 1..=calls + 1 {
-            let mut reader = Watched::new(Slow::new(TWO, 7, 0));
-            let mut writer = Watched::new(Small::new(HELD, step, at));
-            let answer = run_input(rt.alloc(), &mut reader, &mut writer);
+            let writer = Small::new(HELD, step, at);
+            let ran = run_over(rt.alloc(), Slow::new(TWO, 7, 0), writer);
             let fails = at <= calls;
-            assert_eq!(rt; writer.failed(), fails, "step {step} at {at}");
-            let writer = writer.into_inner();
-            assert_eq!(rt; writer.calls, at.min(calls), "step {step} at {at}");
-            assert!(rt;
-                TWO_PRINTS.starts_with(writer.held()),
+            let is_beginning = TWO_PRINTS.starts_with(ran.writer.held());
+            let is_whole = ran.writer.held() == TWO_PRINTS;
+            assert_eq!(rt;
+                (ran.failed, ran.writer.calls, is_beginning, is_whole),
+                ((false, fails), at.min(calls), true, !fails),
                 "step {step} at {at}"
             );
-            assert_eq!(rt; writer.held() == TWO_PRINTS, !fails, "step {step} at {at}");
-            let (line, exit) = fault_line(rt.alloc(), answer);
+            let status = if fails { 2 } else { 0 };
             let wanted: &[u8] = if fails { b"write failed\n" } else { b"" };
-            assert_eq!(rt; line.as_slice(), wanted, "step {step} at {at}");
-            assert_eq!(rt; exit, if fails { 2 } else { 0 }, "step {step} at {at}");
+            assert_eq!(rt;
+                (ran.line.as_slice(), ran.exit),
+                (wanted, status),
+                "step {step} at {at}"
+            );
         }
     }
     Ok(())
@@ -52,11 +52,18 @@ fn each_write_of_a_fault_that_fails_is_answered(rt: HostRuntime) -> Result<(), F
             let mut writer = Watched::new(Small::new(HELD, 1, at));
             let answer = write_fault(fault, &mut writer);
             let fails = at <= line.len();
-            assert_eq!(rt; matches!(answer, Err(Fault::Write)), fails, "at {at}");
-            assert_eq!(rt; answer.is_ok(), !fails, "at {at}");
-            assert_eq!(rt; writer.failed(), fails, "at {at}");
+            let failed = writer.failed();
             let writer = writer.into_inner();
-            assert_eq!(rt; writer.calls, at.min(line.len()), "at {at}");
+            assert_eq!(rt;
+                (
+                    answer.is_ok(),
+                    matches!(answer, Err(Fault::Write)),
+                    failed,
+                    writer.calls
+                ),
+                (!fails, fails, fails, at.min(line.len())),
+                "at {at}"
+            );
             assert_eq!(rt; writer.held(), &line[..at - 1], "at {at}");
         }
     }

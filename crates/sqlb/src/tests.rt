@@ -306,7 +306,7 @@ const ROWS: [Row; 32] = [
 ];
 
 /// What is printed of a fault, and its exit status.
-pub(crate) fn fault_line(alloc: Global, answer: Result<(), Fault>) -> (Vec<u8>, u8) {
+fn fault_line(alloc: Global, answer: Result<(), Fault>) -> (Vec<u8>, u8) {
     let mut line = Watched::new(Vec::new(alloc));
     let status = match answer {
         Ok(()) => 0,
@@ -318,21 +318,66 @@ pub(crate) fn fault_line(alloc: Global, answer: Result<(), Fault>) -> (Vec<u8>, 
     (line.into_inner(), status)
 }
 
+/// What a run came to: the devices, whether the reader ended and which of the two failed, the line
+/// of its fault and the exit status.
+#[derive(Drop)]
+pub(crate) struct Came<R> {
+    reader: R,
+    pub(crate) writer: Small,
+    ended: bool,
+    pub(crate) failed: (bool, bool),
+    pub(crate) line: Vec<u8>,
+    pub(crate) exit: u8,
+}
+
+/// Runs what a reader gives.
+pub(crate) fn run_over<R: Read>(alloc: Global, reader: R, writer: Small) -> Came<R> {
+    let mut reader = Watched::new(reader);
+    let mut writer = Watched::new(writer);
+    let answer = run_input(alloc, &mut reader, &mut writer);
+    let (ended, failed) = (reader.ended(), (reader.failed(), writer.failed()));
+    let (line, exit) = fault_line(alloc, answer);
+    Came {
+        reader: reader.into_inner(),
+        writer: writer.into_inner(),
+        ended,
+        failed,
+        line,
+        exit,
+    }
+}
+
+/// Runs what a reader gives with a buffer of 24 bytes, and gives the writer and the line of the
+/// fault.
+fn run_buffered<R: Read + Drop>(
+    alloc: Global,
+    reader: R,
+    writer: Small,
+) -> Result<(Small, Vec<u8>), Fail> {
+    let mut reader = Watched::new(reader);
+    let writer = BufWriter::with_capacity(alloc, 24, writer)?;
+    let (writer, answer) = run_flushed(alloc, &mut reader, writer);
+    let (line, _) = fault_line(alloc, answer);
+    Ok((writer, line))
+}
+
 #[test]
 fn prints_what_the_lines_say(rt: HostRuntime) -> Result<(), Fail> {
     for (row, (input, prints, fault, status)) in ROWS.iter().enumerate() {
         for step in [1, 7, 4096] {
-            let mut reader = Watched::new(Slow::new(input, step, 0));
-            let mut writer = Watched::new(Small::new(HELD, step, 0));
-            let answer = run_input(rt.alloc(), &mut reader, &mut writer);
-            assert!(rt;
-                reader.ended() && !reader.failed() && !writer.failed(),
+            let writer = Small::new(HELD, step, 0);
+            let ran = run_over(rt.alloc(), Slow::new(input, step, 0), writer);
+            assert_eq!(rt;
+                (
+                    ran.writer.held(),
+                    ran.line.as_slice(),
+                    ran.exit,
+                    ran.ended,
+                    ran.failed
+                ),
+                (*prints, *fault, *status, true, (false, false)),
                 "row {row}"
             );
-            assert_eq!(rt; writer.into_inner().held(), *prints, "row {row}");
-            let (line, exit) = fault_line(rt.alloc(), answer);
-            assert_eq!(rt; line.as_slice(), *fault, "row {row}");
-            assert_eq!(rt; exit, *status, "row {row}");
         }
     }
     Ok(())
@@ -345,19 +390,19 @@ pub(crate) const TWO_PRINTS: &[u8] = b"SELECT * FROM t;\nSELECT title FROM books
 #[test]
 fn a_read_that_fails_ends_the_run(rt: HostRuntime) -> Result<(), Fail> {
     for at in 1..=9 {
-        let mut reader = Watched::new(Slow::new(TWO, 7, at));
-        let mut writer = Watched::new(Small::new(HELD, HELD, 0));
-        let answer = run_input(rt.alloc(), &mut reader, &mut writer);
-        assert!(rt;
-            reader.failed() && !reader.ended() && !writer.failed(),
+        let writer = Small::new(HELD, HELD, 0);
+        let ran = run_over(rt.alloc(), Slow::new(TWO, 7, at), writer);
+        // No read is tried again, and nothing is written.
+        assert_eq!(rt;
+            (ran.reader.calls, ran.writer.calls, ran.ended, ran.failed),
+            (at, 0, false, (true, false)),
             "at {at}"
         );
-        // No read is tried again, and nothing is written.
-        assert_eq!(rt; reader.into_inner().calls, at, "at {at}");
-        assert_eq!(rt; writer.into_inner().calls, 0, "at {at}");
-        let (line, exit) = fault_line(rt.alloc(), answer);
-        assert_eq!(rt; line.as_slice(), b"read failed\n".as_slice(), "at {at}");
-        assert_eq!(rt; exit, 2, "at {at}");
+        assert_eq!(rt;
+            (ran.line.as_slice(), ran.exit),
+            (b"read failed\n".as_slice(), 2),
+            "at {at}"
+        );
     }
     Ok(())
 }
@@ -365,17 +410,19 @@ fn a_read_that_fails_ends_the_run(rt: HostRuntime) -> Result<(), Fail> {
 #[test]
 fn a_write_that_fails_ends_the_run(rt: HostRuntime) -> Result<(), Fail> {
     for at in 1..=9 {
-        let mut reader = Watched::new(TWO);
-        let mut writer = Watched::new(Small::new(HELD, 5, at));
-        let answer = run_input(rt.alloc(), &mut reader, &mut writer);
-        assert!(rt; reader.ended() && writer.failed(), "at {at}");
-        let writer = writer.into_inner();
+        let ran = run_over(rt.alloc(), TWO, Small::new(HELD, 5, at));
+        let is_beginning = TWO_PRINTS.starts_with(ran.writer.held());
         // No write is tried again, and a beginning is written.
-        assert_eq!(rt; writer.calls, at, "at {at}");
-        assert!(rt; TWO_PRINTS.starts_with(writer.held()), "at {at}");
-        let (line, exit) = fault_line(rt.alloc(), answer);
-        assert_eq!(rt; line.as_slice(), b"write failed\n".as_slice(), "at {at}");
-        assert_eq!(rt; exit, 2, "at {at}");
+        assert_eq!(rt;
+            (ran.writer.calls, is_beginning, ran.ended, ran.failed),
+            (at, true, true, (false, true)),
+            "at {at}"
+        );
+        assert_eq!(rt;
+            (ran.line.as_slice(), ran.exit),
+            (b"write failed\n".as_slice(), 2),
+            "at {at}"
+        );
     }
     Ok(())
 }
@@ -383,15 +430,24 @@ fn a_write_that_fails_ends_the_run(rt: HostRuntime) -> Result<(), Fail> {
 #[test]
 fn a_writer_that_is_full_fails_the_run(rt: HostRuntime) -> Result<(), Fail> {
     for room in [0, 1, 16, 17, 41] {
-        let mut reader = Watched::new(TWO);
-        let mut writer = Watched::new(Small::new(room, 2, 0));
-        let answer = run_input(rt.alloc(), &mut reader, &mut writer);
-        assert!(rt; matches!(&answer, Err(Fault::Write)), "room {room}");
-        assert!(rt; writer.failed(), "room {room}");
-        let writer = writer.into_inner();
-        assert!(rt; TWO_PRINTS.starts_with(writer.held()), "room {room}");
+        let ran = run_over(rt.alloc(), TWO, Small::new(room, 2, 0));
+        let is_beginning = TWO_PRINTS.starts_with(ran.writer.held());
         // A text ends in a step of its own: none is tried again once no byte is taken.
-        assert_eq!(rt; writer.calls, room.div_ceil(2) + 1, "room {room}");
+        assert_eq!(rt;
+            (
+                ran.writer.calls,
+                is_beginning,
+                ran.failed,
+                ran.line.as_slice()
+            ),
+            (
+                room.div_ceil(2) + 1,
+                true,
+                (false, true),
+                b"write failed\n".as_slice()
+            ),
+            "room {room}"
+        );
     }
     Ok(())
 }
@@ -399,16 +455,15 @@ fn a_writer_that_is_full_fails_the_run(rt: HostRuntime) -> Result<(), Fail> {
 #[test]
 fn a_buffered_run_is_flushed(rt: HostRuntime) -> Result<(), Fail> {
     for (room, calls) in [(42, 8), (41, 8), (0, 1)] {
-        let mut reader = Watched::new(TWO);
-        let writer = BufWriter::with_capacity(rt.alloc(), 24, Small::new(room, 7, 0))?;
-        let (writer, answer) = run_flushed(rt.alloc(), &mut reader, writer);
-        assert_eq!(rt; writer.calls, calls, "room {room}");
-        let is_held = writer.held() == TWO_PRINTS;
-        assert_eq!(rt; is_held, room == 42, "room {room}");
-        assert!(rt; TWO_PRINTS.starts_with(writer.held()), "room {room}");
-        let (line, _) = fault_line(rt.alloc(), answer);
+        let (writer, line) = run_buffered(rt.alloc(), TWO, Small::new(room, 7, 0))?;
+        let is_beginning = TWO_PRINTS.starts_with(writer.held());
+        let is_whole = writer.held() == TWO_PRINTS;
         let wanted: &[u8] = if room == 42 { b"" } else { b"write failed\n" };
-        assert_eq!(rt; line.as_slice(), wanted, "room {room}");
+        assert_eq!(rt;
+            (writer.calls, is_beginning, is_whole, line.as_slice()),
+            (calls, true, room == 42, wanted),
+            "room {room}"
+        );
     }
     Ok(())
 }
@@ -449,19 +504,13 @@ fn a_buffered_run_stops_at_the_first_call_that_fails(rt: HostRuntime) -> Result<
     // How many bytes a write takes, and how many calls a run makes, the last of them the flush.
     for (step, calls) in [(7, 15), (HELD, 6)] {
         for at in 1..=calls + 1 {
-            let mut reader = Watched::new(FOUR);
-            let writer = BufWriter::with_capacity(rt.alloc(), 24, Small::new(HELD, step, at))?;
-            let (writer, answer) = run_flushed(rt.alloc(), &mut reader, writer);
-            assert_eq!(rt; writer.calls, at.min(calls), "step {step} at {at}");
-            assert!(rt;
-                FOUR_PRINTS.starts_with(writer.held()),
-                "step {step} at {at}"
-            );
-            let (line, _) = fault_line(rt.alloc(), answer);
+            let (writer, line) = run_buffered(rt.alloc(), FOUR, Small::new(HELD, step, at))?;
+            let is_beginning = FOUR_PRINTS.starts_with(writer.held());
+            let is_whole = at < calls || writer.held() == FOUR_PRINTS;
             let wanted: &[u8] = if at > calls { b"" } else { b"write failed\n" };
-            assert_eq!(rt; line.as_slice(), wanted, "step {step} at {at}");
-            assert!(rt;
-                at < calls || writer.held() == FOUR_PRINTS,
+            assert_eq!(rt;
+                (writer.calls, is_beginning, is_whole, line.as_slice()),
+                (at.min(calls), true, true, wanted),
                 "step {step} at {at}"
             );
         }
@@ -471,11 +520,12 @@ fn a_buffered_run_stops_at_the_first_call_that_fails(rt: HostRuntime) -> Result<
 
 #[test]
 fn a_buffered_run_says_that_a_read_failed(rt: HostRuntime) -> Result<(), Fail> {
-    let mut reader = Watched::new(Slow::new(TWO, 7, 2));
-    let writer = BufWriter::with_capacity(rt.alloc(), 24, Small::new(HELD, 7, 1))?;
-    let (writer, answer) = run_flushed(rt.alloc(), &mut reader, writer);
-    assert!(rt; matches!(answer, Err(Fault::Read)));
-    assert!(rt; writer.held().is_empty());
+    let writer = Small::new(HELD, 7, 1);
+    let (writer, line) = run_buffered(rt.alloc(), Slow::new(TWO, 7, 2), writer)?;
+    assert_eq!(rt;
+        (writer.held(), line.as_slice()),
+        (b"".as_slice(), b"read failed\n".as_slice())
+    );
     Ok(())
 }
 
@@ -487,79 +537,98 @@ fn prints_a_fault_as_one_line(rt: HostRuntime) -> Result<(), Fail> {
     );
     let line: &[u8] = b"line 18446744073709551615: Out of memory\n";
     let mut writer = Watched::new(Small::new(HELD, 3, 0));
-    assert!(rt; write_fault(&fault, &mut writer).is_ok());
-    assert_eq!(rt; writer.into_inner().held(), line);
+    let is_written = write_fault(&fault, &mut writer).is_ok();
+    assert_eq!(rt; (is_written, writer.into_inner().held()), (true, line));
     for room in 0..41 {
         let mut writer = Watched::new(Small::new(room, 3, 0));
-        assert!(rt;
-            matches!(write_fault(&fault, &mut writer), Err(Fault::Write)),
-            "room {room}"
-        );
-        assert!(rt;
-            writer.failed() && line.starts_with(writer.into_inner().held()),
-            "room {room}"
-        );
+        let answer = write_fault(&fault, &mut writer);
+        let failed = (matches!(answer, Err(Fault::Write)), writer.failed());
+        let is_beginning = line.starts_with(writer.into_inner().held());
+        assert_eq!(rt; (failed, is_beginning), ((true, true), true), "room {room}");
     }
     let (line, exit) = fault_line(rt.alloc(), Err(Fault::Memory));
-    assert_eq!(rt; line.as_slice(), b"Out of memory\n".as_slice());
-    assert_eq!(rt; exit, 1);
+    assert_eq!(rt; (line.as_slice(), exit), (b"Out of memory\n".as_slice(), 1));
     Ok(())
+}
+
+/// An answer, with the kind of its error alone.
+fn kind(answer: io::Result<usize>) -> Result<usize, ErrorKind> {
+    answer.map_err(|e| e.kind())
+}
+
+/// Whether what is watched has failed, and whether it has ended.
+fn flags<T>(watched: &Watched<T>) -> (bool, bool) {
+    (watched.failed(), watched.ended())
 }
 
 #[test]
 fn watched_hands_on_the_whole_slice(rt: HostRuntime) -> Result<(), Fail> {
     let mut buf = [0; 1000];
     for gives in [Some(1000), Some(3), Some(0), None] {
-        let wanted = gives.ok_or(ErrorKind::BrokenPipe);
         let mut reader = Watched::new(Noting::new(gives));
-        let answer = reader.read(&mut buf).map_err(|e| e.kind());
-        assert_eq!(rt; answer, wanted, "a read that gives {gives:?}");
-        let noted = reader.into_inner();
-        assert_eq!(rt; noted.calls, 1, "a read that gives {gives:?}");
-        assert_eq!(rt; noted.len, 1000, "a read that gives {gives:?}");
-
         let mut writer = Watched::new(Noting::new(gives));
-        let answer = writer.write(&buf).map_err(|e| e.kind());
-        assert_eq!(rt; answer, wanted, "a write that gives {gives:?}");
-        let noted = writer.into_inner();
-        assert_eq!(rt; noted.calls, 1, "a write that gives {gives:?}");
-        assert_eq!(rt; noted.len, 1000, "a write that gives {gives:?}");
+        let read = kind(reader.read(&mut buf));
+        let written = kind(writer.write(&buf));
+        let read_of = reader.into_inner();
+        let written_to = writer.into_inner();
+        let wanted = gives.ok_or(ErrorKind::BrokenPipe);
+        assert_eq!(rt;
+            (read, read_of.calls, read_of.len),
+            (wanted, 1, 1000),
+            "a read that gives {gives:?}"
+        );
+        assert_eq!(rt;
+            (written, written_to.calls, written_to.len),
+            (wanted, 1, 1000),
+            "a write that gives {gives:?}"
+        );
     }
     Ok(())
 }
 
 #[test]
-fn watched_gives_the_answers_of_what_it_holds(rt: HostRuntime) -> Result<(), Fail> {
+fn a_watched_reader_gives_the_answers_of_what_it_holds(rt: HostRuntime) -> Result<(), Fail> {
     let mut buf = [0; 4];
     let mut reader = Watched::new(Slow::new(b"abcdef", 3, 2));
-    assert!(rt; !reader.failed() && !reader.ended());
-    assert_eq!(rt; reader.read(&mut buf)?, 3);
-    assert_eq!(rt; &buf[..3], b"abc".as_slice());
-    assert_eq!(rt;
-        reader.read(&mut buf).map_err(|e| e.kind()),
-        Err(ErrorKind::BrokenPipe)
-    );
-    assert!(rt; reader.failed() && !reader.ended());
+    assert_eq!(rt; flags(&reader), (false, false));
+    let first = (kind(reader.read(&mut buf)), flags(&reader));
+    let begun = buf;
+    let second = (kind(reader.read(&mut buf)), flags(&reader));
     // No room is no end, and the flags stay as they are.
-    assert_eq!(rt; reader.read(&mut [])?, 0);
-    assert!(rt; reader.failed() && !reader.ended());
-    assert_eq!(rt; reader.read(&mut buf)?, 3);
-    assert_eq!(rt; reader.read(&mut buf)?, 0);
-    assert!(rt; reader.failed() && reader.ended());
-
-    let mut writer = Watched::new(Small::new(4, 3, 2));
-    assert_eq!(rt; writer.write(b"")?, 0);
-    assert!(rt; !writer.failed());
+    let third = (kind(reader.read(&mut [])), flags(&reader));
+    let fourth = (kind(reader.read(&mut buf)), flags(&reader));
+    let fifth = (kind(reader.read(&mut buf)), flags(&reader));
     assert_eq!(rt;
-        writer.write(b"abcd").map_err(|e| e.kind()),
-        Err(ErrorKind::StorageFull)
+        [first, second, third, fourth, fifth],
+        [
+            (Ok(3), (false, false)),
+            (Err(ErrorKind::BrokenPipe), (true, false)),
+            (Ok(0), (true, false)),
+            (Ok(3), (true, false)),
+            (Ok(0), (true, true)),
+        ]
     );
-    assert!(rt; writer.failed() && !writer.ended());
-    assert_eq!(rt; writer.write(b"abcd")?, 3);
-    assert_eq!(rt; writer.into_inner().held(), b"abc".as_slice());
+    assert!(rt; begun.starts_with(b"abc"));
+    Ok(())
+}
 
+#[test]
+fn a_watched_writer_gives_the_answers_of_what_it_holds(rt: HostRuntime) -> Result<(), Fail> {
+    let mut writer = Watched::new(Small::new(4, 3, 2));
+    let first = (kind(writer.write(b"")), flags(&writer));
+    let second = (kind(writer.write(b"abcd")), flags(&writer));
+    let third = (kind(writer.write(b"abcd")), flags(&writer));
     let mut full = Watched::new(Small::new(0, 3, 0));
-    assert_eq!(rt; full.write(b"a")?, 0);
-    assert!(rt; full.failed());
+    let fourth = (kind(full.write(b"a")), flags(&full));
+    assert_eq!(rt;
+        [first, second, third, fourth],
+        [
+            (Ok(0), (false, false)),
+            (Err(ErrorKind::StorageFull), (true, false)),
+            (Ok(3), (true, false)),
+            (Ok(0), (true, false)),
+        ]
+    );
+    assert_eq!(rt; writer.into_inner().held(), b"abc".as_slice());
     Ok(())
 }
