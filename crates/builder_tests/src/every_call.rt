@@ -112,15 +112,14 @@ pub(crate) const EVERY_START_AND_FINISH: [(Start, Finish, &str); 9] = [
     ),
 ];
 
-fn tell_tables_and_joins(builder: &mut SqlBuilder) -> Result<(), SqlBuilderError> {
-    builder
-        .distinct()
-        .and_table("u")?
-        .natural()
-        .left()
-        .join("a")?
-        .on("x")?
-        .on_eq("y", "z")?;
+fn tell_tables(builder: &mut SqlBuilder) -> Result<(), SqlBuilderError> {
+    builder.distinct().and_table("u")?;
+    Ok(())
+}
+
+fn tell_a_join(builder: &mut SqlBuilder) -> Result<(), SqlBuilderError> {
+    builder.natural().left().join("a")?;
+    builder.on("x")?.on_eq("y", "z")?;
     Ok(())
 }
 
@@ -142,48 +141,56 @@ fn tell_fields(builder: &mut SqlBuilder) -> Result<(), SqlBuilderError> {
     Ok(())
 }
 
-fn tell_sets_and_rows(builder: &mut SqlBuilder) -> Result<(), SqlBuilderError> {
-    builder
-        .set("p", "1")?
-        .set_str("q", "it's")?
-        .select("SELECT 3")?
-        .values(&["4", "5"])?
-        .values(&["6"])?
-        .returning("p")?
-        .returning_id()?;
+fn tell_sets(builder: &mut SqlBuilder) -> Result<(), SqlBuilderError> {
+    builder.set("p", "1")?.set_str("q", "it's")?;
     Ok(())
 }
 
-fn tell_conditions_and_groups(builder: &mut SqlBuilder) -> Result<(), SqlBuilderError> {
-    builder
-        .and_where("r")?
-        .and_where_gt("s", "7")?
-        .group_by("v")?
-        .group_by("w")?
-        .having("x > 8")?;
+fn tell_rows(builder: &mut SqlBuilder) -> Result<(), SqlBuilderError> {
+    builder.select("SELECT 3")?.values(&["4", "5"])?;
+    builder.values(&["6"])?.returning("p")?.returning_id()?;
     Ok(())
 }
 
-fn tell_unions_and_order(builder: &mut SqlBuilder) -> Result<(), SqlBuilderError> {
-    builder
-        .union("SELECT 9")?
-        .union_all("SELECT 10")?
-        .order_by("y", true)?
-        .order_asc("z")?
-        .order_desc("z")?
-        .limit("11")?
-        .offset("12")?;
+fn tell_conditions(builder: &mut SqlBuilder) -> Result<(), SqlBuilderError> {
+    builder.and_where("r")?.and_where_gt("s", "7")?;
+    Ok(())
+}
+
+fn tell_groups(builder: &mut SqlBuilder) -> Result<(), SqlBuilderError> {
+    builder.group_by("v")?.group_by("w")?.having("x > 8")?;
+    Ok(())
+}
+
+fn tell_unions(builder: &mut SqlBuilder) -> Result<(), SqlBuilderError> {
+    builder.union("SELECT 9")?.union_all("SELECT 10")?;
+    Ok(())
+}
+
+fn tell_order(builder: &mut SqlBuilder) -> Result<(), SqlBuilderError> {
+    builder.order_by("y", true)?.order_asc("z")?;
+    builder.order_desc("z")?;
+    Ok(())
+}
+
+fn tell_limits(builder: &mut SqlBuilder) -> Result<(), SqlBuilderError> {
+    builder.limit("11")?.offset("12")?;
     Ok(())
 }
 
 /// One call of each case. A function for each few, since the proof of all in one takes long.
 pub(crate) fn tell_every_call(builder: &mut SqlBuilder) -> Result<(), SqlBuilderError> {
-    tell_tables_and_joins(builder)?;
+    tell_tables(builder)?;
+    tell_a_join(builder)?;
     tell_further_joins(builder)?;
     tell_fields(builder)?;
-    tell_sets_and_rows(builder)?;
-    tell_conditions_and_groups(builder)?;
-    tell_unions_and_order(builder)
+    tell_sets(builder)?;
+    tell_rows(builder)?;
+    tell_conditions(builder)?;
+    tell_groups(builder)?;
+    tell_unions(builder)?;
+    tell_order(builder)?;
+    tell_limits(builder)
 }
 
 pub(crate) fn tell_every_call_after(alloc: Global, start: Start) -> Started
