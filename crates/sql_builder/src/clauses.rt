@@ -138,6 +138,31 @@ impl Join {
     }
 }
 
+impl Union {
+    fn copy(&self, alloc: Global) -> Result<Union, SqlBuilderError>
+        ensures copied { IfOk result (λ copied. union_text copied ≡ union_text self.now) }
+        ensures memory { FailsOnlyByMemory result }
+    {
+        Ok(Union {
+            all: self.all,
+            query: self.query.to_text(alloc)?,
+        })
+    }
+}
+
+impl GroupedCondition {
+    fn copy(&self, alloc: Global) -> Result<GroupedCondition, SqlBuilderError>
+        ensures copied { IfOk result (λ copied.
+            condition_in_group copied ≡ condition_in_group self.now) }
+        ensures memory { FailsOnlyByMemory result }
+    {
+        Ok(GroupedCondition {
+            opens_group: self.opens_group,
+            text: self.text.to_text(alloc)?,
+        })
+    }
+}
+
 pub(crate) fn copy_joins(alloc: Global, joins: &[Join]) -> Result<Vec<Join>, SqlBuilderError>
     ensures copied { IfOk result (λ copied.
         map join_text copied.items ≡ map join_text joins.now) }
@@ -157,11 +182,7 @@ pub(crate) fn copy_unions(alloc: Global, unions: &[Union]) -> Result<Vec<Union>,
 {
     let mut copied = Vec::with_capacity(alloc, unions.len())?;
     for union in unions {
-        let query = union.query.to_text(alloc)?;
-        copied.push(Union {
-            all: union.all,
-            query,
-        })?;
+        copied.push(union.copy(alloc)?)?;
     }
     Ok(copied)
 }
@@ -176,11 +197,7 @@ pub(crate) fn copy_conditions(
 {
     let mut copied = Vec::with_capacity(alloc, conditions.len())?;
     for condition in conditions {
-        let text = condition.text.to_text(alloc)?;
-        copied.push(GroupedCondition {
-            opens_group: condition.opens_group,
-            text,
-        })?;
+        copied.push(condition.copy(alloc)?)?;
     }
     Ok(copied)
 }
