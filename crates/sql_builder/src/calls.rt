@@ -160,35 +160,59 @@ fn begin_lent(alloc: Global, start: &Start) -> Result<SqlBuilder, SqlBuilderErro
 macro_rules! make_call {
     ($builder:ident, $call:ident, $($arms:tt)*) => {
         match $call {
-            Call::Natural => $builder.natural = true,
-            Call::Left => $builder.operator = Some(JoinOperator::Left),
-            Call::LeftOuter => $builder.operator = Some(JoinOperator::LeftOuter),
-            Call::Right => $builder.operator = Some(JoinOperator::Right),
-            Call::RightOuter => $builder.operator = Some(JoinOperator::RightOuter),
-            Call::Inner => $builder.operator = Some(JoinOperator::Inner),
-            Call::Cross => $builder.operator = Some(JoinOperator::Cross),
-            Call::Distinct => $builder.distinct = true,
-            Call::AndTable(table) => $builder.push_unary(UnaryClause::AndTable, table)?,
-            Call::Join(table) => $builder.push_unary(UnaryClause::Join, table)?,
-            Call::On(constraint) => $builder.push_unary(UnaryClause::On, constraint)?,
-            Call::Field(field) => $builder.push_unary(UnaryClause::Field, field)?,
-            Call::SetField(field) => $builder.push_unary(UnaryClause::SetField, field)?,
-            Call::Count(field) => $builder.push_unary(UnaryClause::Count, field)?,
-            Call::Select(query) => $builder.push_unary(UnaryClause::Select, query)?,
-            Call::Returning(fields) => $builder.push_unary(UnaryClause::Returning, fields)?,
-            Call::GroupBy(field) => $builder.push_unary(UnaryClause::GroupBy, field)?,
-            Call::Having(condition) => $builder.push_unary(UnaryClause::Having, condition)?,
-            Call::Union(query) => $builder.push_unary(UnaryClause::Union, query)?,
-            Call::UnionAll(query) => $builder.push_unary(UnaryClause::UnionAll, query)?,
-            Call::OrderAsc(field) => $builder.push_unary(UnaryClause::OrderAsc, field)?,
-            Call::OrderDesc(field) => $builder.push_unary(UnaryClause::OrderDesc, field)?,
-            Call::Limit(limit) => $builder.push_unary(UnaryClause::Limit, limit)?,
-            Call::Offset(offset) => $builder.push_unary(UnaryClause::Offset, offset)?,
-            Call::OnEq(left, right) => $builder.push_binary(BinaryClause::OnEq, left, right)?,
-            Call::CountAs(field, name) => $builder.push_binary(BinaryClause::CountAs, field, name)?,
-            Call::SetTo(field, value) => $builder.push_binary(BinaryClause::SetTo, field, value)?,
-            Call::SetStr(field, value) => $builder.push_binary(BinaryClause::SetStr, field, value)?,
-            Call::ReturningId => $builder.put_returning("id")?,
+            Call::Natural => {
+                $builder.natural = true;
+                Ok(())
+            }
+            Call::Left => {
+                $builder.operator = Some(JoinOperator::Left);
+                Ok(())
+            }
+            Call::LeftOuter => {
+                $builder.operator = Some(JoinOperator::LeftOuter);
+                Ok(())
+            }
+            Call::Right => {
+                $builder.operator = Some(JoinOperator::Right);
+                Ok(())
+            }
+            Call::RightOuter => {
+                $builder.operator = Some(JoinOperator::RightOuter);
+                Ok(())
+            }
+            Call::Inner => {
+                $builder.operator = Some(JoinOperator::Inner);
+                Ok(())
+            }
+            Call::Cross => {
+                $builder.operator = Some(JoinOperator::Cross);
+                Ok(())
+            }
+            Call::Distinct => {
+                $builder.distinct = true;
+                Ok(())
+            }
+            Call::AndTable(table) => $builder.push_unary(UnaryClause::AndTable, table),
+            Call::Join(table) => $builder.push_unary(UnaryClause::Join, table),
+            Call::On(constraint) => $builder.push_unary(UnaryClause::On, constraint),
+            Call::Field(field) => $builder.push_unary(UnaryClause::Field, field),
+            Call::SetField(field) => $builder.push_unary(UnaryClause::SetField, field),
+            Call::Count(field) => $builder.push_unary(UnaryClause::Count, field),
+            Call::Select(query) => $builder.push_unary(UnaryClause::Select, query),
+            Call::Returning(fields) => $builder.push_unary(UnaryClause::Returning, fields),
+            Call::GroupBy(field) => $builder.push_unary(UnaryClause::GroupBy, field),
+            Call::Having(condition) => $builder.push_unary(UnaryClause::Having, condition),
+            Call::Union(query) => $builder.push_unary(UnaryClause::Union, query),
+            Call::UnionAll(query) => $builder.push_unary(UnaryClause::UnionAll, query),
+            Call::OrderAsc(field) => $builder.push_unary(UnaryClause::OrderAsc, field),
+            Call::OrderDesc(field) => $builder.push_unary(UnaryClause::OrderDesc, field),
+            Call::Limit(limit) => $builder.push_unary(UnaryClause::Limit, limit),
+            Call::Offset(offset) => $builder.push_unary(UnaryClause::Offset, offset),
+            Call::OnEq(left, right) => $builder.push_binary(BinaryClause::OnEq, left, right),
+            Call::CountAs(field, name) => $builder.push_binary(BinaryClause::CountAs, field, name),
+            Call::SetTo(field, value) => $builder.push_binary(BinaryClause::SetTo, field, value),
+            Call::SetStr(field, value) => $builder.push_binary(BinaryClause::SetStr, field, value),
+            Call::ReturningId => $builder.put_returning("id"),
             $($arms)*
         }
     };
@@ -204,13 +228,18 @@ pub fn make(builder: &mut SqlBuilder, call: Call) -> Result<(), SqlBuilderError>
     ensures memory { FailsOnlyByMemory result }
 {
     make_call!(builder, call,
-        Call::Fields(fields) => append(&mut builder.fields, fields)?,
-        Call::SetFields(fields) => builder.fields = fields,
-        Call::Values(values) => builder.push_variadic(VariadicClause::Values, &values)?,
-        Call::OrderBy(field, descending) => builder.push_order(descending, field)?,
-        Call::Cond(family, condition) => make_condition(builder, family, condition)?,
-    );
-    Ok(())
+        Call::Fields(fields) => {
+            append(&mut builder.fields, fields)?;
+            Ok(())
+        }
+        Call::SetFields(fields) => {
+            builder.fields = fields;
+            Ok(())
+        }
+        Call::Values(values) => builder.push_variadic(VariadicClause::Values, &values),
+        Call::OrderBy(field, descending) => builder.push_order(descending, field),
+        Call::Cond(family, condition) => make_condition(builder, family, condition),
+    )
 }
 
 fn make_lent(builder: &mut SqlBuilder, call: &Call) -> Result<(), SqlBuilderError>
@@ -218,16 +247,15 @@ fn make_lent(builder: &mut SqlBuilder, call: &Call) -> Result<(), SqlBuilderErro
     ensures memory { FailsOnlyByMemory result }
 {
     make_call!(builder, call,
-        Call::Fields(fields) => builder.push_variadic(VariadicClause::Fields, fields)?,
-        Call::SetFields(fields) => builder.push_variadic(VariadicClause::SetFields, fields)?,
-        Call::Values(values) => builder.push_variadic(VariadicClause::Values, values)?,
-        Call::OrderBy(field, descending) => builder.push_order(*descending, field)?,
+        Call::Fields(fields) => builder.push_variadic(VariadicClause::Fields, fields),
+        Call::SetFields(fields) => builder.push_variadic(VariadicClause::SetFields, fields),
+        Call::Values(values) => builder.push_variadic(VariadicClause::Values, values),
+        Call::OrderBy(field, descending) => builder.push_order(*descending, field),
         Call::Cond(family, condition) => {
             let text = condition.to_text(builder.alloc)?;
-            builder.push_condition(*family, text)?
+            builder.push_condition(*family, text)
         }
-    );
-    Ok(())
+    )
 }
 
 // Lists of fields are moved, since they may be long.

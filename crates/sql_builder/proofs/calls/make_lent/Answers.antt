@@ -1,13 +1,10 @@
+use Rattle.sql_parts.specs.Text.{texts}
+use Rattle.sql_builder.specs.Steps.{with_variadic}
+use Rattle.sql_builder.specs.declared.steps.VariadicClause.TheVariants.{Values}
+use Rattle.sql_builder.proofs.Tells.{tells_ok}
 use Rattle.sql_builder.proofs.calls.make_lent.Goals as goal
 
-pub returns-in_ok-push_variadic-in-Fields-clause-made : goal.returns-in_ok-push_variadic-in-Fields-clause-made
-returns-in_ok-push_variadic-in-Fields-clause-made c =
-    rw c.in-Fields.is (rw c.deref.ensures.value at c.in_ok-push_variadic-in-Fields.ensures)
-
-pub returns-in_ok-push_variadic-in-SetFields-clause-made : goal.returns-in_ok-push_variadic-in-SetFields-clause-made
-returns-in_ok-push_variadic-in-SetFields-clause-made c =
-    rw c.in-SetFields.is (rw c.deref-in-SetFields.ensures.value at c.in_ok-push_variadic-in-SetFields.ensures)
-
-pub returns-in_ok-push_variadic-in-Values-clause-made : goal.returns-in_ok-push_variadic-in-Values-clause-made
-returns-in_ok-push_variadic-in-Values-clause-made c =
-    rw c.in-Values.is (rw c.deref-in-Values.ensures.value at c.in_ok-push_variadic-in-Values.ensures)
+pub returns-in-Values-clause-made : goal.returns-in-Values-clause-made
+returns-in-Values-clause-made c =
+    let row = with_variadic Values (texts c.in-Values.values.items) in
+    rw c.in-Values.is (tells_ok c.push_variadic-in-Values.result c.args.builder.now c.push_variadic-in-Values.new.self row (rw c.deref-in-Values.ensures.value at c.push_variadic-in-Values.ensures))
