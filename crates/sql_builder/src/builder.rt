@@ -72,7 +72,22 @@ impl Model for SqlBuilder {
     } };
 }
 
+// Copies of the query, RETURNING, HAVING, LIMIT and OFFSET.
+type OptionalTexts = (
+    Option<String>,
+    Option<String>,
+    Option<String>,
+    Option<String>,
+    Option<String>,
+);
+
+// Copies of the conditions, GROUP BY, the unions and ORDER BY.
+type FurtherClauses = (Vec<GroupedCondition>, Vec<String>, Vec<Union>, Vec<String>);
+
 impl SqlBuilder {
+    ghost use Rattle.sql_builder.specs.Builder.{group_texts, join_text, table_text, union_text};
+    ghost use Rattle.sql_parts.specs.Text.{optional_text};
+
     fn new(alloc: Global, kind: Kind, table: String, fields: Vec<String>) -> SqlBuilder
         ensures { result ≡ new_clauses kind (string_bytes table) (texts fields.items) }
     {
@@ -168,34 +183,94 @@ impl SqlBuilder {
         SqlBuilder::starting_from(alloc, Kind::DeleteFrom, table)
     }
 
+    fn copy_tables(&self) -> Result<(String, Vec<String>, Vec<Join>), SqlBuilderError>
+        ensures tables { IfOk result (λ copy. table_text copy.0 copy.1.items ≡ self.now.table) }
+        ensures joins { IfOk result (λ copy. map join_text copy.2.items ≡ self.now.joins) }
+        ensures memory { FailsOnlyByMemory result }
+    {
+        Ok((
+            self.table.to_text(self.alloc)?,
+            copies(self.alloc, &self.further_tables)?,
+            copy_joins(self.alloc, &self.joins)?,
+        ))
+    }
+
+    fn copy_lists(&self) -> Result<(Vec<String>, Vec<String>, Vec<String>), SqlBuilderError>
+        ensures fields { IfOk result (λ copy. texts copy.0.items ≡ self.now.fields) }
+        ensures sets { IfOk result (λ copy. texts copy.1.items ≡ self.now.sets) }
+        ensures rows { IfOk result (λ copy. texts copy.2.items ≡ self.now.rows) }
+        ensures memory { FailsOnlyByMemory result }
+    {
+        Ok((
+            copies(self.alloc, &self.fields)?,
+            copies(self.alloc, &self.sets)?,
+            copies(self.alloc, &self.rows)?,
+        ))
+    }
+
+    fn copy_texts(&self) -> Result<OptionalTexts, SqlBuilderError>
+        ensures query { IfOk result (λ copy. optional_text copy.0 ≡ self.now.query) }
+        ensures returning { IfOk result (λ copy. optional_text copy.1 ≡ self.now.returning) }
+        ensures having { IfOk result (λ copy. optional_text copy.2 ≡ self.now.having) }
+        ensures limit { IfOk result (λ copy. optional_text copy.3 ≡ self.now.limit) }
+        ensures offset { IfOk result (λ copy. optional_text copy.4 ≡ self.now.offset) }
+        ensures memory { FailsOnlyByMemory result }
+    {
+        Ok((
+            copy(self.alloc, &self.query)?,
+            copy(self.alloc, &self.returning)?,
+            copy(self.alloc, &self.having)?,
+            copy(self.alloc, &self.limit)?,
+            copy(self.alloc, &self.offset)?,
+        ))
+    }
+
+    fn copy_clauses(&self) -> Result<FurtherClauses, SqlBuilderError>
+        ensures groups { IfOk result (λ copy. group_texts copy.0.items ≡ self.now.groups) }
+        ensures group_fields { IfOk result (λ copy. texts copy.1.items ≡ self.now.group_fields) }
+        ensures unions { IfOk result (λ copy. map union_text copy.2.items ≡ self.now.unions) }
+        ensures order_fields { IfOk result (λ copy. texts copy.3.items ≡ self.now.order_fields) }
+        ensures memory { FailsOnlyByMemory result }
+    {
+        Ok((
+            copy_conditions(self.alloc, &self.conditions)?,
+            copies(self.alloc, &self.group_fields)?,
+            copy_unions(self.alloc, &self.unions)?,
+            copies(self.alloc, &self.order_fields)?,
+        ))
+    }
+
     /// An equal builder. It is refused only for want of memory.
     /// `.field("a").clone().field("b")` → `SELECT a, b FROM t;`
     pub fn clone(&self) -> Result<SqlBuilder, SqlBuilderError>
         ensures equal { IfOk result (λ b. b ≡ self.now) }
         ensures memory { FailsOnlyByMemory result }
     {
-        let alloc = self.alloc;
+        let (table, further_tables, joins) = self.copy_tables()?;
+        let (fields, sets, rows) = self.copy_lists()?;
+        let (query, returning, having, limit, offset) = self.copy_texts()?;
+        let (conditions, group_fields, unions, order_fields) = self.copy_clauses()?;
         Ok(SqlBuilder {
-            alloc,
+            alloc: self.alloc,
             kind: self.kind,
-            table: self.table.to_text(alloc)?,
-            further_tables: copies(alloc, &self.further_tables)?,
-            joins: copy_joins(alloc, &self.joins)?,
+            table,
+            further_tables,
+            joins,
             operator: self.operator,
             natural: self.natural,
             distinct: self.distinct,
-            fields: copies(alloc, &self.fields)?,
-            sets: copies(alloc, &self.sets)?,
-            rows: copies(alloc, &self.rows)?,
-            query: copy(alloc, &self.query)?,
-            returning: copy(alloc, &self.returning)?,
-            group_fields: copies(alloc, &self.group_fields)?,
-            having: copy(alloc, &self.having)?,
-            conditions: copy_conditions(alloc, &self.conditions)?,
-            unions: copy_unions(alloc, &self.unions)?,
-            order_fields: copies(alloc, &self.order_fields)?,
-            limit: copy(alloc, &self.limit)?,
-            offset: copy(alloc, &self.offset)?,
+            fields,
+            sets,
+            rows,
+            query,
+            returning,
+            group_fields,
+            having,
+            conditions,
+            unions,
+            order_fields,
+            limit,
+            offset,
         })
     }
 }
