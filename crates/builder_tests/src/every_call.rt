@@ -112,7 +112,7 @@ pub(crate) const EVERY_START_AND_FINISH: [(Start, Finish, &str); 9] = [
     ),
 ];
 
-fn tell_tables(builder: &mut SqlBuilder) -> Result<(), SqlBuilderError> {
+fn tell_distinct_and_tables(builder: &mut SqlBuilder) -> Result<(), SqlBuilderError> {
     builder.distinct().and_table("u")?;
     Ok(())
 }
@@ -146,7 +146,7 @@ fn tell_sets(builder: &mut SqlBuilder) -> Result<(), SqlBuilderError> {
     Ok(())
 }
 
-fn tell_rows(builder: &mut SqlBuilder) -> Result<(), SqlBuilderError> {
+fn tell_rows_and_returning(builder: &mut SqlBuilder) -> Result<(), SqlBuilderError> {
     builder.select("SELECT 3")?.values(&["4", "5"])?;
     builder.values(&["6"])?.returning("p")?.returning_id()?;
     Ok(())
@@ -180,12 +180,12 @@ fn tell_limits(builder: &mut SqlBuilder) -> Result<(), SqlBuilderError> {
 
 /// One call of each case. A function for each few, since the proof of all in one takes long.
 pub(crate) fn tell_every_call(builder: &mut SqlBuilder) -> Result<(), SqlBuilderError> {
-    tell_tables(builder)?;
+    tell_distinct_and_tables(builder)?;
     tell_a_join(builder)?;
     tell_further_joins(builder)?;
     tell_fields(builder)?;
     tell_sets(builder)?;
-    tell_rows(builder)?;
+    tell_rows_and_returning(builder)?;
     tell_conditions(builder)?;
     tell_groups(builder)?;
     tell_unions(builder)?;

@@ -183,6 +183,8 @@ impl SqlBuilder {
         SqlBuilder::starting_from(alloc, Kind::DeleteFrom, table)
     }
 
+    // A copy of all clauses is made in four steps, none of which holds more than five copies where
+    // it is refused: the proof of all in one takes long.
     fn copy_tables(&self) -> Result<(String, Vec<String>, Vec<Join>), SqlBuilderError>
         ensures tables { IfOk result (λ copy. table_text copy.0 copy.1.items ≡ self.now.table) }
         ensures joins { IfOk result (λ copy. map join_text copy.2.items ≡ self.now.joins) }
@@ -225,7 +227,7 @@ impl SqlBuilder {
         ))
     }
 
-    fn copy_clauses(&self) -> Result<FurtherClauses, SqlBuilderError>
+    fn copy_further_clauses(&self) -> Result<FurtherClauses, SqlBuilderError>
         ensures groups { IfOk result (λ copy. group_texts copy.0.items ≡ self.now.groups) }
         ensures group_fields { IfOk result (λ copy. texts copy.1.items ≡ self.now.group_fields) }
         ensures unions { IfOk result (λ copy. map union_text copy.2.items ≡ self.now.unions) }
@@ -249,7 +251,7 @@ impl SqlBuilder {
         let (table, further_tables, joins) = self.copy_tables()?;
         let (fields, sets, rows) = self.copy_lists()?;
         let (query, returning, having, limit, offset) = self.copy_texts()?;
-        let (conditions, group_fields, unions, order_fields) = self.copy_clauses()?;
+        let (conditions, group_fields, unions, order_fields) = self.copy_further_clauses()?;
         Ok(SqlBuilder {
             alloc: self.alloc,
             kind: self.kind,

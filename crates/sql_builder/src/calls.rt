@@ -156,7 +156,8 @@ fn begin_lent(alloc: Global, start: &Start) -> Result<SqlBuilder, SqlBuilderErro
     }
 }
 
-// Makes a call, whether it is lent or handed over, but for those whose arms are given.
+// Makes a call, whether it is lent or handed over, but for those whose arms are given, and answers
+// what its step answers.
 macro_rules! make_call {
     ($builder:ident, $call:ident, $($arms:tt)*) => {
         match $call {

@@ -79,6 +79,16 @@ impl Union {
     {
         if self.all { " UNION ALL " } else { " UNION " }
     }
+
+    fn copy(&self, alloc: Global) -> Result<Union, SqlBuilderError>
+        ensures copied { IfOk result (λ copied. union_text copied ≡ union_text self.now) }
+        ensures memory { FailsOnlyByMemory result }
+    {
+        Ok(Union {
+            all: self.all,
+            query: self.query.to_text(alloc)?,
+        })
+    }
 }
 
 impl GroupedCondition {
@@ -88,6 +98,17 @@ impl GroupedCondition {
             ≡ (if self.now.opens_group then codes ") AND (" else codes " OR ") }
     {
         if self.opens_group { ") AND (" } else { " OR " }
+    }
+
+    fn copy(&self, alloc: Global) -> Result<GroupedCondition, SqlBuilderError>
+        ensures copied { IfOk result (λ copied.
+            condition_in_group copied ≡ condition_in_group self.now) }
+        ensures memory { FailsOnlyByMemory result }
+    {
+        Ok(GroupedCondition {
+            opens_group: self.opens_group,
+            text: self.text.to_text(alloc)?,
+        })
     }
 }
 
@@ -108,23 +129,7 @@ impl Join {
         self.constraints.push(text)?;
         Ok(())
     }
-}
 
-/// A constraint of the last join. Where there is none, nothing is done.
-pub(crate) fn constrain_last(joins: &mut [Join], text: String) -> Result<(), SqlBuilderError>
-    ensures ok { OnOk result (map join_text joins.new
-        ≡ extend_last (constraint byte_atoms (string_bytes text))
-        (map join_text joins.old)) }
-    ensures err { OnErr result (map join_text joins.new ≡ map join_text joins.old) }
-    ensures memory { FailsOnlyByMemory result }
-{
-    match joins.last_mut() {
-        Some(join) => join.push(text),
-        None => Ok(()),
-    }
-}
-
-impl Join {
     fn copy(&self, alloc: Global) -> Result<Join, SqlBuilderError>
         ensures copied { IfOk result (λ copied. join_text copied ≡ join_text self.now) }
         ensures memory { FailsOnlyByMemory result }
@@ -138,28 +143,17 @@ impl Join {
     }
 }
 
-impl Union {
-    fn copy(&self, alloc: Global) -> Result<Union, SqlBuilderError>
-        ensures copied { IfOk result (λ copied. union_text copied ≡ union_text self.now) }
-        ensures memory { FailsOnlyByMemory result }
-    {
-        Ok(Union {
-            all: self.all,
-            query: self.query.to_text(alloc)?,
-        })
-    }
-}
-
-impl GroupedCondition {
-    fn copy(&self, alloc: Global) -> Result<GroupedCondition, SqlBuilderError>
-        ensures copied { IfOk result (λ copied.
-            condition_in_group copied ≡ condition_in_group self.now) }
-        ensures memory { FailsOnlyByMemory result }
-    {
-        Ok(GroupedCondition {
-            opens_group: self.opens_group,
-            text: self.text.to_text(alloc)?,
-        })
+/// A constraint of the last join. Where there is none, nothing is done.
+pub(crate) fn constrain_last(joins: &mut [Join], text: String) -> Result<(), SqlBuilderError>
+    ensures ok { OnOk result (map join_text joins.new
+        ≡ extend_last (constraint byte_atoms (string_bytes text))
+        (map join_text joins.old)) }
+    ensures err { OnErr result (map join_text joins.new ≡ map join_text joins.old) }
+    ensures memory { FailsOnlyByMemory result }
+{
+    match joins.last_mut() {
+        Some(join) => join.push(text),
+        None => Ok(()),
     }
 }
 

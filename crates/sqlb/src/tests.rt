@@ -318,8 +318,8 @@ fn fault_line(alloc: Global, answer: Result<(), Fault>) -> (Vec<u8>, u8) {
     (line.into_inner(), status)
 }
 
-/// What a run came to: the devices, whether the reader ended and which of the two failed, the line
-/// of its fault and the exit status.
+/// What a run came to: the devices, whether the reader ended, whether the reader failed and whether
+/// the writer did, the line of the fault and the exit status.
 #[derive(Drop)]
 pub(crate) struct Came<R> {
     reader: R,
@@ -330,7 +330,7 @@ pub(crate) struct Came<R> {
     pub(crate) exit: u8,
 }
 
-/// Runs what a reader gives.
+/// Runs what a reader gives into a writer.
 pub(crate) fn run_over<R: Read>(alloc: Global, reader: R, writer: Small) -> Came<R> {
     let mut reader = Watched::new(reader);
     let mut writer = Watched::new(writer);
@@ -347,8 +347,8 @@ pub(crate) fn run_over<R: Read>(alloc: Global, reader: R, writer: Small) -> Came
     }
 }
 
-/// Runs what a reader gives with a buffer of 24 bytes, and gives the writer and the line of the
-/// fault.
+/// Runs what a reader gives into a writer behind a buffer of 24 bytes, and gives the writer and the
+/// line of the fault.
 fn run_buffered<R: Read + Drop>(
     alloc: Global,
     reader: R,
@@ -438,13 +438,15 @@ fn a_writer_that_is_full_fails_the_run(rt: HostRuntime) -> Result<(), Fail> {
                 ran.writer.calls,
                 is_beginning,
                 ran.failed,
-                ran.line.as_slice()
+                ran.line.as_slice(),
+                ran.exit
             ),
             (
                 room.div_ceil(2) + 1,
                 true,
                 (false, true),
-                b"write failed\n".as_slice()
+                b"write failed\n".as_slice(),
+                2
             ),
             "room {room}"
         );
@@ -506,10 +508,10 @@ fn a_buffered_run_stops_at_the_first_call_that_fails(rt: HostRuntime) -> Result<
         for at in 1..=calls + 1 {
             let (writer, line) = run_buffered(rt.alloc(), FOUR, Small::new(HELD, step, at))?;
             let is_beginning = FOUR_PRINTS.starts_with(writer.held());
-            let is_whole = at < calls || writer.held() == FOUR_PRINTS;
+            let ends_whole = at < calls || writer.held() == FOUR_PRINTS;
             let wanted: &[u8] = if at > calls { b"" } else { b"write failed\n" };
             assert_eq!(rt;
-                (writer.calls, is_beginning, is_whole, line.as_slice()),
+                (writer.calls, is_beginning, ends_whole, line.as_slice()),
                 (at.min(calls), true, true, wanted),
                 "step {step} at {at}"
             );
