@@ -68,20 +68,22 @@ def library(work):
     return made(f"{folder}/out/bench_library", ["rt", "run", "--", "name", "0"], folder, f"{work}/library.log")
 
 
-def is_original(folder):
-    return os.path.isfile(f"{folder}/lib.rs.txt")
+def source(folder, name):
+    """A file of the Rust crate's sources, whose name may end in .txt; None where it isn't there."""
+    found = (f"{folder}/{name}{ending}" for ending in (".rs", ".rs.txt"))
+    return next((it for it in found if os.path.isfile(it)), None)
 
 
 def original(work, sources):
     """The folder of both programs over the Rust crate, whose sources are in another."""
     folder = f"{work}/original"
-    if not is_original(sources) or not is_there("cargo"):
+    if not source(sources, "lib") or not is_there("cargo"):
         return None
     say("building the Rust crate")
     shutil.copytree(f"{BENCH}/original", folder, dirs_exist_ok=True)
     os.makedirs(f"{folder}/crate/src", exist_ok=True)
     for name in ("arg", "bind", "error", "lib", "name", "prelude"):
-        shutil.copyfile(f"{sources}/{name}.rs.txt", f"{folder}/crate/src/{name}.rs")
+        shutil.copyfile(source(sources, name), f"{folder}/crate/src/{name}.rs")
     programs = f"{folder}/target/release"
     words = ["cargo", "build", "--release", "--offline", "--target-dir", "target"]
     return made(programs, words, folder, f"{work}/cargo.log")

@@ -1,9 +1,9 @@
 //! Each example of the crate `callers` runs once.
 
-use callers::chains::{dearer, limit, titles_printed};
+use callers::chains::{cheapest_first, dearer, limit, repriced, titles, titles_printed};
 use callers::lists::{books_where, of_books};
-use callers::strangers::{filled, titled};
-use callers::values::{Cents, Column, above, between, title};
+use callers::strangers::{filled, sought_printed, titled, titled_bound};
+use callers::values::{Cents, Column, above, between, of_title, sold_in, title};
 use sql_builder::SqlBuilderError;
 use sql_builder::prelude::*;
 use std::alloc::Global;
@@ -15,6 +15,11 @@ fn writes_values(rt: HostRuntime) -> Result<(), Fail> {
     assert_eq!(rt; above(alloc, Cents(900))?.as_str(), "price > 900");
     assert_eq!(rt; title(alloc)?.as_str(), "b.title");
     assert_eq!(rt; between(alloc, 5, 9)?.as_str(), "price BETWEEN 5 AND 9");
+    assert_eq!(rt; of_title(alloc, "it's")?.as_str(), "title = 'it''s'");
+    assert_eq!(rt;
+        sold_in(alloc, "it's", "?")?.as_str(),
+        "title = 'it''s' AND shop = '?'"
+    );
     Ok(())
 }
 
@@ -22,6 +27,12 @@ fn cheapest(alloc: Global) -> Result<String, SqlBuilderError> {
     let mut builder = SqlBuilder::select_from(alloc, "books")?;
     builder.field(Column::Title)?.order_asc(Column::Price)?;
     limit(&mut builder, Some(2))?;
+    builder.sql()
+}
+
+fn cheap_titles(alloc: Global) -> Result<String, SqlBuilderError> {
+    let mut builder = titles(alloc, None)?;
+    cheapest_first(&mut builder, 3)?;
     builder.sql()
 }
 
@@ -33,12 +44,38 @@ fn makes_chains(rt: HostRuntime) -> Result<(), Fail> {
         "SELECT title FROM books ORDER BY price LIMIT 2;"
     );
     assert_eq!(rt;
+        cheap_titles(alloc)?.as_str(),
+        "SELECT title FROM books ORDER BY price LIMIT 3;"
+    );
+    assert_eq!(rt;
         titles_printed(alloc, None)?.as_str(),
         "SELECT title FROM books;"
     );
     assert_eq!(rt;
         dearer(alloc, 9)?.as_str(),
         "SELECT title FROM books WHERE price > 9;"
+    );
+    assert_eq!(rt;
+        repriced(alloc, "it's", 5, 9)?.as_str(),
+        "UPDATE books SET title = 'it''s', price = 5 WHERE price < 9;"
+    );
+    Ok(())
+}
+
+#[test]
+fn seeks_strangers_texts(rt: HostRuntime) -> Result<(), Fail> {
+    let alloc = rt.alloc();
+    assert_eq!(rt;
+        titled_bound(alloc, "it's; --")?.as_str(),
+        "SELECT * FROM books WHERE title = 'it''s; --';"
+    );
+    assert_eq!(rt;
+        sought_printed(alloc, "it's", None)?.as_str(),
+        "SELECT * FROM books WHERE title = 'it''s';"
+    );
+    assert_eq!(rt;
+        sought_printed(alloc, "it's", Some("') OR (1 = 1"))?.as_str(),
+        "SELECT * FROM books WHERE (title = 'it''s') AND (author = ''') OR (1 = 1');"
     );
     Ok(())
 }

@@ -1,6 +1,6 @@
 //! Chains of calls, and calls one by one.
-ghost use Rattle.std.specs.Prelude.{◌≡◌, [], ◌∷◌, ◌++◌, codes, string_bytes, IfOk, Ok, OnOk};
-ghost use Rattle.sql_builder.specs.Builder.{started, with_fields};
+ghost use Rattle.std.specs.Prelude.{◌≡◌, [], ◌∷◌, ◌++◌, codes, false, string_bytes, IfOk, Ok, OnOk};
+ghost use Rattle.sql_builder.specs.Builder.{started, with_fields, with_limit, with_order};
 ghost use Rattle.sql_builder.specs.Calls.{Cond, Field, SelectFrom, Sql};
 ghost use Rattle.sql_builder.specs.Condition.{Compare};
 ghost use Rattle.sql_builder.specs.Error.{FailsOnlyByMemory};
@@ -24,6 +24,16 @@ pub fn limit(builder: &mut SqlBuilder, most: Option<u64>) -> Result<(), SqlBuild
     if let Some(most) = most {
         builder.limit(most)?;
     }
+    Ok(())
+}
+
+/// Asks for at most so many books, the cheapest first.
+pub fn cheapest_first(builder: &mut SqlBuilder, most: u64) -> Result<(), SqlBuilderError>
+    ensures told { OnOk result (builder.new
+        ≡ with_limit (decimal_text most) (with_order false (codes "price") builder.old)) }
+    ensures memory { FailsOnlyByMemory result }
+{
+    builder.order_asc("price")?.limit(most)?;
     Ok(())
 }
 
