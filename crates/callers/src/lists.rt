@@ -1,6 +1,7 @@
 //! Lists of calls, as values.
-ghost use Rattle.std.specs.Prelude.{◌≡◌, ◌&&◌, [], ◌∷◌, codes, is_some, map, string_bytes, IfOk, IfSome, Ok};
+ghost use Rattle.std.specs.Prelude.{◌≡◌, ◌&&◌, ◌⊎◌, [], ◌∷◌, ◌++◌, codes, is_some, map, string_bytes, Err, IfErr, IfOk, IfSome, Ok};
 ghost use Rattle.sql_builder.specs.Calls.{SelectFrom, Sql};
+ghost use Rattle.sql_builder.specs.Error.{FailsOnlyByMemory, IsMemory};
 ghost use Rattle.sql_builder.specs.Handed.{Bare, is_fit};
 ghost use Rattle.sql_builder.specs.Meaning.{HasTruthOf};
 ghost use Rattle.sql_builder.specs.Statement.{statement};
@@ -17,6 +18,8 @@ use std::alloc::Global;
 pub fn of_books(alloc: Global, calls: &[Call]) -> Result<String, SqlBuilderError>
     ensures statement { IfOk result (λ s. statement (SelectFrom (codes "books"))
         (map call_view calls.now) Sql ≡ Ok (string_bytes s)) }
+    ensures refused { IfErr result (λ e. IsMemory e ⊎ (statement (SelectFrom (codes "books"))
+        (map call_view calls.now) Sql ≡ Err e)) }
 {
     let start = Start::SelectFrom(String::from_str(alloc, "books")?);
     run(alloc, &start, calls, &Finish::Sql)
@@ -27,8 +30,12 @@ pub fn of_books(alloc: Global, calls: &[Call]) -> Result<String, SqlBuilderError
 pub fn books_where(alloc: Global, one: &str, other: &str) -> Result<Option<String>, SqlBuilderError>
     ensures asked { IfOk result (λ found. is_some found
         ≡ (is_fit (Bare one.now) && is_fit (Bare other.now))) }
+    ensures text { IfOk result (λ found. IfSome found (λ text. string_bytes text
+        ≡ codes "SELECT * FROM books WHERE (" ++ (one.now ++ (codes ") AND ("
+        ++ (other.now ++ codes ");"))))) }
     ensures truth { IfOk result (λ found. IfSome found (λ statement. HasTruthOf
         ((tokens one.now ∷ []) ∷ (tokens other.now ∷ []) ∷ []) (string_bytes statement))) }
+    ensures memory { FailsOnlyByMemory result }
 {
     if !is_balanced(one) || has_clause_word(one) || !is_balanced(other) || has_clause_word(other) {
         return Ok(None);

@@ -5,6 +5,7 @@ ghost use Rattle.sql_builder.specs.Builder.{started, with_condition};
 ghost use Rattle.sql_builder.specs.Calls.{SelectFrom};
 ghost use Rattle.sql_builder.specs.Condition.{Compare};
 ghost use Rattle.sql_builder.specs.Error.{FailsOnlyByMemory};
+ghost use Rattle.sql_builder.specs.Layout.{byte_atoms, sql};
 ghost use Rattle.sql_builder.specs.Quoting.{quoted};
 ghost use Rattle.sql_builder.specs.Shape.{EndsInOneSemicolon};
 ghost use Rattle.sql_builder.specs.Templates as templates;
@@ -25,6 +26,7 @@ pub fn titled(alloc: Global, title: &str) -> Result<String, SqlBuilderError>
         ≡ tokens (codes "SELECT * FROM books WHERE title =") ++ (Str title.now ∷ tokens (codes ";"))) }
     ensures closed { IfOk result (λ s. IsTrue (closed (string_bytes s))) }
     ensures semicolon { IfOk result (λ s. EndsInOneSemicolon (tokens (string_bytes s))) }
+    ensures memory { FailsOnlyByMemory result }
 {
     let title = quote(alloc, title)?;
     SqlBuilder::select_from(alloc, "books")?
@@ -53,6 +55,7 @@ pub fn filled(
         ≡ option_map (bound_tokens (listed (map (λ b. literal b) args.now)))
         (resolve template.now (templates.Cycle (length args.now))))) }
     ensures closed { IfOk result (λ found. IfSome found (λ s. IsTrue (closed (string_bytes s)))) }
+    ensures memory { FailsOnlyByMemory result }
 {
     if !stands_apart(alloc, template, &Marks::Cycle(args.len()))? {
         return Ok(None);
@@ -85,6 +88,10 @@ pub fn sought_printed(
     title: &str,
     author: Option<&str>,
 ) -> Result<String, SqlBuilderError>
+    ensures text { IfOk result (λ s. string_bytes s
+        ≡ sql byte_atoms (by_author (option_map (λ s. s.now) author.entry)
+        (with_condition And (Compare Eq (codes "title") (quoted title.now))
+        (started (SelectFrom (codes "books")))))) }
     ensures closed { IfOk result (λ s. IsTrue (closed (string_bytes s))) }
     ensures memory { FailsOnlyByMemory result }
 {

@@ -64,6 +64,7 @@ pub fn above(alloc: Global, price: Cents) -> Result<String, SqlBuilderError>
 /// The title, in the table under its short name.
 pub fn title(alloc: Global) -> Result<String, SqlBuilderError>
     ensures text { IfOk result (λ s. string_bytes s ≡ codes "b.title") }
+    ensures memory { FailsOnlyByMemory result }
 {
     Ok(name!(alloc, "b", "title"))
 }
