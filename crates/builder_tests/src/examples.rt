@@ -1,4 +1,4 @@
-//! Each example of the crate `callers` runs once.
+//! Each example of the crate `callers` runs.
 
 use callers::chains::{cheapest_first, dearer, limit, repriced, titles, titles_printed};
 use callers::lists::{books_where, of_books};

@@ -48,9 +48,6 @@ keeps : (author : Option (List ℕ)) (r : ClauseTexts) → IsNone (refusal r) �
 keeps None r none = none
 keeps (Some author) r none = call_keeps (asked (codes "author") author) r refl none
 
-pub returns-clause-text : goal.returns-clause-text
-returns-clause-text c = rw c.in_ok-builder.ensures.told at c.sql.ensures.text
-
 pub returns-clause-closed : goal.returns-clause-closed
 returns-clause-closed c =
     let author = option_map (λ s. s.now) c.args.author in
@@ -58,3 +55,6 @@ returns-clause-closed c =
 
 pub returns-clause-memory : goal.returns-clause-memory
 returns-clause-memory c = c.sql.ensures.memory (rw c.in_ok-builder.ensures.told (keeps (option_map (λ s. s.now) c.args.author) _ refl))
+
+pub returns-clause-text : goal.returns-clause-text
+returns-clause-text c = rw c.in_ok-builder.ensures.told at c.sql.ensures.text
