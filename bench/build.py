@@ -75,7 +75,7 @@ def source(folder, name):
 
 
 def original(work, sources):
-    """The folder of both programs over the Rust crate, whose sources are in another."""
+    """The folder of the programs over the Rust crate, whose sources are in another, and of the limit."""
     folder = f"{work}/original"
     if not source(sources, "lib") or not is_there("cargo"):
         return None

@@ -6,11 +6,15 @@ import sys
 
 TIME = "/usr/bin/time"
 
+# The C library copies longer texts by one instruction, which callgrind would count for each byte; so they are copied as short
+# ones are.
+COPIES = ":".join(f"glibc.cpu.x86_{what}_threshold={2**50}" for what in ("rep_movsb", "rep_stosb", "non_temporal"))
 
-def run(words, source, out=os.devnull):
+
+def run(words, source, out=os.devnull, **environment):
     """Runs a program, with its output to a file, and gives what it used."""
     with open(source, "rb") as read, open(out, "wb") as written:
-        process = subprocess.Popen(words, stdin=read, stdout=written)
+        process = subprocess.Popen(words, stdin=read, stdout=written, env={**os.environ, **environment})
         _, status, usage = os.wait4(process.pid, 0)
     process.returncode = os.waitstatus_to_exitcode(status)
     if process.returncode:
@@ -40,7 +44,8 @@ def megabytes(words, source, work):
 
 def count(words, source, file):
     """The instructions of one run, by callgrind, which writes its file."""
-    run(["valgrind", "-q", "--tool=callgrind", f"--callgrind-out-file={file}", *words], source)
+    valgrind = ["valgrind", "-q", "--tool=callgrind", f"--callgrind-out-file={file}"]
+    run([*valgrind, *words], source, GLIBC_TUNABLES=COPIES)
     with open(file, encoding="utf-8") as read:
         return int(re.search(r"^(?:summary|totals): (\d+)", read.read(), re.MULTILINE)[1])
 

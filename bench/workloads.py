@@ -1,53 +1,138 @@
-"""What is measured, and what is aimed at: the greatest ratio of our instructions to those of the Rust crate."""
+"""What is measured, and what is aimed at.
+
+An amount of a workload is a pair: so many turns on an input that is so many times as large as the one that is counted."""
+import os
+import subprocess
 from dataclasses import dataclass
+from typing import Callable, ClassVar, Optional
+
+STATEMENTS = f"{os.path.dirname(os.path.realpath(__file__))}/statements"
+
+
+class Workload:
+    """Of which program of ours something is measured, beside which one of the crate, and above which limit."""
+
+    ours: ClassVar = "library"
+    crate: ClassVar = None
+    limit: ClassVar = None
+    memory: ClassVar = 1.0
+
+    def is_right(self, _printed):
+        return True
 
 
 @dataclass
-class Lines:
-    """Lines of a kind of `statements` that both programs read: how many in all, and how many go through callgrind."""
+class Lines(Workload):
+    """Lines of a kind of `statements`: how many in all, of which a tenth is counted, and the greatest ratios aimed at."""
 
     name: str
     kind: str
     count: int
-    counted: int
-    aim: float = 1.0
+    aim: float
+    memory: float
+
+    ours: ClassVar = "sqlb"
+    crate: ClassVar = "lines"
+    limit: ClassVar = "limit"
+    unit: ClassVar = "line"
+    counted: ClassVar = (1, 1)
+    tenfold: ClassVar = (1, 10)
+    whole: ClassVar = (1, 10)
+
+    def difference(self, amount):
+        """Two amounts, whose difference it is: the other reads nothing."""
+        return amount, (1, 0)
+
+    def words(self, _turns):
+        return []
+
+    def input(self, times):
+        words = [STATEMENTS, self.kind, str(self.count // 10 * times)]
+        return subprocess.run(words, stdout=subprocess.PIPE, check=True).stdout if times else b""
+
+    def units(self, _turns, text):
+        return text.count(b"\n")
 
 
 @dataclass
-class Calls:
-    """Turns of one step of the library's programs on a text, and whether the Rust crate has such a step."""
+class Calls(Workload):
+    """Turns of one step of the library's programs: how many in all, of which a fiftieth is counted, the greatest ratio aimed
+    at, and the text, so many times as large, if the step reads one; else ten times the input are ten times the turns."""
 
     name: str
     step: str
     count: int
-    text: str = ""
-    aim: float = 0.6
-    is_compared: bool = True
+    aim: float
+    text: Optional[Callable[[int], str]] = None
+
+    crate: ClassVar = "calls"
+    unit: ClassVar = "turn"
+
+    @property
+    def whole(self):
+        return self.count, 1
 
     @property
     def counted(self):
-        return self.count // 50
+        return self.count // 50, 1
+
+    @property
+    def tenfold(self):
+        turns, times = self.counted
+        return (turns, 10 * times) if self.text else (10 * turns, times)
+
+    def difference(self, amount):
+        """Two amounts, whose difference it is: the other makes one turn on the same text, and prints what that made."""
+        turns, times = amount
+        return (turns + 1, times), (1, times)
+
+    def words(self, turns):
+        return [self.step, str(turns)]
+
+    def input(self, times):
+        return self.text(times).encode() if self.text else b""
+
+    def units(self, turns, _text):
+        return turns
 
 
-MIXED = Lines("10,000 mixed statements", "mixed", 10_000, 10_000, 0.7)
-TENFOLD = Lines("100,000 mixed statements", "mixed", 100_000, 100_000, 0.7)
+@dataclass
+class Tests(Calls):
+    """Tests of fragments, which the crate doesn't have: what is aimed at is the greatest number of instructions for a byte.
+    Each goes through the whole text: those whose names begin with `has_` answer false there, the others true."""
+
+    crate: ClassVar = None
+    unit: ClassVar = "byte"
+
+    def units(self, turns, text):
+        return turns * len(text)
+
+    def is_right(self, printed):
+        return int(printed.readline()) == (0 if self.step.startswith("has_") else self.count)
+
+
+def lines(kind, count=1_000_000, name="a statement with {count:,} `{kind}` lines", aim=0.7, memory=1.0):
+    return Lines(name.format(kind=kind, count=count), kind, count, aim, memory)
+
 
 LINES = [
-    MIXED,
-    TENFOLD,
-    Lines("100,000 statements of ten short lines", "short", 100_000, 100_000),
-    Lines("2,000 statements with all fifty conditions", "conditions", 2_000, 2_000),
-    Lines("a statement with 1,000,000 `on` lines", "on", 1_000_000, 100_000),
-    Lines("a statement with 1,000,000 `or_where_eq` lines", "or_where_eq", 1_000_000, 100_000),
-    Lines("a `fields` line of 10,000,000 fields", "fields", 10_000_000, 1_000_000),
+    lines("mixed", 100_000, "{count:,} mixed statements", aim=0.36),
+    lines("short", 100_000, "{count:,} statements of ten short lines", aim=0.6),
+    lines("tiny", 500_000, "{count:,} statements of two short lines"),
+    lines("long", 5_000, "{count:,} statements of ten lines, eight of them of 950 bytes"),
+    lines("conditions", 2_000, "{count:,} statements with all fifty conditions"),
+    *(lines(kind) for kind in ("field", "set_field", "group_by", "order_asc", "select", "values", "set", "set_str", "union")),
+    *(lines(kind) for kind in ("join", "on")),
+    lines("join_on", 500_000, "a statement with {count:,} `join` lines, each with an `on` line"),
+    lines("on_alone", name="a statement with {count:,} `on` lines and no join"),
+    *(lines(kind, memory=1.7) for kind in ("or_where", "or_where_eq", "or_where_like")),
+    lines("fields", 10_000_000, "a `fields` line of {count:,} fields"),
+    *(lines(kind, name="an `and_where_{kind}` line of {count:,} values") for kind in ("in", "in_quoted")),
+    lines("text", 200_000, "a `set` line of 20 MB, ASCII", aim=0.9),
+    lines("text_not_ascii", 200_000, "a `set` line of 20 MB, not ASCII", aim=0.9),
+    lines("text_str", 200_000, "a `set_str` line of 20 MB, ASCII", aim=0.9),
+    lines("text_quotes", 200_000, "a `set_str` line of 20 MB, full of quotes", aim=0.9),
 ]
-
-
-def long(text):
-    """The text with plain text between, again and again, to some 4 KB."""
-    plain = " AND the_first_column = the_second_column OR another_column IS NOT NULL AND "
-    return (text + plain) * (4096 // len(text + plain)) + "a = b"
-
 
 TITLE = "Harry Potter and the Philosopher's Stone"
 TEMPLATES = {
@@ -58,29 +143,77 @@ TEMPLATES = {
     "bind_name": "title = :title: AND price > 100 OR name = :title:",
     "bind_names": "title = :title: AND price > :least: OR sold = :sold:",
 }
+QUOTINGS = ("esc", "quote", "baquote", "brquote", "dquote")
+MARKERS = {"binds": "?", "bind_num": "$1", "bind_nums": "$1", "bind_name": ":title:", "bind_names": ":title:"}
+PLAIN = " AND the_first_column = the_second_column OR another_column IS NOT NULL AND "
+
+
+def filled(text, end, size=4096):
+    """The text again and again, to nearly a size, and then its end."""
+    return text * ((size - len(end)) // len(text)) + end
+
+
+def repeated(text):
+    return lambda times: text * times
+
+
+def named(template, names="title least sold"):
+    """What a call that binds several values reads: a line with a name for each, and the template."""
+    return lambda times: f"{names}\n{template * times}"
+
+
+def template(call, text):
+    return named(text) if call in ("binds", "bind_nums", "bind_names") else repeated(text)
+
+
+def numbered(count, name, marker):
+    """As many names and markers, each with its number, of as many digits."""
+
+    def text(times):
+        numbers = [f"{number:07}" for number in range(1, count * times + 1)]
+        return "\n".join(" ".join(it.format(number) for number in numbers) for it in (name, marker))
+
+    return text
+
+
+NAMES = numbered(1_000, "n{}", "")
 
 CALLS = [
-    Calls("a SELECT with a join and three conditions", "select", 100_000, aim=0.4),
-    Calls("an UPDATE", "update", 100_000, aim=0.4),
-    Calls("an INSERT of 100 rows", "insert", 5_000, aim=0.4),
-    *(Calls(f"`{macro}!`", macro, 200_000, aim=0.4) for macro in ("name", "qname", "baname", "brname", "dname")),
-    *(Calls(f"`{call}`, 40 bytes", call, 500_000, TITLE) for call in ("esc", "quote", "baquote", "brquote", "dquote")),
-    Calls("`quote`, 4 KB with a quote in each 64 bytes", "quote", 20_000, ("x" * 63 + "'") * 64),
-    Calls("`quote`, 4 KB without a quote", "quote", 20_000, "x" * 4096),
-    Calls("`quote`, 4 KB of quotes", "quote", 2_000, "'" * 4096),
-    *(Calls(f"`{call}`, 40 bytes", call, 200_000, template) for call, template in TEMPLATES.items()),
-    Calls("three `bind` in a chain, 40 bytes", "bind_chain", 100_000, TEMPLATES["binds"]),
-    *(Calls(f"`{call}`, 4 KB", call, 5_000, long(template)) for call, template in TEMPLATES.items()),
+    Calls("a SELECT with a join and three conditions", "select", 100_000, 0.33),
+    Calls("an UPDATE", "update", 100_000, 0.33),
+    Calls("an INSERT of 100 rows", "insert", 5_000, 0.33, repeated("x" * 100)),
+    *(Calls(f"`{macro}!`", macro, 200_000, 0.25) for macro in ("name", "qname", "baname", "brname", "dname")),
+    *(Calls(f"`{call}`, 40 bytes", call, 500_000, 0.55, repeated(TITLE)) for call in QUOTINGS),
+    Calls("`quote`, 4 KB with a quote in each 64 bytes", "quote", 20_000, 0.55, repeated(("x" * 63 + "'") * 64)),
+    Calls("`quote`, 4 KB without a quote", "quote", 20_000, 0.55, repeated("x" * 4096)),
+    Calls("`quote`, 4 KB of quotes", "quote", 2_000, 0.55, repeated("'" * 4096)),
+    *(Calls(f"`{call}`, 1 MB, ASCII", call, 100, 0.9, repeated("x" * 1_000_000)) for call in QUOTINGS),
+    Calls("`quote`, 1 MB, not ASCII", "quote", 100, 0.9, repeated("é" * 500_000)),
+    Calls("`quote`, 1 MB of quotes", "quote", 100, 0.9, repeated("'" * 1_000_000)),
+    *(Calls(f"`{call}`, 40 bytes", call, 200_000, 0.55, template(call, it)) for call, it in TEMPLATES.items()),
+    Calls("three `bind` in a chain, 40 bytes", "bind_chain", 100_000, 0.55, repeated(TEMPLATES["binds"])),
+    *(
+        Calls(f"`{call}`, 4 KB", call, 5_000, 0.75, template(call, filled(it + PLAIN, "a = b")))
+        for call, it in TEMPLATES.items()
+    ),
+    Calls("`bind_num`, 4 KB among other numbers", "bind_num", 5_000, 0.75, repeated(filled("($2, $30, $4), ", "($1)"))),
+    Calls("`bind_name`, 4 KB among other names", "bind_name", 5_000, 0.75, repeated(filled("(:name:, :sold:), ", "(:title:)"))),
+    Calls("`bind_name`, 4 KB among other colons", "bind_name", 5_000, 0.75, repeated(filled("('12:30:59'), ", "(:title:)"))),
+    *(
+        Calls(f"`{call}`, 100,000 markers side by side", call, 50, 0.9, template(call, marker * 100_000))
+        for call, marker in MARKERS.items()
+    ),
+    Calls("`bind_nums` of 100,000 arguments", "bind_nums", 50, 0.9, numbered(100_000, "n{}", "${}")),
+    Calls("`bind_names` of a map of 1,000 names", "bind_names", 50, 0.9, numbered(1_000, "n{}", ":n{}:")),
+    Calls("`bind_names` of 1,000 pairs", "bind_pairs", 50, 0.9, numbered(1_000, "n{}", ":n{}:")),
+    Calls("`bind_names` of 1,000 pairs, one marker", "bind_pairs", 500, 0.9, lambda times: f"{NAMES(times)}:n0000001:"),
+    Calls("`clone` of a SELECT of 6,000 items", "clone", 500, 0.9, repeated("x" * 1_000)),
 ]
 
 CONDITION = "(price > 100 AND title LIKE 'it''s%') OR CASE WHEN a THEN b ELSE c END = 3 AND cost BETWEEN 1 AND 2 OR "
-FRAGMENT = f"({CONDITION * 40}a = b)"
+TESTS = {"is_closed": 20, "has_semicolon": 20, "is_balanced": 30, "has_clause_word": 30, "is_operand": 30, "has_dangling": 30}
 
-# Each test goes through the whole text: those whose names begin with `has_` answer false, the others true.
-TESTS = [
-    *(
-        Calls(f"`{test}`", test, 5_000, FRAGMENT, is_compared=False)
-        for test in ("is_closed", "has_semicolon", "is_balanced", "has_clause_word", "is_operand", "has_dangling")
-    ),
-    Calls("`stands_apart`", "stands_apart", 5_000, long(TEMPLATES["binds"]), is_compared=False),
+FRAGMENTS = [
+    *(Tests(f"`{test}`", test, 5_000, aim, repeated(f"({CONDITION * 40}a = b)")) for test, aim in TESTS.items()),
+    Tests("`stands_apart`", "stands_apart", 5_000, 30, repeated(filled(TEMPLATES["binds"] + PLAIN, "a = b"))),
 ]

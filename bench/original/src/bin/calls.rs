@@ -1,0 +1,155 @@
+//! Does one workload of the crate so many times: `library WORKLOAD TURNS`, with its text on standard input. Prints how many
+//! bytes all turns made, and what the last one made. Of a call that binds several values the first line has a name for each,
+//! and of `clone` and `insert` the text is as long as the builder has items.
+use sql_builder::prelude::*;
+use sql_builder::{baname, baquote, brname, brquote, dname, dquote, esc, name, qname};
+use std::collections::HashMap;
+use std::{env, io};
+
+/// What a turn makes of the text and its number.
+type Step = fn(&str, u64) -> String;
+
+const STEPS: [(&str, Step); 17] = [
+    ("select", select),
+    ("update", update),
+    ("insert", insert),
+    ("name", |_, _| name!("public", "BOOKS"; "b")),
+    ("qname", |_, _| qname!("public", "BOOKS"; "b")),
+    ("baname", |_, _| baname!("public", "BOOKS"; "b")),
+    ("brname", |_, _| brname!("public", "BOOKS"; "b")),
+    ("dname", |_, _| dname!("public", "BOOKS"; "b")),
+    ("esc", |text, _| esc(text)),
+    ("quote", |text, _| quote(text)),
+    ("baquote", |text, _| baquote(text)),
+    ("brquote", |text, _| brquote(text)),
+    ("dquote", |text, _| dquote(text)),
+    ("bind", |text, _| text.bind(&"it's")),
+    ("bind_chain", |text, _| {
+        text.bind(&"it's").bind(&100).bind(&true)
+    }),
+    ("bind_num", |text, _| text.bind_num(1, &"it's")),
+    ("bind_name", |text, _| text.bind_name(&"title", &"it's")),
+];
+
+fn select(_: &str, turn: u64) -> String {
+    SqlBuilder::select_from("books AS b")
+        .field("b.title")
+        .field("s.total")
+        .left()
+        .join("shops AS s")
+        .on_eq("b.id", "s.book")
+        .and_where_gt("b.price", turn)
+        .and_where_like_left("b.title", "Harry Potter")
+        .or_where_is_null("s.total")
+        .sql()
+        .expect("a statement")
+}
+
+fn update(_: &str, turn: u64) -> String {
+    SqlBuilder::update_table("company")
+        .set("salary", "salary + 100")
+        .set_str("comment", "it's up")
+        .and_where_lt("salary", turn)
+        .sql()
+        .expect("a statement")
+}
+
+fn insert(text: &str, _: u64) -> String {
+    let mut builder = SqlBuilder::insert_into("company");
+    builder.fields(&["name", "salary", "staff"]);
+    for _row in 0..text.len() {
+        builder.values(&["'D&G'", "10000", "100"]);
+    }
+    builder.sql().expect("a statement")
+}
+
+fn large_builder(items: usize) -> SqlBuilder {
+    let mut builder = SqlBuilder::select_from("books");
+    for item in 0..items {
+        builder
+            .field("title")
+            .join("shops")
+            .on("price > 100")
+            .and_where_eq("price", item)
+            .group_by("title")
+            .union("SELECT 1")
+            .order_asc("title");
+    }
+    builder
+}
+
+/// A value to be bound, as its number tells.
+fn value(number: usize) -> Box<dyn SqlArg> {
+    match number % 3 {
+        0 => Box::new("it's".to_string()),
+        1 => Box::new(number),
+        _ => Box::new(true),
+    }
+}
+
+/// How many bytes all turns make, and what the last one makes.
+fn repeat(turns: u64, step: impl Fn(u64) -> String) -> (usize, String) {
+    let mut bytes = 0;
+    let mut last = String::new();
+    for turn in 0..turns {
+        last = step(turn);
+        bytes += last.len();
+    }
+    (bytes, last)
+}
+
+/// The same of a call that binds several values, which are made once.
+fn repeat_binding(call: &str, text: &str, turns: u64) -> (usize, String) {
+    let (names, template) = text.split_once('\n').expect("a line of names");
+    let named: Vec<_> = names
+        .split(' ')
+        .enumerate()
+        .map(|(number, name)| (name, value(number)))
+        .collect();
+    let pairs = named.iter().map(|(name, value)| (*name, &**value));
+    match call {
+        "binds" => {
+            let list: Vec<_> = pairs.map(|(_, value)| value).collect();
+            repeat(turns, |_| template.binds(&list))
+        }
+        "bind_nums" => {
+            let list: Vec<_> = pairs.map(|(_, value)| value).collect();
+            repeat(turns, |_| template.bind_nums(&list))
+        }
+        "bind_names" => {
+            let map: HashMap<_, _> = pairs.collect();
+            repeat(turns, |_| template.bind_names(&map))
+        }
+        "bind_pairs" => {
+            let list: Vec<_> = pairs.collect();
+            repeat(turns, |_| template.bind_names(&list))
+        }
+        _ => panic!("not a workload: {call}"),
+    }
+}
+
+fn repeat_clone(items: usize, turns: u64) -> (usize, String) {
+    let mut last = large_builder(items);
+    for _turn in 0..turns {
+        last = last.clone();
+    }
+    (items, last.sql().expect("a statement"))
+}
+
+fn work(name: &str, text: &str, turns: u64) -> (usize, String) {
+    if name == "clone" {
+        return repeat_clone(text.len(), turns);
+    }
+    match STEPS.iter().find(|(known, _)| *known == name) {
+        Some((_, step)) => repeat(turns, |turn| step(text, turn)),
+        None => repeat_binding(name, text, turns),
+    }
+}
+
+fn main() {
+    let arguments: Vec<String> = env::args().collect();
+    let turns = arguments[2].parse().expect("a number of turns");
+    let text = io::read_to_string(io::stdin()).expect("a text");
+    let (bytes, last) = work(&arguments[1], &text, turns);
+    println!("{bytes}\n{last}");
+}
