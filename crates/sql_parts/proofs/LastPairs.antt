@@ -1,11 +1,13 @@
--- The last pair with a name, as loops over pairs find it.
-use Rattle.std.proofs.Common.{◌≡◌, ℕ, ◌+◌, ◌<◌, List, [], ◌∷◌, ◌++◌, length, get_or, take, Bool, true, false, Option, Some, None, option_map, refl, ap, sym}
+-- The last pair with a name, as a loop keeps the places of the pairs.
+use Rattle.std.proofs.Common.{◌≡◌, ℕ, ◌+◌, ◌<◌, List, [], ◌∷◌, ◌++◌, length, get_or, take, Bool, true, false, Option, Some, option_map, refl, ap, sym, ◌∙◌, inl, inr}
 use Rattle.std.specs.Prelude.{if◌then◌else◌}
 use Rattle.std.specs.Borrow.{Bor}
 use Rattle.std.specs.Str.{bytes_eq}
+use Rattle.std.proofs.lemmas.Bool.{cases_Bool, false≢true}
 use Rattle.std.proofs.lemmas.List.{reverse-append, take_more}
-use Rattle.sql_parts.specs.Literal.{LiteralValue, literal_text}
-use Rattle.sql_parts.specs.Pairs.{last_value}
+use Rattle.std.proofs.lemmas.Option.{slice_get_read}
+use Rattle.std.proofs.lemmas.Slice.Eq.{bytes_eq-Decides}
+use Rattle.sql_parts.specs.Pairs.{last_value, value_at}
 
 value-chosen : {K V : Type 0} (test : Bool) (pair : K × V) (rest : Option (K × V))
     → option_map (λ p. p.1) (if test then Some pair else rest) ≡ (if test then Some pair.1 else option_map (λ p. p.1) rest)
@@ -17,23 +19,28 @@ last_value-push : {V : Type 0} (name : List ℕ) (pairs : List (Bor (List ℕ) �
     → last_value name (pairs ++ pair ∷ []) ≡ (if bytes_eq name pair.0.now then Some pair.1 else last_value name pairs)
 last_value-push name pairs pair = rw (reverse-append pairs (pair ∷ [])) (value-chosen (bytes_eq name pair.0.now) pair _)
 
--- the same for the pair at i
-last_value-step : {V : Type 0} (name : List ℕ) (pairs : List (Bor (List ℕ) × V)) (i j : ℕ) (pair : Bor (List ℕ) × V)
-    → j ≡ i + 1 → i < length pairs → pair ≡ get_or pairs i pair → last_value name (take j pairs) ≡ (if bytes_eq name pair.0.now then Some pair.1 else last_value name (take i pairs))
-last_value-step name pairs i j pair next inside is = rw next (rw (take_more pairs i pair inside) (rw (sym is) (last_value-push name (take i pairs) pair)))
+same-bytes : (a b : List ℕ) → bytes_eq a b ≡ true → bytes_eq b a ≡ true
+same-bytes a b is = (bytes_eq-Decides b a).1 (sym ((bytes_eq-Decides a b).0 is))
 
-pub last_value-here : {V : Type 0} (name : List ℕ) (pairs : List (Bor (List ℕ) × V)) (i j : ℕ) (pair : Bor (List ℕ) × V)
-    → j ≡ i + 1 → i < length pairs → pair ≡ get_or pairs i pair → bytes_eq name pair.0.now ≡ true → last_value name (take j pairs) ≡ Some pair.1
-last_value-here name pairs i j pair next inside is same = rw (last_value-step name pairs i j pair next inside is) (rw same refl)
+bytes_eq-swap : (a b : List ℕ) → bytes_eq a b ≡ bytes_eq b a
+bytes_eq-swap a b =
+    elim (cases_Bool (bytes_eq a b)) [
+      | inl is ↦ is ∙ sym (same-bytes a b is)
+      | inr differs ↦ elim (cases_Bool (bytes_eq b a)) [ inl is ↦ absurd (false≢true (sym differs ∙ same-bytes b a is)) | inr also ↦ differs ∙ sym also ]
+    ]
 
-pub last_value-past : {V : Type 0} (name : List ℕ) (pairs : List (Bor (List ℕ) × V)) (i j : ℕ) (pair : Bor (List ℕ) × V)
-    → j ≡ i + 1 → i < length pairs → pair ≡ get_or pairs i pair → bytes_eq name pair.0.now ≡ false → last_value name (take j pairs) ≡ last_value name (take i pairs)
-last_value-past name pairs i j pair next inside is other = rw (last_value-step name pairs i j pair next inside is) (rw other refl)
-
--- the text of what is found
-pub text-none : {V : Type 0} (literal : V → LiteralValue) (found : Option V) → None ≡ found → None ≡ option_map literal_text (option_map literal found)
-text-none literal found is = rw (sym is) refl
-
-pub text-some : {V : Type 0} (literal : V → LiteralValue) (value : V) (found : Option V) (text : List ℕ) → Some value ≡ found → text ≡ literal_text (literal value)
-    → Some text ≡ option_map literal_text (option_map literal found)
-text-some literal value found text is same = rw (sym is) (ap Some same)
+-- the place of one more pair comes before those of all others
+pub places-more : {V : Type 0} (pairs : List (Bor (List ℕ) × V)) (place : ℕ) (pair : Bor (List ℕ) × V) (name : List ℕ) (before after : Option ℕ)
+    → place < length pairs → pair ≡ get_or pairs place pair → after ≡ (if bytes_eq pair.0.now name then Some place else before)
+    → value_at pairs before ≡ last_value name (take place pairs) → value_at pairs after ≡ last_value name (take (place + 1) pairs)
+places-more pairs place pair name before after inside is put kept =
+    let last = ap (last_value name) (take_more pairs place pair inside ∙ ap (λ p. take place pairs ++ p ∷ []) (sym is)) ∙ last_value-push name (take place pairs) pair in
+    let chosen = put ∙ ap (λ test. if test then Some place else before) (bytes_eq-swap pair.0.now name) in
+    elim (cases_Bool (bytes_eq name pair.0.now)) [
+      | inl same ↦
+          ap (value_at pairs) (chosen ∙ ap (λ test. if test then Some place else before) same) ∙ ap (option_map (λ p. p.1)) (slice_get_read pairs (length pairs) place pair refl inside is)
+          ∙ sym (last ∙ ap (λ test. if test then Some pair.1 else last_value name (take place pairs)) same)
+      | inr other ↦
+          ap (value_at pairs) (chosen ∙ ap (λ test. if test then Some place else before) other) ∙ kept
+          ∙ sym (last ∙ ap (λ test. if test then Some pair.1 else last_value name (take place pairs)) other)
+    ]

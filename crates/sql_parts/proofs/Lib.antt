@@ -20,8 +20,10 @@ pub mod Reader
 pub mod Reading
 pub mod Resolving
 pub mod Rows
+pub mod Scanning
 pub mod Seams
 pub mod Sides
+pub mod Splitting
 pub mod TemplateLaws
 pub mod TemplateRows
 pub mod TokenLaws

@@ -1,16 +1,13 @@
 -- How a template is resolved from one place to the next.
-use Rattle.std.proofs.Common.{◌≡◌, ◌≢◌, ℕ, zero, suc, ◌+◌, ◌-◌, ◌<◌, ◌≤◌, Bool, true, false, List, [], ◌∷◌, ◌++◌, length, get_or, take, drop, Some, None, refl, sym, ap, subst, ◌∙◌, inl, inr, append_assoc, arith, length-append, ne_eqb}
+use Rattle.std.proofs.Common.{◌≡◌, ℕ, zero, suc, ◌+◌, ◌-◌, ◌<◌, ◌≤◌, Bool, true, false, List, [], ◌∷◌, ◌++◌, length, take, drop, Some, None, refl, sym, ap, ◌∙◌, inl, inr, arith, length-append, ne_eqb}
 use Rattle.std.specs.Prelude.{MatchBool, codes, if◌then◌else◌, nat_eq}
 use Rattle.std.specs.List.{starts_with}
-use Rattle.std.specs.Str.{IsCharBoundary, IsUtf8}
 use Rattle.std.specs.Str.Pattern.{FindsText, HasMatch, LacksTextAt}
-use Rattle.std.proofs.Math.ListN.{get_or-append}
 use Rattle.std.proofs.Math.Seq.{drop-append_seam, take-append_seam}
 use Rattle.std.proofs.lemmas.Bool.{cases_Bool}
 use Rattle.std.proofs.lemmas.Bool.Decides.{Decides-eqb}
-use Rattle.std.proofs.lemmas.List.{append-nil, drop-drop, drop_all, get_or-drop, take-append-drop, take_all}
+use Rattle.std.proofs.lemmas.List.{append-nil, drop-drop, drop_all, take_all}
 use Rattle.std.proofs.lemmas.Slice.Eq.{starts_is}
-use Rattle.std.proofs.lemmas.Str.{IsCharBoundary-after_ascii}
 use Rattle.sql_parts.specs.Templates.{Marks, First, Cycle, Num, Nums, Name, Names, Writes, counted, followed_by, opening, resolve, resolved_from, stands, supplied}
 
 -- a text that begins with another, and one that doesn't
@@ -88,51 +85,16 @@ resolved_from-none marks seen text lacks =
     ∙ ap (λ behind. followed_by (Writes (take (length text) text)) (resolved_from marks seen 0 behind)) (drop_all (length text) text (omega arith))
     ∙ ap (λ piece. (piece, [])) (append-nil (take (length text) text) ∙ take_all (length text) text (omega arith))
 
--- where a text lacks the first byte of another, it lacks the other
-lacks-by-sign : (text front : List ℕ) (sign n : ℕ) → front ≡ sign ∷ drop 1 front → get_or text n 0 ≢ sign → LacksTextAt front text n
-lacks-by-sign text front sign n begins other rest is =
-    let same : n ≡ n + 0 = omega arith in
-    other (ap (λ i. get_or text i 0) same ∙ sym (get_or-drop n text 0 0) ∙ ap (λ l. get_or l 0 0) is ∙ ap (λ f. get_or (f ++ rest) 0 0) begins)
-
--- a text up to the first sign of an opening
-pub resolved_from-sign : (marks : Marks) (seen sign : ℕ) (text piece behind : List ℕ) → opening marks ≡ sign ∷ drop 1 (opening marks)
-    → text ≡ piece ++ (sign ∷ behind) → ((i : ℕ) → i < length piece → get_or piece i 0 ≢ sign)
-    → resolved_from marks seen 0 text ≡ followed_by (Writes piece) (resolved_from marks seen 0 (take 1 (opening marks) ++ behind))
-resolved_from-sign marks seen sign text piece behind begins split other =
-    let whole = piece ++ (sign ∷ behind) in
-    let within : length piece ≤ length whole = omega (arith, length-append piece (sign ∷ behind)) in
-    let lacks : (n : ℕ) → n < length piece → LacksTextAt (opening marks) whole n =
-    λ n h. lacks-by-sign whole (opening marks) sign n begins (λ e. other n h (sym (get_or-append piece (sign ∷ behind) 0 n h) ∙ e)) in
-    ap (resolved_from marks seen 0) split ∙ resolved_from-piece marks seen (length piece) whole within lacks
-    ∙ ap (λ front. followed_by (Writes front) (resolved_from marks seen 0 (drop (length piece) whole))) (take-append_seam piece (sign ∷ behind))
-    ∙ ap (λ rest. followed_by (Writes piece) (resolved_from marks seen 0 rest)) (drop-append_seam piece (sign ∷ behind) ∙ sym (ap (λ o. take 1 o ++ behind) begins))
-
--- a text without the sign of an opening
-pub resolved_from-signless : (marks : Marks) (seen sign : ℕ) (text : List ℕ) → opening marks ≡ sign ∷ drop 1 (opening marks)
-    → ((i : ℕ) → i < length text → get_or text i 0 ≢ sign) → resolved_from marks seen 0 text ≡ (text, [])
-resolved_from-signless marks seen sign text begins other =
-    resolved_from-none marks seen text (λ i h. lacks-by-sign text (opening marks) sign i begins (other i h))
-
--- a text may be cut behind the sign that it begins with
-pub opening-behind_sign : (text : List ℕ) (sign : ℕ) → IsUtf8 text → text ≡ sign ∷ drop 1 text → sign < 128 → IsCharBoundary text 1
-opening-behind_sign text sign utf8 begins low =
-    IsCharBoundary-after_ascii text 0 utf8 (omega (arith, ap length begins)) (subst (λ byte. byte < 128) (sym (ap (λ l. get_or l 0 0) begins)) low)
-
--- a sign where no opening begins
-pub resolved_from-lone_sign : (marks : Marks) (seen sign : ℕ) (behind : List ℕ) → opening marks ≡ sign ∷ drop 1 (opening marks)
-    → LacksTextAt (drop 1 (opening marks)) behind 0
-    → resolved_from marks seen 0 (take 1 (opening marks) ++ behind) ≡ followed_by (Writes (sign ∷ [])) (resolved_from marks seen 0 behind)
-resolved_from-lone_sign marks seen sign behind begins lacks =
-    ap (λ o. resolved_from marks seen 0 (take 1 o ++ behind)) begins
-    ∙ resolved_from-text marks seen sign behind (λ rest is. lacks rest (ap (drop 1) (is ∙ ap (λ o. o ++ rest) begins)))
-
--- a sign where an opening begins
-pub resolved_from-opened : (marks : Marks) (seen : ℕ) (behind rest : List ℕ) → behind ≡ drop 1 (opening marks) ++ rest
-    → resolved_from marks seen 0 (take 1 (opening marks) ++ behind)
-    ≡ followed_by (stands marks seen rest).0 (resolved_from marks (counted (stands marks seen rest).0 seen) 0 (drop (stands marks seen rest).1 rest))
-resolved_from-opened marks seen behind rest is =
-    resolved_from-opening marks seen (take 1 (opening marks) ++ behind) rest
-    (ap (λ b. take 1 (opening marks) ++ b) is ∙ sym (append_assoc (take 1 (opening marks)) (drop 1 (opening marks)) rest) ∙ ap (λ o. o ++ rest) (take-append-drop 1 (opening marks)))
+-- a text that is cut at its first opening
+pub resolved_from-split : (marks : Marks) (seen : ℕ) (text piece behind : List ℕ)
+    → text ≡ piece ++ (opening marks ++ behind) → ((k : ℕ) → k < length piece → LacksTextAt (opening marks) text k)
+    → resolved_from marks seen 0 text
+    ≡ followed_by (Writes piece) (followed_by (stands marks seen behind).0 (resolved_from marks (counted (stands marks seen behind).0 seen) 0 (drop (stands marks seen behind).1 behind)))
+resolved_from-split marks seen text piece behind is lacks =
+    let rest = opening marks ++ behind in
+    let resolved = followed_by (stands marks seen behind).0 (resolved_from marks (counted (stands marks seen behind).0 seen) 0 (drop (stands marks seen behind).1 behind)) in
+    resolved_from-first marks seen (length piece) text behind lacks (omega (arith, ap length is, length-append piece rest)) (ap (drop (length piece)) is ∙ drop-append_seam piece rest)
+    ∙ ap (λ front. followed_by (Writes front) resolved) (ap (take (length piece)) is ∙ take-append_seam piece rest)
 
 -- behind the first marker of `First` all is text
 pub resolved_from-after_first : (seen : ℕ) (text : List ℕ) → 0 < seen → resolved_from First seen 0 text ≡ (text, [])

@@ -9,7 +9,7 @@ ghost use Rattle.sql_parts.specs.Tokens.{begins_with, ends_with, is_separator};
 use crate::error::SqlBuilderError;
 use crate::lexer::is_closed;
 use crate::marks::Marks;
-use crate::places::{Place, behind_sign, first_place, opening};
+use crate::places::{Place, first_place, opening};
 use std::alloc::Global;
 
 fn is_separator(byte: u8) -> bool
@@ -51,19 +51,18 @@ fn piece_apart(first: bool, last: bool, piece: &str) -> bool
 pub(crate) fn pieces_apart(
     alloc: Global,
     template: &str,
-    marks: &Marks<'_>,
+    marks: Marks<'_>,
 ) -> Result<bool, SqlBuilderError>
-    ensures apart { let resolved = resolved_from (marks_of marks.now) 0 0 template.now in
+    ensures apart { let resolved = resolved_from (marks_of marks.entry) 0 0 template.now in
         IfOk result (λ b. b ≡ pieces_apart true resolved.0 resolved.1) }
     ensures memory { FailsOnlyByMemory result }
 {
     let opening = opening(alloc, marks)?;
     let opening = opening.as_str();
-    let behind_sign = behind_sign(marks, opening);
     let mut piece = String::new(alloc);
     let mut rest = template;
     let mut seen = 0;
-    while let Some(found) = first_place(marks, behind_sign, seen, rest) {
+    while let Some(found) = first_place(marks, opening, seen, rest) {
         piece.push_str(found.piece)?;
         match found.place {
             Place::Opening => piece.push_str(opening)?,

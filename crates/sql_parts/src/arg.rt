@@ -58,8 +58,8 @@ impl SqlArg for &str {
         quote(alloc, *self)
     }
 
-    fn push_sql_arg(&self, alloc: Global, out: &mut String) -> Result<(), SqlBuilderError> {
-        push_enclosed(alloc, out, Quotes::Single, *self)
+    fn push_sql_arg(&self, _alloc: Global, out: &mut String) -> Result<(), SqlBuilderError> {
+        Ok(push_enclosed(out, Quotes::Single, self)?)
     }
 }
 
@@ -70,8 +70,8 @@ impl SqlArg for String {
         quote(alloc, self.as_str())
     }
 
-    fn push_sql_arg(&self, alloc: Global, out: &mut String) -> Result<(), SqlBuilderError> {
-        push_enclosed(alloc, out, Quotes::Single, self.as_str())
+    fn push_sql_arg(&self, _alloc: Global, out: &mut String) -> Result<(), SqlBuilderError> {
+        Ok(push_enclosed(out, Quotes::Single, self.as_str())?)
     }
 }
 
@@ -82,8 +82,8 @@ impl SqlArg for CowStr<'_> {
         quote(alloc, self.as_str())
     }
 
-    fn push_sql_arg(&self, alloc: Global, out: &mut String) -> Result<(), SqlBuilderError> {
-        push_enclosed(alloc, out, Quotes::Single, self.as_str())
+    fn push_sql_arg(&self, _alloc: Global, out: &mut String) -> Result<(), SqlBuilderError> {
+        Ok(push_enclosed(out, Quotes::Single, self.as_str())?)
     }
 }
 

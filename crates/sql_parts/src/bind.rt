@@ -8,7 +8,7 @@ ghost use Rattle.sql_parts.specs.declared.error.SqlBuilderError.TheVariants.{NoA
 
 use crate::arg::SqlArg;
 pub use crate::bind_names::BindNames;
-use crate::binding::{Alone, LookedUp, Repeated, bound_text, lacks_arguments};
+use crate::binding::{Alone, LookedUp, Repeated, bound_text, lacks_arguments, places_for};
 use crate::error::SqlBuilderError;
 pub use crate::marks::Marks;
 use crate::text::ToText;
@@ -119,14 +119,14 @@ impl Bind for &str {
     ghost template = { λ s. s.now };
 
     fn bind<A: SqlArg>(&self, alloc: Global, arg: &A) -> Result<String, SqlBuilderError> {
-        bound_text(alloc, self, &Marks::First, &Alone { arg })
+        bound_text(alloc, self, Marks::First, &Alone { arg })
     }
 
     fn binds(&self, alloc: Global, args: &[Box<dyn SqlArg>]) -> Result<String, SqlBuilderError> {
         if lacks_arguments(self, args.len()) {
             return Err(SqlBuilderError::NoArguments);
         }
-        bound_text(alloc, self, &Marks::Cycle(args.len()), &args)
+        bound_text(alloc, self, Marks::Cycle(args.len()), &args)
     }
 
     fn bind_num<A: SqlArg>(
@@ -136,7 +136,7 @@ impl Bind for &str {
         arg: &A,
     ) -> Result<String, SqlBuilderError> {
         let argument = Repeated::new(alloc, arg)?;
-        bound_text(alloc, self, &Marks::Num(num), &argument)
+        bound_text(alloc, self, Marks::Num(num), &argument)
     }
 
     fn bind_nums(
@@ -144,7 +144,7 @@ impl Bind for &str {
         alloc: Global,
         args: &[Box<dyn SqlArg>],
     ) -> Result<String, SqlBuilderError> {
-        bound_text(alloc, self, &Marks::Nums(args.len()), &args)
+        bound_text(alloc, self, Marks::Nums(args.len()), &args)
     }
 
     fn bind_name<K: ToText, A: SqlArg>(
@@ -155,7 +155,7 @@ impl Bind for &str {
     ) -> Result<String, SqlBuilderError> {
         let name = name.to_text(alloc)?;
         let argument = Repeated::new(alloc, arg)?;
-        bound_text(alloc, self, &Marks::Name(name.as_str()), &argument)
+        bound_text(alloc, self, Marks::Name(name.as_str()), &argument)
     }
 
     fn bind_names<N: BindNames>(
@@ -163,7 +163,8 @@ impl Bind for &str {
         alloc: Global,
         names: &N,
     ) -> Result<String, SqlBuilderError> {
-        bound_text(alloc, self, &Marks::Names, &LookedUp { names })
+        let places = places_for(alloc, self, names)?;
+        bound_text(alloc, self, Marks::Names, &LookedUp { names, places })
     }
 }
 

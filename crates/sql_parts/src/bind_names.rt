@@ -1,10 +1,11 @@
 //! Names that are bound to values.
-ghost use Rattle.std.specs.Prelude.{◌≡◌, ℕ, List, Option, IfOk, option_copied, option_map, string_bytes};
+ghost use Rattle.std.specs.Prelude.{◌≡◌, ◌<◌, ◌++◌, ℕ, List, Option, IfOk, OnOk, length, option_copied, option_map, string_bytes, unwrap_or, ⊤};
+ghost use Rattle.std.specs.Borrow.{Bor};
 ghost use Rattle.std.specs.HashMap.{get_by};
 ghost use Rattle.std.specs.Str.{bytes_eq};
 ghost use Rattle.sql_parts.specs.Error.{FailsOnlyByMemory};
-ghost use Rattle.sql_parts.specs.Literal.{LiteralValue, literal_text};
-ghost use Rattle.sql_parts.specs.Pairs.{last_value};
+ghost use Rattle.sql_parts.specs.Literal.{LiteralValue, literal_text, null};
+ghost use Rattle.sql_parts.specs.Pairs.{ArePlaces, last_value};
 
 use crate::arg::SqlArg;
 use crate::error::SqlBuilderError;
@@ -16,33 +17,135 @@ pub trait BindNames {
     /// The literal of each name that has one.
     ghost literals: { Self → List ℕ → Option LiteralValue };
 
+    /// Whether these are the places of the names in a list.
+    ghost are_places: { Self → List (Bor (List ℕ) × ℕ) → Type 0 } = { λ _ _. ⊤ };
+
     /// The literal of the name as SQL writes it, or none. It is refused only for want of memory.
     /// `[("a", 1)].look_up("a")` → `Some(1)`
     fn look_up(&self, alloc: Global, name: &str) -> Result<Option<String>, SqlBuilderError>
         ensures literal { IfOk result (λ text. option_map string_bytes text
             ≡ option_map literal_text (literals self.now name.now)) }
         ensures memory { FailsOnlyByMemory result };
+
+    /// The places of the names in a list, by which `push_named` finds them in a longer text; none
+    /// where the names are found as fast without. It is refused only for want of memory.
+    /// `[("a", 1)].places().len()` → `0`
+    fn places(&self, alloc: Global) -> Result<HashMap<&str, usize>, SqlBuilderError>
+        ensures places { IfOk result (λ places. 0 < length places.entries
+            → are_places self.now places.entries) }
+        ensures memory { FailsOnlyByMemory result }
+    {
+        Ok(HashMap::new(alloc))
+    }
+
+    /// Appends the literal of the name, or NULL where it has none. The places are those that
+    /// `places` gave, or none. It is refused only for want of memory.
+    /// `[("a", 1)].push_named(&[("a", 1)].places(), "a", text)` appends `1`
+    fn push_named(
+        &self,
+        alloc: Global,
+        places: &HashMap<&str, usize>,
+        name: &str,
+        out: &mut String,
+    ) -> Result<(), SqlBuilderError>
+        requires places { 0 < length places.now.entries
+            → are_places self.now places.now.entries }
+        ensures literal { OnOk result (string_bytes out.new ≡ string_bytes out.old
+            ++ literal_text (unwrap_or (literals self.now name.now) null)) }
+        ensures memory { FailsOnlyByMemory result }
+    {
+        let _ = places;
+        match self.look_up(alloc, name)? {
+            None => Ok(out.push_str("NULL")?),
+            Some(text) => Ok(out.push_str(text.as_str())?),
+        }
+    }
 }
 
-// The literal in a box.
-fn boxed_text(alloc: Global, arg: &Box<dyn SqlArg>) -> Result<String, SqlBuilderError>
-    ensures literal { IfOk result (λ s. string_bytes s ≡ literal_text (literal arg.now)) }
+/// From how many pairs on their places are kept.
+const LONG: usize = 16;
+
+// The literal in a box, where there is one.
+fn found_text(
+    alloc: Global,
+    found: Option<&Box<dyn SqlArg>>,
+) -> Result<Option<String>, SqlBuilderError>
+    ensures literal { IfOk result (λ text. option_map string_bytes text
+        ≡ option_map literal_text (option_map (λ b. literal b) (option_copied found.entry))) }
     ensures memory { FailsOnlyByMemory result }
 {
-    arg.sql_arg(alloc)
+    match found {
+        None => Ok(None),
+        Some(arg) => Ok(Some(arg.sql_arg(alloc)?)),
+    }
+}
+
+// Appends the literal in a box, or NULL.
+fn push_found(
+    alloc: Global,
+    found: Option<&Box<dyn SqlArg>>,
+    out: &mut String,
+) -> Result<(), SqlBuilderError>
+    ensures literal { OnOk result (string_bytes out.new ≡ string_bytes out.old
+        ++ literal_text (unwrap_or (option_map (λ b. literal b) (option_copied found.entry)) null)) }
+    ensures memory { FailsOnlyByMemory result }
+{
+    match found {
+        None => Ok(out.push_str("NULL")?),
+        Some(arg) => arg.push_sql_arg(alloc, out),
+    }
 }
 
 // The value of the last pair with the name.
 fn last_value<'a, V>(pairs: &'a [(&str, V)], name: &str) -> Option<&'a V>
     ensures { option_copied result ≡ last_value name.now pairs.now }
 {
-    let mut found = None;
-    for (key, value) in pairs {
-        if name == *key {
-            found = Some(value);
-        }
+    let (_, value) = pairs.iter().rev().find(|pair| name == pair.0)?;
+    Some(value)
+}
+
+// Where the last pair with each name stands, where there are many.
+fn places_of<'a, V>(
+    alloc: Global,
+    pairs: &'a [(&'a str, V)],
+) -> Result<HashMap<&'a str, usize>, SqlBuilderError>
+    ensures places { IfOk result (λ places. 0 < length places.entries
+        → ArePlaces pairs.now places.entries) }
+    ensures memory { FailsOnlyByMemory result }
+{
+    if pairs.len() < LONG {
+        return Ok(HashMap::new(alloc));
     }
-    found
+    let mut places = HashMap::with_capacity(alloc, pairs.len())?;
+    for (place, (name, _)) in pairs.iter().enumerate() {
+        let _ = places.insert(*name, place)?;
+    }
+    Ok(places)
+}
+
+// The value of the last pair with the name, by their places.
+fn value_by<'a, V>(
+    pairs: &'a [(&str, V)],
+    places: &HashMap<&str, usize>,
+    name: &str,
+) -> Option<&'a V>
+    requires places { 0 < length places.now.entries → ArePlaces pairs.now places.now.entries }
+    ensures { option_copied result ≡ last_value name.now pairs.now }
+{
+    if places.is_empty() {
+        return last_value(pairs, name);
+    }
+    let place = places.get(name)?;
+    let (_, value) = pairs.get(*place)?;
+    Some(value)
+}
+
+// The slice behind a reference, which the borrow checker copies only where its items are of a type
+// parameter.
+fn whole<'a, T>(slice: &&'a [T]) -> &'a [T]
+    ensures { result.now ≡ slice.now.now }
+{
+    *slice
 }
 
 impl BindNames for HashMap<&str, Box<dyn SqlArg>> {
@@ -50,10 +153,17 @@ impl BindNames for HashMap<&str, Box<dyn SqlArg>> {
         (get_by (λ key. bytes_eq name key.now) map) };
 
     fn look_up(&self, alloc: Global, name: &str) -> Result<Option<String>, SqlBuilderError> {
-        match self.get(name) {
-            None => Ok(None),
-            Some(arg) => Ok(Some(boxed_text(alloc, arg)?)),
-        }
+        found_text(alloc, self.get(name))
+    }
+
+    fn push_named(
+        &self,
+        alloc: Global,
+        _places: &HashMap<&str, usize>,
+        name: &str,
+        out: &mut String,
+    ) -> Result<(), SqlBuilderError> {
+        push_found(alloc, self.get(name), out)
     }
 }
 
@@ -61,11 +171,24 @@ impl BindNames for Vec<(&str, Box<dyn SqlArg>)> {
     ghost literals = { λ pairs name. option_map (λ b. (SqlArg-box b).literal b.value)
         (last_value name pairs.items) };
 
+    ghost are_places = { λ pairs places. ArePlaces pairs.items places };
+
     fn look_up(&self, alloc: Global, name: &str) -> Result<Option<String>, SqlBuilderError> {
-        match last_value(self.as_slice(), name) {
-            None => Ok(None),
-            Some(arg) => Ok(Some(boxed_text(alloc, arg)?)),
-        }
+        found_text(alloc, last_value(self.as_slice(), name))
+    }
+
+    fn places(&self, alloc: Global) -> Result<HashMap<&str, usize>, SqlBuilderError> {
+        places_of(alloc, self.as_slice())
+    }
+
+    fn push_named(
+        &self,
+        alloc: Global,
+        places: &HashMap<&str, usize>,
+        name: &str,
+        out: &mut String,
+    ) -> Result<(), SqlBuilderError> {
+        push_found(alloc, value_by(self.as_slice(), places, name), out)
     }
 }
 
@@ -73,24 +196,47 @@ impl BindNames for &[(&str, Box<dyn SqlArg>)] {
     ghost literals = { λ pairs name. option_map (λ b. (SqlArg-box b).literal b.value)
         (last_value name pairs.now) };
 
-    // By index, since the borrow checker covers no other way into pairs of a reference and a box.
+    ghost are_places = { λ pairs places. ArePlaces pairs.now places };
+
     fn look_up(&self, alloc: Global, name: &str) -> Result<Option<String>, SqlBuilderError> {
-        let mut left = self.len();
-        while left > 0 {
-            left -= 1;
-            let (key, arg) = &self[left];
-            if name == *key {
-                return Ok(Some(boxed_text(alloc, arg)?));
-            }
-        }
-        Ok(None)
+        found_text(alloc, last_value(whole(self), name))
+    }
+
+    fn places(&self, alloc: Global) -> Result<HashMap<&str, usize>, SqlBuilderError> {
+        places_of(alloc, whole(self))
+    }
+
+    fn push_named(
+        &self,
+        alloc: Global,
+        places: &HashMap<&str, usize>,
+        name: &str,
+        out: &mut String,
+    ) -> Result<(), SqlBuilderError> {
+        push_found(alloc, value_by(whole(self), places, name), out)
     }
 }
 
 impl<N: BindNames> BindNames for &N {
     ghost literals = { λ names. N.literals names.now };
 
+    ghost are_places = { λ names places. N.are_places names.now places };
+
     fn look_up(&self, alloc: Global, name: &str) -> Result<Option<String>, SqlBuilderError> {
         (**self).look_up(alloc, name)
+    }
+
+    fn places(&self, alloc: Global) -> Result<HashMap<&str, usize>, SqlBuilderError> {
+        (**self).places(alloc)
+    }
+
+    fn push_named(
+        &self,
+        alloc: Global,
+        places: &HashMap<&str, usize>,
+        name: &str,
+        out: &mut String,
+    ) -> Result<(), SqlBuilderError> {
+        (**self).push_named(alloc, places, name, out)
     }
 }

@@ -1,5 +1,5 @@
 //! One pass over a template, which puts literals in place of its markers.
-ghost use Rattle.std.specs.Prelude.{◌≡◌, ◌++◌, ⊤, IfOk, None, OnOk, Some, if◌then◌else◌, map, string_bytes};
+ghost use Rattle.std.specs.Prelude.{◌≡◌, ◌<◌, ◌++◌, ⊤, IfOk, None, OnOk, Some, if◌then◌else◌, length, map, string_bytes};
 ghost use Rattle.sql_parts.specs.Apart.{HasBoundTokens, IsClosedIfApart, IsSupplied};
 ghost use Rattle.sql_parts.specs.Error.{FailsOnlyByMemory};
 ghost use Rattle.sql_parts.specs.Literal.{LiteralValue, literal_text};
@@ -11,8 +11,9 @@ use crate::arg::SqlArg;
 use crate::bind_names::BindNames;
 use crate::error::SqlBuilderError;
 use crate::marks::Marks;
-use crate::places::{Place, Value, behind_sign, first_place, opening};
+use crate::places::{Place, Value, first_place, opening};
 use std::alloc::Global;
+use std::collections::HashMap;
 
 /// What the values of a template stand for.
 pub(crate) trait Literals: Drop {
@@ -110,14 +111,18 @@ impl Literals for &[Box<dyn SqlArg>] {
     }
 }
 
-/// What names are bound to.
+/// What names are bound to, and their places where these are kept.
 #[derive(Drop)]
-pub(crate) struct LookedUp<N> {
+pub(crate) struct LookedUp<'a, N> {
     pub(crate) names: N,
+    pub(crate) places: HashMap<&'a str, usize>,
 }
 
-impl<N: BindNames + Drop> Literals for LookedUp<N> {
+impl<N: BindNames + Drop> Literals for LookedUp<'_, N> {
     ghost literals = { λ bound. looked_up (N.literals bound.names) };
+
+    ghost is_kept = { λ bound. 0 < length bound.places.entries
+        → N.are_places bound.names bound.places.entries };
 
     fn push_literal(
         &self,
@@ -125,15 +130,30 @@ impl<N: BindNames + Drop> Literals for LookedUp<N> {
         value: &Value<'_>,
         out: &mut String,
     ) -> Result<(), SqlBuilderError> {
-        let found = match value {
-            Value::Argument(_) => None,
-            Value::Named(name) => self.names.look_up(alloc, name)?,
-        };
-        match found {
-            None => Ok(out.push_str("NULL")?),
-            Some(text) => Ok(out.push_str(text.as_str())?),
+        match value {
+            Value::Argument(_) => Ok(out.push_str("NULL")?),
+            Value::Named(name) => self.names.push_named(alloc, &self.places, name, out),
         }
     }
+}
+
+/// Below so many bytes a template has few names, and finds them faster than their places are kept.
+const SHORT: usize = 64;
+
+/// The places of the names, or none. It is refused only for want of memory.
+pub(crate) fn places_for<'a, N: BindNames>(
+    alloc: Global,
+    template: &str,
+    names: &'a N,
+) -> Result<HashMap<&'a str, usize>, SqlBuilderError>
+    ensures places { IfOk result (λ places. 0 < length places.entries
+        → N.are_places names.now places.entries) }
+    ensures memory { FailsOnlyByMemory result }
+{
+    if template.len() < SHORT {
+        return Ok(HashMap::new(alloc));
+    }
+    names.places(alloc)
 }
 
 /// Whether the template has a `?` and there is no argument to put there.
@@ -145,25 +165,27 @@ pub(crate) fn lacks_arguments(template: &str, count: usize) -> bool
 }
 
 // Appends the template with literals in place of its markers.
+#[inline(always)]
 fn push_bound<L: Literals>(
     alloc: Global,
     out: &mut String,
     template: &str,
-    marks: &Marks<'_>,
+    marks: Marks<'_>,
     literals: &L,
 ) -> Result<(), SqlBuilderError>
     requires kept { L.is_kept literals.now }
     ensures text { OnOk result (string_bytes out.new ≡ string_bytes out.old
-        ++ written (L.literals literals.now) (resolved_from (marks_of marks.now) 0 0 template.now)) }
+        ++ written (L.literals literals.now) (resolved_from (marks_of marks.entry) 0 0 template.now)) }
     ensures memory { FailsOnlyByMemory result }
 {
     let opening = opening(alloc, marks)?;
     let opening = opening.as_str();
-    let behind_sign = behind_sign(marks, opening);
     let mut rest = template;
     let mut seen = 0;
-    while let Some(found) = first_place(marks, behind_sign, seen, rest) {
-        out.push_str(found.piece)?;
+    while let Some(found) = first_place(marks, opening, seen, rest) {
+        if !found.piece.is_empty() {
+            out.push_str(found.piece)?;
+        }
         match found.place {
             Place::Opening => out.push_str(opening)?,
             Place::Writes(text) => out.push_str(text)?,
@@ -181,21 +203,22 @@ fn push_bound<L: Literals>(
 const LITERAL: usize = 32;
 
 /// The template with literals in place of its markers. It is refused only for want of memory.
+#[inline(always)]
 #[tactic(auto, using(crate::proofs::Confined::has_bound_tokens, crate::proofs::Confined::is_closed_if_apart))]
 pub(crate) fn bound_text<L: Literals>(
     alloc: Global,
     template: &str,
-    marks: &Marks<'_>,
+    marks: Marks<'_>,
     literals: &L,
 ) -> Result<String, SqlBuilderError>
     requires kept { L.is_kept literals.now }
     ensures text { IfOk result (λ s. string_bytes s
-        ≡ written (L.literals literals.now) (resolved_from (marks_of marks.now) 0 0 template.now)) }
-    ensures tokens { IfOk result (λ s. IsSupplied template.now (marks_of marks.now)
-        → HasBoundTokens template.now (marks_of marks.now) (L.literals literals.now)
+        ≡ written (L.literals literals.now) (resolved_from (marks_of marks.entry) 0 0 template.now)) }
+    ensures tokens { IfOk result (λ s. IsSupplied template.now (marks_of marks.entry)
+        → HasBoundTokens template.now (marks_of marks.entry) (L.literals literals.now)
         (string_bytes s)) }
-    ensures closed { IfOk result (λ s. IsSupplied template.now (marks_of marks.now)
-        → IsClosedIfApart template.now (marks_of marks.now) (string_bytes s)) }
+    ensures closed { IfOk result (λ s. IsSupplied template.now (marks_of marks.entry)
+        → IsClosedIfApart template.now (marks_of marks.entry) (string_bytes s)) }
     ensures memory { FailsOnlyByMemory result }
 {
     let mut out = String::with_capacity(alloc, template.len().saturating_add(LITERAL))?;

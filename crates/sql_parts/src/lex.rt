@@ -131,6 +131,6 @@ pub fn stands_apart(
 {
     match marks {
         Marks::Cycle(count) if lacks_arguments(template, *count) => Ok(false),
-        _ => pieces_apart(alloc, template, marks),
+        _ => pieces_apart(alloc, template, *marks),
     }
 }

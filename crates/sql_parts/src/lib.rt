@@ -22,6 +22,7 @@ pub mod name;
 mod places;
 mod quotes;
 mod quoting;
+mod scan;
 pub mod text;
 mod words;
 
@@ -29,5 +30,5 @@ pub use arg::{Literal, SqlArg};
 pub use bind::{Bind, BindNames, Marks};
 pub use error::SqlBuilderError;
 pub use name::SqlName;
-pub use quoting::{baquote, brquote, dquote, esc, quote};
+pub use quoting::{baquote, brquote, dquote, esc, escaped, push_quoted, quote};
 pub use text::ToText;

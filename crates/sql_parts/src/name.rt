@@ -12,7 +12,7 @@ use crate::error::SqlBuilderError;
 use crate::lending::{Held, release};
 use crate::quoting::push_enclosed;
 use crate::text::{Quotes, ToText, copies, copy};
-use std::alloc::Global;
+use std::alloc::{AllocError, Global};
 use std::marker::Model;
 
 /// A name: at least one part, and perhaps an alias. Each form writes the parts with dots between
@@ -48,31 +48,24 @@ enum Form {
 }
 
 impl Form {
-    fn push_part(self, alloc: Global, out: &mut String, part: &str) -> Result<(), SqlBuilderError>
+    fn push_part(self, out: &mut String, part: &str) -> Result<(), AllocError>
         ensures text { OnOk result
             (string_bytes out.new ≡ string_bytes out.old ++ written_in self part.now) }
-        ensures memory { FailsOnlyByMemory result }
     {
         match self {
-            Form::Bare => Ok(out.push_str(part)?),
-            Form::Between(quotes) => push_enclosed(alloc, out, quotes, part),
+            Form::Bare => out.push_str(part),
+            Form::Between(quotes) => push_enclosed(out, quotes, part),
         }
     }
 
     // The parts behind the first, each with a dot before it.
-    fn push_rest(
-        self,
-        alloc: Global,
-        out: &mut String,
-        parts: &[String],
-    ) -> Result<(), SqlBuilderError>
+    fn push_rest(self, out: &mut String, parts: &[String]) -> Result<(), AllocError>
         ensures text { OnOk result (string_bytes out.new
             ≡ string_bytes out.old ++ flat_map (λ part. codes "." ++ part) (map (written_in self) (texts parts.now))) }
-        ensures memory { FailsOnlyByMemory result }
     {
         for part in parts {
             out.push('.')?;
-            self.push_part(alloc, out, part.as_str())?;
+            self.push_part(out, part.as_str())?;
         }
         Ok(())
     }
@@ -237,15 +230,14 @@ impl SqlName {
         }
     }
 
-    fn push_in(&self, out: &mut String, form: Form) -> Result<(), SqlBuilderError>
+    fn push_in(&self, out: &mut String, form: Form) -> Result<(), AllocError>
         ensures text { OnOk result (string_bytes out.new
             ≡ string_bytes out.old ++ name_text (written_in form) self.now) }
-        ensures memory { FailsOnlyByMemory result }
     {
-        form.push_part(self.alloc, out, self.first.as_str())?;
-        form.push_rest(self.alloc, out, &self.rest)?;
+        form.push_part(out, self.first.as_str())?;
+        form.push_rest(out, &self.rest)?;
         match &self.alias {
-            Some(alias) => push_alias(self.alloc, out, alias.as_str()),
+            Some(alias) => push_alias(out, alias.as_str()),
             None => Ok(()),
         }
     }
@@ -279,10 +271,9 @@ impl SqlName {
     }
 }
 
-fn push_alias(alloc: Global, out: &mut String, alias: &str) -> Result<(), SqlBuilderError>
+fn push_alias(out: &mut String, alias: &str) -> Result<(), AllocError>
     ensures text { OnOk result
         (string_bytes out.new ≡ string_bytes out.old ++ alias_text (Some alias.now)) }
-    ensures memory { FailsOnlyByMemory result }
 {
     out.push_str(" AS ")?;
     let form = if is_plain(alias) {
@@ -290,7 +281,7 @@ fn push_alias(alloc: Global, out: &mut String, alias: &str) -> Result<(), SqlBui
     } else {
         Form::Between(Quotes::Back)
     };
-    form.push_part(alloc, out, alias)
+    form.push_part(out, alias)
 }
 
 /// The text of a name in the form that stands first: what the five macros below share.

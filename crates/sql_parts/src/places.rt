@@ -11,6 +11,7 @@ ghost use Rattle.sql_parts.specs.Templates.{Writes, counted, followed_by, named,
 
 use crate::error::SqlBuilderError;
 use crate::marks::Marks;
+use crate::scan::split_at_first;
 use crate::text::ToText;
 use std::alloc::Global;
 use std::borrow::CowStr;
@@ -44,13 +45,13 @@ pub(crate) struct Found<'t> {
 }
 
 /// The text that every marker and every escape begins with.
-pub(crate) fn opening(alloc: Global, marks: &Marks<'_>) -> Result<CowStr<'static>, SqlBuilderError>
-    ensures text { IfOk result (λ s. cow_str_bytes s ≡ opening (marks_of marks.now)) }
+pub(crate) fn opening(alloc: Global, marks: Marks<'_>) -> Result<CowStr<'static>, SqlBuilderError>
+    ensures text { IfOk result (λ s. cow_str_bytes s ≡ opening (marks_of marks.entry)) }
     ensures memory { FailsOnlyByMemory result }
 {
     Ok(match marks {
         Marks::First | Marks::Cycle(_) => CowStr::Borrowed("?"),
-        Marks::Num(number) => CowStr::Owned(number_opening(alloc, *number)?),
+        Marks::Num(number) => CowStr::Owned(number_opening(alloc, number)?),
         Marks::Nums(_) => CowStr::Borrowed("$"),
         Marks::Name(name) => CowStr::Owned(name_opening(alloc, name)?),
         Marks::Names => CowStr::Borrowed(":"),
@@ -61,9 +62,8 @@ fn number_opening(alloc: Global, number: u16) -> Result<String, SqlBuilderError>
     ensures text { IfOk result (λ s. string_bytes s ≡ opening (templates.Num number)) }
     ensures memory { FailsOnlyByMemory result }
 {
-    let mut text = String::with_capacity(alloc, "$65535".len())?;
-    text.push('$')?;
-    number.push_to(alloc, &mut text)?;
+    let mut text = number.to_text(alloc)?;
+    text.insert(0, '$')?;
     Ok(text)
 }
 
@@ -142,11 +142,12 @@ fn begins_with_digit(text: &str) -> bool
 }
 
 // What stands at an opening, and the text behind it.
-fn stands<'t>(marks: &Marks<'_>, seen: usize, behind: &'t str) -> (Place<'t>, &'t str)
-    ensures { StandsBefore (opening (marks_of marks.now)) behind.now result
-        (stands (marks_of marks.now) seen behind.now) }
+#[inline(always)]
+fn stands<'t>(marks: Marks<'_>, seen: usize, behind: &'t str) -> (Place<'t>, &'t str)
+    ensures { StandsBefore (opening (marks_of marks.entry)) behind.now result
+        (stands (marks_of marks.entry) seen behind.now) }
 {
-    match *marks {
+    match marks {
         Marks::First if seen > 0 => (Place::Opening, behind),
         Marks::Num(_) if begins_with_digit(behind) => (Place::Opening, behind),
         Marks::First | Marks::Num(_) | Marks::Name(_) => {
@@ -161,72 +162,29 @@ fn stands<'t>(marks: &Marks<'_>, seen: usize, behind: &'t str) -> (Place<'t>, &'
     }
 }
 
-// The sign that an opening begins with, and it as a text. A search for one byte takes half as long
-// as one for a text.
-fn sign(marks: &Marks<'_>) -> (char, &'static str)
-    ensures sign { let opening = opening (marks_of marks.now) in
-        opening ≡ result.0 ∷ drop 1 opening }
-    ensures text { result.1.now ≡ result.0 ∷ [] }
-    ensures one_byte { result.0 < 128 }
-{
-    match marks {
-        Marks::First | Marks::Cycle(_) => ('?', "?"),
-        Marks::Num(_) | Marks::Nums(_) => ('$', "$"),
-        Marks::Name(_) | Marks::Names => (':', ":"),
-    }
-}
-
-/// What an opening has behind its sign.
-pub(crate) fn behind_sign<'o>(marks: &Marks<'_>, opening: &'o str) -> &'o str
-    requires opening { opening.now ≡ templates.opening (marks_of marks.now) }
-    ensures rest { result.now ≡ drop 1 (templates.opening (marks_of marks.now)) }
-{
-    &opening[sign(marks).1.len()..]
-}
-
-// What stands at a sign, and the text behind it: the sign itself, where no opening begins.
-fn stands_at_sign<'t>(
-    marks: &Marks<'_>,
-    behind_sign: &str,
-    seen: usize,
-    behind: &'t str,
-) -> (Place<'t>, &'t str)
-    requires opening { behind_sign.now ≡ drop 1 (templates.opening (marks_of marks.now)) }
-    ensures found { let place = place_of (templates.opening (marks_of marks.now)) result.0 in
-        resolved_from (marks_of marks.now) seen 0
-        (take 1 (templates.opening (marks_of marks.now)) ++ behind.now)
-        ≡ followed_by place
-        (resolved_from (marks_of marks.now) (counted place seen) 0 result.1.now) }
-    ensures shorter { length result.1.now ≤ length behind.now }
-{
-    match behind.strip_prefix(behind_sign) {
-        None => (Place::Writes(sign(marks).1), behind),
-        Some(behind) => stands(marks, seen, behind),
-    }
-}
-
 /// The first place of a text where something stands, if `seen` markers stand before the text.
+#[inline(always)]
 pub(crate) fn first_place<'t>(
-    marks: &Marks<'_>,
-    behind_sign: &str,
+    marks: Marks<'_>,
+    opening: &str,
     seen: usize,
     text: &'t str,
 ) -> Option<Found<'t>>
-    requires opening { behind_sign.now ≡ drop 1 (templates.opening (marks_of marks.now)) }
+    requires opening { opening.now ≡ templates.opening (marks_of marks) }
     ensures found { MatchOption result
-        (resolved_from (marks_of marks.now) seen 0 text.now ≡ (text.now, []))
-        (λ f. let place = place_of (templates.opening (marks_of marks.now)) f.place in
-        resolved_from (marks_of marks.now) seen 0 text.now
+        (resolved_from (marks_of marks.entry) seen 0 text.now ≡ (text.now, []))
+        (λ f. let place = place_of (templates.opening (marks_of marks.entry)) f.place in
+        resolved_from (marks_of marks.entry) seen 0 text.now
         ≡ followed_by (Writes f.piece.now) (followed_by place
-        (resolved_from (marks_of marks.now) (counted place seen) 0 f.rest.now))) }
+        (resolved_from (marks_of marks.entry) (counted place seen) 0 f.rest.now))) }
     ensures shorter { IfSome result (λ f. length f.rest.now < length text.now) }
 {
     match marks {
         // `bind` has one marker, so what stands behind it is copied at once.
         Marks::First if seen > 0 => None,
         _ => {
-            let (piece, behind) = text.split_once(sign(marks).0)?;
-            let (place, rest) = stands_at_sign(marks, behind_sign, seen, behind);
+            let (piece, behind) = split_at_first(text, opening)?;
+            let (place, rest) = stands(marks, seen, behind);
             Some(Found { piece, place, rest })
         }
     }

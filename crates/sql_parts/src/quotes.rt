@@ -48,8 +48,8 @@ impl Quotes {
     }
 }
 
-// The text before the first mark, and the text behind that mark.
-fn split_at_mark(text: &str, mark: char) -> Option<(&str, &str)>
+/// The text before the first mark, and the text behind that mark.
+pub(crate) fn split_at_mark(text: &str, mark: char) -> Option<(&str, &str)>
     requires one_byte { mark < 128 }
     ensures doubled { MatchOption result (doubled mark text.now ≡ text.now)
         (λ parts. doubled mark text.now

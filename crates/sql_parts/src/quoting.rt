@@ -1,31 +1,27 @@
 //! Texts between quotes.
 ghost use Rattle.std.specs.Prelude.{◌≡◌, [], ◌∷◌, ◌++◌, codes, string_bytes, IfOk, IsTrue, OnErr, OnOk};
+ghost use Rattle.std.specs.Cow.{cow_str_bytes};
 ghost use Rattle.std.specs.Io.{StartsWith};
 ghost use Rattle.sql_parts.specs.Error.{FailsOnlyByMemory};
 ghost use Rattle.sql_parts.specs.Quoting.{baquoted, between, brquoted, dquoted, escaped, quoted};
 ghost use Rattle.sql_parts.specs.Tokens.{Name, Str, closed, quoted_token, tokens};
 
 use crate::error::SqlBuilderError;
-use crate::quotes::Quotes;
+use crate::quotes::{Quotes, push_doubled, split_at_mark};
 use crate::text::ToText;
-use std::alloc::Global;
+use std::alloc::{AllocError, Global};
+use std::borrow::CowStr;
 
 /// Appends the text between its marks, with each closing mark in it written twice.
 #[tactic(auto, using(crate::proofs::Kept::kept_by_more))]
-pub(crate) fn push_enclosed<S: ToText>(
-    alloc: Global,
-    out: &mut String,
-    quotes: Quotes,
-    text: S,
-) -> Result<(), SqlBuilderError>
+pub(crate) fn push_enclosed(out: &mut String, quotes: Quotes, text: &str) -> Result<(), AllocError>
     ensures text { OnOk result
-        (string_bytes out.new ≡ string_bytes out.old ++ between quotes (S.text text)) }
+        (string_bytes out.new ≡ string_bytes out.old ++ between quotes text.now) }
     ensures kept { OnErr result (StartsWith (string_bytes out.new) (string_bytes out.old)) }
-    ensures memory { FailsOnlyByMemory result }
 {
     out.push(quotes.opening())?;
-    text.push_doubled_to(alloc, out, quotes)?;
-    Ok(out.push(quotes.closing())?)
+    push_doubled(out, quotes.closing(), text)?;
+    out.push(quotes.closing())
 }
 
 #[tactic(auto, using(crate::proofs::TokenLaws::between_token, crate::proofs::TokenLaws::between_closed))]
@@ -36,9 +32,10 @@ fn enclose<S: ToText>(alloc: Global, quotes: Quotes, text: S) -> Result<String, 
     ensures closed { IfOk result (λ s. IsTrue (closed (string_bytes s))) }
     ensures memory { FailsOnlyByMemory result }
 {
-    let length = text.known_length().unwrap_or(0);
-    let mut out = String::with_capacity(alloc, length.saturating_add(2))?;
-    push_enclosed(alloc, &mut out, quotes, text)?;
+    let text = text.as_text(alloc)?;
+    let text = text.as_str();
+    let mut out = String::with_capacity(alloc, text.len().saturating_add(2))?;
+    push_enclosed(&mut out, quotes, text)?;
     Ok(out)
 }
 
@@ -52,9 +49,34 @@ pub fn esc<S: ToText>(alloc: Global, text: S) -> Result<String, SqlBuilderError>
         ≡ Str (S.text text) ∷ []) }
     ensures memory { FailsOnlyByMemory result }
 {
+    let text = text.as_text(alloc)?;
     let mut out = String::new(alloc);
-    text.push_doubled_to(alloc, &mut out, Quotes::Single)?;
+    push_doubled(&mut out, Quotes::Single.closing(), text.as_str())?;
     Ok(out)
+}
+
+/// The text with each `'` in it doubled, borrowed where it has none. It fails only if memory runs
+/// out.
+/// `escaped("it's")` → `it''s`
+pub fn escaped(alloc: Global, text: &str) -> Result<CowStr<'_>, AllocError>
+    ensures { IfOk result (λ s. cow_str_bytes s ≡ escaped text.now) }
+{
+    if split_at_mark(text, '\'').is_none() {
+        return Ok(CowStr::Borrowed(text));
+    }
+    let mut out = String::new(alloc);
+    push_doubled(&mut out, '\'', text)?;
+    Ok(CowStr::Owned(out))
+}
+
+/// Appends the text between single quotes, with each `'` in it doubled. It fails only if memory runs
+/// out; what was there stays.
+/// `push_quoted(text, "it's")` appends `'it''s'`
+pub fn push_quoted(out: &mut String, text: &str) -> Result<(), AllocError>
+    ensures text { OnOk result (string_bytes out.new ≡ string_bytes out.old ++ quoted text.now) }
+    ensures kept { OnErr result (StartsWith (string_bytes out.new) (string_bytes out.old)) }
+{
+    push_enclosed(out, Quotes::Single, text)
 }
 
 /// The text between single quotes, with each `'` in it doubled: an SQL text. It is refused only

@@ -1,16 +1,13 @@
 //! What can be written as a text.
 
-ghost use Rattle.std.specs.Prelude.{◌≡◌, ◌++◌, ℕ, List, length, map, string_bytes, IfOk, IfSome, OnOk, OnErr};
+ghost use Rattle.std.specs.Prelude.{◌≡◌, [], ◌∷◌, ℕ, List, MatchOption, map, string_bytes, IfOk};
 ghost use Rattle.std.specs.Char.{encode_utf8};
-ghost use Rattle.std.specs.Io.{StartsWith};
 ghost use Rattle.std.specs.Cow.{cow_str_bytes};
 ghost use Rattle.sql_parts.specs.Error.{FailsOnlyByMemory};
-ghost use Rattle.sql_parts.specs.Quoting.{closing, doubled};
 ghost use Rattle.sql_parts.specs.Text.{bool_text, decimal_text, number_text, optional_text, texts};
 
 use crate::error::SqlBuilderError;
 pub use crate::quotes::Quotes;
-use crate::quotes::push_doubled;
 use std::alloc::{AllocError, Global};
 use std::borrow::CowStr;
 
@@ -19,62 +16,55 @@ pub trait ToText: Drop {
     /// The text, as its bytes.
     ghost text: { Self → List ℕ };
 
-    /// The text's length in bytes, where it is known without making the text.
-    /// `"it's".known_length()` → `Some(4)`
-    fn known_length(&self) -> Option<usize>
-        ensures length { IfSome result (λ n. n ≡ length (text self.now)) }
-    {
-        None
-    }
-
     /// The text. It is refused only for want of memory.
     /// `25.to_text()` → `25`
     fn to_text(&self, alloc: Global) -> Result<String, SqlBuilderError>
         ensures text { IfOk result (λ s. string_bytes s ≡ text self.now) }
         ensures memory { FailsOnlyByMemory result };
 
-    /// The text, of a `String` without a copy. It is refused only for want of memory.
-    /// `true.into_text()` → `true`
-    fn into_text(self, alloc: Global) -> Result<String, SqlBuilderError>
-    where
-        Self: Sized,
-        ensures text { IfOk result (λ s. string_bytes s ≡ text self) }
+    /// The text, borrowed where the value has it, and else made. It fails only if memory runs out.
+    /// `"it's".as_text()` → `it's`
+    fn as_text(&self, alloc: Global) -> Result<CowStr<'_>, SqlBuilderError>
+        ensures text { IfOk result (λ s. cow_str_bytes s ≡ text self.now) }
         ensures memory { FailsOnlyByMemory result }
     {
-        self.to_text(alloc)
+        Ok(CowStr::Owned(self.to_text(alloc)?))
     }
+}
 
-    /// Appends the text to another, which a refusal leaves as it was. It is refused only for want
-    /// of memory.
-    /// `25.push_to(text)` appends `25`
-    fn push_to(&self, alloc: Global, out: &mut String) -> Result<(), SqlBuilderError>
-        ensures text { OnOk result
-            (string_bytes out.new ≡ string_bytes out.old ++ text self.now) }
-        ensures unchanged { OnErr result (string_bytes out.new ≡ string_bytes out.old) }
-        ensures memory { FailsOnlyByMemory result }
-    {
-        let text = self.to_text(alloc)?;
-        out.push_str(text.as_str())?;
-        Ok(())
-    }
+/// Texts that are taken one after another, so that a list of them need not be made.
+pub trait Texts<'a>: Drop {
+    /// The texts that are left.
+    ghost left: { Self → List (List ℕ) };
 
-    /// Appends the text to another, with each closing mark in it written twice. A refusal, for
-    /// want of memory alone, leaves the other with what it had, and perhaps with a part of this
-    /// behind it.
-    /// `"it's".push_doubled_to(text, Quotes::Single)` appends `it''s`
-    fn push_doubled_to(
-        &self,
-        alloc: Global,
-        out: &mut String,
-        quotes: Quotes,
-    ) -> Result<(), SqlBuilderError>
-        ensures text { OnOk result
-            (string_bytes out.new ≡ string_bytes out.old ++ doubled (closing quotes) (text self.now)) }
-        ensures kept { OnErr result (StartsWith (string_bytes out.new) (string_bytes out.old)) }
-        ensures memory { FailsOnlyByMemory result }
-    {
-        let text = self.to_text(alloc)?;
-        Ok(push_doubled(out, quotes.closing(), text.as_str())?)
+    /// Takes the next text, if one is left. It fails only if memory runs out.
+    /// `Items { items: ["a"] }.next_text()` → `Some(a)`
+    fn next_text(&mut self, alloc: Global) -> Result<Option<CowStr<'a>>, SqlBuilderError>
+        ensures next { IfOk result (λ next. MatchOption next
+            ((left self.old ≡ []) × (left self.new ≡ []))
+            (λ text. left self.old ≡ cow_str_bytes text ∷ left self.new)) }
+        ensures memory { FailsOnlyByMemory result };
+}
+
+/// The texts of a slice.
+#[derive(Drop)]
+pub struct Items<'a, S> {
+    /// What is left of the slice.
+    pub items: &'a [S],
+}
+
+impl<'a, S: ToText> Texts<'a> for Items<'a, S> {
+    ghost left = { λ it. map S.text it.items.now };
+
+    fn next_text(&mut self, alloc: Global) -> Result<Option<CowStr<'a>>, SqlBuilderError> {
+        match self.items {
+            [first, further @ ..] => {
+                let text = first.as_text(alloc)?;
+                self.items = further;
+                Ok(Some(text))
+            }
+            [] => Ok(None),
+        }
     }
 }
 
@@ -106,87 +96,54 @@ pub fn copy(alloc: Global, text: &Option<String>) -> Result<Option<String>, SqlB
 impl ToText for &str {
     ghost text = { λ s. s.now };
 
-    fn known_length(&self) -> Option<usize> {
-        Some(self.len())
-    }
-
     fn to_text(&self, alloc: Global) -> Result<String, SqlBuilderError> {
         Ok(String::from_str(alloc, self)?)
     }
 
-    fn push_to(&self, _alloc: Global, out: &mut String) -> Result<(), SqlBuilderError> {
-        Ok(out.push_str(self)?)
-    }
-
-    fn push_doubled_to(
-        &self,
-        _alloc: Global,
-        out: &mut String,
-        quotes: Quotes,
-    ) -> Result<(), SqlBuilderError> {
-        Ok(push_doubled(out, quotes.closing(), self)?)
+    fn as_text(&self, _alloc: Global) -> Result<CowStr<'_>, SqlBuilderError> {
+        Ok(CowStr::Borrowed(self))
     }
 }
 
 impl ToText for String {
     ghost text = { λ s. string_bytes s };
 
-    fn known_length(&self) -> Option<usize> {
-        Some(self.len())
-    }
-
     fn to_text(&self, alloc: Global) -> Result<String, SqlBuilderError> {
         Ok(String::from_str(alloc, self.as_str())?)
     }
 
-    fn into_text(self, _alloc: Global) -> Result<String, SqlBuilderError> {
-        Ok(self)
-    }
-
-    fn push_to(&self, _alloc: Global, out: &mut String) -> Result<(), SqlBuilderError> {
-        Ok(out.push_str(self.as_str())?)
-    }
-
-    fn push_doubled_to(
-        &self,
-        _alloc: Global,
-        out: &mut String,
-        quotes: Quotes,
-    ) -> Result<(), SqlBuilderError> {
-        Ok(push_doubled(out, quotes.closing(), self.as_str())?)
+    fn as_text(&self, _alloc: Global) -> Result<CowStr<'_>, SqlBuilderError> {
+        Ok(CowStr::Borrowed(self.as_str()))
     }
 }
 
 impl ToText for CowStr<'_> {
     ghost text = { λ s. cow_str_bytes s };
 
-    fn known_length(&self) -> Option<usize> {
-        Some(self.as_str().len())
-    }
-
     fn to_text(&self, alloc: Global) -> Result<String, SqlBuilderError> {
         Ok(String::from_str(alloc, self.as_str())?)
     }
 
-    fn push_to(&self, _alloc: Global, out: &mut String) -> Result<(), SqlBuilderError> {
-        Ok(out.push_str(self.as_str())?)
+    fn as_text(&self, _alloc: Global) -> Result<CowStr<'_>, SqlBuilderError> {
+        Ok(CowStr::Borrowed(self.as_str()))
     }
+}
 
-    fn push_doubled_to(
-        &self,
-        _alloc: Global,
-        out: &mut String,
-        quotes: Quotes,
-    ) -> Result<(), SqlBuilderError> {
-        Ok(push_doubled(out, quotes.closing(), self.as_str())?)
-    }
+fn bool_word(value: bool) -> &'static str
+    ensures { result.now ≡ bool_text value }
+{
+    if value { "true" } else { "false" }
 }
 
 impl ToText for bool {
     ghost text = { bool_text };
 
     fn to_text(&self, alloc: Global) -> Result<String, SqlBuilderError> {
-        Ok(self.to_string(alloc)?)
+        Ok(String::from_str(alloc, bool_word(*self))?)
+    }
+
+    fn as_text(&self, _alloc: Global) -> Result<CowStr<'_>, SqlBuilderError> {
+        Ok(CowStr::Borrowed(bool_word(*self)))
     }
 }
 
@@ -326,24 +283,11 @@ impl ToText for isize {
 impl<T: ToText> ToText for &T {
     ghost text = { λ x. T.text x.now };
 
-    fn known_length(&self) -> Option<usize> {
-        (**self).known_length()
-    }
-
     fn to_text(&self, alloc: Global) -> Result<String, SqlBuilderError> {
         (**self).to_text(alloc)
     }
 
-    fn push_to(&self, alloc: Global, out: &mut String) -> Result<(), SqlBuilderError> {
-        (**self).push_to(alloc, out)
-    }
-
-    fn push_doubled_to(
-        &self,
-        alloc: Global,
-        out: &mut String,
-        quotes: Quotes,
-    ) -> Result<(), SqlBuilderError> {
-        (**self).push_doubled_to(alloc, out, quotes)
+    fn as_text(&self, alloc: Global) -> Result<CowStr<'_>, SqlBuilderError> {
+        (**self).as_text(alloc)
     }
 }

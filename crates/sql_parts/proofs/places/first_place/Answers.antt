@@ -1,8 +1,7 @@
-use Rattle.std.proofs.Common.{◌∙◌, None, Some, ap, arith, rules}
-use Rattle.std.proofs.lemmas.Str.Pattern.{split_parts}
+use Rattle.std.proofs.Common.{◌≡◌, ◌++◌, ◌<◌, ℕ, arith, length, rules, subst}
+use Rattle.std.specs.Str.Pattern.{LacksTextAt}
 use Rattle.sql_parts.specs.Places.{marks_of}
-use Rattle.sql_parts.specs.Templates.{Writes, followed_by}
-use Rattle.sql_parts.proofs.Resolving.{resolved_from-after_first, resolved_from-sign, resolved_from-signless}
+use Rattle.sql_parts.proofs.Resolving.{resolved_from-after_first, resolved_from-none, resolved_from-split}
 use Rattle.sql_parts.proofs.places.first_place.Goals as goal
 
 pub returns-in-First-clause-found : goal.returns-in-First-clause-found
@@ -11,13 +10,14 @@ returns-in-First-clause-found c =
 
 pub returns-in_err-piece-in_default-clause-found : goal.returns-in_err-piece-in_default-clause-found
 returns-in_err-piece-in_default-clause-found c =
-    let lacks = split_parts c.sign.result.0 c.args.text.now None c.in_err-piece-in_default.ensures.cases c.sign.ensures.one_byte in
-    let none = resolved_from-signless (marks_of c.args.marks.now) c.args.seen c.sign.result.0 c.args.text.now c.sign.ensures.sign lacks in
+    let none = resolved_from-none (marks_of c.args.marks) c.args.seen c.args.text.now
+    (λ k _. subst (λ o. LacksTextAt o c.args.text.now k) c.requires.opening (c.in_err-piece-in_default.ensures k)) in
     search (rules, none)
 
 pub returns-in_ok-piece-in_default-clause-found : goal.returns-in_ok-piece-in_default-clause-found
 returns-in_ok-piece-in_default-clause-found c =
+    let marks = marks_of c.args.marks in
     let found = c.in_ok-piece-in_default in
-    let cut = split_parts c.sign.result.0 c.args.text.now (Some (found.piece, found.behind)) found.ensures.cases c.sign.ensures.one_byte in
-    resolved_from-sign (marks_of c.args.marks.now) c.args.seen c.sign.result.0 c.args.text.now found.piece.now found.behind.now c.sign.ensures.sign cut.0 cut.1
-    ∙ ap (followed_by (Writes found.piece.now)) c.stands_at_sign.ensures.found
+    let split = subst (λ o. c.args.text.now ≡ found.piece.now ++ (o ++ found.behind.now)) c.requires.opening found.ensures.0 in
+    let lacks = λ (k : ℕ) (below : k < length found.piece.now). subst (λ o. LacksTextAt o c.args.text.now k) c.requires.opening (found.ensures.1 k below) in
+    rw (c.stands.ensures.0, c.stands.ensures.1) (resolved_from-split marks c.args.seen c.args.text.now found.piece.now found.behind.now split lacks)
