@@ -1,6 +1,6 @@
 -- What the helpers that print need: one more element of a loop, and a layout's sections one after another.
-use Rattle.std.proofs.Common.{◌≡◌, ◌≢◌, ℕ, ◌+◌, ◌<◌, ◌≤◌, Bool, List, [], ◌∷◌, ◌++◌, Option, None, Some, length, get_or, take, map, flat_map, codes, String, refl, ap, sym, ◌∙◌, append_assoc, arith}
-use Rattle.std.specs.Prelude.{nat_eq, ◌&&◌}
+use Rattle.std.proofs.Common.{if◌then◌else◌, ◌≡◌, ◌≢◌, ℕ, ◌+◌, ◌<◌, ◌≤◌, Bool, List, [], ◌∷◌, ◌++◌, Option, None, Some, length, get_or, take, map, flat_map, codes, String, refl, ap, sym, ◌∙◌, append_assoc, arith}
+use Rattle.std.specs.Prelude.{nat_eq, not, ◌&&◌}
 use Rattle.std.proofs.lemmas.Bool.Decides.{nat_tests}
 use Rattle.std.proofs.lemmas.List.{take_more, map-append, append-nil}
 use Rattle.std.proofs.lemmas.Grind.{flat_map-append}
@@ -37,27 +37,34 @@ several (g ∷ k ∷ gs) h =
     ap (◌++◌ (codes " WHERE ("))
     (append-nil _ ∙ append_assoc g _ _ ∙ ap (◌++◌ g) (sym (bracketed (k ∷ gs))) ∙ sym (append_assoc g _ _))
 
-module _ {Z : Type 0} where
-  -- GROUP BY of some fields
-  pub some_group_fields : (ts : List (String Z)) (having : Option (List ℕ)) → length ts ≢ 0
-      → concat_sections byte_atoms (group_by_sections byte_atoms (texts ts) having)
-      ≡ codes " GROUP BY " ++ (comma_list byte_atoms (texts ts)
-      ++ concat_sections byte_atoms (optional_section (codes " HAVING ") having))
-  some_group_fields [] having h = absurd (h refl)
-  some_group_fields (t ∷ ts) having h = refl
+-- GROUP BY of some fields
+pub some_group_fields : (ts : List (List ℕ)) (having : Option (List ℕ)) → length ts ≢ 0
+    → concat_sections byte_atoms (group_by_sections byte_atoms ts having)
+    ≡ codes " GROUP BY " ++ (comma_list byte_atoms ts ++ concat_sections byte_atoms (optional_section (codes " HAVING ") having))
+some_group_fields [] having h = absurd (h refl)
+some_group_fields (t ∷ ts) having h = refl
+
+-- the fields, or `*`
+pub no_fields : (ts : List (List ℕ)) → length ts ≡ 0 → fields_or_star byte_atoms ts ≡ codes "*"
+no_fields [] h = refl
+no_fields (t ∷ ts) h = absurd (omega (arith, h))
+
+pub some_fields : (ts : List (List ℕ)) → length ts ≢ 0 → fields_or_star byte_atoms ts ≡ comma_list byte_atoms ts
+some_fields [] h = absurd (h refl)
+some_fields (t ∷ ts) h = refl
+
+-- ORDER BY of some fields, where there is no union
+pub ordered : (unions : List (Bool × List ℕ)) (ts : List (List ℕ))
+    → concat_sections byte_atoms (order_by_sections byte_atoms unions ts)
+    ≡ (if nat_eq (length unions) 0 && not (nat_eq (length ts) 0) then codes " ORDER BY " ++ comma_list byte_atoms ts else [])
+ordered [] [] = refl
+ordered [] (t ∷ ts) = grind (arith, nat_tests, append-nil (codes " ORDER BY " ++ comma_list byte_atoms (t ∷ ts)))
+ordered (union ∷ unions) ts = grind (arith, nat_tests)
 
 unions_are : (unions : List (Bool × List ℕ))
     → concat_sections byte_atoms (union_sections unions) ≡ flat_map (λ union. union_opening union.0 ++ union.1) unions
 unions_are [] = refl
 unions_are (union ∷ unions) = ap (◌++◌ (union_opening union.0 ++ union.1)) (unions_are unions)
-
--- a table text is empty if its first table is and there is no other
-pub no_table : {Z : Type 0} (table : List ℕ) (further : List (String Z))
-    → is_no_text (table ++ flat_map (further_table byte_atoms) (texts further))
-    ≡ (nat_eq (length table) 0 && nat_eq (length further) 0)
-no_table [] [] = refl
-no_table [] (name ∷ names) = grind (arith, nat_tests)
-no_table (byte ∷ bytes) further = grind (arith, nat_tests)
 
 -- what is printed of a statement is added to what stands before it
 module _ (r : ClauseTexts) (start : List ℕ) where

@@ -1,5 +1,5 @@
 -- What a call makes of a builder's clauses, each text as its bytes.
-use Rattle.std.specs.Prelude.{ℕ, List, [], ◌∷◌, ◌++◌, None, Some, Bool, true, false, codes, flat_map, map, String, string_bytes}
+use Rattle.std.specs.Prelude.{ℕ, List, [], ◌∷◌, ◌++◌, None, Some, Bool, true, false, codes, map, string_bytes}
 use Rattle.sql_parts.specs.Error.{IsMemory}
 use Rattle.sql_parts.specs.declared.error.SqlBuilderError.{SqlBuilderError}
 use Rattle.sql_builder.specs.Calls as call
@@ -7,30 +7,17 @@ use Rattle.sql_builder.specs.Calls.{kind_of, StartText}
 use Rattle.sql_builder.specs.Clauses.{Clauses, new_clauses}
 use Rattle.sql_builder.specs.Layout.{byte_atoms}
 use Rattle.sql_builder.specs.Phrases.{constraint, further_table, join, order, row}
-use Rattle.sql_parts.specs.Text.{texts}
 use Rattle.sql_builder.specs.declared.condition.Family.{Family}
 use Rattle.sql_builder.specs.declared.condition.Family.TheVariants.{And, Or}
 use Rattle.sql_builder.specs.Condition.{ConditionText, condition_bytes}
 use Rattle.sql_builder.specs.Filters.{cut}
 use Rattle.sql_parts.specs.Text.{join_with}
 use Rattle.sql_builder.specs.declared.clauses.GroupedCondition.{GroupedCondition}
-use Rattle.sql_builder.specs.declared.clauses.Join.{Join}
 use Rattle.sql_builder.specs.declared.clauses.JoinOperator.{JoinOperator}
-use Rattle.sql_builder.specs.declared.clauses.Union.{Union}
 
 -- a builder's clauses, each text as its bytes
 abbrev pub ClauseTexts : Type 0
 ClauseTexts = Clauses (List ℕ)
-
--- a join's text, with its constraints behind it
-abbrev pub join_text : Join → List ℕ
-join_text j =
-    join byte_atoms j.natural j.operator (string_bytes j.table)
-    ++ flat_map (constraint byte_atoms) (texts j.constraints.items)
-
--- a query that UNION adds, and whether it is of all rows
-abbrev pub union_text : Union → Bool × List ℕ
-union_text union = (union.all, string_bytes union.query)
 
 -- a condition, and whether it opens a group
 abbrev pub condition_in_group : GroupedCondition → Bool × List ℕ
@@ -41,10 +28,6 @@ abbrev pub group_texts : List GroupedCondition → List (List ℕ)
 group_texts conditions =
     map (λ group. join_with (codes " OR ") (map (λ c. c.1) (group.0 ∷ group.1)))
     (cut (λ c. c.0) (map condition_in_group conditions))
-
--- the table text, with the further tables behind it
-abbrev pub table_text : {Z : Type 0} → String Z → List (String Z) → List ℕ
-table_text table further = string_bytes table ++ flat_map (further_table byte_atoms) (texts further)
 
 -- the last list goes on with t, where there is a list
 abbrev pub extend_last : {A : Type 0} → List A → List (List A) → List (List A)

@@ -8,6 +8,8 @@ use Rattle.sql_builder.specs.Handed.{Handed, Bare, Enclosed}
 use Rattle.sql_builder.specs.Layout.{byte_atoms}
 use Rattle.sql_builder.specs.Phrases.{comma_list}
 use Rattle.sql_builder.specs.Text.{Pieces, fixed_piece, quoted_piece, raw_piece}
+use Rattle.sql_builder.specs.declared.condition.BorrowedCondition.{BorrowedCondition}
+use Rattle.sql_builder.specs.declared.condition.BorrowedCondition.TheVariants as borrowed
 use Rattle.sql_builder.specs.declared.condition.Condition.{Condition}
 use Rattle.sql_builder.specs.declared.condition.Condition.TheVariants as condition
 use Rattle.sql_builder.specs.declared.condition.Percent.{Percent}
@@ -44,6 +46,18 @@ condition_view (condition.InQuery negated field query) =
     InQuery negated (string_bytes field) (string_bytes query)
 condition_view (condition.Between negated field least greatest) =
     Between negated (string_bytes field) (string_bytes least) (string_bytes greatest)
+
+-- a borrowed condition, its texts as bytes; `left` gives the texts of a list
+abbrev pub borrowed_view : {T : Type 0} → (T → List (List ℕ)) → BorrowedCondition T → ConditionText
+borrowed_view left (borrowed.Raw t) = Raw t.now
+borrowed_view left (borrowed.Compare relation field value) = Compare relation field.now value.now
+borrowed_view left (borrowed.Like negated percent field mask) = Like negated percent field.now mask.now
+borrowed_view left (borrowed.IsNull field) = IsNull field.now
+borrowed_view left (borrowed.IsNotNull field) = IsNotNull field.now
+borrowed_view left (borrowed.InList negated field values) = InList negated field.now (left values)
+borrowed_view left (borrowed.InQuoted negated field values) = InQuoted negated field.now (left values)
+borrowed_view left (borrowed.InQuery negated field query) = InQuery negated field.now query.now
+borrowed_view left (borrowed.Between negated field least greatest) = Between negated field.now least.now greatest.now
 
 -- the sign of a comparison, with its blanks
 abbrev pub relation_text : Relation → List ℕ

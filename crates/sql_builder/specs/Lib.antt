@@ -2,6 +2,7 @@ pub mod Builder
 pub mod Calls
 pub mod Chaining
 pub mod Clauses
+pub mod Concat
 pub mod Condition
 pub mod Filters
 pub mod Fitting
@@ -16,6 +17,7 @@ pub mod Shape
 pub mod Statement
 pub mod Steps
 pub mod Text
+pub mod TextLists
 pub mod Truths
 pub mod Views
 pub mod WhereTokens

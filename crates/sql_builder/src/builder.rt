@@ -1,15 +1,15 @@
 //! The builder: it is told clauses call by call, and prints a statement of them.
 ghost use Rattle.std.specs.Prelude.{◌≡◌, [], map, IfOk, string_bytes};
 ghost use Rattle.sql_parts.specs.Error.{FailsOnlyByMemory};
-ghost use Rattle.sql_builder.specs.Builder.{started};
 ghost use Rattle.sql_parts.specs.Text.{texts};
+ghost use Rattle.sql_builder.specs.Builder.{started};
 ghost use Rattle.sql_builder.specs.Calls.{SelectFrom, SelectValues, InsertInto, UpdateTable, DeleteFrom};
 ghost use Rattle.sql_builder.specs.Clauses.{new_clauses};
 
-use crate::clauses::{
-    GroupedCondition, Join, JoinOperator, Kind, Union, copy_conditions, copy_joins, copy_unions,
-};
-use sql_parts::text::{copies, copy};
+use crate::clauses::{GroupedCondition, JoinOperator, Kind, copy_conditions};
+use crate::text_list::TextList;
+use crate::union_list::UnionList;
+use sql_parts::text::{Items, Texts, copies, copy};
 use sql_parts::{SqlBuilderError, ToText};
 use std::alloc::Global;
 use std::marker::Model;
@@ -19,32 +19,32 @@ use std::marker::Model;
 pub struct SqlBuilder {
     pub(crate) alloc: Global,
     pub(crate) kind: Kind,
+    // The table text, with every table that was added.
     pub(crate) table: String,
-    // The tables behind the first.
-    pub(crate) further_tables: Vec<String>,
-    pub(crate) joins: Vec<Join>,
+    // Each join with its constraints.
+    pub(crate) joins: Vec<String>,
     // The operator of the joins to come.
     pub(crate) operator: Option<JoinOperator>,
     // Whether the next join is NATURAL.
     pub(crate) natural: bool,
     pub(crate) distinct: bool,
-    pub(crate) fields: Vec<String>,
-    pub(crate) sets: Vec<String>,
-    pub(crate) rows: Vec<String>,
+    pub(crate) fields: TextList,
+    pub(crate) sets: TextList,
+    pub(crate) rows: TextList,
     pub(crate) query: Option<String>,
     pub(crate) returning: Option<String>,
-    pub(crate) group_fields: Vec<String>,
+    pub(crate) group_fields: TextList,
     pub(crate) having: Option<String>,
     pub(crate) conditions: Vec<GroupedCondition>,
-    pub(crate) unions: Vec<Union>,
-    pub(crate) order_fields: Vec<String>,
+    pub(crate) unions: UnionList,
+    pub(crate) order_fields: TextList,
     pub(crate) limit: Option<String>,
     pub(crate) offset: Option<String>,
 }
 
 impl Model for SqlBuilder {
-    ghost use Rattle.std.specs.Prelude.{List, ℕ, map};
-    ghost use Rattle.sql_builder.specs.Builder.{group_texts, join_text, table_text, union_text};
+    ghost use Rattle.std.specs.Prelude.{List, ℕ, string_bytes};
+    ghost use Rattle.sql_builder.specs.Builder.{group_texts};
     ghost use Rattle.sql_parts.specs.Text.{optional_text, texts};
     ghost use Rattle.sql_builder.specs.Clauses.{Clauses};
 
@@ -52,21 +52,21 @@ impl Model for SqlBuilder {
 
     ghost view = { λ b. record {
       kind = b.kind;
-      table = table_text b.table b.further_tables.items;
-      joins = map join_text b.joins.items;
+      table = string_bytes b.table;
+      joins = texts b.joins.items;
       operator = b.operator;
       natural = b.natural;
       distinct = b.distinct;
-      fields = texts b.fields.items;
-      sets = texts b.sets.items;
-      rows = texts b.rows.items;
+      fields = b.fields;
+      sets = b.sets;
+      rows = b.rows;
       query = optional_text b.query;
       returning = optional_text b.returning;
-      group_fields = texts b.group_fields.items;
+      group_fields = b.group_fields;
       having = optional_text b.having;
       groups = group_texts b.conditions.items;
-      unions = map union_text b.unions.items;
-      order_fields = texts b.order_fields.items;
+      unions = b.unions;
+      order_fields = b.order_fields;
       limit = optional_text b.limit;
       offset = optional_text b.offset;
     } };
@@ -82,34 +82,33 @@ type OptionalTexts = (
 );
 
 // Copies of the conditions, GROUP BY, the unions and ORDER BY.
-type FurtherClauses = (Vec<GroupedCondition>, Vec<String>, Vec<Union>, Vec<String>);
+type FurtherClauses = (Vec<GroupedCondition>, TextList, UnionList, TextList);
 
 impl SqlBuilder {
-    ghost use Rattle.sql_builder.specs.Builder.{group_texts, join_text, table_text, union_text};
+    ghost use Rattle.sql_builder.specs.Builder.{group_texts};
     ghost use Rattle.sql_parts.specs.Text.{optional_text};
 
-    fn new(alloc: Global, kind: Kind, table: String, fields: Vec<String>) -> SqlBuilder
-        ensures { result ≡ new_clauses kind (string_bytes table) (texts fields.items) }
+    fn new(alloc: Global, kind: Kind, table: String, fields: TextList) -> SqlBuilder
+        ensures { result ≡ new_clauses kind (string_bytes table) fields }
     {
         SqlBuilder {
             alloc,
             kind,
             table,
-            further_tables: Vec::new(alloc),
             joins: Vec::new(alloc),
             operator: None,
             natural: false,
             distinct: false,
             fields,
-            sets: Vec::new(alloc),
-            rows: Vec::new(alloc),
+            sets: TextList::new(alloc),
+            rows: TextList::new(alloc),
             query: None,
             returning: None,
-            group_fields: Vec::new(alloc),
+            group_fields: TextList::new(alloc),
             having: None,
             conditions: Vec::new(alloc),
-            unions: Vec::new(alloc),
-            order_fields: Vec::new(alloc),
+            unions: UnionList::new(alloc),
+            order_fields: TextList::new(alloc),
             limit: None,
             offset: None,
         }
@@ -123,8 +122,8 @@ impl SqlBuilder {
         ensures made { IfOk result (λ b. b ≡ new_clauses kind (S.text table) []) }
         ensures memory { FailsOnlyByMemory result }
     {
-        let table = table.into_text(alloc)?;
-        Ok(SqlBuilder::new(alloc, kind, table, Vec::new(alloc)))
+        let table = table.to_text(alloc)?;
+        Ok(SqlBuilder::new(alloc, kind, table, TextList::new(alloc)))
     }
 
     /// A SELECT from this table, told nothing else. It is refused only for want of memory, as is
@@ -146,14 +145,19 @@ impl SqlBuilder {
         ensures made { IfOk result (λ b. b ≡ started (SelectValues (map S.text values.now))) }
         ensures memory { FailsOnlyByMemory result }
     {
-        Ok(SqlBuilder::of_values(alloc, copies(alloc, values)?))
+        SqlBuilder::select_texts(alloc, Items { items: values })
     }
 
-    /// A SELECT of these very values, without a table.
-    pub(crate) fn of_values(alloc: Global, values: Vec<String>) -> SqlBuilder
-        ensures made { result ≡ started (SelectValues (texts values.items)) }
+    /// A SELECT of values that are taken one after another, without a table.
+    pub(crate) fn select_texts<'a, T: Texts<'a>>(
+        alloc: Global,
+        values: T,
+    ) -> Result<SqlBuilder, SqlBuilderError>
+        ensures made { IfOk result (λ b. b ≡ started (SelectValues (T.left values))) }
+        ensures memory { FailsOnlyByMemory result }
     {
-        SqlBuilder::new(alloc, Kind::SelectValues, String::new(alloc), values)
+        let fields = TextList::of(alloc, values)?;
+        Ok(SqlBuilder::new(alloc, Kind::SelectValues, String::new(alloc), fields))
     }
 
     /// An INSERT into this table, told nothing else.
@@ -185,28 +189,27 @@ impl SqlBuilder {
 
     // A copy of all clauses is made in four steps, none of which holds more than five copies where
     // it is refused: the proof of all in one takes long.
-    fn copy_tables(&self) -> Result<(String, Vec<String>, Vec<Join>), SqlBuilderError>
-        ensures tables { IfOk result (λ copy. table_text copy.0 copy.1.items ≡ self.now.table) }
-        ensures joins { IfOk result (λ copy. map join_text copy.2.items ≡ self.now.joins) }
+    fn copy_tables(&self) -> Result<(String, Vec<String>), SqlBuilderError>
+        ensures tables { IfOk result (λ copy. string_bytes copy.0 ≡ self.now.table) }
+        ensures joins { IfOk result (λ copy. texts copy.1.items ≡ self.now.joins) }
         ensures memory { FailsOnlyByMemory result }
     {
         Ok((
             self.table.to_text(self.alloc)?,
-            copies(self.alloc, &self.further_tables)?,
-            copy_joins(self.alloc, &self.joins)?,
+            copies(self.alloc, &self.joins)?,
         ))
     }
 
-    fn copy_lists(&self) -> Result<(Vec<String>, Vec<String>, Vec<String>), SqlBuilderError>
-        ensures fields { IfOk result (λ copy. texts copy.0.items ≡ self.now.fields) }
-        ensures sets { IfOk result (λ copy. texts copy.1.items ≡ self.now.sets) }
-        ensures rows { IfOk result (λ copy. texts copy.2.items ≡ self.now.rows) }
+    fn copy_lists(&self) -> Result<(TextList, TextList, TextList), SqlBuilderError>
+        ensures fields { IfOk result (λ copy. copy.0 ≡ self.now.fields) }
+        ensures sets { IfOk result (λ copy. copy.1 ≡ self.now.sets) }
+        ensures rows { IfOk result (λ copy. copy.2 ≡ self.now.rows) }
         ensures memory { FailsOnlyByMemory result }
     {
         Ok((
-            copies(self.alloc, &self.fields)?,
-            copies(self.alloc, &self.sets)?,
-            copies(self.alloc, &self.rows)?,
+            self.fields.copy(self.alloc)?,
+            self.sets.copy(self.alloc)?,
+            self.rows.copy(self.alloc)?,
         ))
     }
 
@@ -229,16 +232,16 @@ impl SqlBuilder {
 
     fn copy_further_clauses(&self) -> Result<FurtherClauses, SqlBuilderError>
         ensures groups { IfOk result (λ copy. group_texts copy.0.items ≡ self.now.groups) }
-        ensures group_fields { IfOk result (λ copy. texts copy.1.items ≡ self.now.group_fields) }
-        ensures unions { IfOk result (λ copy. map union_text copy.2.items ≡ self.now.unions) }
-        ensures order_fields { IfOk result (λ copy. texts copy.3.items ≡ self.now.order_fields) }
+        ensures group_fields { IfOk result (λ copy. copy.1 ≡ self.now.group_fields) }
+        ensures unions { IfOk result (λ copy. copy.2 ≡ self.now.unions) }
+        ensures order_fields { IfOk result (λ copy. copy.3 ≡ self.now.order_fields) }
         ensures memory { FailsOnlyByMemory result }
     {
         Ok((
             copy_conditions(self.alloc, &self.conditions)?,
-            copies(self.alloc, &self.group_fields)?,
-            copy_unions(self.alloc, &self.unions)?,
-            copies(self.alloc, &self.order_fields)?,
+            self.group_fields.copy(self.alloc)?,
+            self.unions.copy(self.alloc)?,
+            self.order_fields.copy(self.alloc)?,
         ))
     }
 
@@ -248,7 +251,7 @@ impl SqlBuilder {
         ensures equal { IfOk result (λ b. b ≡ self.now) }
         ensures memory { FailsOnlyByMemory result }
     {
-        let (table, further_tables, joins) = self.copy_tables()?;
+        let (table, joins) = self.copy_tables()?;
         let (fields, sets, rows) = self.copy_lists()?;
         let (query, returning, having, limit, offset) = self.copy_texts()?;
         let (conditions, group_fields, unions, order_fields) = self.copy_further_clauses()?;
@@ -256,7 +259,6 @@ impl SqlBuilder {
             alloc: self.alloc,
             kind: self.kind,
             table,
-            further_tables,
             joins,
             operator: self.operator,
             natural: self.natural,

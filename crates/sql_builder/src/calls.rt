@@ -17,10 +17,14 @@ ghost use Rattle.sql_parts.specs.Tokens.{closed, tokens};
 
 use crate::builder::SqlBuilder;
 use crate::clauses::JoinOperator;
-pub use crate::condition::{Condition, Family, Percent, Relation};
-use crate::steps::{BinaryClause, UnaryClause, VariadicClause};
+pub use crate::condition::{BorrowedCondition, Condition, Family, Percent, Relation};
+pub use crate::steps::{
+    BinaryClause, UnaryClause, VariadicClause, make_binary, make_condition, make_order, make_unary,
+    make_variadic,
+};
 use sql_parts::SqlBuilderError;
-use std::alloc::{AllocError, Global};
+use sql_parts::text::Items;
+use std::alloc::Global;
 
 /// How a list of calls begins.
 #[derive(Drop)]
@@ -125,24 +129,9 @@ pub enum Finish {
     SubqueryAs(String),
 }
 
-/// The builder that a start makes, which keeps the start's texts. It is refused only for want of
-/// memory.
-/// `begin(Start::SelectFrom("t")).sql()` → `SELECT * FROM t;`
-pub fn begin(alloc: Global, start: Start) -> Result<SqlBuilder, SqlBuilderError>
-    ensures made { IfOk result (λ b. b
-        ≡ map_clauses pieces_text (clauses (start_view start) [])) }
-    ensures memory { FailsOnlyByMemory result }
-{
-    match start {
-        Start::SelectFrom(table) => SqlBuilder::select_from(alloc, table),
-        Start::SelectValues(values) => Ok(SqlBuilder::of_values(alloc, values)),
-        Start::InsertInto(table) => SqlBuilder::insert_into(alloc, table),
-        Start::UpdateTable(table) => SqlBuilder::update_table(alloc, table),
-        Start::DeleteFrom(table) => SqlBuilder::delete_from(alloc, table),
-    }
-}
-
-fn begin_lent(alloc: Global, start: &Start) -> Result<SqlBuilder, SqlBuilderError>
+/// The builder that a start makes. It fails only if memory runs out.
+/// `begin(&Start::SelectFrom("t")).sql()` → `SELECT * FROM t;`
+pub fn begin(alloc: Global, start: &Start) -> Result<SqlBuilder, SqlBuilderError>
     ensures made { IfOk result (λ b. b
         ≡ map_clauses pieces_text (clauses (start_view start.now) [])) }
     ensures memory { FailsOnlyByMemory result }
@@ -156,136 +145,87 @@ fn begin_lent(alloc: Global, start: &Start) -> Result<SqlBuilder, SqlBuilderErro
     }
 }
 
-// Makes a call, whether it is lent or handed over, but for those whose arms are given, and answers
-// what its step answers.
-macro_rules! make_call {
-    ($builder:ident, $call:ident, $($arms:tt)*) => {
-        match $call {
-            Call::Natural => {
-                $builder.natural = true;
-                Ok(())
-            }
-            Call::Left => {
-                $builder.operator = Some(JoinOperator::Left);
-                Ok(())
-            }
-            Call::LeftOuter => {
-                $builder.operator = Some(JoinOperator::LeftOuter);
-                Ok(())
-            }
-            Call::Right => {
-                $builder.operator = Some(JoinOperator::Right);
-                Ok(())
-            }
-            Call::RightOuter => {
-                $builder.operator = Some(JoinOperator::RightOuter);
-                Ok(())
-            }
-            Call::Inner => {
-                $builder.operator = Some(JoinOperator::Inner);
-                Ok(())
-            }
-            Call::Cross => {
-                $builder.operator = Some(JoinOperator::Cross);
-                Ok(())
-            }
-            Call::Distinct => {
-                $builder.distinct = true;
-                Ok(())
-            }
-            Call::AndTable(table) => $builder.push_unary(UnaryClause::AndTable, table),
-            Call::Join(table) => $builder.push_unary(UnaryClause::Join, table),
-            Call::On(constraint) => $builder.push_unary(UnaryClause::On, constraint),
-            Call::Field(field) => $builder.push_unary(UnaryClause::Field, field),
-            Call::SetField(field) => $builder.push_unary(UnaryClause::SetField, field),
-            Call::Count(field) => $builder.push_unary(UnaryClause::Count, field),
-            Call::Select(query) => $builder.push_unary(UnaryClause::Select, query),
-            Call::Returning(fields) => $builder.push_unary(UnaryClause::Returning, fields),
-            Call::GroupBy(field) => $builder.push_unary(UnaryClause::GroupBy, field),
-            Call::Having(condition) => $builder.push_unary(UnaryClause::Having, condition),
-            Call::Union(query) => $builder.push_unary(UnaryClause::Union, query),
-            Call::UnionAll(query) => $builder.push_unary(UnaryClause::UnionAll, query),
-            Call::OrderAsc(field) => $builder.push_unary(UnaryClause::OrderAsc, field),
-            Call::OrderDesc(field) => $builder.push_unary(UnaryClause::OrderDesc, field),
-            Call::Limit(limit) => $builder.push_unary(UnaryClause::Limit, limit),
-            Call::Offset(offset) => $builder.push_unary(UnaryClause::Offset, offset),
-            Call::OnEq(left, right) => $builder.push_binary(BinaryClause::OnEq, left, right),
-            Call::CountAs(field, name) => $builder.push_binary(BinaryClause::CountAs, field, name),
-            Call::SetTo(field, value) => $builder.push_binary(BinaryClause::SetTo, field, value),
-            Call::SetStr(field, value) => $builder.push_binary(BinaryClause::SetStr, field, value),
-            Call::ReturningId => $builder.put_returning("id"),
-            $($arms)*
-        }
-    };
-}
-
-/// Makes a call of a builder, which keeps the call's texts. It is refused only for want of memory,
-/// and then leaves the builder as it was.
-/// `{ let mut b = begin(Start::SelectFrom("t")); make(&mut b, Call::Field("a")); b.sql() }` →
+/// Makes a call of a builder. It fails only if memory runs out, and then leaves the builder as it
+/// was.
+/// `{ let mut b = begin(&Start::SelectFrom("t")); make(&mut b, &Call::Field("a")); b.sql() }` →
 /// `SELECT a FROM t;`
-pub fn make(builder: &mut SqlBuilder, call: Call) -> Result<(), SqlBuilderError>
-    ensures made { OnOk result (builder.new ≡ with_call (call_view call) builder.old) }
-    ensures refused { OnErr result (builder.new ≡ builder.old) }
-    ensures memory { FailsOnlyByMemory result }
-{
-    make_call!(builder, call,
-        Call::Fields(fields) => {
-            append(&mut builder.fields, fields)?;
-            Ok(())
-        }
-        Call::SetFields(fields) => {
-            builder.fields = fields;
-            Ok(())
-        }
-        Call::Values(values) => builder.push_variadic(VariadicClause::Values, &values),
-        Call::OrderBy(field, descending) => builder.push_order(descending, field),
-        Call::Cond(family, condition) => make_condition(builder, family, condition),
-    )
-}
-
-fn make_lent(builder: &mut SqlBuilder, call: &Call) -> Result<(), SqlBuilderError>
+pub fn make(builder: &mut SqlBuilder, call: &Call) -> Result<(), SqlBuilderError>
     ensures made { OnOk result (builder.new ≡ with_call (call_view call.now) builder.old) }
-    ensures memory { FailsOnlyByMemory result }
-{
-    make_call!(builder, call,
-        Call::Fields(fields) => builder.push_variadic(VariadicClause::Fields, fields),
-        Call::SetFields(fields) => builder.push_variadic(VariadicClause::SetFields, fields),
-        Call::Values(values) => builder.push_variadic(VariadicClause::Values, values),
-        Call::OrderBy(field, descending) => builder.push_order(*descending, field),
-        Call::Cond(family, condition) => {
-            let text = condition.to_text(builder.alloc)?;
-            builder.push_condition(*family, text)
-        }
-    )
-}
-
-// Lists of fields are moved, since they may be long.
-fn append(fields: &mut Vec<String>, mut further: Vec<String>) -> Result<(), AllocError>
-    ensures appended { OnOk result (fields.new.items ≡ fields.old.items ++ further.items) }
-    ensures refused { OnErr result (fields.new.items ≡ fields.old.items) }
-{
-    if fields.is_empty() {
-        *fields = further;
-        return Ok(());
-    }
-    fields.append(&mut further)
-}
-
-fn make_condition(
-    builder: &mut SqlBuilder,
-    family: Family,
-    condition: Condition,
-) -> Result<(), SqlBuilderError>
-    ensures made { OnOk result (builder.new
-        ≡ with_condition family (condition_view condition) builder.old) }
     ensures refused { OnErr result (builder.new ≡ builder.old) }
     ensures memory { FailsOnlyByMemory result }
 {
-    let text = match condition {
-        Condition::Raw(condition) => condition,
-        condition => condition.to_text(builder.alloc)?,
-    };
-    builder.push_condition(family, text)
+    match call {
+        Call::Natural => {
+            builder.natural = true;
+            Ok(())
+        }
+        Call::Left => {
+            builder.operator = Some(JoinOperator::Left);
+            Ok(())
+        }
+        Call::LeftOuter => {
+            builder.operator = Some(JoinOperator::LeftOuter);
+            Ok(())
+        }
+        Call::Right => {
+            builder.operator = Some(JoinOperator::Right);
+            Ok(())
+        }
+        Call::RightOuter => {
+            builder.operator = Some(JoinOperator::RightOuter);
+            Ok(())
+        }
+        Call::Inner => {
+            builder.operator = Some(JoinOperator::Inner);
+            Ok(())
+        }
+        Call::Cross => {
+            builder.operator = Some(JoinOperator::Cross);
+            Ok(())
+        }
+        Call::Distinct => {
+            builder.distinct = true;
+            Ok(())
+        }
+        Call::AndTable(table) => make_unary(builder, UnaryClause::AndTable, table),
+        Call::Join(table) => make_unary(builder, UnaryClause::Join, table),
+        Call::On(constraint) => make_unary(builder, UnaryClause::On, constraint),
+        Call::Field(field) => make_unary(builder, UnaryClause::Field, field),
+        Call::SetField(field) => make_unary(builder, UnaryClause::SetField, field),
+        Call::Count(field) => make_unary(builder, UnaryClause::Count, field),
+        Call::Select(query) => make_unary(builder, UnaryClause::Select, query),
+        Call::Returning(fields) => make_unary(builder, UnaryClause::Returning, fields),
+        Call::GroupBy(field) => make_unary(builder, UnaryClause::GroupBy, field),
+        Call::Having(condition) => make_unary(builder, UnaryClause::Having, condition),
+        Call::Union(query) => make_unary(builder, UnaryClause::Union, query),
+        Call::UnionAll(query) => make_unary(builder, UnaryClause::UnionAll, query),
+        Call::OrderAsc(field) => make_unary(builder, UnaryClause::OrderAsc, field),
+        Call::OrderDesc(field) => make_unary(builder, UnaryClause::OrderDesc, field),
+        Call::Limit(limit) => make_unary(builder, UnaryClause::Limit, limit),
+        Call::Offset(offset) => make_unary(builder, UnaryClause::Offset, offset),
+        Call::ReturningId => make_unary(builder, UnaryClause::Returning, "id"),
+        Call::OnEq(left, right) => make_binary(builder, BinaryClause::OnEq, left, right),
+        Call::CountAs(field, name) => make_binary(builder, BinaryClause::CountAs, field, name),
+        Call::SetTo(field, value) => make_binary(builder, BinaryClause::SetTo, field, value),
+        Call::SetStr(field, value) => make_binary(builder, BinaryClause::SetStr, field, value),
+        Call::Fields(fields) => make_variadic(
+            builder,
+            VariadicClause::Fields,
+            Items { items: fields },
+        ),
+        Call::SetFields(fields) => make_variadic(
+            builder,
+            VariadicClause::SetFields,
+            Items { items: fields },
+        ),
+        Call::Values(values) => make_variadic(
+            builder,
+            VariadicClause::Values,
+            Items { items: values },
+        ),
+        Call::OrderBy(field, descending) => make_order(builder, field, *descending),
+        Call::Cond(family, condition) => make_condition(builder, *family, condition.borrowed()),
+    }
 }
 
 #[tactic(auto, using(crate::proofs::Runs::one_more_call))]
@@ -294,15 +234,15 @@ fn build(alloc: Global, start: &Start, calls: &[Call]) -> Result<SqlBuilder, Sql
         (clauses (start_view start.now) (map call_view calls.now))) }
     ensures memory { FailsOnlyByMemory result }
 {
-    let mut builder = begin_lent(alloc, start)?;
+    let mut builder = begin(alloc, start)?;
     for call in calls {
-        make_lent(&mut builder, call)?;
+        make(&mut builder, call)?;
     }
     Ok(builder)
 }
 
 /// Prints a builder. It is refused as the printing call that is meant, or for want of memory.
-/// `print(&begin(Start::SelectFrom("t")), &Finish::Query)` → `SELECT * FROM t`
+/// `print(&begin(&Start::SelectFrom("t")), &Finish::Query)` → `SELECT * FROM t`
 pub fn print(builder: &SqlBuilder, finish: &Finish) -> Result<String, SqlBuilderError>
     ensures text { IfOk result (λ s. string_bytes s
         ≡ text_at (finish_view finish.now) builder.now) }

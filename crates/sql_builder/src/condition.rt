@@ -1,15 +1,13 @@
 //! What a condition says, and its text.
-ghost use Rattle.std.specs.Prelude.{◌≡◌, ◌++◌, codes, flat_map, map, string_bytes, IfOk, OnOk};
+ghost use Rattle.std.specs.Prelude.{◌≡◌, ◌++◌, codes, if◌then◌else◌, map, string_bytes, IfOk};
 ghost use Rattle.sql_parts.specs.Error.{FailsOnlyByMemory};
-ghost use Rattle.sql_parts.specs.Quoting.{quoted};
-ghost use Rattle.sql_builder.specs.Condition.{Between, Compare, InList, InQuery, InQuoted, IsNotNull, IsNull, Like, condition_bytes, condition_view, is_behind, is_in_front, mask_text, not_text, relation_text};
-ghost use Rattle.sql_builder.specs.Layout.{byte_atoms};
-ghost use Rattle.sql_builder.specs.Phrases.{comma_list};
+ghost use Rattle.sql_builder.specs.Condition.{Between, Compare, InList, InQuery, InQuoted, IsNotNull, IsNull, Like, borrowed_view, condition_bytes, condition_view, is_behind, is_in_front, not_text, relation_text};
 
-use crate::phrases::{infix, push_items, push_quoted, room, room_of_all};
-use sql_parts::text::Quotes;
-use sql_parts::{SqlBuilderError, ToText};
-use std::alloc::Global;
+use crate::concat::{Part, concat};
+use crate::phrases::{FIRST_ROOM, push_items, push_quoted_items};
+use sql_parts::text::{Items, Texts};
+use sql_parts::{SqlBuilderError, escaped};
+use std::alloc::{AllocError, Global};
 
 /// Which family a condition's call belongs to.
 #[derive(Clone, Copy)]
@@ -73,6 +71,30 @@ pub enum Condition {
     Between(bool, String, String, String),
 }
 
+/// A condition whose texts are borrowed, and whose lists are taken text by text. A truth value says
+/// whether it is the NOT form.
+#[derive(Drop)]
+pub enum BorrowedCondition<'a, T> {
+    /// A condition as it stands.
+    Raw(&'a str),
+    /// A field compared with a value.
+    Compare(Relation, &'a str, &'a str),
+    /// A field that is like a mask, which is quoted with its percent signs.
+    Like(bool, Percent, &'a str, &'a str),
+    /// A field that is NULL.
+    IsNull(&'a str),
+    /// A field that is not NULL.
+    IsNotNull(&'a str),
+    /// A field that is one of a list of values.
+    InList(bool, &'a str, T),
+    /// A field that is one of a list of values, each of which is quoted.
+    InQuoted(bool, &'a str, T),
+    /// A field that is one of what a query gives.
+    InQuery(bool, &'a str, &'a str),
+    /// A field between a least and a greatest value.
+    Between(bool, &'a str, &'a str, &'a str),
+}
+
 impl Relation {
     fn sign(self) -> &'static str
         ensures { result.now ≡ relation_text self }
@@ -103,230 +125,234 @@ impl Percent {
 }
 
 impl Condition {
-    /// The condition's text.
-    pub(crate) fn to_text(&self, alloc: Global) -> Result<String, SqlBuilderError>
-        ensures made { IfOk result (λ s. string_bytes s
-            ≡ condition_bytes (condition_view self.now)) }
-        ensures memory { FailsOnlyByMemory result }
+    /// The condition with its texts borrowed.
+    pub(crate) fn borrowed(&self) -> BorrowedCondition<'_, Items<'_, String>>
+        ensures { borrowed_view (λ values. map (λ s. string_bytes s) values.items.now) result ≡ condition_view self.now }
     {
         match self {
-            Condition::Raw(condition) => condition.to_text(alloc),
-            Condition::Compare(relation, field, value) => compare(alloc, *relation, field, value),
-            Condition::Like(negated, percent, field, mask) => {
-                like(alloc, *negated, *percent, field, mask)
+            Condition::Raw(condition) => BorrowedCondition::Raw(condition),
+            Condition::Compare(relation, field, value) => {
+                BorrowedCondition::Compare(*relation, field, value)
             }
-            Condition::IsNull(field) => is_null(alloc, field),
-            Condition::IsNotNull(field) => is_not_null(alloc, field),
+            Condition::Like(negated, percent, field, mask) => {
+                BorrowedCondition::Like(*negated, *percent, field, mask)
+            }
+            Condition::IsNull(field) => BorrowedCondition::IsNull(field),
+            Condition::IsNotNull(field) => BorrowedCondition::IsNotNull(field),
             Condition::InList(negated, field, values) => {
-                in_list(alloc, *negated, field, values.as_slice())
+                BorrowedCondition::InList(*negated, field, Items { items: values })
             }
             Condition::InQuoted(negated, field, values) => {
-                in_quoted(alloc, *negated, field, values.as_slice())
+                BorrowedCondition::InQuoted(*negated, field, Items { items: values })
             }
-            Condition::InQuery(negated, field, query) => in_query(alloc, *negated, field, query),
+            Condition::InQuery(negated, field, query) => {
+                BorrowedCondition::InQuery(*negated, field, query)
+            }
             Condition::Between(negated, field, least, greatest) => {
-                between(alloc, *negated, field, least, greatest)
+                BorrowedCondition::Between(*negated, field, least, greatest)
             }
         }
     }
 }
 
-// A field and words behind it, with NOT between them where the condition is the NOT form, and with
-// room for what comes behind.
-fn field_and_words<S: ToText>(
-    alloc: Global,
-    negated: bool,
-    field: S,
-    words: &str,
-    behind: usize,
-) -> Result<String, SqlBuilderError>
-    ensures made { IfOk result (λ s. string_bytes s
-        ≡ S.text field ++ (not_text negated ++ words.now)) }
-    ensures memory { FailsOnlyByMemory result }
+impl<'a, T: Texts<'a>> BorrowedCondition<'a, T> {
+    /// The condition's text.
+    pub(crate) fn text(self, alloc: Global) -> Result<String, SqlBuilderError>
+        ensures made { IfOk result (λ s. string_bytes s
+            ≡ condition_bytes (borrowed_view T.left self.entry)) }
+        ensures memory { FailsOnlyByMemory result }
+    {
+        Ok(match self {
+            BorrowedCondition::Raw(condition) => String::from_str(alloc, condition)?,
+            BorrowedCondition::Compare(relation, field, value) => {
+                compare(alloc, relation, field, value)?
+            }
+            BorrowedCondition::Like(negated, percent, field, mask) => {
+                like(alloc, negated, percent, field, mask)?
+            }
+            BorrowedCondition::IsNull(field) => is_null(alloc, field)?,
+            BorrowedCondition::IsNotNull(field) => is_not_null(alloc, field)?,
+            BorrowedCondition::InList(negated, field, values) => {
+                in_list(alloc, negated, field, values)?
+            }
+            BorrowedCondition::InQuoted(negated, field, values) => {
+                in_quoted(alloc, negated, field, values)?
+            }
+            BorrowedCondition::InQuery(negated, field, query) => {
+                in_query(alloc, negated, field, query)?
+            }
+            BorrowedCondition::Between(negated, field, least, greatest) => {
+                between(alloc, negated, field, least, greatest)?
+            }
+        })
+    }
+}
+
+// NOT behind a field, where the condition is the NOT form.
+fn not(negated: bool) -> &'static str
+    ensures { result.now ≡ not_text negated }
 {
-    let not = if negated { " NOT" } else { "" };
-    let ahead = room(&field)
-        .saturating_add(not.len())
-        .saturating_add(words.len());
-    let mut text = String::with_capacity(alloc, ahead.saturating_add(behind))?;
-    field.push_to(alloc, &mut text)?;
-    text.push_str(not)?;
-    text.push_str(words)?;
-    Ok(text)
+    if negated { " NOT" } else { "" }
 }
 
 /// A field compared with a value.
-pub(crate) fn compare<S: ToText, T: ToText>(
+pub(crate) fn compare<'a>(
     alloc: Global,
     relation: Relation,
-    field: S,
-    value: T,
-) -> Result<String, SqlBuilderError>
-    ensures made { IfOk result (λ s. string_bytes s
-        ≡ condition_bytes (Compare relation (S.text field) (T.text value))) }
-    ensures memory { FailsOnlyByMemory result }
+    field: &'a str,
+    value: &'a str,
+) -> Result<String, AllocError>
+    ensures { IfOk result (λ s. string_bytes s
+        ≡ condition_bytes (Compare relation field.now value.now)) }
 {
-    infix(alloc, field, relation.sign(), value)
+    concat(alloc, &[Part(field), Part(relation.sign()), Part(value)])
 }
 
 /// A field that is NULL.
-pub(crate) fn is_null<S: ToText>(alloc: Global, field: S) -> Result<String, SqlBuilderError>
-    ensures made { IfOk result (λ s. string_bytes s ≡ condition_bytes (IsNull (S.text field))) }
-    ensures memory { FailsOnlyByMemory result }
+pub(crate) fn is_null(alloc: Global, field: &str) -> Result<String, AllocError>
+    ensures { IfOk result (λ s. string_bytes s ≡ condition_bytes (IsNull field.now)) }
 {
-    field_and_words(alloc, false, field, " IS NULL", 0)
+    concat(alloc, &[Part(field), Part(" IS NULL")])
 }
 
 /// A field that is not NULL.
-pub(crate) fn is_not_null<S: ToText>(alloc: Global, field: S) -> Result<String, SqlBuilderError>
-    ensures made { IfOk result (λ s. string_bytes s
-        ≡ condition_bytes (IsNotNull (S.text field))) }
-    ensures memory { FailsOnlyByMemory result }
+pub(crate) fn is_not_null(alloc: Global, field: &str) -> Result<String, AllocError>
+    ensures { IfOk result (λ s. string_bytes s ≡ condition_bytes (IsNotNull field.now)) }
 {
-    field_and_words(alloc, false, field, " IS NOT NULL", 0)
-}
-
-// A mask with its percent signs, between single quotes.
-#[tactic(auto, using(crate::proofs::Masks::quoted_mask, std::proofs::lemmas::List::append_assoc))]
-fn push_mask<S: ToText>(
-    alloc: Global,
-    out: &mut String,
-    percent: Percent,
-    mask: S,
-) -> Result<(), SqlBuilderError>
-    ensures pushed { OnOk result (string_bytes out.new
-        ≡ string_bytes out.old ++ quoted (mask_text percent (S.text mask))) }
-    ensures memory { FailsOnlyByMemory result }
-{
-    out.push_str(if percent.is_in_front() { "'%" } else { "'" })?;
-    mask.push_doubled_to(alloc, out, Quotes::Single)?;
-    out.push_str(if percent.is_behind() { "%'" } else { "'" })?;
-    Ok(())
+    concat(alloc, &[Part(field), Part(" IS NOT NULL")])
 }
 
 /// A field that is like a mask, which is quoted with its percent signs.
-pub(crate) fn like<S: ToText, T: ToText>(
+#[tactic(auto, using(crate::proofs::Masks::quoted_mask))]
+pub(crate) fn like<'a>(
     alloc: Global,
     negated: bool,
     percent: Percent,
-    field: S,
-    mask: T,
-) -> Result<String, SqlBuilderError>
-    ensures made { IfOk result (λ s. string_bytes s
-        ≡ condition_bytes (Like negated percent (S.text field) (T.text mask))) }
-    ensures memory { FailsOnlyByMemory result }
+    field: &'a str,
+    mask: &'a str,
+) -> Result<String, AllocError>
+    ensures { IfOk result (λ s. string_bytes s
+        ≡ condition_bytes (Like negated percent field.now mask.now)) }
 {
-    let behind = "'%%'".len().saturating_add(room(&mask));
-    let mut text = field_and_words(alloc, negated, field, " LIKE ", behind)?;
-    push_mask(alloc, &mut text, percent, mask)?;
+    let mask = escaped(alloc, mask)?;
+    like_escaped(alloc, not(negated), percent, field, mask.as_str())
+}
+
+// The same of a mask whose quotes are doubled.
+fn like_escaped<'a>(
+    alloc: Global,
+    not: &'static str,
+    percent: Percent,
+    field: &'a str,
+    mask: &'a str,
+) -> Result<String, AllocError>
+    ensures { IfOk result (λ s. string_bytes s ≡ field.now ++ (not.now ++ (codes " LIKE "
+        ++ ((if is_in_front percent then codes "'%" else codes "'")
+        ++ (mask.now ++ (if is_behind percent then codes "%'" else codes "'")))))) }
+{
+    concat(
+        alloc,
+        &[
+            Part(field),
+            Part(not),
+            Part(" LIKE "),
+            Part(if percent.is_in_front() { "'%" } else { "'" }),
+            Part(mask),
+            Part(if percent.is_behind() { "%'" } else { "'" }),
+        ],
+    )
+}
+
+// A field and the words in front of a list, with room for the list.
+fn field_in(alloc: Global, negated: bool, field: &str) -> Result<String, AllocError>
+    ensures { IfOk result (λ s. string_bytes s ≡ field.now ++ (not_text negated ++ codes " IN (")) }
+{
+    let room = field.len().saturating_add(FIRST_ROOM);
+    let mut text = String::with_capacity(alloc, room)?;
+    text.push_str(field)?;
+    text.push_str(not(negated))?;
+    text.push_str(" IN (")?;
     Ok(text)
 }
 
 /// A field that is one of a list of values.
-pub(crate) fn in_list<S: ToText, T: ToText>(
+pub(crate) fn in_list<'a, T: Texts<'a>>(
     alloc: Global,
     negated: bool,
-    field: S,
-    values: &[T],
+    field: &str,
+    values: T,
 ) -> Result<String, SqlBuilderError>
     ensures made { IfOk result (λ s. string_bytes s
-        ≡ condition_bytes (InList negated (S.text field) (map T.text values.now))) }
+        ≡ condition_bytes (InList negated field.now (T.left values))) }
     ensures memory { FailsOnlyByMemory result }
 {
-    let behind = room_of_all(", ", values).saturating_add(")".len());
-    let mut text = field_and_words(alloc, negated, field, " IN (", behind)?;
+    let mut text = field_in(alloc, negated, field)?;
     push_items(alloc, &mut text, values)?;
     text.push_str(")")?;
     Ok(text)
 }
 
-// Each text, quoted, with `, ` in front of it.
-#[tactic(auto, using(crate::proofs::Printed::one_more, std::proofs::lemmas::List::append_assoc))]
-fn push_further_quoted<S: ToText>(
-    alloc: Global,
-    out: &mut String,
-    items: &[S],
-) -> Result<(), SqlBuilderError>
-    ensures pushed { OnOk result (string_bytes out.new ≡ string_bytes out.old
-        ++ flat_map (λ item. codes ", " ++ item) (map quoted (map S.text items.now))) }
-    ensures memory { FailsOnlyByMemory result }
-{
-    for item in items {
-        push_quoted(alloc, out, ", ", item)?;
-    }
-    Ok(())
-}
-
-fn push_quoted_items<S: ToText>(
-    alloc: Global,
-    out: &mut String,
-    items: &[S],
-) -> Result<(), SqlBuilderError>
-    ensures pushed { OnOk result (string_bytes out.new ≡ string_bytes out.old
-        ++ comma_list byte_atoms (map quoted (map S.text items.now))) }
-    ensures memory { FailsOnlyByMemory result }
-{
-    if let [first, further @ ..] = items {
-        push_quoted(alloc, out, "", first)?;
-        push_further_quoted(alloc, out, further)?;
-    }
-    Ok(())
-}
-
 /// A field that is one of a list of values, each of which is quoted.
-pub(crate) fn in_quoted<S: ToText, T: ToText>(
+pub(crate) fn in_quoted<'a, T: Texts<'a>>(
     alloc: Global,
     negated: bool,
-    field: S,
-    values: &[T],
+    field: &str,
+    values: T,
 ) -> Result<String, SqlBuilderError>
     ensures made { IfOk result (λ s. string_bytes s
-        ≡ condition_bytes (InQuoted negated (S.text field) (map T.text values.now))) }
+        ≡ condition_bytes (InQuoted negated field.now (T.left values))) }
     ensures memory { FailsOnlyByMemory result }
 {
-    let behind = room_of_all(", ''", values).saturating_add(")".len());
-    let mut text = field_and_words(alloc, negated, field, " IN (", behind)?;
+    let mut text = field_in(alloc, negated, field)?;
     push_quoted_items(alloc, &mut text, values)?;
     text.push_str(")")?;
     Ok(text)
 }
 
 /// A field that is one of what a query gives.
-pub(crate) fn in_query<S: ToText, T: ToText>(
+pub(crate) fn in_query<'a>(
     alloc: Global,
     negated: bool,
-    field: S,
-    query: T,
-) -> Result<String, SqlBuilderError>
-    ensures made { IfOk result (λ s. string_bytes s
-        ≡ condition_bytes (InQuery negated (S.text field) (T.text query))) }
-    ensures memory { FailsOnlyByMemory result }
+    field: &'a str,
+    query: &'a str,
+) -> Result<String, AllocError>
+    ensures { IfOk result (λ s. string_bytes s
+        ≡ condition_bytes (InQuery negated field.now query.now)) }
 {
-    let behind = room(&query).saturating_add(")".len());
-    let mut text = field_and_words(alloc, negated, field, " IN (", behind)?;
-    query.push_to(alloc, &mut text)?;
-    text.push_str(")")?;
-    Ok(text)
+    let not = not(negated);
+    concat(
+        alloc,
+        &[
+            Part(field),
+            Part(not),
+            Part(" IN ("),
+            Part(query),
+            Part(")"),
+        ],
+    )
 }
 
 /// A field between a least and a greatest value.
-pub(crate) fn between<S: ToText, T: ToText, U: ToText>(
+pub(crate) fn between<'a>(
     alloc: Global,
     negated: bool,
-    field: S,
-    least: T,
-    greatest: U,
-) -> Result<String, SqlBuilderError>
-    ensures made { IfOk result (λ s. string_bytes s ≡ condition_bytes
-        (Between negated (S.text field) (T.text least) (U.text greatest))) }
-    ensures memory { FailsOnlyByMemory result }
+    field: &'a str,
+    least: &'a str,
+    greatest: &'a str,
+) -> Result<String, AllocError>
+    ensures { IfOk result (λ s. string_bytes s
+        ≡ condition_bytes (Between negated field.now least.now greatest.now)) }
 {
-    let behind = room(&least)
-        .saturating_add(" AND ".len())
-        .saturating_add(room(&greatest));
-    let mut text = field_and_words(alloc, negated, field, " BETWEEN ", behind)?;
-    least.push_to(alloc, &mut text)?;
-    text.push_str(" AND ")?;
-    greatest.push_to(alloc, &mut text)?;
-    Ok(text)
+    let not = not(negated);
+    concat(
+        alloc,
+        &[
+            Part(field),
+            Part(not),
+            Part(" BETWEEN "),
+            Part(least),
+            Part(" AND "),
+            Part(greatest),
+        ],
+    )
 }

@@ -2,7 +2,7 @@
 //! stops at the greatest `usize`; the writes don't rest on it.
 
 use crate::builder::SqlBuilder;
-use crate::clauses::{GroupedCondition, Join, JoinOperator, Kind, Union, any_opens_group};
+use crate::clauses::{GroupedCondition, Kind, any_opens_group};
 
 fn sum(lengths: &[usize]) -> usize {
     let mut sum = 0usize;
@@ -12,23 +12,6 @@ fn sum(lengths: &[usize]) -> usize {
     sum
 }
 
-// Each text, with `before` in front of it.
-fn each(before: &str, parts: &[String]) -> usize {
-    let mut sum = 0usize;
-    for part in parts {
-        sum = sum.saturating_add(before.len()).saturating_add(part.len());
-    }
-    sum
-}
-
-// Words, and the texts with commas between them.
-fn list(words: &str, items: &[String]) -> usize {
-    match items {
-        [first, further @ ..] => sum(&[words.len(), first.len(), each(", ", further)]),
-        [] => words.len(),
-    }
-}
-
 fn optional(words: &str, text: &Option<String>) -> usize {
     match text {
         Some(text) => words.len().saturating_add(text.len()),
@@ -36,24 +19,10 @@ fn optional(words: &str, text: &Option<String>) -> usize {
     }
 }
 
-// Words, and the tables behind them.
-fn tables(words: &str, builder: &SqlBuilder) -> usize {
-    sum(&[
-        words.len(),
-        builder.table.len(),
-        each(", ", &builder.further_tables),
-    ])
-}
-
-fn joins(joins: &[Join]) -> usize {
+fn joins(joins: &[String]) -> usize {
     let mut sum = 0usize;
     for join in joins {
-        let natural = if join.natural { " NATURAL " } else { " " };
-        sum = sum
-            .saturating_add(natural.len())
-            .saturating_add(JoinOperator::words(join.operator).len())
-            .saturating_add(join.table.len())
-            .saturating_add(each(" ON ", &join.constraints));
+        sum = sum.saturating_add(" ".len()).saturating_add(join.len());
     }
     sum
 }
@@ -82,16 +51,6 @@ fn conditions(conditions: &[GroupedCondition]) -> usize {
     }
 }
 
-fn unions(unions: &[Union]) -> usize {
-    let mut sum = 0usize;
-    for union in unions {
-        sum = sum
-            .saturating_add(union.words().len())
-            .saturating_add(union.query.len());
-    }
-    sum
-}
-
 impl SqlBuilder {
     fn select_length(&self) -> usize {
         let words = if self.distinct {
@@ -99,36 +58,44 @@ impl SqlBuilder {
         } else {
             "SELECT "
         };
-        if self.fields.is_empty() {
-            words.len().saturating_add("*".len())
+        let fields = if self.fields.is_empty() {
+            "*"
         } else {
-            list(words, &self.fields)
-        }
+            self.fields.as_str()
+        };
+        words.len().saturating_add(fields.len())
     }
 
     fn group_by_length(&self) -> usize {
         if self.group_fields.is_empty() {
             return 0;
         }
-        list(" GROUP BY ", &self.group_fields).saturating_add(optional(" HAVING ", &self.having))
+        sum(&[
+            " GROUP BY ".len(),
+            self.group_fields.as_str().len(),
+            optional(" HAVING ", &self.having),
+        ])
     }
 
     fn order_by_length(&self) -> usize {
         if self.order_fields.is_empty() || !self.unions.is_empty() {
             return 0;
         }
-        list(" ORDER BY ", &self.order_fields)
+        " ORDER BY "
+            .len()
+            .saturating_add(self.order_fields.as_str().len())
     }
 
     /// The bytes of the query.
     pub(crate) fn query_length(&self) -> usize {
         sum(&[
             self.select_length(),
-            tables(" FROM ", self),
+            " FROM ".len(),
+            self.table.len(),
             joins(&self.joins),
             conditions(&self.conditions),
             self.group_by_length(),
-            unions(&self.unions),
+            self.unions.as_str().len(),
             self.order_by_length(),
             optional(" LIMIT ", &self.limit),
             optional(" OFFSET ", &self.offset),
@@ -137,18 +104,20 @@ impl SqlBuilder {
 
     /// The bytes of the query of values.
     pub(crate) fn values_length(&self) -> usize {
-        list("SELECT ", &self.fields)
+        "SELECT ".len().saturating_add(self.fields.as_str().len())
     }
 
     fn insert_length(&self) -> usize {
-        let rows = match &self.query {
-            Some(query) => " ".len().saturating_add(query.len()),
-            None => list(" VALUES ", &self.rows),
+        let (words, rows) = match &self.query {
+            Some(query) => (" ", query.as_str()),
+            None => (" VALUES ", self.rows.as_str()),
         };
         sum(&[
-            tables("INSERT INTO ", self),
-            list(" ()", &self.fields),
-            rows,
+            "INSERT INTO  ()".len(),
+            self.table.len(),
+            self.fields.as_str().len(),
+            words.len(),
+            rows.len(),
             optional(" RETURNING ", &self.returning),
         ])
     }
@@ -160,13 +129,15 @@ impl SqlBuilder {
             Kind::SelectValues => self.values_length(),
             Kind::InsertInto => self.insert_length(),
             Kind::UpdateTable => sum(&[
-                tables("UPDATE ", self),
-                list(" SET ", &self.sets),
+                "UPDATE  SET ".len(),
+                self.table.len(),
+                self.sets.as_str().len(),
                 conditions(&self.conditions),
                 optional(" RETURNING ", &self.returning),
             ]),
             Kind::DeleteFrom => sum(&[
-                tables("DELETE FROM ", self),
+                "DELETE FROM ".len(),
+                self.table.len(),
                 conditions(&self.conditions),
                 optional(" RETURNING ", &self.returning),
             ]),

@@ -9,6 +9,7 @@ mod builder;
 pub mod calls;
 mod chain;
 mod clauses;
+mod concat;
 mod condition;
 pub mod laws;
 mod lengths;
@@ -16,6 +17,8 @@ mod phrases;
 pub mod prelude;
 mod printing;
 mod steps;
+mod text_list;
+mod union_list;
 mod where_calls;
 
 pub use builder::SqlBuilder;

@@ -3,20 +3,21 @@
 ghost use Rattle.std.specs.List.{list_any};
 ghost use Rattle.std.specs.Prelude.{◌≡◌, ◌∷◌, ◌++◌, IsNone, IfOk, IfSome, None, Some, codes, flat_map, if◌then◌else◌, map, string_bytes};
 ghost use Rattle.sql_parts.specs.Error.{FailsOnlyByMemory};
-ghost use Rattle.sql_builder.specs.Builder.{condition_in_group, group_texts, join_text, union_text};
+ghost use Rattle.sql_builder.specs.Builder.{condition_in_group, group_texts};
 ghost use Rattle.sql_builder.specs.Steps.{Adds};
 ghost use Rattle.sql_parts.specs.Text.{optional_text, texts};
-ghost use Rattle.sql_builder.specs.Layout.{byte_atoms, concat_sections, delete_sections, fields_or_star, group_by_sections, insert_sections, is_no_text, optional_section, order_by_sections, query, query_refusal, query_values, refusal, select_opening, sql, statement_sections, subquery, subquery_as, union_opening, update_sections, where_sections};
+ghost use Rattle.sql_builder.specs.Layout.{byte_atoms, concat_sections, delete_sections, fields_or_star, group_by_sections, insert_sections, optional_section, order_by_sections, query, query_refusal, query_values, refusal, select_opening, sql, statement_sections, subquery, subquery_as, update_sections, where_sections};
 ghost use Rattle.sql_builder.specs.Calls.{Query, Sql, Subquery, SubqueryAs};
 ghost use Rattle.sql_builder.specs.Meaning.{HasTruthOfGroups, Nests, ReadsBack};
-ghost use Rattle.sql_builder.specs.Phrases.{comma_list, further_table, operator_text};
+ghost use Rattle.sql_builder.specs.Phrases.{comma_list};
 ghost use Rattle.sql_builder.specs.Shape.{HasShape, IsClosedAs, as_fragments};
 ghost use Rattle.sql_builder.specs.Statement.{unless_refused};
 ghost use Rattle.sql_builder.specs.Text.{fixed_piece, raw_piece};
-ghost use Rattle.sql_parts.specs.Text.{join_with};
 
 use crate::builder::SqlBuilder;
-use crate::clauses::{GroupedCondition, Join, JoinOperator, Kind, Union, any_opens_group};
+use crate::clauses::{GroupedCondition, Kind, any_opens_group};
+use crate::text_list::TextList;
+use crate::union_list::UnionList;
 use sql_parts::{SqlBuilderError, ToText};
 use std::alloc::AllocError;
 
@@ -33,17 +34,6 @@ fn push_each(out: &mut String, before: &str, parts: &[String]) -> Result<(), All
     Ok(())
 }
 
-// The texts, with `between` between each and the next.
-fn push_joined(out: &mut String, between: &str, parts: &[String]) -> Result<(), AllocError>
-    ensures { Adds result out.old out.new (join_with between.now (texts parts.now)) }
-{
-    if let [first, rest @ ..] = parts {
-        out.push_str(first.as_str())?;
-        push_each(out, between, rest)?;
-    }
-    Ok(())
-}
-
 // The words, and the text behind them, if there is one.
 fn push_optional(out: &mut String, words: &str, text: &Option<String>) -> Result<(), AllocError>
     ensures { Adds result out.old out.new
@@ -56,15 +46,15 @@ fn push_optional(out: &mut String, words: &str, text: &Option<String>) -> Result
     Ok(())
 }
 
-fn push_fields(out: &mut String, fields: &[String]) -> Result<(), AllocError>
-    ensures { Adds result out.old out.new (fields_or_star byte_atoms (texts fields.now)) }
+#[tactic(auto, using(crate::proofs::Printed::some_fields, crate::proofs::Printed::no_fields))]
+fn push_fields(out: &mut String, fields: &TextList) -> Result<(), AllocError>
+    ensures { Adds result out.old out.new (fields_or_star byte_atoms fields.now) }
 {
-    if fields.is_empty() {
-        out.push_str("*")?;
+    out.push_str(if fields.is_empty() {
+        "*"
     } else {
-        push_joined(out, ", ", fields)?;
-    }
-    Ok(())
+        fields.as_str()
+    })
 }
 
 // The brackets of two neighbours are written at once.
@@ -116,67 +106,22 @@ fn push_where(out: &mut String, conditions: &[GroupedCondition]) -> Result<(), A
 #[tactic(auto, using(crate::proofs::Printed::some_group_fields, std::proofs::lemmas::List::append_assoc))]
 fn push_group_by(
     out: &mut String,
-    fields: &[String],
+    fields: &TextList,
     having: &Option<String>,
 ) -> Result<(), AllocError>
     ensures { Adds result out.old out.new (concat_sections byte_atoms
-        (group_by_sections byte_atoms (texts fields.now) (optional_text having.now))) }
+        (group_by_sections byte_atoms fields.now (optional_text having.now))) }
 {
     if !fields.is_empty() {
-        out.push_str(" GROUP BY ")?;
-        push_joined(out, ", ", fields)?;
+        push_list(out, " GROUP BY ", fields)?;
         push_optional(out, " HAVING ", having)?;
     }
     Ok(())
 }
 
-fn push_join(out: &mut String, join: &Join) -> Result<(), AllocError>
-    ensures { Adds result out.old out.new (codes " " ++ join_text join.now) }
-{
-    out.push_str(" ")?;
-    if join.natural {
-        out.push_str("NATURAL ")?;
-    }
-    out.push_str(JoinOperator::words(join.operator))?;
-    out.push_str(join.table.as_str())?;
-    push_each(out, " ON ", &join.constraints)?;
-    Ok(())
-}
-
-#[tactic(auto, using(crate::proofs::Printed::one_more, std::proofs::lemmas::List::append_assoc))]
-fn push_joins(out: &mut String, joins: &[Join]) -> Result<(), AllocError>
+fn push_select(out: &mut String, distinct: bool, fields: &TextList) -> Result<(), AllocError>
     ensures { Adds result out.old out.new
-        (flat_map (λ join. codes " " ++ join) (map join_text joins.now)) }
-{
-    for join in joins {
-        push_join(out, join)?;
-    }
-    Ok(())
-}
-
-fn push_union(out: &mut String, union: &Union) -> Result<(), AllocError>
-    ensures { Adds result out.old out.new
-        (union_opening union.now.all ++ string_bytes union.now.query) }
-{
-    out.push_str(union.words())?;
-    out.push_str(union.query.as_str())?;
-    Ok(())
-}
-
-#[tactic(auto, using(crate::proofs::Printed::one_more, std::proofs::lemmas::List::append_assoc))]
-fn push_unions(out: &mut String, unions: &[Union]) -> Result<(), AllocError>
-    ensures { Adds result out.old out.new
-        (flat_map (λ union. union_opening union.0 ++ union.1) (map union_text unions.now)) }
-{
-    for union in unions {
-        push_union(out, union)?;
-    }
-    Ok(())
-}
-
-fn push_select(out: &mut String, distinct: bool, fields: &[String]) -> Result<(), AllocError>
-    ensures { Adds result out.old out.new
-        (select_opening distinct ++ fields_or_star byte_atoms (texts fields.now)) }
+        (select_opening distinct ++ fields_or_star byte_atoms fields.now) }
 {
     out.push_str("SELECT ")?;
     if distinct {
@@ -185,33 +130,26 @@ fn push_select(out: &mut String, distinct: bool, fields: &[String]) -> Result<()
     push_fields(out, fields)
 }
 
-// Words, and the tables behind them.
-fn push_tables(
-    out: &mut String,
-    words: &str,
-    table: &str,
-    further: &[String],
-) -> Result<(), AllocError>
-    ensures { Adds result out.old out.new (words.now
-        ++ (table.now ++ flat_map (further_table byte_atoms) (texts further.now))) }
+// Words, and a text behind them.
+fn push_behind(out: &mut String, words: &str, text: &str) -> Result<(), AllocError>
+    ensures { Adds result out.old out.new (words.now ++ text.now) }
 {
     out.push_str(words)?;
-    out.push_str(table)?;
-    push_each(out, ", ", further)
+    out.push_str(text)
 }
 
 // Words, and a list of texts with commas between them.
-fn push_list(out: &mut String, words: &str, items: &[String]) -> Result<(), AllocError>
-    ensures { Adds result out.old out.new (words.now ++ comma_list byte_atoms (texts items.now)) }
+fn push_list(out: &mut String, words: &str, items: &TextList) -> Result<(), AllocError>
+    ensures { Adds result out.old out.new (words.now ++ comma_list byte_atoms items.now) }
 {
-    out.push_str(words)?;
-    push_joined(out, ", ", items)
+    push_behind(out, words, items.as_str())
 }
 
 // ORDER BY stands only where there is no union.
-fn push_order_by(out: &mut String, unions: &[Union], fields: &[String]) -> Result<(), AllocError>
+#[tactic(auto, using(crate::proofs::Printed::ordered))]
+fn push_order_by(out: &mut String, unions: &UnionList, fields: &TextList) -> Result<(), AllocError>
     ensures { Adds result out.old out.new (concat_sections byte_atoms
-        (order_by_sections byte_atoms (map union_text unions.now) (texts fields.now))) }
+        (order_by_sections byte_atoms unions.now fields.now)) }
 {
     if unions.is_empty() && !fields.is_empty() {
         push_list(out, " ORDER BY ", fields)?;
@@ -219,20 +157,12 @@ fn push_order_by(out: &mut String, unions: &[Union], fields: &[String]) -> Resul
     Ok(())
 }
 
-fn push_fields_of_insert(out: &mut String, fields: &[String]) -> Result<(), AllocError>
+fn push_fields_of_insert(out: &mut String, fields: &TextList) -> Result<(), AllocError>
     ensures { Adds result out.old out.new
-        (codes " (" ++ (comma_list byte_atoms (texts fields.now) ++ codes ")")) }
+        (codes " (" ++ (comma_list byte_atoms fields.now ++ codes ")")) }
 {
     push_list(out, " (", fields)?;
     out.push_str(")")?;
-    Ok(())
-}
-
-fn push_query_of_insert(out: &mut String, query: &str) -> Result<(), AllocError>
-    ensures { Adds result out.old out.new (codes " " ++ query.now) }
-{
-    out.push_str(" ")?;
-    out.push_str(query)?;
     Ok(())
 }
 
@@ -241,11 +171,11 @@ impl SqlBuilder {
         ensures { Adds result out.old out.new (query byte_atoms self.now) }
     {
         push_select(out, self.distinct, &self.fields)?;
-        push_tables(out, " FROM ", self.table.as_str(), &self.further_tables)?;
-        push_joins(out, &self.joins)?;
+        push_behind(out, " FROM ", self.table.as_str())?;
+        push_each(out, " ", &self.joins)?;
         push_where(out, &self.conditions)?;
         push_group_by(out, &self.group_fields, &self.having)?;
-        push_unions(out, &self.unions)?;
+        out.push_str(self.unions.as_str())?;
         push_order_by(out, &self.unions, &self.order_fields)?;
         push_optional(out, " LIMIT ", &self.limit)?;
         push_optional(out, " OFFSET ", &self.offset)?;
@@ -263,12 +193,7 @@ impl SqlBuilder {
         ensures { Adds result out.old out.new
             (concat_sections byte_atoms (insert_sections byte_atoms None self.now)) }
     {
-        push_tables(
-            out,
-            "INSERT INTO ",
-            self.table.as_str(),
-            &self.further_tables,
-        )?;
+        push_behind(out, "INSERT INTO ", self.table.as_str())?;
         push_fields_of_insert(out, &self.fields)?;
         push_list(out, " VALUES ", &self.rows)?;
         push_optional(out, " RETURNING ", &self.returning)?;
@@ -279,14 +204,9 @@ impl SqlBuilder {
         ensures { Adds result out.old out.new
             (concat_sections byte_atoms (insert_sections byte_atoms (Some query.now) self.now)) }
     {
-        push_tables(
-            out,
-            "INSERT INTO ",
-            self.table.as_str(),
-            &self.further_tables,
-        )?;
+        push_behind(out, "INSERT INTO ", self.table.as_str())?;
         push_fields_of_insert(out, &self.fields)?;
-        push_query_of_insert(out, query)?;
+        push_behind(out, " ", query)?;
         push_optional(out, " RETURNING ", &self.returning)?;
         Ok(())
     }
@@ -305,7 +225,7 @@ impl SqlBuilder {
         ensures { Adds result out.old out.new
             (concat_sections byte_atoms (update_sections byte_atoms self.now)) }
     {
-        push_tables(out, "UPDATE ", self.table.as_str(), &self.further_tables)?;
+        push_behind(out, "UPDATE ", self.table.as_str())?;
         push_list(out, " SET ", &self.sets)?;
         push_where(out, &self.conditions)?;
         push_optional(out, " RETURNING ", &self.returning)?;
@@ -316,12 +236,7 @@ impl SqlBuilder {
         ensures { Adds result out.old out.new
             (concat_sections byte_atoms (delete_sections byte_atoms self.now)) }
     {
-        push_tables(
-            out,
-            "DELETE FROM ",
-            self.table.as_str(),
-            &self.further_tables,
-        )?;
+        push_behind(out, "DELETE FROM ", self.table.as_str())?;
         push_where(out, &self.conditions)?;
         push_optional(out, " RETURNING ", &self.returning)?;
         Ok(())
@@ -341,14 +256,6 @@ impl SqlBuilder {
     }
 }
 
-#[tactic(auto, using(crate::proofs::Printed::no_table))]
-fn has_no_table(table: &str, further: &[String]) -> bool
-    ensures { result
-        ≡ is_no_text (table.now ++ flat_map (further_table byte_atoms) (texts further.now)) }
-{
-    table.is_empty() && further.is_empty()
-}
-
 impl SqlBuilder {
     fn check_query(&self) -> Result<(), SqlBuilderError>
         ensures { result ≡ unless_refused (query_refusal self.now) tt }
@@ -363,7 +270,7 @@ impl SqlBuilder {
         ensures { result ≡ unless_refused (refusal self.now) tt }
     {
         let values = matches!(self.kind, Kind::SelectValues);
-        if !values && has_no_table(self.table.as_str(), &self.further_tables) {
+        if !values && self.table.is_empty() {
             return Err(SqlBuilderError::NoTableName);
         }
         match self.kind {
@@ -519,7 +426,7 @@ impl SqlBuilder {
         ensures memory { IsNone (query_refusal self.now) → FailsOnlyByMemory result }
     {
         self.check_query()?;
-        let name = name.into_text(self.alloc)?;
+        let name = name.to_text(self.alloc)?;
         let length = self.query_length().saturating_add("() AS ".len());
         let mut out = String::with_capacity(self.alloc, length.saturating_add(name.len()))?;
         self.push_subquery_as(&mut out, name.as_str())?;

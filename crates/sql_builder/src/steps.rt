@@ -1,171 +1,195 @@
-//! The steps of the chain calls: one for each way to be handed texts, told by a constant which
-//! clause is meant, and one that adds a condition.
-ghost use Rattle.std.specs.Prelude.{◌≡◌, [], ◌∷◌, ◌++◌, map, codes, string_bytes, IfErr, OnOk, OnErr};
+//! The steps of the calls: one for each way to be handed texts, told by a constant which clause is
+//! meant, and one that adds a condition. Those that borrow their texts are public in `calls`.
+ghost use Rattle.std.specs.Prelude.{◌≡◌, [], ◌∷◌, ◌++◌, ℕ, List, map, codes, string_bytes, IfErr, OnOk, OnErr};
 ghost use Rattle.sql_parts.specs.Error.{FailsOnlyByMemory};
-ghost use Rattle.sql_builder.specs.Builder.{with_condition_bytes, with_order, with_returning};
+ghost use Rattle.sql_builder.specs.Builder.{with_condition, with_condition_bytes, with_order, with_returning};
+ghost use Rattle.sql_builder.specs.Concat.{concat_bytes};
+ghost use Rattle.sql_builder.specs.Condition.{borrowed_view};
 ghost use Rattle.sql_builder.specs.Steps.{AddsBinary, RefusesBinary, RefusesUnary, Tells, with_binary, with_unary, with_variadic};
-ghost use Rattle.sql_parts.specs.Text.{texts};
 
 use crate::builder::SqlBuilder;
-use crate::clauses::{GroupedCondition, Join, Union, constrain_last};
-use crate::condition::Family;
-use crate::phrases::{count, count_as, equation, order, quoted_equation, row};
+use crate::clauses::{GroupedCondition, JoinOperator, append_to_last};
+use crate::concat::{Part, append, concat};
+use crate::condition::{BorrowedCondition, Family};
+use crate::phrases::row;
+use crate::text_list::TextList;
 use sql_parts::lending::Held;
-use sql_parts::text::copies;
-use sql_parts::{SqlBuilderError, ToText};
+use sql_parts::text::{Items, Texts};
+use sql_parts::{SqlBuilderError, ToText, escaped};
 
 /// A call with one text.
 #[derive(Clone, Copy)]
-pub(crate) enum UnaryClause {
+pub enum UnaryClause {
+    /// `and_table` of a table.
     AndTable,
+    /// `join` of a table.
     Join,
+    /// `on` of a constraint.
     On,
+    /// `field` of a field.
     Field,
+    /// `set_field` of a field.
     SetField,
+    /// `count` of a field.
     Count,
+    /// `select` of a query.
     Select,
+    /// `returning` of fields.
     Returning,
+    /// `group_by` of a field.
     GroupBy,
+    /// `having` of a condition.
     Having,
+    /// `union` of a query.
     Union,
+    /// `union_all` of a query.
     UnionAll,
+    /// `order_asc` of a field.
     OrderAsc,
+    /// `order_desc` of a field.
     OrderDesc,
+    /// `limit` of a number.
     Limit,
+    /// `offset` of a number.
     Offset,
 }
 
 /// A call with two texts.
 #[derive(Clone, Copy)]
-pub(crate) enum BinaryClause {
+pub enum BinaryClause {
+    /// `on_eq` of two texts.
     OnEq,
+    /// `count_as` of a field and a name.
     CountAs,
+    /// `set` of a field to a value.
     SetTo,
+    /// `set_str` of a field to a text, which is quoted.
     SetStr,
 }
 
 /// A call with a list of texts.
 #[derive(Clone, Copy)]
-pub(crate) enum VariadicClause {
+pub enum VariadicClause {
+    /// `fields`.
     Fields,
+    /// `set_fields`.
     SetFields,
+    /// `values` of a row.
     Values,
 }
 
 impl SqlBuilder {
     ghost use Rattle.sql_builder.specs.Builder.{with_fields, with_fields_set, with_group_field, with_having, with_join, with_limit, with_offset, with_on, with_query, with_set, with_table, with_union};
+    ghost use Rattle.sql_builder.specs.Phrases.{constraint, order};
+    ghost use Rattle.sql_builder.specs.Layout.{byte_atoms};
 
-    fn push_table<S: ToText>(&mut self, table: S) -> Result<(), SqlBuilderError>
-        ensures { Tells result self.old self.new (with_table (S.text table)) }
+    fn push_table(&mut self, table: &str) -> Result<(), SqlBuilderError>
+        ensures { Tells result self.old self.new (with_table table.now) }
     {
-        let table = table.into_text(self.alloc)?;
-        self.further_tables.push(table)?;
-        Ok(())
+        Ok(append(&mut self.table, &[Part(", "), Part(table)])?)
     }
 
-    fn push_join<S: ToText>(&mut self, table: S) -> Result<(), SqlBuilderError>
-        ensures { Tells result self.old self.new (with_join (S.text table)) }
+    fn push_join(&mut self, table: &str) -> Result<(), SqlBuilderError>
+        ensures { Tells result self.old self.new (with_join table.now) }
     {
-        let table = table.into_text(self.alloc)?;
-        self.joins.push(Join {
-            natural: self.natural,
-            operator: self.operator,
-            table,
-            constraints: Vec::new(self.alloc),
-        })?;
+        let natural = if self.natural { "NATURAL " } else { "" };
+        let words = JoinOperator::words(self.operator);
+        let join = concat(self.alloc, &[Part(natural), Part(words), Part(table)])?;
+        self.joins.push(join)?;
         self.natural = false;
         Ok(())
     }
 
-    fn push_constraint(&mut self, constraint: String) -> Result<(), SqlBuilderError>
-        ensures { Tells result self.old self.new (with_on (string_bytes constraint)) }
-    {
-        constrain_last(&mut self.joins, constraint)
-    }
-
-    fn push_field(&mut self, field: String) -> Result<(), SqlBuilderError>
-        ensures { Tells result self.old self.new (with_fields (string_bytes field ∷ [])) }
-    {
-        self.fields.push(field)?;
-        Ok(())
-    }
-
-    fn set_only_field<S: ToText>(&mut self, field: S) -> Result<(), SqlBuilderError>
-        ensures { Tells result self.old self.new (with_fields_set (S.text field ∷ [])) }
-    {
-        let mut fields = Vec::new(self.alloc);
-        fields.push(field.into_text(self.alloc)?)?;
-        self.fields = fields;
-        Ok(())
-    }
-
-    fn push_set(&mut self, equation: String) -> Result<(), SqlBuilderError>
-        ensures { Tells result self.old self.new (with_set (string_bytes equation)) }
-    {
-        self.sets.push(equation)?;
-        Ok(())
-    }
-
-    fn put_query<S: ToText>(&mut self, query: S) -> Result<(), SqlBuilderError>
-        ensures { Tells result self.old self.new (with_query (S.text query)) }
-    {
-        self.query = Some(query.into_text(self.alloc)?);
-        self.rows = Vec::new(self.alloc);
-        Ok(())
-    }
-
-    pub(crate) fn put_returning<S: ToText>(&mut self, fields: S) -> Result<(), SqlBuilderError>
-        ensures { Tells result self.old self.new (with_returning (S.text fields)) }
-    {
-        self.returning = Some(fields.into_text(self.alloc)?);
-        Ok(())
-    }
-
-    fn push_group_field<S: ToText>(&mut self, field: S) -> Result<(), SqlBuilderError>
-        ensures { Tells result self.old self.new (with_group_field (S.text field)) }
-    {
-        self.group_fields.push(field.into_text(self.alloc)?)?;
-        Ok(())
-    }
-
-    fn put_having<S: ToText>(&mut self, condition: S) -> Result<(), SqlBuilderError>
-        ensures { Tells result self.old self.new (with_having (S.text condition)) }
-    {
-        self.having = Some(condition.into_text(self.alloc)?);
-        Ok(())
-    }
-
-    fn push_union<S: ToText>(&mut self, all: bool, query: S) -> Result<(), SqlBuilderError>
-        ensures { Tells result self.old self.new (with_union all (S.text query)) }
-    {
-        let query = query.into_text(self.alloc)?;
-        self.unions.push(Union { all, query })?;
-        Ok(())
-    }
-
-    pub(crate) fn push_order<S: ToText>(
+    // A constraint of the last join, in three parts.
+    fn push_constraint<'a>(
         &mut self,
-        descending: bool,
-        field: S,
+        left: &'a str,
+        sign: &'a str,
+        right: &'a str,
     ) -> Result<(), SqlBuilderError>
-        ensures { Tells result self.old self.new (with_order descending (S.text field)) }
+        ensures { Tells result self.old self.new
+            (with_on (left.now ++ (sign.now ++ right.now))) }
     {
-        self.order_fields
-            .push(order(self.alloc, descending, field)?)?;
+        Ok(append_to_last(
+            &mut self.joins,
+            &[Part(" ON "), Part(left), Part(sign), Part(right)],
+        )?)
+    }
+
+    fn push_field(&mut self, parts: &[Part<'_>]) -> Result<(), SqlBuilderError>
+        ensures { Tells result self.old self.new (with_fields (concat_bytes parts.now ∷ [])) }
+    {
+        Ok(self.fields.push(parts)?)
+    }
+
+    fn set_only_field(&mut self, field: &str) -> Result<(), SqlBuilderError>
+        ensures { Tells result self.old self.new (with_fields_set (field.now ∷ [])) }
+    {
+        Ok(self.fields.replace(&[Part(field)])?)
+    }
+
+    fn push_set(&mut self, parts: &[Part<'_>]) -> Result<(), SqlBuilderError>
+        ensures { Tells result self.old self.new (with_set (concat_bytes parts.now)) }
+    {
+        Ok(self.sets.push(parts)?)
+    }
+
+    fn push_quoted_set<'a>(
+        &mut self,
+        field: &'a str,
+        escaped: &'a str,
+    ) -> Result<(), SqlBuilderError>
+        ensures { Tells result self.old self.new (with_set
+            (field.now ++ (codes " = '" ++ (escaped.now ++ codes "'")))) }
+    {
+        self.push_set(&[Part(field), Part(" = '"), Part(escaped), Part("'")])
+    }
+
+    fn put_query(&mut self, query: &str) -> Result<(), SqlBuilderError>
+        ensures { Tells result self.old self.new (with_query query.now) }
+    {
+        self.query = Some(String::from_str(self.alloc, query)?);
+        self.rows = TextList::new(self.alloc);
         Ok(())
     }
 
-    fn put_limit<S: ToText>(&mut self, limit: S) -> Result<(), SqlBuilderError>
-        ensures { Tells result self.old self.new (with_limit (S.text limit)) }
+    pub(crate) fn put_returning(&mut self, fields: &str) -> Result<(), SqlBuilderError>
+        ensures { Tells result self.old self.new (with_returning fields.now) }
     {
-        self.limit = Some(limit.into_text(self.alloc)?);
+        self.returning = Some(String::from_str(self.alloc, fields)?);
         Ok(())
     }
 
-    fn put_offset<S: ToText>(&mut self, offset: S) -> Result<(), SqlBuilderError>
-        ensures { Tells result self.old self.new (with_offset (S.text offset)) }
+    fn push_group_field(&mut self, field: &str) -> Result<(), SqlBuilderError>
+        ensures { Tells result self.old self.new (with_group_field field.now) }
     {
-        self.offset = Some(offset.into_text(self.alloc)?);
+        Ok(self.group_fields.push(&[Part(field)])?)
+    }
+
+    fn put_having(&mut self, condition: &str) -> Result<(), SqlBuilderError>
+        ensures { Tells result self.old self.new (with_having condition.now) }
+    {
+        self.having = Some(String::from_str(self.alloc, condition)?);
+        Ok(())
+    }
+
+    fn push_union(&mut self, all: bool, query: &str) -> Result<(), SqlBuilderError>
+        ensures { Tells result self.old self.new (with_union all query.now) }
+    {
+        Ok(self.unions.push(all, query)?)
+    }
+
+    fn put_limit(&mut self, limit: &str) -> Result<(), SqlBuilderError>
+        ensures { Tells result self.old self.new (with_limit limit.now) }
+    {
+        self.limit = Some(String::from_str(self.alloc, limit)?);
+        Ok(())
+    }
+
+    fn put_offset(&mut self, offset: &str) -> Result<(), SqlBuilderError>
+        ensures { Tells result self.old self.new (with_offset offset.now) }
+    {
+        self.offset = Some(String::from_str(self.alloc, offset)?);
         Ok(())
     }
 
@@ -186,39 +210,144 @@ impl SqlBuilder {
     }
 }
 
+/// Makes a call with one text. It fails only if memory runs out, and then leaves the builder as it
+/// was; `on` without a join can't fail.
+/// `{ let mut b = select_from("t"); make_unary(&mut b, UnaryClause::Field, "a"); b.sql() }` →
+/// `SELECT a FROM t;`
+pub fn make_unary(
+    builder: &mut SqlBuilder,
+    clause: UnaryClause,
+    text: &str,
+) -> Result<(), SqlBuilderError>
+    ensures made { OnOk result (builder.new ≡ with_unary clause text.now builder.old) }
+    ensures refused { OnErr result (builder.new ≡ builder.old) }
+    ensures memory { IfErr result (RefusesUnary clause builder.old) }
+{
+    match clause {
+        UnaryClause::AndTable => builder.push_table(text),
+        UnaryClause::Join => builder.push_join(text),
+        UnaryClause::On if builder.joins.is_empty() => Ok(()),
+        UnaryClause::On => builder.push_constraint(text, "", ""),
+        UnaryClause::Field => builder.push_field(&[Part(text)]),
+        UnaryClause::SetField => builder.set_only_field(text),
+        UnaryClause::Count => builder.push_field(&[Part("COUNT("), Part(text), Part(")")]),
+        UnaryClause::Select => builder.put_query(text),
+        UnaryClause::Returning => builder.put_returning(text),
+        UnaryClause::GroupBy => builder.push_group_field(text),
+        UnaryClause::Having => builder.put_having(text),
+        UnaryClause::Union => builder.push_union(false, text),
+        UnaryClause::UnionAll => builder.push_union(true, text),
+        UnaryClause::OrderAsc => make_order(builder, text, false),
+        UnaryClause::OrderDesc => make_order(builder, text, true),
+        UnaryClause::Limit => builder.put_limit(text),
+        UnaryClause::Offset => builder.put_offset(text),
+    }
+}
+
+/// Makes a call with two texts. It fails only if memory runs out, and then leaves the builder as it
+/// was; `on_eq` without a join can't fail.
+/// `{ let mut b = update_table("t"); make_binary(&mut b, BinaryClause::SetTo, "a", "1"); b.sql() }` →
+/// `UPDATE t SET a = 1;`
+pub fn make_binary<'a>(
+    builder: &mut SqlBuilder,
+    clause: BinaryClause,
+    first: &'a str,
+    second: &'a str,
+) -> Result<(), SqlBuilderError>
+    ensures made { OnOk result (builder.new
+        ≡ with_binary clause first.now second.now builder.old) }
+    ensures refused { OnErr result (builder.new ≡ builder.old) }
+    ensures memory { IfErr result (RefusesBinary clause builder.old) }
+{
+    match clause {
+        BinaryClause::OnEq if builder.joins.is_empty() => Ok(()),
+        BinaryClause::OnEq => builder.push_constraint(first, " = ", second),
+        BinaryClause::CountAs => builder.push_field(&[
+            Part("COUNT("),
+            Part(first),
+            Part(") AS "),
+            Part(second),
+        ]),
+        BinaryClause::SetTo => builder.push_set(&[Part(first), Part(" = "), Part(second)]),
+        BinaryClause::SetStr => {
+            let text = escaped(builder.alloc, second)?;
+            builder.push_quoted_set(first, text.as_str())
+        }
+    }
+}
+
+/// Makes a call with a list of texts. It fails only if memory runs out, and then leaves the builder
+/// as it was.
+/// `{ let mut b = select_from("t"); make_variadic(&mut b, VariadicClause::Fields, Items { items: ["a", "b"] }); b.sql() }` →
+/// `SELECT a, b FROM t;`
+pub fn make_variadic<'a, T: Texts<'a>>(
+    builder: &mut SqlBuilder,
+    clause: VariadicClause,
+    texts: T,
+) -> Result<(), SqlBuilderError>
+    ensures made { OnOk result (builder.new ≡ with_variadic clause (T.left texts) builder.old) }
+    ensures refused { OnErr result (builder.new ≡ builder.old) }
+    ensures memory { FailsOnlyByMemory result }
+{
+    match clause {
+        VariadicClause::Fields => builder.fields.extend(builder.alloc, texts)?,
+        VariadicClause::SetFields => builder.fields = TextList::of(builder.alloc, texts)?,
+        VariadicClause::Values => {
+            let row = row(builder.alloc, texts)?;
+            builder.rows.push(&[Part(row.as_str())])?;
+            builder.query = None;
+        }
+    }
+    Ok(())
+}
+
+/// Makes a call of ORDER BY. It fails only if memory runs out, and then leaves the builder as it was.
+/// `{ let mut b = select_from("t"); make_order(&mut b, "a", true); b.sql() }` →
+/// `SELECT * FROM t ORDER BY a DESC;`
+pub fn make_order(
+    builder: &mut SqlBuilder,
+    field: &str,
+    descending: bool,
+) -> Result<(), SqlBuilderError>
+    ensures made { OnOk result (builder.new ≡ with_order descending field.now builder.old) }
+    ensures refused { OnErr result (builder.new ≡ builder.old) }
+    ensures memory { FailsOnlyByMemory result }
+{
+    let words = if descending { " DESC" } else { "" };
+    Ok(builder.order_fields.push(&[Part(field), Part(words)])?)
+}
+
+/// Makes the call of this family that adds this condition. It fails only if memory runs out, and then
+/// leaves the builder as it was.
+pub fn make_condition<'a, T: Texts<'a>>(
+    builder: &mut SqlBuilder,
+    family: Family,
+    condition: BorrowedCondition<'a, T>,
+) -> Result<(), SqlBuilderError>
+    ensures made { OnOk result (builder.new
+        ≡ with_condition family (borrowed_view T.left condition.entry) builder.old) }
+    ensures refused { OnErr result (builder.new ≡ builder.old) }
+    ensures memory { FailsOnlyByMemory result }
+{
+    let text = condition.text(builder.alloc)?;
+    builder.push_condition(family, text)
+}
+
+// The same with texts that may have to be made. A constraint without a join makes none.
 impl SqlBuilder {
-    pub(crate) fn push_unary<S: ToText>(
-        &mut self,
-        clause: UnaryClause,
-        text: S,
-    ) -> Result<(), SqlBuilderError>
+    fn push_unary<S: ToText>(&mut self, clause: UnaryClause, text: S) -> Result<(), SqlBuilderError>
         ensures ok { OnOk result (self.new ≡ with_unary clause (S.text text) self.old) }
         ensures err { OnErr result (self.new ≡ self.old) }
         ensures memory { IfErr result (RefusesUnary clause self.old) }
     {
-        let alloc = self.alloc;
-        match clause {
-            UnaryClause::AndTable => self.push_table(text),
-            UnaryClause::Join => self.push_join(text),
-            UnaryClause::On if self.joins.is_empty() => Ok(()),
-            UnaryClause::On => self.push_constraint(text.into_text(alloc)?),
-            UnaryClause::Field => self.push_field(text.into_text(alloc)?),
-            UnaryClause::SetField => self.set_only_field(text),
-            UnaryClause::Count => self.push_field(count(alloc, text)?),
-            UnaryClause::Select => self.put_query(text),
-            UnaryClause::Returning => self.put_returning(text),
-            UnaryClause::GroupBy => self.push_group_field(text),
-            UnaryClause::Having => self.put_having(text),
-            UnaryClause::Union => self.push_union(false, text),
-            UnaryClause::UnionAll => self.push_union(true, text),
-            UnaryClause::OrderAsc => self.push_order(false, text),
-            UnaryClause::OrderDesc => self.push_order(true, text),
-            UnaryClause::Limit => self.put_limit(text),
-            UnaryClause::Offset => self.put_offset(text),
+        if matches!(clause, UnaryClause::On) && self.joins.is_empty() {
+            return Ok(());
         }
+        let text = text.as_text(self.alloc)?;
+        make_unary(self, clause, text.as_str())
     }
 
-    pub(crate) fn push_binary<S: ToText, T: ToText>(
+    fn push_binary<S: ToText, T: ToText>(
         &mut self,
         clause: BinaryClause,
         first: S,
@@ -229,35 +358,12 @@ impl SqlBuilder {
         ensures err { OnErr result (self.new ≡ self.old) }
         ensures memory { IfErr result (RefusesBinary clause self.old) }
     {
-        let alloc = self.alloc;
-        match clause {
-            BinaryClause::OnEq if self.joins.is_empty() => Ok(()),
-            BinaryClause::OnEq => self.push_constraint(equation(alloc, first, second)?),
-            BinaryClause::CountAs => self.push_field(count_as(alloc, first, second)?),
-            BinaryClause::SetTo => self.push_set(equation(alloc, first, second)?),
-            BinaryClause::SetStr => self.push_set(quoted_equation(alloc, first, second)?),
+        if matches!(clause, BinaryClause::OnEq) && self.joins.is_empty() {
+            return Ok(());
         }
-    }
-
-    pub(crate) fn push_variadic<S: ToText>(
-        &mut self,
-        clause: VariadicClause,
-        items: &[S],
-    ) -> Result<(), SqlBuilderError>
-        ensures { Tells result self.old self.new (with_variadic clause (map S.text items.now)) }
-    {
-        match clause {
-            VariadicClause::Fields => {
-                let mut fields = copies(self.alloc, items)?;
-                self.fields.append(&mut fields)?;
-            }
-            VariadicClause::SetFields => self.fields = copies(self.alloc, items)?,
-            VariadicClause::Values => {
-                self.rows.push(row(self.alloc, items)?)?;
-                self.query = None;
-            }
-        }
-        Ok(())
+        let first = first.as_text(self.alloc)?;
+        let second = second.as_text(self.alloc)?;
+        make_binary(self, clause, first.as_str(), second.as_str())
     }
 }
 
@@ -315,7 +421,7 @@ impl SqlBuilder {
             (with_variadic clause (map S.text items.now) self.old) result }
         ensures memory { FailsOnlyByMemory result }
     {
-        self.push_variadic(clause, items)?;
+        make_variadic(self, clause, Items { items })?;
         Ok(Held(self))
     }
 
@@ -329,7 +435,8 @@ impl SqlBuilder {
             (with_order descending (S.text field) self.old) result }
         ensures memory { FailsOnlyByMemory result }
     {
-        self.push_order(descending, field)?;
+        let field = field.as_text(self.alloc)?;
+        make_order(self, field.as_str(), descending)?;
         Ok(Held(self))
     }
 }

@@ -13,6 +13,7 @@ use crate::condition::{
     is_null, like,
 };
 use sql_parts::lending::{Held, release};
+use sql_parts::text::Items;
 use sql_parts::{SqlBuilderError, ToText};
 
 /// Whether a call adds the NOT form of its condition.
@@ -49,7 +50,7 @@ impl SqlBuilder {
             (AddsConditionSealed family (Raw (S.text condition)) self.old) result }
         ensures memory { FailsOnlyByMemory result }
     {
-        let text = condition.into_text(self.alloc)?;
+        let text = condition.to_text(self.alloc)?;
         self.push_condition(family, text)?;
         Ok(Held(self))
     }
@@ -65,7 +66,8 @@ impl SqlBuilder {
             (AddsConditionSealed family (IsNull (S.text field)) self.old) result }
         ensures memory { FailsOnlyByMemory result }
     {
-        let text = is_null(self.alloc, field)?;
+        let field = field.as_text(self.alloc)?;
+        let text = is_null(self.alloc, field.as_str())?;
         self.push_condition(family, text)?;
         Ok(Held(self))
     }
@@ -81,7 +83,8 @@ impl SqlBuilder {
             (AddsConditionSealed family (IsNotNull (S.text field)) self.old) result }
         ensures memory { FailsOnlyByMemory result }
     {
-        let text = is_not_null(self.alloc, field)?;
+        let field = field.as_text(self.alloc)?;
+        let text = is_not_null(self.alloc, field.as_str())?;
         self.push_condition(family, text)?;
         Ok(Held(self))
     }
@@ -99,7 +102,9 @@ impl SqlBuilder {
             (AddsConditionSealed family (Compare relation (S.text field) (T.text value)) self.old) result }
         ensures memory { FailsOnlyByMemory result }
     {
-        let text = compare(self.alloc, relation, field, value)?;
+        let field = field.as_text(self.alloc)?;
+        let value = value.as_text(self.alloc)?;
+        let text = compare(self.alloc, relation, field.as_str(), value.as_str())?;
         self.push_condition(family, text)?;
         Ok(Held(self))
     }
@@ -117,7 +122,9 @@ impl SqlBuilder {
             (AddsConditionSealed family (Like false percent (S.text field) (T.text mask)) self.old) result }
         ensures memory { FailsOnlyByMemory result }
     {
-        let text = like(self.alloc, false, percent, field, mask)?;
+        let field = field.as_text(self.alloc)?;
+        let mask = mask.as_text(self.alloc)?;
+        let text = like(self.alloc, false, percent, field.as_str(), mask.as_str())?;
         self.push_condition(family, text)?;
         Ok(Held(self))
     }
@@ -135,7 +142,9 @@ impl SqlBuilder {
             (AddsConditionSealed family (Like true percent (S.text field) (T.text mask)) self.old) result }
         ensures memory { FailsOnlyByMemory result }
     {
-        let text = like(self.alloc, true, percent, field, mask)?;
+        let field = field.as_text(self.alloc)?;
+        let mask = mask.as_text(self.alloc)?;
+        let text = like(self.alloc, true, percent, field.as_str(), mask.as_str())?;
         self.push_condition(family, text)?;
         Ok(Held(self))
     }
@@ -153,7 +162,9 @@ impl SqlBuilder {
             (AddsConditionSealed family (InList (is_negated sense) (S.text field) (map T.text values.now)) self.old) result }
         ensures memory { FailsOnlyByMemory result }
     {
-        let text = in_list(self.alloc, sense.is_negated(), field, values)?;
+        let field = field.as_text(self.alloc)?;
+        let values = Items { items: values };
+        let text = in_list(self.alloc, sense.is_negated(), field.as_str(), values)?;
         self.push_condition(family, text)?;
         Ok(Held(self))
     }
@@ -171,7 +182,9 @@ impl SqlBuilder {
             (AddsConditionSealed family (InQuoted (is_negated sense) (S.text field) (map T.text values.now)) self.old) result }
         ensures memory { FailsOnlyByMemory result }
     {
-        let text = in_quoted(self.alloc, sense.is_negated(), field, values)?;
+        let field = field.as_text(self.alloc)?;
+        let values = Items { items: values };
+        let text = in_quoted(self.alloc, sense.is_negated(), field.as_str(), values)?;
         self.push_condition(family, text)?;
         Ok(Held(self))
     }
@@ -189,7 +202,14 @@ impl SqlBuilder {
             (AddsConditionSealed family (InQuery (is_negated sense) (S.text field) (T.text query)) self.old) result }
         ensures memory { FailsOnlyByMemory result }
     {
-        let text = in_query(self.alloc, sense.is_negated(), field, query)?;
+        let field = field.as_text(self.alloc)?;
+        let query = query.as_text(self.alloc)?;
+        let text = in_query(
+            self.alloc,
+            sense.is_negated(),
+            field.as_str(),
+            query.as_str(),
+        )?;
         self.push_condition(family, text)?;
         Ok(Held(self))
     }
@@ -208,7 +228,16 @@ impl SqlBuilder {
             (AddsConditionSealed family (Between (is_negated sense) (S.text field) (T.text least) (U.text greatest)) self.old) result }
         ensures memory { FailsOnlyByMemory result }
     {
-        let text = between(self.alloc, sense.is_negated(), field, least, greatest)?;
+        let field = field.as_text(self.alloc)?;
+        let least = least.as_text(self.alloc)?;
+        let greatest = greatest.as_text(self.alloc)?;
+        let text = between(
+            self.alloc,
+            sense.is_negated(),
+            field.as_str(),
+            least.as_str(),
+            greatest.as_str(),
+        )?;
         self.push_condition(family, text)?;
         Ok(Held(self))
     }

@@ -1,5 +1,9 @@
-use Rattle.std.proofs.Common.{◌≡◌, ◌++◌, codes, flat_map, map, string_bytes, take}
+use Rattle.std.proofs.Common.{◌≡◌, ◌++◌, codes, flat_map, length, string_bytes}
 use Rattle.sql_builder.proofs.phrases.push_further.Given as goal
 
-abbrev pub invariant-loop-item : goal.invariant-loop-item
-invariant-loop-item g l = string_bytes l.out ≡ string_bytes l.initial.out ++ flat_map (λ item. codes ", " ++ item) (map g.S.ToText.text (take l.item-index l.items))
+abbrev pub invariant-loop-texts : goal.invariant-loop-texts
+invariant-loop-texts g l =
+    string_bytes l.out ++ flat_map (λ item. codes ", " ++ item) (g.T.Texts.left l.texts) ≡ string_bytes l.initial.out ++ flat_map (λ item. codes ", " ++ item) (g.T.Texts.left l.initial.texts)
+
+abbrev pub decreases-loop-texts : goal.decreases-loop-texts
+decreases-loop-texts g l = length (g.T.Texts.left l.texts)

@@ -6,6 +6,6 @@ use Rattle.sql_builder.proofs.builder.SqlBuilder.push_delete.Goals as goal
 pub returns : goal.returns
 returns c =
     rw (← c.self.view_is) (delete_added (the_view c.self.inside) (string_bytes c.args.out.now)
-    (rw (c.as_str.ensures.value, c.deref.ensures.value) at c.in_ok-push_tables.ensures)
-    (rw (c.deref-2.ensures.value) at c.in_ok-push_where.ensures)
+    (rw (c.as_str.ensures.value) at c.in_ok-push_behind.ensures)
+    (rw (c.deref.ensures.value) at c.in_ok-push_where.ensures)
     c.in_ok-push_optional.ensures)

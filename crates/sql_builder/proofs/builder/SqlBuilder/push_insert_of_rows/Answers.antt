@@ -6,7 +6,7 @@ use Rattle.sql_builder.proofs.builder.SqlBuilder.push_insert_of_rows.Goals as go
 pub returns : goal.returns
 returns c =
     rw (← c.self.view_is) (insert_rows_added (the_view c.self.inside) (string_bytes c.args.out.now)
-    (rw (c.as_str.ensures.value, c.deref.ensures.value) at c.in_ok-push_tables.ensures)
-    (rw (c.deref-2.ensures.value) at c.in_ok-push_fields_of_insert.ensures)
-    (rw (c.deref-3.ensures.value) at c.in_ok-push_list.ensures)
+    (rw (c.as_str.ensures.value) at c.in_ok-push_behind.ensures)
+    c.in_ok-push_fields_of_insert.ensures
+    c.in_ok-push_list.ensures
     c.in_ok-push_optional.ensures)

@@ -6,12 +6,12 @@ use Rattle.sql_builder.proofs.builder.SqlBuilder.push_query.Goals as goal
 pub returns : goal.returns
 returns c =
     rw (← c.self.view_is) (query_added (the_view c.self.inside) (string_bytes c.args.out.now)
-    (rw (c.deref.ensures.value) at c.in_ok-push_select.ensures)
-    (rw (c.as_str.ensures.value, c.deref-2.ensures.value) at c.in_ok-push_tables.ensures)
-    (rw (c.deref-3.ensures.value) at c.in_ok-push_joins.ensures)
-    (rw (c.deref-4.ensures.value) at c.in_ok-push_where.ensures)
-    (rw (c.deref-5.ensures.value) at c.in_ok-push_group_by.ensures)
-    (rw (c.deref-6.ensures.value) at c.in_ok-push_unions.ensures)
-    (rw (c.deref-7.ensures.value, c.deref-8.ensures.value) at c.in_ok-push_order_by.ensures)
+    c.in_ok-push_select.ensures
+    (rw (c.as_str.ensures.value) at c.in_ok-push_behind.ensures)
+    (rw (c.deref.ensures.value) at c.in_ok-push_each.ensures)
+    (rw (c.deref-2.ensures.value) at c.in_ok-push_where.ensures)
+    c.in_ok-push_group_by.ensures
+    (rw (c.as_str-2.ensures) at c.in_ok-push_str.ensures.bytes)
+    c.in_ok-push_order_by.ensures
     c.in_ok-push_optional.ensures
     c.in_ok-push_optional-2.ensures)

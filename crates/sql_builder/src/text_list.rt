@@ -1,0 +1,163 @@
+//! Lists of texts that are kept in one text, with commas between them.
+ghost use Rattle.std.specs.Prelude.{◌≡◌, ◌++◌, [], ◌∷◌, ◌==◌, codes, length, IfOk, OnErr, OnOk};
+ghost use Rattle.sql_parts.specs.Error.{FailsOnlyByMemory};
+ghost use Rattle.sql_parts.specs.Text.{join_with};
+ghost use Rattle.sql_builder.specs.Concat.{concat_bytes};
+ghost use Rattle.sql_builder.specs.TextLists.{gap_before};
+
+use crate::concat::{Part, push_all, total_len};
+use sql_parts::SqlBuilderError;
+use sql_parts::text::Texts;
+use std::alloc::{AllocError, Global};
+use std::marker::Model;
+
+/// A list of texts, kept in one text with `, ` between each and the next. Contracts see the list.
+#[derive(Drop)]
+pub(crate) struct TextList {
+    text: String,
+    lengths: Vec<usize>,
+}
+
+impl Model for TextList {
+    ghost use Rattle.std.specs.Prelude.{◌≡◌, ℕ, List, codes, string_bytes};
+    ghost use Rattle.sql_parts.specs.Text.{join_with};
+    ghost use Rattle.sql_builder.specs.TextLists.{items_of, lengths_of};
+
+    ghost Value = { List (List ℕ) };
+
+    ghost view = { λ list. items_of list.lengths.items (string_bytes list.text) };
+
+    ghost invariant = { λ list. let items = items_of list.lengths.items (string_bytes list.text) in
+        (join_with (codes ", ") items ≡ string_bytes list.text) × (lengths_of items ≡ list.lengths.items) };
+}
+
+impl TextList {
+    /// No text.
+    pub(crate) fn new(alloc: Global) -> TextList
+        ensures { result ≡ [] }
+    {
+        TextList {
+            text: String::new(alloc),
+            lengths: Vec::new(alloc),
+        }
+    }
+
+    pub(crate) fn is_empty(&self) -> bool
+        ensures { result ≡ (length self.now == 0) }
+    {
+        self.lengths.is_empty()
+    }
+
+    /// The texts with `, ` between each and the next.
+    pub(crate) fn as_str(&self) -> &str
+        ensures { result.now ≡ join_with (codes ", ") self.now }
+    {
+        self.text.as_str()
+    }
+
+    // What stands in front of one more text.
+    #[tactic(auto, using(crate::proofs::TextLists::gap_is))]
+    fn gap(&self) -> &'static str
+        ensures { result.now ≡ gap_before self.now }
+    {
+        if self.is_empty() { "" } else { ", " }
+    }
+
+    /// Appends a text that is made of parts. Where memory runs out, the list is as it was.
+    pub(crate) fn push(&mut self, parts: &[Part<'_>]) -> Result<(), AllocError>
+        ensures pushed { OnOk result (self.new ≡ self.old ++ concat_bytes parts.now ∷ []) }
+        ensures unchanged { OnErr result (self.new ≡ self.old) }
+    {
+        let gap = self.gap();
+        let len = total_len(parts);
+        self.text.reserve(len.saturating_add(gap.len()))?;
+        self.lengths.reserve(1)?;
+        self.text.push_str(gap)?;
+        push_all(&mut self.text, parts)?;
+        self.lengths.push(len)?;
+        Ok(())
+    }
+
+    fn push_text(&mut self, text: &str) -> Result<(), AllocError>
+        ensures pushed { OnOk result (self.new ≡ self.old ++ text.now ∷ []) }
+        ensures unchanged { OnErr result (self.new ≡ self.old) }
+    {
+        self.push(&[Part(text)])
+    }
+
+    /// Puts a text that is made of parts in the place of all others. Where memory runs out, the
+    /// list is as it was.
+    pub(crate) fn replace(&mut self, parts: &[Part<'_>]) -> Result<(), AllocError>
+        ensures replaced { OnOk result (self.new ≡ concat_bytes parts.now ∷ []) }
+        ensures unchanged { OnErr result (self.new ≡ self.old) }
+    {
+        let len = total_len(parts);
+        self.text.reserve(len)?;
+        self.lengths.reserve(1)?;
+        self.text.clear();
+        self.lengths.clear();
+        push_all(&mut self.text, parts)?;
+        self.lengths.push(len)?;
+        Ok(())
+    }
+
+    /// Appends the texts of another list. Where memory runs out, the list is as it was.
+    pub(crate) fn append(&mut self, further: &TextList) -> Result<(), AllocError>
+        ensures appended { OnOk result (self.new ≡ self.old ++ further.now) }
+        ensures unchanged { OnErr result (self.new ≡ self.old) }
+    {
+        if further.is_empty() {
+            return Ok(());
+        }
+        let gap = self.gap();
+        self.text
+            .reserve(further.text.len().saturating_add(gap.len()))?;
+        self.lengths.reserve(further.lengths.len())?;
+        self.text.push_str(gap)?;
+        self.text.push_str(further.text.as_str())?;
+        self.lengths.extend_from_slice(&further.lengths)?;
+        Ok(())
+    }
+
+    /// A list of texts that are taken one after another.
+    pub(crate) fn of<'a, T: Texts<'a>>(
+        alloc: Global,
+        mut texts: T,
+    ) -> Result<TextList, SqlBuilderError>
+        ensures made { IfOk result (λ list. list ≡ T.left texts) }
+        ensures memory { FailsOnlyByMemory result }
+    {
+        let mut list = TextList::new(alloc);
+        while let Some(text) = texts.next_text(alloc)? {
+            list.push_text(text.as_str())?;
+        }
+        Ok(list)
+    }
+
+    /// Appends texts that are taken one after another. Where memory runs out, the list is as it was.
+    pub(crate) fn extend<'a, T: Texts<'a>>(
+        &mut self,
+        alloc: Global,
+        texts: T,
+    ) -> Result<(), SqlBuilderError>
+        ensures extended { OnOk result (self.new ≡ self.old ++ T.left texts) }
+        ensures unchanged { OnErr result (self.new ≡ self.old) }
+        ensures memory { FailsOnlyByMemory result }
+    {
+        let further = TextList::of(alloc, texts)?;
+        if self.is_empty() {
+            *self = further;
+            return Ok(());
+        }
+        Ok(self.append(&further)?)
+    }
+
+    /// An equal list.
+    pub(crate) fn copy(&self, alloc: Global) -> Result<TextList, AllocError>
+        ensures { IfOk result (λ copy. copy ≡ self.now) }
+    {
+        let mut copy = TextList::new(alloc);
+        copy.append(self)?;
+        Ok(copy)
+    }
+}

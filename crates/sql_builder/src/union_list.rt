@@ -1,0 +1,86 @@
+//! The queries that UNION adds, kept in one text as they are printed.
+ghost use Rattle.std.specs.Prelude.{◌≡◌, ◌++◌, [], ◌∷◌, ◌==◌, flat_map, length, IfOk, OnErr, OnOk};
+ghost use Rattle.sql_builder.specs.Layout.{union_opening};
+
+use std::alloc::{AllocError, Global};
+use std::marker::Model;
+
+/// Queries that UNION adds, kept in one text, each behind its words. Contracts see the list of the
+/// queries, each with whether it is UNION ALL.
+#[derive(Drop)]
+pub(crate) struct UnionList {
+    text: String,
+    // Whether each is UNION ALL, and how long its query is.
+    unions: Vec<(bool, usize)>,
+}
+
+impl Model for UnionList {
+    ghost use Rattle.std.specs.Prelude.{◌≡◌, ◌++◌, ℕ, Bool, List, flat_map, string_bytes};
+    ghost use Rattle.sql_builder.specs.Layout.{union_opening};
+    ghost use Rattle.sql_builder.specs.TextLists.{cut_out, places_of};
+
+    ghost Value = { List (Bool × List ℕ) };
+
+    ghost view = { λ list. cut_out union_opening list.unions.items (string_bytes list.text) };
+
+    ghost invariant = { λ list. let unions = cut_out union_opening list.unions.items (string_bytes list.text) in
+        (flat_map (λ union. union_opening union.0 ++ union.1) unions ≡ string_bytes list.text) × (places_of unions ≡ list.unions.items) };
+}
+
+/// The words in front of a query.
+fn words(all: bool) -> &'static str
+    ensures { result.now ≡ union_opening all }
+{
+    if all { " UNION ALL " } else { " UNION " }
+}
+
+impl UnionList {
+    /// No query.
+    pub(crate) fn new(alloc: Global) -> UnionList
+        ensures { result ≡ [] }
+    {
+        UnionList {
+            text: String::new(alloc),
+            unions: Vec::new(alloc),
+        }
+    }
+
+    pub(crate) fn is_empty(&self) -> bool
+        ensures { result ≡ (length self.now == 0) }
+    {
+        self.unions.is_empty()
+    }
+
+    /// The queries as they are printed, one after another.
+    pub(crate) fn as_str(&self) -> &str
+        ensures { result.now ≡ flat_map (λ union. union_opening union.0 ++ union.1) self.now }
+    {
+        self.text.as_str()
+    }
+
+    /// Appends a query. Where memory runs out, the list is as it was.
+    pub(crate) fn push(&mut self, all: bool, query: &str) -> Result<(), AllocError>
+        ensures pushed { OnOk result (self.new ≡ self.old ++ (all, query.now) ∷ []) }
+        ensures unchanged { OnErr result (self.new ≡ self.old) }
+    {
+        let words = words(all);
+        self.text.reserve(query.len().saturating_add(words.len()))?;
+        self.unions.reserve(1)?;
+        self.text.push_str(words)?;
+        self.text.push_str(query)?;
+        self.unions.push((all, query.len()))?;
+        Ok(())
+    }
+
+    /// An equal list.
+    pub(crate) fn copy(&self, alloc: Global) -> Result<UnionList, AllocError>
+        ensures { IfOk result (λ copy. copy ≡ self.now) }
+    {
+        let mut unions = Vec::with_capacity(alloc, self.unions.len())?;
+        unions.extend_from_slice(&self.unions)?;
+        Ok(UnionList {
+            text: String::from_str(alloc, self.text.as_str())?,
+            unions,
+        })
+    }
+}
