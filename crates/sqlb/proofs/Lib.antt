@@ -1,4 +1,7 @@
+pub mod Blocks
+pub mod Cuts
 pub mod DecimalDigits
+pub mod Filled
 pub mod Flushed
 pub mod LineFeeds
 pub mod LineTexts

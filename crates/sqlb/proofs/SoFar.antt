@@ -1,6 +1,6 @@
 -- A run that has come as far as a line.
 use Rattle.std.proofs.Common.{◌≡◌, ℕ, ◌+◌, ◌-◌, Bool, true, false, List, [], ◌∷◌, ◌++◌, Option, None, Some, Result, Ok, Err, length, take, map, filter_map, flat_map, if◌then◌else◌, refl, sym, ap, ◌∙◌, append_assoc, arith, add-zero, codes, length-append, subst, suc}
-use Rattle.std.specs.Prelude.{is_err, is_some, option_map}
+use Rattle.std.specs.Prelude.{IsTrue, IsUtf8, is_err, is_some, option_map}
 use Rattle.std.specs.Io.{StartsWith}
 use Rattle.std.specs.Io.KnownBytes.{Appends}
 use Rattle.std.specs.List.{enumerate_from}
@@ -14,10 +14,13 @@ use Rattle.sql_builder.proofs.Snoc.{any_unfollowed-snoc, since-snoc}
 use Rattle.sql_builder.specs.Calls.{StartText, CallText}
 use Rattle.sqlb.specs.Device.{Wrote}
 use Rattle.sql_builder.specs.Filters.{since, until}
-use Rattle.sqlb.specs.Lines.{lines, CommandResult, command_of, Starts, Calls, Finishes}
+use Rattle.sqlb.specs.Lines.{lines, CommandResult, command_in_parts, command_of, Starts, Calls, Finishes}
 use Rattle.sqlb.specs.Output.{OpenStatement, answer, answer_at, answers, call_in, end_fault, fault_at, first, is_finish, is_inside, is_start, open_statement, open_statement_in, output, printed_line, output_text, start_in}
 use Rattle.sqlb.specs.Ran.{AreWhole, Ran}
 use Rattle.sqlb.specs.Script.{told, told_after, told_answer}
+use Rattle.sqlb.specs.Parts.{IsNextLine, Left}
+use Rattle.sqlb.specs.Text.{IsCut}
+use Rattle.sqlb.proofs.LineTexts.{command_of-text}
 use Rattle.sqlb.proofs.Told.{open_after, told-after, told-answer, told-is_some}
 use Rattle.sqlb.specs.declared.fault.Fault.{Fault}
 use Rattle.sqlb.specs.declared.fault.Fault.TheVariants.{At, Memory, Read, Write}
@@ -123,9 +126,9 @@ pub record SoFar (old new : Option (List ℕ)) (text : List ℕ) (number : ℕ) 
   pub open_now : script ≡ option_map told (open_statement done)
   pub written : Appends old new (joined_texts texts)
 
-pub so_far-first : (old : Option (List ℕ)) (text : List ℕ) → SoFar old old text 0 None (lines text)
+pub so_far-first : (old : Option (List ℕ)) (text : List ℕ) (ahead : List (List ℕ)) → lines text ≡ ahead → SoFar old old text 0 None ahead
 unfolding open_statement
-so_far-first old text = record { done = []; texts = []; split = refl; counted = refl; accepted = refl; open_now = refl; written = Appends-nil old }
+so_far-first old text ahead is = record { done = []; texts = []; split = ap (map command_of) is; counted = refl; accepted = refl; open_now = refl; written = Appends-nil old }
 
 module _ (old new : Option (List ℕ)) (text : List ℕ) (number : ℕ) (script : Option ClauseTexts) (ahead : List (List ℕ)) (so_far : SoFar old new text number script ahead) where
   counted-texts : number ≡ length so_far.texts
@@ -246,7 +249,16 @@ module _ (old new : Option (List ℕ)) (text : List ℕ) (number : ℕ) (script 
     fails-in newer t Memory result failed accepts wrote is = absurd wrote.2
     fails-in newer t (At n reason) result failed accepts wrote is = absurd wrote.2
 
--- a text of which nothing is left has no line left
-pub lines-empty : (rest : List ℕ) → length rest ≡ 0 → lines rest ≡ []
-lines-empty [] none = refl
-lines-empty (byte ∷ bytes) none = absurd (omega (arith, none))
+-- the lines behind those of a text: none where the text is the whole input, and else first one that is not UTF-8
+abbrev pub Unread : Bool → List (List ℕ) → Type 0
+Unread false unread = unread ≡ []
+Unread true unread = (line : List ℕ) × (behind : List (List ℕ)) × (unread ≡ line ∷ behind) × ¬ (IsUtf8 line)
+
+pub unread_first : (is_cut : Bool) (input text : List ℕ) → (is_cut ≡ false → text ≡ input) → (IsTrue is_cut → IsCut input text)
+    → (unread : List (List ℕ)) × Unread is_cut unread × (lines input ≡ lines text ++ unread)
+unread_first false input text whole cut = ([], refl, sym (append-nil (lines text) ∙ ap lines (whole refl)))
+unread_first true input text whole cut = let found = cut refl in (found.line ∷ found.behind, (found.line, found.behind, refl, found.no_text), found.split)
+
+-- a line of a text says what its parts say
+pub command_of-line : (text : List ℕ) (left : Left) (next : IsNextLine text left) → command_of next.line ≡ command_in_parts left.parts
+command_of-line text left next = command_of-text next.line next.utf8 ∙ ap command_in_parts (sym next.parts)

@@ -8,4 +8,5 @@ pub mod Parts
 pub mod Ran
 pub mod Script
 pub mod Tables
+pub mod Text
 pub mod Watch

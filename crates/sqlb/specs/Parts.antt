@@ -1,14 +1,38 @@
--- The parts of a line that are not taken yet, and so many of them as are wanted.
-use Rattle.std.specs.Prelude.{ℕ, List, [], ◌∷◌, Option, Some, None, Result, Ok, Err}
-use Rattle.std.specs.Borrow.{Bor}
-use Rattle.sqlb.specs.Lines.{parts_of}
+-- What is left of a text that is read by lines, and so many parts of a line as are wanted.
+use Rattle.std.specs.Prelude.{◌≡◌, ◌<◌, ℕ, ◌==◌, length, IsUtf8, List, [], ◌∷◌, Bool, true, false, ◌||◌, Result, Ok, Err}
+use Rattle.std.specs.List.{after_first, before_first}
+use Rattle.sqlb.specs.Lines.{lines, parts_of}
 use Rattle.sqlb.specs.declared.fault.Reason.{Reason}
 use Rattle.sqlb.specs.declared.fault.Reason.TheVariants.{WrongArguments}
 
--- the parts of the rest of a line, if there is a rest
-abbrev pub parts_left : Option (Bor (List ℕ)) → List (List ℕ)
-parts_left None = []
-parts_left (Some rest) = parts_of rest.now
+-- a byte that ends a part: a TAB or a line feed
+abbrev pub ends_part : ℕ → Bool
+ends_part byte = byte == 9 || byte == 10
+
+-- What is left of a text: the parts of the line that is read, but for those that are taken, and the text behind it.
+pub record Left : Type 0 where
+  pub parts : List (List ℕ)
+  pub behind : List ℕ
+
+-- what is left where the rest of a text begins inside of a line, or at the beginning of one that is not read yet
+abbrev pub left_of : Bool → List ℕ → Left
+left_of true rest = record {
+  parts = parts_of (before_first (λ byte. byte == 10) rest);
+  behind = after_first (λ byte. byte == 10) rest;
+}
+left_of false rest = record { parts = []; behind = rest }
+
+-- The next line of a text is read: its parts are left, and the lines behind it.
+pub record IsNextLine (text : List ℕ) (left : Left) : Type 0 where
+  pub line : List ℕ
+  pub first : lines text ≡ line ∷ lines left.behind
+  pub shorter : length left.behind < length text
+  pub utf8 : IsUtf8 line
+  pub parts : left.parts ≡ parts_of line
+
+-- all parts of the line are taken, and nothing behind it
+abbrev pub IsTaken : Left → Left → Type 0
+IsTaken old new = (new.parts ≡ []) × (new.behind ≡ old.behind)
 
 -- nothing, where there is no part
 abbrev pub none_of : List (List ℕ) → Result (Unit {0}) Reason

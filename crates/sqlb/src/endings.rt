@@ -1,7 +1,8 @@
 //! What follows `and_where` and `or_where` in the names of lines: which condition is added.
-ghost use Rattle.std.specs.Prelude.{◌≡◌, ok_or};
+ghost use Rattle.std.specs.Prelude.{◌≡◌, OnOk, ok_or};
 ghost use Rattle.sql_builder.specs.Condition.{condition_view};
 ghost use Rattle.sqlb.specs.Endings.{comparisons, condition_of, ending_of, likes, memberships};
+ghost use Rattle.sqlb.specs.Parts.{IsTaken};
 ghost use Rattle.sqlb.specs.Script.{Answers};
 ghost use Rattle.sqlb.specs.Tables.{found_in};
 ghost use Rattle.sqlb.specs.declared.fault.Reason.TheVariants.{WrongArguments};
@@ -97,10 +98,11 @@ impl Ending {
     pub(crate) fn condition(
         self,
         alloc: Global,
-        arguments: Parts<'_>,
+        arguments: &mut Parts<'_>,
     ) -> Result<Condition, LineError>
         ensures condition { Answers condition_view result
-            (ok_or (condition_of self arguments.entry) WrongArguments) }
+            (ok_or (condition_of self arguments.old.parts) WrongArguments) }
+        ensures taken { OnOk result (IsTaken arguments.old arguments.new) }
     {
         match self {
             Ending::Raw => Ok(Condition::Raw(one_text(alloc, arguments)?)),

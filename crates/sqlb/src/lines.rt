@@ -1,7 +1,7 @@
-//! Takes an input apart into lines, and reads what each says.
-ghost use Rattle.std.specs.Prelude.{◌≡◌, ◌==◌, ◌∷◌, ◌<◌};
-ghost use Rattle.std.specs.Prelude.{Some, length, ok_or, position};
-ghost use Rattle.sqlb.specs.Lines.{command_in, command_of, command_with, flag_in, lines};
+//! Reads what lines say.
+ghost use Rattle.std.specs.Prelude.{OnOk, Some, ok_or};
+ghost use Rattle.sqlb.specs.Lines.{command_in_parts, command_with, flag_in};
+ghost use Rattle.sqlb.specs.Parts.{IsTaken};
 ghost use Rattle.sqlb.specs.Script.{Answers, command_text};
 ghost use Rattle.sqlb.specs.declared.fault.Reason.TheVariants.{WrongArguments};
 ghost use Rattle.sqlb.specs.declared.names.Meaning.TheVariants as takes;
@@ -13,7 +13,6 @@ use crate::parts::Parts;
 use crate::texts::{one_text, text, texts, two_texts};
 use sql_builder::calls::{Call, Family, Finish, Start};
 use std::alloc::Global;
-use std::str;
 
 /// What a line says.
 #[derive(Drop)]
@@ -26,28 +25,11 @@ pub(crate) enum Command {
     Finish(Finish),
 }
 
-fn find_line_feed(text: &[u8]) -> Option<usize>
-    ensures { result ≡ position (λ byte. byte == 10) text.now }
-{
-    text.iter().position(|byte| *byte == b'\n')
-}
-
-/// The first line of a text, and the text after its line feed.
-pub(crate) fn split_line(text: &[u8]) -> (&[u8], &[u8])
-    requires some { 0 < length text.now }
-    ensures lines { lines text.now ≡ result.0.now ∷ lines result.1.now }
-    ensures shorter { length result.1.now < length text.now }
-{
-    match find_line_feed(text) {
-        Some(end) => (&text[..end], &text[end + 1..]),
-        None => (text, &[]),
-    }
-}
-
 impl Nullary {
-    fn command(self, arguments: Parts<'_>) -> Result<Command, LineError>
-        ensures { Answers command_text result
-            (command_with (Some (takes.Nullary self)) arguments.entry) }
+    fn command(self, arguments: &mut Parts<'_>) -> Result<Command, LineError>
+        ensures command { Answers command_text result
+            (command_with (Some (takes.Nullary self)) arguments.old.parts) }
+        ensures taken { OnOk result (IsTaken arguments.old arguments.new) }
     {
         arguments.none()?;
         Ok(match self {
@@ -69,9 +51,10 @@ impl Nullary {
 }
 
 impl Unary {
-    fn command(self, alloc: Global, arguments: Parts<'_>) -> Result<Command, LineError>
-        ensures { Answers command_text result
-            (command_with (Some (takes.Unary self)) arguments.entry) }
+    fn command(self, alloc: Global, arguments: &mut Parts<'_>) -> Result<Command, LineError>
+        ensures command { Answers command_text result
+            (command_with (Some (takes.Unary self)) arguments.old.parts) }
+        ensures taken { OnOk result (IsTaken arguments.old arguments.new) }
     {
         let argument = one_text(alloc, arguments)?;
         Ok(match self {
@@ -101,9 +84,10 @@ impl Unary {
 }
 
 impl Binary {
-    fn command(self, alloc: Global, arguments: Parts<'_>) -> Result<Command, LineError>
-        ensures { Answers command_text result
-            (command_with (Some (takes.Binary self)) arguments.entry) }
+    fn command(self, alloc: Global, arguments: &mut Parts<'_>) -> Result<Command, LineError>
+        ensures command { Answers command_text result
+            (command_with (Some (takes.Binary self)) arguments.old.parts) }
+        ensures taken { OnOk result (IsTaken arguments.old arguments.new) }
     {
         let (first, second) = two_texts(alloc, arguments)?;
         Ok(Command::Call(match self {
@@ -116,9 +100,10 @@ impl Binary {
 }
 
 impl Flagged {
-    fn command(self, alloc: Global, arguments: Parts<'_>) -> Result<Command, LineError>
-        ensures { Answers command_text result
-            (command_with (Some (takes.Flagged self)) arguments.entry) }
+    fn command(self, alloc: Global, arguments: &mut Parts<'_>) -> Result<Command, LineError>
+        ensures command { Answers command_text result
+            (command_with (Some (takes.Flagged self)) arguments.old.parts) }
+        ensures taken { OnOk result (IsTaken arguments.old arguments.new) }
     {
         let (argument, flag) = arguments.two()?;
         let flag = read_flag(flag)?;
@@ -130,9 +115,10 @@ impl Flagged {
 }
 
 impl Variadic {
-    fn command(self, alloc: Global, arguments: Parts<'_>) -> Result<Command, LineError>
-        ensures { Answers command_text result
-            (command_with (Some (takes.Variadic self)) arguments.entry) }
+    fn command(self, alloc: Global, arguments: &mut Parts<'_>) -> Result<Command, LineError>
+        ensures command { Answers command_text result
+            (command_with (Some (takes.Variadic self)) arguments.old.parts) }
+        ensures taken { OnOk result (IsTaken arguments.old arguments.new) }
     {
         let arguments = texts(alloc, arguments)?;
         Ok(match self {
@@ -157,9 +143,11 @@ fn read_flag(text: &str) -> Result<bool, LineError>
 fn read_arguments(
     alloc: Global,
     meaning: Meaning,
-    arguments: Parts<'_>,
+    arguments: &mut Parts<'_>,
 ) -> Result<Command, LineError>
-    ensures { Answers command_text result (command_with (Some meaning) arguments.entry) }
+    ensures command { Answers command_text result
+        (command_with (Some meaning) arguments.old.parts) }
+    ensures taken { OnOk result (IsTaken arguments.old arguments.new) }
 {
     match meaning {
         Meaning::Nullary(meaning) => meaning.command(arguments),
@@ -174,26 +162,17 @@ fn read_arguments(
     }
 }
 
-fn read_text(alloc: Global, text: &str) -> Result<Command, LineError>
-    ensures { Answers command_text result (command_in text.now) }
+/// What a line says. It is refused with `UnknownCall` or `WrongArguments`, the first of them that
+/// holds.
+pub(crate) fn read_line(alloc: Global, parts: &mut Parts<'_>) -> Result<Command, LineError>
+    ensures command { Answers command_text result (command_in_parts parts.old.parts) }
+    ensures taken { OnOk result (IsTaken parts.old parts.new) }
 {
-    let mut parts = Parts::of(text);
     let Some(name) = parts.next() else {
         return Err(LineError::Refused(Reason::UnknownCall));
     };
     match Meaning::of(name) {
         Some(meaning) => read_arguments(alloc, meaning, parts),
         None => Err(LineError::Refused(Reason::UnknownCall)),
-    }
-}
-
-/// What a line says. It is refused with `NotUtf8`, `UnknownCall` or `WrongArguments`, the first
-/// of them that holds.
-pub(crate) fn read_line(alloc: Global, line: &[u8]) -> Result<Command, LineError>
-    ensures command { Answers command_text result (command_of line.now) }
-{
-    match str::from_utf8(line) {
-        Ok(text) => read_text(alloc, text),
-        Err(_) => Err(LineError::Refused(Reason::NotUtf8)),
     }
 }

@@ -11,9 +11,11 @@ mod names;
 mod output;
 mod parts;
 mod run;
+mod scan;
 mod script;
 #[cfg(test)]
 mod tests;
+mod text;
 mod texts;
 mod watched;
 

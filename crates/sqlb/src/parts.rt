@@ -1,58 +1,87 @@
-//! The parts of a line, between TABs.
-ghost use Rattle.std.specs.Prelude.{◌≡◌, [], ◌∷◌, MatchOption};
-ghost use Rattle.sqlb.specs.Lines.{parts_of};
-ghost use Rattle.sqlb.specs.Parts.{first_of, none_of, one_of, three_of, two_of};
+//! The lines of a text, and their parts, between TABs.
+ghost use Rattle.std.specs.Prelude.{◌≡◌, ◌<◌, [], ◌∷◌, false, length, IsTrue, IsUtf8, MatchOption, OnOk};
+ghost use Rattle.sqlb.specs.Lines.{lines, parts_of};
+ghost use Rattle.sqlb.specs.Parts.{IsNextLine, IsTaken, first_of, none_of, one_of, three_of, two_of};
 ghost use Rattle.sqlb.specs.Script.{Answers};
 
 use crate::fault::{LineError, Reason};
+use crate::scan::end_of_part;
 use std::marker::Model;
 
-/// The parts of a line that are not taken yet.
+/// A text that is read line by line, part by part. Contracts see what is left of it.
 #[derive(Drop)]
 pub(crate) struct Parts<'a> {
-    rest: Option<&'a str>,
+    text: &'a str,
+    // Where what is left begins.
+    at: usize,
+    // Whether that is inside of a line, or the next one is not read yet.
+    in_line: bool,
 }
 
 impl<'a> Model for Parts<'a> {
-    ghost use Rattle.std.specs.Prelude.{List, ℕ};
-    ghost use Rattle.sqlb.specs.Parts.{parts_left};
+    ghost use Rattle.std.specs.Prelude.{drop};
+    ghost use Rattle.std.specs.Str.{IsCharBoundary};
+    ghost use Rattle.sqlb.specs.Parts.{Left, left_of};
 
-    ghost Value = { List (List ℕ) };
+    ghost Value = { Left };
 
-    ghost view = { λ parts. parts_left parts.rest };
+    ghost view = { λ parts. left_of parts.in_line (drop parts.at parts.text.now) };
+
+    ghost invariant = { λ parts. IsCharBoundary parts.text.now parts.at };
 }
 
 const WRONG_ARGUMENTS: LineError = LineError::Refused(Reason::WrongArguments);
 
 impl<'a> Parts<'a> {
-    /// All parts of a line.
-    pub(crate) fn of(line: &'a str) -> Parts<'a>
-        ensures parts { result ≡ parts_of line.now }
+    /// A text of which no line is read yet.
+    pub(crate) fn of(text: &'a str) -> Parts<'a>
+        ensures parts { result.parts ≡ [] }
+        ensures behind { result.behind ≡ text.now }
     {
-        Parts { rest: Some(line) }
+        Parts {
+            text,
+            at: 0,
+            in_line: false,
+        }
     }
 
-    /// The next part, which is taken.
-    pub(crate) fn next(&mut self) -> Option<&'a str>
-        ensures next { MatchOption result ((self.old ≡ []) × (self.new ≡ []))
-            (λ part. self.old ≡ part.now ∷ self.new) }
+    /// Goes on to the next line, if there is one. The parts of the line before are taken.
+    pub(crate) fn next_line(&mut self) -> bool
+        requires taken { self.old.parts ≡ [] }
+        ensures line { IsTrue result → IsNextLine self.old.behind self.new }
+        ensures none { result ≡ false → self.old.behind ≡ [] }
     {
-        let rest = self.rest?;
-        match rest.split_once('\t') {
-            Some((part, behind)) => {
-                self.rest = Some(behind);
-                Some(part)
-            }
-            None => {
-                self.rest = None;
-                Some(rest)
-            }
+        self.in_line = self.at < self.text.as_bytes().len();
+        self.in_line
+    }
+
+    /// The next part of the line, which is taken.
+    pub(crate) fn next(&mut self) -> Option<&'a str>
+        ensures next { MatchOption result ((self.old.parts ≡ []) × (self.new.parts ≡ []))
+            (λ part. self.old.parts ≡ part.now ∷ self.new.parts) }
+        ensures behind { self.new.behind ≡ self.old.behind }
+    {
+        if !self.in_line {
+            return None;
         }
+        let text = self.text;
+        let end = end_of_part(text.as_bytes(), self.at);
+        let part = &text[self.at..end];
+        if end == text.len() {
+            self.in_line = false;
+            self.at = end;
+            return Some(part);
+        }
+        self.in_line = text.as_bytes()[end] == b'\t';
+        self.at = end + 1;
+        Some(part)
     }
 
     /// The next part, which is taken, if there is one.
     pub(crate) fn first(&mut self) -> Result<&'a str, LineError>
-        ensures first { Answers (λ part. (part.now, self.new)) result (first_of self.old) }
+        ensures first { Answers (λ part. (part.now, self.new.parts)) result
+            (first_of self.old.parts) }
+        ensures behind { self.new.behind ≡ self.old.behind }
     {
         match self.next() {
             Some(part) => Ok(part),
@@ -61,8 +90,9 @@ impl<'a> Parts<'a> {
     }
 
     /// Nothing, if there is no part.
-    pub(crate) fn none(mut self) -> Result<(), LineError>
-        ensures none { Answers (λ done. done) result (none_of self.entry) }
+    pub(crate) fn none(&mut self) -> Result<(), LineError>
+        ensures none { Answers (λ done. done) result (none_of self.old.parts) }
+        ensures taken { OnOk result (IsTaken self.old self.new) }
     {
         match self.next() {
             None => Ok(()),
@@ -71,8 +101,9 @@ impl<'a> Parts<'a> {
     }
 
     /// The one part, if there are no others.
-    pub(crate) fn one(mut self) -> Result<&'a str, LineError>
-        ensures one { Answers (λ part. part.now) result (one_of self.entry) }
+    pub(crate) fn one(&mut self) -> Result<&'a str, LineError>
+        ensures one { Answers (λ part. part.now) result (one_of self.old.parts) }
+        ensures taken { OnOk result (IsTaken self.old self.new) }
     {
         match (self.next(), self.next()) {
             (Some(part), None) => Ok(part),
@@ -81,8 +112,10 @@ impl<'a> Parts<'a> {
     }
 
     /// The two parts, if there are no others.
-    pub(crate) fn two(mut self) -> Result<(&'a str, &'a str), LineError>
-        ensures two { Answers (λ parts. (parts.0.now, parts.1.now)) result (two_of self.entry) }
+    pub(crate) fn two(&mut self) -> Result<(&'a str, &'a str), LineError>
+        ensures two { Answers (λ parts. (parts.0.now, parts.1.now)) result
+            (two_of self.old.parts) }
+        ensures taken { OnOk result (IsTaken self.old self.new) }
     {
         match (self.next(), self.next(), self.next()) {
             (Some(first), Some(second), None) => Ok((first, second)),
@@ -91,9 +124,10 @@ impl<'a> Parts<'a> {
     }
 
     /// The three parts, if there are no others.
-    pub(crate) fn three(mut self) -> Result<(&'a str, &'a str, &'a str), LineError>
+    pub(crate) fn three(&mut self) -> Result<(&'a str, &'a str, &'a str), LineError>
         ensures three { Answers (λ parts. (parts.0.now, parts.1.now, parts.2.now)) result
-            (three_of self.entry) }
+            (three_of self.old.parts) }
+        ensures taken { OnOk result (IsTaken self.old self.new) }
     {
         match (self.next(), self.next(), self.next(), self.next()) {
             (Some(first), Some(second), Some(third), None) => Ok((first, second, third)),

@@ -8,35 +8,38 @@ ghost use Rattle.sqlb.specs.Ran.{LosesOnlyIfDeviceFails, Ran, UnlessWriteFails};
 
 use crate::fault::{Fault, LineError, Reason};
 use crate::input::read_all;
-use crate::lines::split_line;
 use crate::output::write_line;
+use crate::parts::Parts;
 use crate::script::Script;
+use crate::text::lines_of_text;
 use crate::watched::Watched;
 use std::alloc::Global;
 use std::io::{BufWriter, Read, Write};
 
-// Runs the lines of a text, and writes each statement where it is finished.
-fn run_lines<W: Write>(alloc: Global, text: &[u8], writer: &mut Watched<W>) -> Result<(), Fault>
+// Runs the lines of an input, and writes each statement where it is finished.
+fn run_lines<W: Write>(alloc: Global, input: &[u8], writer: &mut Watched<W>) -> Result<(), Fault>
     requires not_failed { writer.old.failed ≡ false }
     ensures ran { (written : List ℕ) × Appends (W.contents writer.old.inner)
-        (W.contents writer.new.inner) written × Ran result written (output text.now) }
+        (W.contents writer.new.inner) written × Ran result written (output input.now) }
     ensures failed { FailsOnlyToWrite result writer.new.failed }
     ensures no_memory { IfErr result NamesNoMemory }
     ensures ended { writer.new.ended ≡ writer.old.ended }
 {
+    let (text, is_cut) = lines_of_text(input);
     let mut script = Script::new();
     let mut number = 0;
-    let mut rest = text;
-    'lines: while !rest.is_empty() {
-        let (line, after) = split_line(rest);
+    let mut parts = Parts::of(text);
+    'lines: while parts.next_line() {
         number += 1;
-        rest = after;
-        match script.take_line(alloc, line) {
+        match script.take_line(alloc, &mut parts) {
             Ok(Some(statement)) => write_line(writer, &statement)?,
             Ok(None) => {}
             Err(LineError::Refused(reason)) => return Err(Fault::At(number, reason)),
             Err(LineError::Memory) => return Err(Fault::Memory),
         }
+    }
+    if is_cut {
+        return Err(Fault::At(number + 1, Reason::NotUtf8));
     }
     if script.is_open() {
         return Err(Fault::At(number, Reason::NoEnd));

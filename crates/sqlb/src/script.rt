@@ -1,10 +1,12 @@
 //! Runs lines one after another.
 ghost use Rattle.std.specs.Prelude.{◌≡◌, None, OnErr, OnOk, is_some, option_map, string_bytes};
-ghost use Rattle.sqlb.specs.Lines.{command_of};
+ghost use Rattle.sqlb.specs.Lines.{command_in_parts};
+ghost use Rattle.sqlb.specs.Parts.{IsTaken};
 ghost use Rattle.sqlb.specs.Script.{Answers, told_after, told_answer};
 
 use crate::fault::{LineError, Reason};
 use crate::lines::{Command, read_line};
+use crate::parts::Parts;
 use sql_builder::SqlBuilder;
 use sql_builder::calls::{Call, Finish, Start, begin, make, print};
 use std::alloc::Global;
@@ -48,14 +50,16 @@ impl Script {
     pub(crate) fn take_line(
         &mut self,
         alloc: Global,
-        line: &[u8],
+        parts: &mut Parts<'_>,
     ) -> Result<Option<String>, LineError>
         ensures answer { Answers (option_map (λ s. string_bytes s)) result
-            (told_answer self.old (command_of line.now)) }
-        ensures after { OnOk result (self.new ≡ told_after self.old (command_of line.now)) }
+            (told_answer self.old (command_in_parts parts.old.parts)) }
+        ensures after { OnOk result
+            (self.new ≡ told_after self.old (command_in_parts parts.old.parts)) }
         ensures err { OnErr result (self.new ≡ self.old) }
+        ensures taken { OnOk result (IsTaken parts.old parts.new) }
     {
-        match read_line(alloc, line)? {
+        match read_line(alloc, parts)? {
             Command::Start(start) => self.take_start(alloc, start),
             Command::Call(call) => self.take_call(call),
             Command::Finish(finish) => self.take_finish(&finish),
@@ -72,7 +76,7 @@ impl Script {
         if self.builder.is_some() {
             return Err(LineError::Refused(Reason::StatementOpen));
         }
-        self.builder = Some(begin(alloc, start)?);
+        self.builder = Some(begin(alloc, &start)?);
         Ok(None)
     }
 
@@ -86,7 +90,7 @@ impl Script {
         let Some(builder) = &mut self.builder else {
             return Err(LineError::Refused(Reason::NoStatement));
         };
-        make(builder, call)?;
+        make(builder, &call)?;
         Ok(None)
     }
 

@@ -1,6 +1,6 @@
 //! Copies of the arguments of a line.
-ghost use Rattle.std.specs.Prelude.{◌≡◌, IfOk, map, string_bytes};
-ghost use Rattle.sqlb.specs.Parts.{first_of, one_of, three_of, two_of};
+ghost use Rattle.std.specs.Prelude.{◌≡◌, IfOk, OnOk, map, string_bytes};
+ghost use Rattle.sqlb.specs.Parts.{IsTaken, first_of, one_of, three_of, two_of};
 ghost use Rattle.sqlb.specs.Script.{Answers};
 
 use crate::fault::LineError;
@@ -15,9 +15,10 @@ pub(crate) fn text(alloc: Global, argument: &str) -> Result<String, AllocError>
 }
 
 /// Copies of arguments, in their order. They are refused only for want of memory.
-pub(crate) fn texts(alloc: Global, mut arguments: Parts<'_>) -> Result<Vec<String>, AllocError>
+pub(crate) fn texts(alloc: Global, arguments: &mut Parts<'_>) -> Result<Vec<String>, AllocError>
     ensures copied { IfOk result (λ texts. map (λ text. string_bytes text) texts.items
-        ≡ arguments.entry) }
+        ≡ arguments.old.parts) }
+    ensures taken { OnOk result (IsTaken arguments.old arguments.new) }
 {
     let mut texts = Vec::new(alloc);
     'arguments: while let Some(argument) = arguments.next() {
@@ -27,17 +28,22 @@ pub(crate) fn texts(alloc: Global, mut arguments: Parts<'_>) -> Result<Vec<Strin
 }
 
 /// A copy of the one argument. It is refused where there is none or another, or for want of memory.
-pub(crate) fn one_text(alloc: Global, arguments: Parts<'_>) -> Result<String, LineError>
-    ensures copied { Answers (λ text. string_bytes text) result (one_of arguments.entry) }
+pub(crate) fn one_text(alloc: Global, arguments: &mut Parts<'_>) -> Result<String, LineError>
+    ensures copied { Answers (λ text. string_bytes text) result (one_of arguments.old.parts) }
+    ensures taken { OnOk result (IsTaken arguments.old arguments.new) }
 {
     Ok(text(alloc, arguments.one()?)?)
 }
 
 /// Copies of the two arguments. They are refused where there are fewer or more, or for want of
 /// memory.
-pub(crate) fn two_texts(alloc: Global, arguments: Parts<'_>) -> Result<(String, String), LineError>
+pub(crate) fn two_texts(
+    alloc: Global,
+    arguments: &mut Parts<'_>,
+) -> Result<(String, String), LineError>
     ensures copied { Answers (λ texts. (string_bytes texts.0, string_bytes texts.1)) result
-        (two_of arguments.entry) }
+        (two_of arguments.old.parts) }
+    ensures taken { OnOk result (IsTaken arguments.old arguments.new) }
 {
     let (first, second) = arguments.two()?;
     Ok((text(alloc, first)?, text(alloc, second)?))
@@ -47,11 +53,12 @@ pub(crate) fn two_texts(alloc: Global, arguments: Parts<'_>) -> Result<(String, 
 /// memory.
 pub(crate) fn three_texts(
     alloc: Global,
-    arguments: Parts<'_>,
+    arguments: &mut Parts<'_>,
 ) -> Result<(String, String, String), LineError>
     ensures copied { Answers
         (λ texts. (string_bytes texts.0, string_bytes texts.1, string_bytes texts.2)) result
-        (three_of arguments.entry) }
+        (three_of arguments.old.parts) }
+    ensures taken { OnOk result (IsTaken arguments.old arguments.new) }
 {
     let (first, second, third) = arguments.three()?;
     Ok((
@@ -65,11 +72,12 @@ pub(crate) fn three_texts(
 /// for want of memory.
 pub(crate) fn first_and_others(
     alloc: Global,
-    mut arguments: Parts<'_>,
+    arguments: &mut Parts<'_>,
 ) -> Result<(String, Vec<String>), LineError>
     ensures copied { Answers
         (λ copies. (string_bytes copies.0, map (λ text. string_bytes text) copies.1.items)) result
-        (first_of arguments.entry) }
+        (first_of arguments.old.parts) }
+    ensures taken { OnOk result (IsTaken arguments.old arguments.new) }
 {
     let first = arguments.first()?;
     Ok((text(alloc, first)?, texts(alloc, arguments)?))

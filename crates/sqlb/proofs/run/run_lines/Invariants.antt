@@ -1,11 +1,17 @@
-use Rattle.std.proofs.Common.{◌≡◌, ◌+◌, ◌≤◌, false, length}
-use Rattle.sqlb.proofs.SoFar.{SoFar}
+use Rattle.std.proofs.Common.{◌≡◌, ◌+◌, ◌^◌, ◌<◌, ◌++◌, List, ℕ, [], false, length}
+use Rattle.sqlb.proofs.SoFar.{SoFar, Unread}
 use Rattle.sqlb.specs.Lines.{lines}
 use Rattle.sqlb.proofs.run.run_lines.Given as goal
 
 abbrev pub invariant-lines : goal.invariant-lines
-invariant-lines g l = (l.writer.failed ≡ false) × (l.writer.ended ≡ l.initial.writer.ended) × (l.number + length l.rest ≤ length l.text)
-    × SoFar (g.W.Write.contents l.initial.writer.inner) (g.W.Write.contents l.writer.inner) l.text l.number l.script (lines l.rest)
+invariant-lines g l = record {
+  not_failed : l.writer.failed ≡ false;
+  ended : l.writer.ended ≡ l.initial.writer.ended;
+  counted : l.number + length l.parts.behind < 2 ^ 63;
+  taken : l.parts.parts ≡ [];
+  ahead : (unread : List (List ℕ)) × Unread l.is_cut unread
+      × SoFar (g.W.Write.contents l.initial.writer.inner) (g.W.Write.contents l.writer.inner) l.input l.number l.script (lines l.parts.behind ++ unread);
+}
 
 abbrev pub decreases-lines : goal.decreases-lines
-decreases-lines g l = length l.rest
+decreases-lines g l = length l.parts.behind

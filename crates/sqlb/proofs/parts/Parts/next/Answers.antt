@@ -1,19 +1,27 @@
-use Rattle.std.proofs.Common.{◌≡◌, ◌∙◌, ◌==◌, Some, None, ap, refl, sym, lit<}
-use Rattle.std.proofs.lemmas.Str.Pattern.{split_once_first}
-use Rattle.sqlb.proofs.Splits.{only_part, parts_around}
-use Rattle.sqlb.specs.Lines.{parts_of}
-use Rattle.sqlb.specs.Parts.{parts_left}
+use Rattle.std.proofs.Common.{◌∙◌, Bool, ap, arith, drop, sym}
+use Rattle.sqlb.specs.Parts.{Left, left_of}
+use Rattle.sqlb.proofs.Splits.{boundary_at_end, boundary_behind, steps_to_end, steps_to_mark, within}
 use Rattle.sqlb.proofs.parts.Parts.next.Goals as goal
 
-pub returns-in-Some : goal.returns-in-Some
-returns-in-Some c =
-    let rest = c.in_ok-rest.rest.now in
-    let cut = split_once_first 9 rest (Some (c.in-Some.part, c.in-Some.behind)) c.in-Some.ensures.cases (lit< tt) in
-    let left : c.args.self.now ≡ parts_of rest = sym c.self.view_is ∙ ap parts_left c.in_ok-rest.was in
-    record { next = left ∙ parts_around (λ b. b == 9) rest cut.0 ∙ rw (← cut.1, ← cut.2) refl }
+pub range-part-requires-clause-end_boundary : goal.range-part-requires-clause-end_boundary
+range-part-requires-clause-end_boundary c = boundary_at_end c.self.inside.text.now c.self.inside.at c.end_of_part-end.result c.self.invariant.0 (rw c.as_bytes.ensures.value at c.end_of_part-end.ensures)
 
-pub returns-in-None : goal.returns-in-None
-returns-in-None c =
-    let rest = c.in_ok-rest.rest.now in
-    let left : c.args.self.now ≡ parts_of rest = sym c.self.view_is ∙ ap parts_left c.in_ok-rest.was in
-    record { next = left ∙ only_part (λ b. b == 9) rest (split_once_first 9 rest None c.in-None.ensures.cases (lit< tt)) }
+pub returns-then-end-text : goal.returns-then-end-text
+returns-then-end-text c =
+    let left = sym c.self.view_is ∙ ap (λ (b : Bool). left_of b (drop c.self.inside.at c.self.inside.text.now)) c.if-not-self.false
+    ∙ steps_to_end c.self.inside.text.now c.self.inside.at c.end_of_part-end.result c.self.invariant.0 (rw c.as_bytes.ensures.value at c.end_of_part-end.ensures) c.if-end-text.true in
+    record { next = rw c.range-part.ensures.value (ap (λ (l : Left). l.parts) left); behind = sym (ap (λ (l : Left). l.behind) left) }
+
+pub invariant_of-self-2 : goal.invariant_of-self-2
+invariant_of-self-2 c =
+    let is = rw c.as_bytes.ensures.value at c.end_of_part-end.ensures in
+    let bound = within c.self.inside.text.now c.self.inside.at c.end_of_part-end.result c.self.invariant.0 is in
+    boundary_behind c.self.inside.text.now c.self.inside.at c.end_of_part-end.result c.self.invariant.0 is (rw c.as_bytes-2.ensures.value at c.as_bytes-2.ensures.utf8) (omega (arith, bound, c.if-end-text.false))
+
+pub returns : goal.returns
+returns c =
+    let is = rw c.as_bytes.ensures.value at c.end_of_part-end.ensures in
+    let bound = within c.self.inside.text.now c.self.inside.at c.end_of_part-end.result c.self.invariant.0 is in
+    let left = sym c.self.view_is ∙ ap (λ (b : Bool). left_of b (drop c.self.inside.at c.self.inside.text.now)) c.if-not-self.false
+    ∙ steps_to_mark c.self.inside.text.now c.self.inside.at c.end_of_part-end.result c.self.invariant.0 is (omega (arith, bound, c.if-end-text.false)) in
+    record { next = rw (c.range-part.ensures.value, c.as_bytes-2.ensures.value) (ap (λ (l : Left). l.parts) left); behind = rw c.as_bytes-2.ensures.value (sym (ap (λ (l : Left). l.behind) left)) }
