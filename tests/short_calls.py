@@ -1,7 +1,7 @@
 """Reads the examples in doc comments, and writes them out as code.
 
 An example is a call, an arrow and what it prints, or a call that `is refused as` an error, or one that `appends` a text. It leaves out
-the allocator, `?` and boxes. One that begins with a dot is told to `select_from("t")`, and where a builder is left its `sql` is printed."""
+the allocator, `?`, boxes and the `&` of a list. One that begins with a dot is told to `select_from("t")`, and where a builder is left its `sql` is printed."""
 
 import re
 from dataclasses import dataclass
@@ -100,7 +100,8 @@ class Writer:
         if bracket == "[" and inside.startswith("("):
             return made + pairs(f"[{inside}]")
         if bracket == "[":
-            return f"{made}[{self.expanded(inside, owned)[0]}]"
+            sign = "&" if made.endswith("items: ") else ""
+            return f"{made}{sign}[{self.expanded(inside, owned)[0]}]"
         call = self.calls.get(name)
         arguments = self.arguments(name, inside, owned)
         if call and call.takes_memory:
