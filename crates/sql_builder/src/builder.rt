@@ -15,7 +15,6 @@ use std::alloc::Global;
 use std::marker::Model;
 
 /// A builder of a statement. Contracts see it as its clauses, each text as its bytes.
-#[derive(Drop)]
 pub struct SqlBuilder {
     pub(crate) alloc: Global,
     pub(crate) kind: Kind,
@@ -40,6 +39,34 @@ pub struct SqlBuilder {
     pub(crate) order_fields: TextList,
     pub(crate) limit: Option<String>,
     pub(crate) offset: Option<String>,
+}
+
+// A function of its own, so that a caller's proof sees one step where a builder is dropped, and not
+// one for each of its clauses.
+impl Drop for SqlBuilder {
+    fn drop(self) {
+        let SqlBuilder {
+            alloc: _,
+            kind: _,
+            table: _,
+            joins: _,
+            operator: _,
+            natural: _,
+            distinct: _,
+            fields: _,
+            sets: _,
+            rows: _,
+            query: _,
+            returning: _,
+            group_fields: _,
+            having: _,
+            conditions: _,
+            unions: _,
+            order_fields: _,
+            limit: _,
+            offset: _,
+        } = self;
+    }
 }
 
 impl Model for SqlBuilder {

@@ -319,6 +319,8 @@ pub fn make_order(
 
 /// Makes the call of this family that adds this condition. It fails only if memory runs out, and then
 /// leaves the builder as it was.
+/// `{ let mut b = select_from("t"); make_condition(&mut b, Family::And, BorrowedCondition::InList(false, "a", Items { items: ["1", "2"] })); b.sql() }` →
+/// `SELECT * FROM t WHERE a IN (1, 2);`
 pub fn make_condition<'a, T: Texts<'a>>(
     builder: &mut SqlBuilder,
     family: Family,
