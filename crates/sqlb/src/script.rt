@@ -11,11 +11,11 @@ ghost use Rattle.sqlb.specs.Script.{Runs, Tells, start_on};
 
 use crate::fault::{LineError, Reason};
 use crate::parts::Parts;
-use sql_builder::{SqlBuilder, SqlBuilderError};
 use sql_builder::calls::{
     BinaryClause, BorrowedCondition, Call, Family, Finish, UnaryClause, VariadicClause, make,
     make_binary, make_condition, make_order, make_unary, make_variadic, print, select_texts,
 };
+use sql_builder::{SqlBuilder, SqlBuilderError};
 use std::alloc::Global;
 use std::marker::Model;
 
