@@ -5,7 +5,7 @@ ghost use Rattle.sql_builder.specs.Views.{call_view, finish_view, start_view};
 ghost use Rattle.sql_builder.specs.Builder.{with_condition};
 ghost use Rattle.sql_builder.specs.Condition.{condition_view};
 ghost use Rattle.sql_builder.specs.Steps.{with_call};
-ghost use Rattle.sql_builder.specs.Calls.{clauses, kind_of};
+ghost use Rattle.sql_builder.specs.Calls.{SelectValues, clauses, kind_of};
 ghost use Rattle.sql_builder.specs.Clauses.{map_clauses};
 ghost use Rattle.sql_builder.specs.Meaning.{HasBalancedFragments, HasFitFragments, HasTruthOf, condition_groups, is_nested, is_unenclosed, prints_where};
 ghost use Rattle.sql_builder.specs.Fitting.{has_fit_conditions};
@@ -23,7 +23,7 @@ pub use crate::steps::{
     make_variadic,
 };
 use sql_parts::SqlBuilderError;
-use sql_parts::text::Items;
+use sql_parts::text::{Items, Texts};
 use std::alloc::Global;
 
 /// How a list of calls begins.
@@ -143,6 +143,20 @@ pub fn begin(alloc: Global, start: &Start) -> Result<SqlBuilder, SqlBuilderError
         Start::UpdateTable(table) => SqlBuilder::update_table(alloc, table),
         Start::DeleteFrom(table) => SqlBuilder::delete_from(alloc, table),
     }
+}
+
+/// A SELECT of values that are taken one after another, without a table. It fails only if memory runs
+/// out.
+/// `select_texts(Items { items: [1, 2] }).sql()` → `SELECT 1, 2;`
+pub fn select_texts<'a, T: Texts<'a>>(
+    alloc: Global,
+    values: T,
+) -> Result<SqlBuilder, SqlBuilderError>
+    ensures made { IfOk result (λ b. b
+        ≡ map_clauses pieces_text (clauses (SelectValues (T.left values)) [])) }
+    ensures memory { FailsOnlyByMemory result }
+{
+    SqlBuilder::select_texts(alloc, values)
 }
 
 /// Makes a call of a builder. It fails only if memory runs out, and then leaves the builder as it

@@ -1,16 +1,22 @@
 -- What a builder was told stands for the open statement.
-use Rattle.std.proofs.Common.{◌≡◌, ℕ, List, [], ◌∷◌, ◌++◌, Option, None, Some, Result, Ok, Err, String, string_bytes, refl, ap, sym}
-use Rattle.std.specs.Prelude.{IfSome, is_some, option_map}
+use Rattle.std.proofs.Common.{◌≡◌, ℕ, List, [], ◌∷◌, ◌++◌, Option, None, Some, Result, Ok, Err, String, string_bytes, false, refl, ap, sym}
+use Rattle.std.specs.Prelude.{IfSome, is_some, ok_or, option_map}
 use Rattle.sql_builder.specs.Builder.{ClauseTexts}
-use Rattle.sql_builder.specs.Calls.{FinishText, clauses}
+use Rattle.sql_builder.specs.Calls.{CallText, Cond, FinishText, clauses}
+use Rattle.sql_builder.specs.Condition.{ConditionText}
 use Rattle.sql_builder.specs.Clauses.{Clauses, map_clauses}
 use Rattle.sql_builder.specs.SqlBuilderError.{SqlBuilderError}
 use Rattle.sql_builder.specs.Statement.{layout_at, refusal_at, pieces_at, text_at, text_unless_refused, unless_refused}
+use Rattle.sql_builder.specs.Steps.{with_call}
 use Rattle.sql_builder.specs.Text.{Pieces, fixed_piece, pieces_text, raw_piece}
 use Rattle.sql_builder.proofs.Runs.{clauses-snoc, text_of_layout}
 use Rattle.sqlb.specs.Lines.{CommandResult, Starts, Calls, Finishes}
 use Rattle.sqlb.specs.Output.{OpenStatement, answer, finish_answer}
-use Rattle.sqlb.specs.Script.{printed, told, told_after, told_answer}
+use Rattle.sqlb.specs.Script.{Runs, Tells, printed, told, told_after, told_answer}
+use Rattle.sql_builder.specs.declared.condition.Family.{Family}
+use Rattle.sqlb.specs.declared.fault.LineError.{LineError}
+use Rattle.sqlb.specs.declared.fault.LineError.TheVariants.{Memory, Refused}
+use Rattle.sqlb.specs.declared.fault.Reason.TheVariants.{WrongArguments}
 
 printed-pieces : (finish : FinishText) (r : Clauses Pieces)
     → text_unless_refused (pieces_at finish r) ≡ printed finish (map_clauses pieces_text r)
@@ -58,3 +64,22 @@ prints_told finish r s result is text = by (refusal_at finish r)
     by : (o : Option SqlBuilderError) → IfSome o (λ refusal. result ≡ Err refusal) → finish_answer (unless_refused o (text_at finish r)) ≡ Ok (Some (string_bytes s))
     by None refused = ap (λ (t : List ℕ). Ok (Some t)) (sym text)
     by (Some refusal) refused = cc
+
+-- a call of the open statement is what a line that makes it does
+pub runs_call : {Z : Type 0} (result : Result (Option (String Z)) LineError) (old new : Option ClauseTexts) (call : CallText)
+    → Tells result old new (with_call call) → Runs result old new (Ok (Calls call))
+runs_call (Ok printed) None new call e = absurd e
+runs_call (Ok printed) (Some r) new call e = (rw e.0 refl, e.1)
+runs_call (Err (Refused reason)) None new call e = (ap Err (sym e.0), e.1)
+runs_call (Err (Refused reason)) (Some r) new call e = absurd e
+runs_call (Err Memory) old new call e = e
+
+-- the arguments of a condition that fit make its call
+pub makes_condition : (family : Family) (o : Option ConditionText) (condition : ConditionText) → ok_or o WrongArguments ≡ Ok condition
+    → ok_or (option_map (λ made. Calls (Cond family made)) o) WrongArguments ≡ Ok (Calls (Cond family condition))
+makes_condition family None condition e = cc
+makes_condition family (Some made) condition e = cc
+
+pub not_some : {A : Type 0} (o : Option A) → is_some o ≡ false → o ≡ None
+not_some None e = refl
+not_some (Some a) e = cc

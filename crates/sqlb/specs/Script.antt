@@ -1,27 +1,27 @@
 -- What the lines of an input do one after another.
-use Rattle.std.specs.Prelude.{◌≡◌, ℕ, List, [], Option, Some, None, Result, Ok, Err, option_map}
+use Rattle.std.specs.Prelude.{◌≡◌, ℕ, List, [], Option, Some, None, String, Result, Ok, Err, option_map, string_bytes}
 use Rattle.sql_builder.specs.Builder.{ClauseTexts}
-use Rattle.sql_builder.specs.Calls.{FinishText, clauses}
+use Rattle.sql_builder.specs.Calls.{FinishText, StartText, SelectFrom, InsertInto, UpdateTable, DeleteFrom, clauses}
 use Rattle.sql_builder.specs.Clauses.{map_clauses}
 use Rattle.sql_builder.specs.SqlBuilderError.{SqlBuilderError}
 use Rattle.sql_builder.specs.Statement.{refusal_at, text_at, unless_refused}
 use Rattle.sql_builder.specs.Steps.{with_call}
 use Rattle.sql_builder.specs.Text.{pieces_text}
-use Rattle.sql_builder.specs.Views.{start_view, call_view, finish_view}
 use Rattle.sqlb.specs.Lines.{CommandText, CommandResult, Starts, Calls, Finishes}
 use Rattle.sqlb.specs.Output.{OpenStatement, finish_answer}
 use Rattle.sqlb.specs.declared.fault.Reason.{Reason}
 use Rattle.sqlb.specs.declared.fault.Reason.TheVariants.{NoStatement, StatementOpen}
-use Rattle.sqlb.specs.declared.lines.Command.{Command}
-use Rattle.sqlb.specs.declared.lines.Command.TheVariants as command
+use Rattle.sqlb.specs.declared.script.TableStart.{TableStart}
+use Rattle.sqlb.specs.declared.script.TableStart.TheVariants as on
 use Rattle.sqlb.specs.declared.fault.LineError.{LineError}
 use Rattle.sqlb.specs.declared.fault.LineError.TheVariants.{Refused, Memory}
 
--- a command, each text as its bytes
-abbrev pub command_text : Command → CommandText
-command_text (command.Start start) = Starts (start_view start)
-command_text (command.Call call) = Calls (call_view call)
-command_text (command.Finish finish) = Finishes (finish_view finish)
+-- a start on this table
+abbrev pub start_on : TableStart → List ℕ → StartText
+start_on on.SelectFrom table = SelectFrom table
+start_on on.InsertInto table = InsertInto table
+start_on on.UpdateTable table = UpdateTable table
+start_on on.DeleteFrom table = DeleteFrom table
 
 -- what an open statement has told its builder
 abbrev pub told : OpenStatement → ClauseTexts
@@ -53,3 +53,17 @@ abbrev pub Answers : {V W : Type 0} → (V → W) → Result V LineError → Res
 Answers view (Ok value) wanted = wanted ≡ Ok (view value)
 Answers view (Err (Refused reason)) wanted = wanted ≡ Err reason
 Answers view (Err Memory) wanted = Unit {0}
+
+-- A line is run: it answers what is wanted, and the statement is what it is then, or stays as it was where the line is refused.
+abbrev pub Runs : {Z : Type 0} → Result (Option (String Z)) LineError → Option ClauseTexts → Option ClauseTexts → CommandResult → Type 0
+Runs (Ok printed) old new command = (told_answer old command ≡ Ok (option_map (λ s. string_bytes s) printed)) × (new ≡ told_after old command)
+Runs (Err (Refused reason)) old new command = (told_answer old command ≡ Err reason) × (new ≡ old)
+Runs (Err Memory) old new command = new ≡ old
+
+-- A call is made of the open statement, and nothing is printed.
+abbrev pub Tells : {Z : Type 0} → Result (Option (String Z)) LineError → Option ClauseTexts → Option ClauseTexts → (ClauseTexts → ClauseTexts) → Type 0
+Tells (Ok printed) None new told = ⊥
+Tells (Ok printed) (Some r) new told = (printed ≡ None) × (new ≡ Some (told r))
+Tells (Err (Refused reason)) None new told = (reason ≡ NoStatement) × (new ≡ None)
+Tells (Err (Refused reason)) (Some r) new told = ⊥
+Tells (Err Memory) old new told = new ≡ old

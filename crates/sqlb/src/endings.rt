@@ -1,6 +1,6 @@
 //! What follows `and_where` and `or_where` in the names of lines: which condition is added.
 ghost use Rattle.std.specs.Prelude.{◌≡◌, OnOk, ok_or};
-ghost use Rattle.sql_builder.specs.Condition.{condition_view};
+ghost use Rattle.sql_builder.specs.Condition.{borrowed_view};
 ghost use Rattle.sqlb.specs.Endings.{comparisons, condition_of, ending_of, likes, memberships};
 ghost use Rattle.sqlb.specs.Parts.{IsTaken};
 ghost use Rattle.sqlb.specs.Script.{Answers};
@@ -8,10 +8,9 @@ ghost use Rattle.sqlb.specs.Tables.{found_in};
 ghost use Rattle.sqlb.specs.declared.fault.Reason.TheVariants.{WrongArguments};
 
 use crate::fault::LineError;
+use crate::names::is;
 use crate::parts::Parts;
-use crate::texts::{first_and_others, one_text, three_texts, two_texts};
-use sql_builder::calls::{Condition, Percent, Relation};
-use std::alloc::Global;
+use sql_builder::calls::{BorrowedCondition, Percent, Relation};
 
 /// A condition, but for its texts. A truth value says whether it is the NOT form.
 #[derive(Clone, Copy)]
@@ -44,15 +43,15 @@ impl Ending {
         ensures { result ≡ found_in comparisons ending.now }
     {
         Some(match ending {
-            "" => Ending::Raw,
-            "_is_null" => Ending::IsNull,
-            "_is_not_null" => Ending::IsNotNull,
-            "_eq" => Ending::Compare(Relation::Eq),
-            "_ne" => Ending::Compare(Relation::Ne),
-            "_gt" => Ending::Compare(Relation::Gt),
-            "_ge" => Ending::Compare(Relation::Ge),
-            "_lt" => Ending::Compare(Relation::Lt),
-            "_le" => Ending::Compare(Relation::Le),
+            _ if is(ending, "") => Ending::Raw,
+            _ if is(ending, "_is_null") => Ending::IsNull,
+            _ if is(ending, "_is_not_null") => Ending::IsNotNull,
+            _ if is(ending, "_eq") => Ending::Compare(Relation::Eq),
+            _ if is(ending, "_ne") => Ending::Compare(Relation::Ne),
+            _ if is(ending, "_gt") => Ending::Compare(Relation::Gt),
+            _ if is(ending, "_ge") => Ending::Compare(Relation::Ge),
+            _ if is(ending, "_lt") => Ending::Compare(Relation::Lt),
+            _ if is(ending, "_le") => Ending::Compare(Relation::Le),
             _ => return None,
         })
     }
@@ -63,14 +62,14 @@ impl Ending {
         ensures { result ≡ found_in likes ending.now }
     {
         Some(match ending {
-            "_like" => Ending::Like(false, Percent::Plain),
-            "_like_right" => Ending::Like(false, Percent::Right),
-            "_like_left" => Ending::Like(false, Percent::Left),
-            "_like_any" => Ending::Like(false, Percent::Any),
-            "_not_like" => Ending::Like(true, Percent::Plain),
-            "_not_like_right" => Ending::Like(true, Percent::Right),
-            "_not_like_left" => Ending::Like(true, Percent::Left),
-            "_not_like_any" => Ending::Like(true, Percent::Any),
+            _ if is(ending, "_like") => Ending::Like(false, Percent::Plain),
+            _ if is(ending, "_like_right") => Ending::Like(false, Percent::Right),
+            _ if is(ending, "_like_left") => Ending::Like(false, Percent::Left),
+            _ if is(ending, "_like_any") => Ending::Like(false, Percent::Any),
+            _ if is(ending, "_not_like") => Ending::Like(true, Percent::Plain),
+            _ if is(ending, "_not_like_right") => Ending::Like(true, Percent::Right),
+            _ if is(ending, "_not_like_left") => Ending::Like(true, Percent::Left),
+            _ if is(ending, "_not_like_any") => Ending::Like(true, Percent::Any),
             _ => return None,
         })
     }
@@ -81,56 +80,54 @@ impl Ending {
         ensures { result ≡ found_in memberships ending.now }
     {
         Some(match ending {
-            "_in" => Ending::InList(false),
-            "_in_quoted" => Ending::InQuoted(false),
-            "_in_query" => Ending::InQuery(false),
-            "_between" => Ending::Between(false),
-            "_not_in" => Ending::InList(true),
-            "_not_in_quoted" => Ending::InQuoted(true),
-            "_not_in_query" => Ending::InQuery(true),
-            "_not_between" => Ending::Between(true),
+            _ if is(ending, "_in") => Ending::InList(false),
+            _ if is(ending, "_in_quoted") => Ending::InQuoted(false),
+            _ if is(ending, "_in_query") => Ending::InQuery(false),
+            _ if is(ending, "_between") => Ending::Between(false),
+            _ if is(ending, "_not_in") => Ending::InList(true),
+            _ if is(ending, "_not_in_quoted") => Ending::InQuoted(true),
+            _ if is(ending, "_not_in_query") => Ending::InQuery(true),
+            _ if is(ending, "_not_between") => Ending::Between(true),
             _ => return None,
         })
     }
 
-    /// The condition that the arguments make. It is refused where they don't fit, or for want of
-    /// memory.
-    pub(crate) fn condition(
+    /// The condition that the arguments make. It is refused where they don't fit.
+    pub(crate) fn condition<'a>(
         self,
-        alloc: Global,
-        arguments: &mut Parts<'_>,
-    ) -> Result<Condition, LineError>
-        ensures condition { Answers condition_view result
+        arguments: &mut Parts<'a>,
+    ) -> Result<BorrowedCondition<'a, Parts<'a>>, LineError>
+        ensures condition { Answers (borrowed_view (λ left. left.parts)) result
             (ok_or (condition_of self arguments.old.parts) WrongArguments) }
         ensures taken { OnOk result (IsTaken arguments.old arguments.new) }
     {
         match self {
-            Ending::Raw => Ok(Condition::Raw(one_text(alloc, arguments)?)),
-            Ending::IsNull => Ok(Condition::IsNull(one_text(alloc, arguments)?)),
-            Ending::IsNotNull => Ok(Condition::IsNotNull(one_text(alloc, arguments)?)),
+            Ending::Raw => Ok(BorrowedCondition::Raw(arguments.one()?)),
+            Ending::IsNull => Ok(BorrowedCondition::IsNull(arguments.one()?)),
+            Ending::IsNotNull => Ok(BorrowedCondition::IsNotNull(arguments.one()?)),
             Ending::Compare(relation) => {
-                let (field, value) = two_texts(alloc, arguments)?;
-                Ok(Condition::Compare(relation, field, value))
+                let (field, value) = arguments.two()?;
+                Ok(BorrowedCondition::Compare(relation, field, value))
             }
             Ending::Like(negated, percent) => {
-                let (field, mask) = two_texts(alloc, arguments)?;
-                Ok(Condition::Like(negated, percent, field, mask))
+                let (field, mask) = arguments.two()?;
+                Ok(BorrowedCondition::Like(negated, percent, field, mask))
             }
             Ending::InList(negated) => {
-                let (field, values) = first_and_others(alloc, arguments)?;
-                Ok(Condition::InList(negated, field, values))
+                let field = arguments.first()?;
+                Ok(BorrowedCondition::InList(negated, field, arguments.others()))
             }
             Ending::InQuoted(negated) => {
-                let (field, values) = first_and_others(alloc, arguments)?;
-                Ok(Condition::InQuoted(negated, field, values))
+                let field = arguments.first()?;
+                Ok(BorrowedCondition::InQuoted(negated, field, arguments.others()))
             }
             Ending::InQuery(negated) => {
-                let (field, query) = two_texts(alloc, arguments)?;
-                Ok(Condition::InQuery(negated, field, query))
+                let (field, query) = arguments.two()?;
+                Ok(BorrowedCondition::InQuery(negated, field, query))
             }
             Ending::Between(negated) => {
-                let (field, least, greatest) = three_texts(alloc, arguments)?;
-                Ok(Condition::Between(negated, field, least, greatest))
+                let (field, least, greatest) = arguments.three()?;
+                Ok(BorrowedCondition::Between(negated, field, least, greatest))
             }
         }
     }

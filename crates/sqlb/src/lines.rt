@@ -1,134 +1,18 @@
-//! Reads what lines say.
-ghost use Rattle.std.specs.Prelude.{OnOk, Some, ok_or};
-ghost use Rattle.sqlb.specs.Lines.{command_in_parts, command_with, flag_in};
+//! What each line makes of the open statement.
+ghost use Rattle.std.specs.Prelude.{◌≡◌, Ok, OnErr, OnOk, Some, ok_or, option_map, string_bytes};
+ghost use Rattle.sqlb.specs.Lines.{binary_command, command_in_parts, command_with, flag_in, nullary_command, unary_command, variadic_command};
 ghost use Rattle.sqlb.specs.Parts.{IsTaken};
-ghost use Rattle.sqlb.specs.Script.{Answers, command_text};
+ghost use Rattle.sqlb.specs.Script.{Answers, Runs, told_after, told_answer};
 ghost use Rattle.sqlb.specs.declared.fault.Reason.TheVariants.{WrongArguments};
-ghost use Rattle.sqlb.specs.declared.names.Meaning.TheVariants as takes;
 
-use crate::endings::Ending;
 use crate::fault::{LineError, Reason};
 use crate::names::{Binary, Flagged, Meaning, Nullary, Unary, Variadic};
 use crate::parts::Parts;
-use crate::texts::{one_text, text, texts, two_texts};
-use sql_builder::calls::{Call, Family, Finish, Start};
+use crate::script::{Script, TableStart};
+use sql_builder::calls::{BinaryClause, Call, Finish, UnaryClause, VariadicClause};
 use std::alloc::Global;
 
-/// What a line says.
-#[derive(Drop)]
-pub(crate) enum Command {
-    /// It opens a statement.
-    Start(Start),
-    /// It adds to the open statement.
-    Call(Call),
-    /// It prints the open statement.
-    Finish(Finish),
-}
-
-impl Nullary {
-    fn command(self, arguments: &mut Parts<'_>) -> Result<Command, LineError>
-        ensures command { Answers command_text result
-            (command_with (Some (takes.Nullary self)) arguments.old.parts) }
-        ensures taken { OnOk result (IsTaken arguments.old arguments.new) }
-    {
-        arguments.none()?;
-        Ok(match self {
-            Nullary::Natural => Command::Call(Call::Natural),
-            Nullary::Left => Command::Call(Call::Left),
-            Nullary::LeftOuter => Command::Call(Call::LeftOuter),
-            Nullary::Right => Command::Call(Call::Right),
-            Nullary::RightOuter => Command::Call(Call::RightOuter),
-            Nullary::Inner => Command::Call(Call::Inner),
-            Nullary::Cross => Command::Call(Call::Cross),
-            Nullary::Distinct => Command::Call(Call::Distinct),
-            Nullary::ReturningId => Command::Call(Call::ReturningId),
-            Nullary::Sql => Command::Finish(Finish::Sql),
-            Nullary::Query => Command::Finish(Finish::Query),
-            Nullary::QueryValues => Command::Finish(Finish::QueryValues),
-            Nullary::Subquery => Command::Finish(Finish::Subquery),
-        })
-    }
-}
-
-impl Unary {
-    fn command(self, alloc: Global, arguments: &mut Parts<'_>) -> Result<Command, LineError>
-        ensures command { Answers command_text result
-            (command_with (Some (takes.Unary self)) arguments.old.parts) }
-        ensures taken { OnOk result (IsTaken arguments.old arguments.new) }
-    {
-        let argument = one_text(alloc, arguments)?;
-        Ok(match self {
-            Unary::SelectFrom => Command::Start(Start::SelectFrom(argument)),
-            Unary::InsertInto => Command::Start(Start::InsertInto(argument)),
-            Unary::UpdateTable => Command::Start(Start::UpdateTable(argument)),
-            Unary::DeleteFrom => Command::Start(Start::DeleteFrom(argument)),
-            Unary::AndTable => Command::Call(Call::AndTable(argument)),
-            Unary::Join => Command::Call(Call::Join(argument)),
-            Unary::On => Command::Call(Call::On(argument)),
-            Unary::Field => Command::Call(Call::Field(argument)),
-            Unary::SetField => Command::Call(Call::SetField(argument)),
-            Unary::Count => Command::Call(Call::Count(argument)),
-            Unary::Select => Command::Call(Call::Select(argument)),
-            Unary::Returning => Command::Call(Call::Returning(argument)),
-            Unary::GroupBy => Command::Call(Call::GroupBy(argument)),
-            Unary::Having => Command::Call(Call::Having(argument)),
-            Unary::Union => Command::Call(Call::Union(argument)),
-            Unary::UnionAll => Command::Call(Call::UnionAll(argument)),
-            Unary::OrderAsc => Command::Call(Call::OrderAsc(argument)),
-            Unary::OrderDesc => Command::Call(Call::OrderDesc(argument)),
-            Unary::Limit => Command::Call(Call::Limit(argument)),
-            Unary::Offset => Command::Call(Call::Offset(argument)),
-            Unary::SubqueryAs => Command::Finish(Finish::SubqueryAs(argument)),
-        })
-    }
-}
-
-impl Binary {
-    fn command(self, alloc: Global, arguments: &mut Parts<'_>) -> Result<Command, LineError>
-        ensures command { Answers command_text result
-            (command_with (Some (takes.Binary self)) arguments.old.parts) }
-        ensures taken { OnOk result (IsTaken arguments.old arguments.new) }
-    {
-        let (first, second) = two_texts(alloc, arguments)?;
-        Ok(Command::Call(match self {
-            Binary::OnEq => Call::OnEq(first, second),
-            Binary::CountAs => Call::CountAs(first, second),
-            Binary::SetTo => Call::SetTo(first, second),
-            Binary::SetStr => Call::SetStr(first, second),
-        }))
-    }
-}
-
-impl Flagged {
-    fn command(self, alloc: Global, arguments: &mut Parts<'_>) -> Result<Command, LineError>
-        ensures command { Answers command_text result
-            (command_with (Some (takes.Flagged self)) arguments.old.parts) }
-        ensures taken { OnOk result (IsTaken arguments.old arguments.new) }
-    {
-        let (argument, flag) = arguments.two()?;
-        let flag = read_flag(flag)?;
-        let argument = text(alloc, argument)?;
-        Ok(match self {
-            Flagged::OrderBy => Command::Call(Call::OrderBy(argument, flag)),
-        })
-    }
-}
-
-impl Variadic {
-    fn command(self, alloc: Global, arguments: &mut Parts<'_>) -> Result<Command, LineError>
-        ensures command { Answers command_text result
-            (command_with (Some (takes.Variadic self)) arguments.old.parts) }
-        ensures taken { OnOk result (IsTaken arguments.old arguments.new) }
-    {
-        let arguments = texts(alloc, arguments)?;
-        Ok(match self {
-            Variadic::SelectValues => Command::Start(Start::SelectValues(arguments)),
-            Variadic::Fields => Command::Call(Call::Fields(arguments)),
-            Variadic::SetFields => Command::Call(Call::SetFields(arguments)),
-            Variadic::Values => Command::Call(Call::Values(arguments)),
-        })
-    }
-}
+const UNKNOWN_CALL: LineError = LineError::Refused(Reason::UnknownCall);
 
 fn read_flag(text: &str) -> Result<bool, LineError>
     ensures { Answers (λ flag. flag) result (ok_or (flag_in text.now) WrongArguments) }
@@ -140,39 +24,144 @@ fn read_flag(text: &str) -> Result<bool, LineError>
     }
 }
 
-fn read_arguments(
-    alloc: Global,
-    meaning: Meaning,
-    arguments: &mut Parts<'_>,
-) -> Result<Command, LineError>
-    ensures command { Answers command_text result
-        (command_with (Some meaning) arguments.old.parts) }
-    ensures taken { OnOk result (IsTaken arguments.old arguments.new) }
-{
-    match meaning {
-        Meaning::Nullary(meaning) => meaning.command(arguments),
-        Meaning::Unary(meaning) => meaning.command(alloc, arguments),
-        Meaning::Binary(meaning) => meaning.command(alloc, arguments),
-        Meaning::Flagged(meaning) => meaning.command(alloc, arguments),
-        Meaning::Variadic(meaning) => meaning.command(alloc, arguments),
-        Meaning::Where(family, ending) => {
-            let condition = ending.condition(alloc, arguments)?;
-            Ok(Command::Call(Call::Cond(family, condition)))
+impl Script {
+    /// Runs a line, and gives the statement that it finishes. Where it is refused, by the first
+    /// check that it fails or for want of memory, the same statement stays open.
+    pub(crate) fn take_line(
+        &mut self,
+        alloc: Global,
+        parts: &mut Parts<'_>,
+    ) -> Result<Option<String>, LineError>
+        ensures answer { Answers (option_map (λ s. string_bytes s)) result
+            (told_answer self.old (command_in_parts parts.old.parts)) }
+        ensures after { OnOk result
+            (self.new ≡ told_after self.old (command_in_parts parts.old.parts)) }
+        ensures err { OnErr result (self.new ≡ self.old) }
+        ensures taken { OnOk result (IsTaken parts.old parts.new) }
+    {
+        let Some(name) = parts.next() else {
+            return Err(UNKNOWN_CALL);
+        };
+        match Meaning::of(name) {
+            Some(meaning) => self.take(alloc, meaning, parts),
+            None => Err(UNKNOWN_CALL),
         }
     }
-}
 
-/// What a line says. It is refused with `UnknownCall` or `WrongArguments`, the first of them that
-/// holds.
-pub(crate) fn read_line(alloc: Global, parts: &mut Parts<'_>) -> Result<Command, LineError>
-    ensures command { Answers command_text result (command_in_parts parts.old.parts) }
-    ensures taken { OnOk result (IsTaken parts.old parts.new) }
-{
-    let Some(name) = parts.next() else {
-        return Err(LineError::Refused(Reason::UnknownCall));
-    };
-    match Meaning::of(name) {
-        Some(meaning) => read_arguments(alloc, meaning, parts),
-        None => Err(LineError::Refused(Reason::UnknownCall)),
+    fn take(
+        &mut self,
+        alloc: Global,
+        meaning: Meaning,
+        arguments: &mut Parts<'_>,
+    ) -> Result<Option<String>, LineError>
+        ensures ran { Runs result self.old self.new
+            (command_with (Some meaning) arguments.old.parts) }
+        ensures taken { OnOk result (IsTaken arguments.old arguments.new) }
+    {
+        match meaning {
+            Meaning::Nullary(meaning) => {
+                arguments.none()?;
+                self.take_nullary(meaning)
+            }
+            Meaning::Unary(meaning) => self.take_unary(alloc, meaning, arguments.one()?),
+            Meaning::Binary(meaning) => {
+                let (first, second) = arguments.two()?;
+                self.take_binary(meaning, first, second)
+            }
+            Meaning::Flagged(Flagged::OrderBy) => {
+                let (field, flag) = arguments.two()?;
+                self.tell_order(field, read_flag(flag)?)
+            }
+            Meaning::Variadic(meaning) => self.take_variadic(alloc, meaning, arguments.others()),
+            Meaning::Where(family, ending) => {
+                self.tell_condition(family, ending.condition(arguments)?)
+            }
+        }
+    }
+
+    fn take_nullary(&mut self, meaning: Nullary) -> Result<Option<String>, LineError>
+        ensures { Runs result self.old self.new (Ok (nullary_command meaning)) }
+    {
+        match meaning {
+            Nullary::Natural => self.tell(&Call::Natural),
+            Nullary::Left => self.tell(&Call::Left),
+            Nullary::LeftOuter => self.tell(&Call::LeftOuter),
+            Nullary::Right => self.tell(&Call::Right),
+            Nullary::RightOuter => self.tell(&Call::RightOuter),
+            Nullary::Inner => self.tell(&Call::Inner),
+            Nullary::Cross => self.tell(&Call::Cross),
+            Nullary::Distinct => self.tell(&Call::Distinct),
+            Nullary::ReturningId => self.tell(&Call::ReturningId),
+            Nullary::Sql => self.finish(&Finish::Sql),
+            Nullary::Query => self.finish(&Finish::Query),
+            Nullary::QueryValues => self.finish(&Finish::QueryValues),
+            Nullary::Subquery => self.finish(&Finish::Subquery),
+        }
+    }
+
+    fn take_unary(
+        &mut self,
+        alloc: Global,
+        meaning: Unary,
+        text: &str,
+    ) -> Result<Option<String>, LineError>
+        ensures { Runs result self.old self.new (Ok (unary_command meaning text.now)) }
+    {
+        match meaning {
+            Unary::SelectFrom => self.start_on(alloc, TableStart::SelectFrom, text),
+            Unary::InsertInto => self.start_on(alloc, TableStart::InsertInto, text),
+            Unary::UpdateTable => self.start_on(alloc, TableStart::UpdateTable, text),
+            Unary::DeleteFrom => self.start_on(alloc, TableStart::DeleteFrom, text),
+            Unary::AndTable => self.tell_unary(UnaryClause::AndTable, text),
+            Unary::Join => self.tell_unary(UnaryClause::Join, text),
+            Unary::On => self.tell_unary(UnaryClause::On, text),
+            Unary::Field => self.tell_unary(UnaryClause::Field, text),
+            Unary::SetField => self.tell_unary(UnaryClause::SetField, text),
+            Unary::Count => self.tell_unary(UnaryClause::Count, text),
+            Unary::Select => self.tell_unary(UnaryClause::Select, text),
+            Unary::Returning => self.tell_unary(UnaryClause::Returning, text),
+            Unary::GroupBy => self.tell_unary(UnaryClause::GroupBy, text),
+            Unary::Having => self.tell_unary(UnaryClause::Having, text),
+            Unary::Union => self.tell_unary(UnaryClause::Union, text),
+            Unary::UnionAll => self.tell_unary(UnaryClause::UnionAll, text),
+            Unary::OrderAsc => self.tell_unary(UnaryClause::OrderAsc, text),
+            Unary::OrderDesc => self.tell_unary(UnaryClause::OrderDesc, text),
+            Unary::Limit => self.tell_unary(UnaryClause::Limit, text),
+            Unary::Offset => self.tell_unary(UnaryClause::Offset, text),
+            Unary::SubqueryAs => self.finish_as(text),
+        }
+    }
+
+    fn take_binary<'a>(
+        &mut self,
+        meaning: Binary,
+        first: &'a str,
+        second: &'a str,
+    ) -> Result<Option<String>, LineError>
+        ensures { Runs result self.old self.new
+            (Ok (binary_command meaning first.now second.now)) }
+    {
+        match meaning {
+            Binary::OnEq => self.tell_binary(BinaryClause::OnEq, first, second),
+            Binary::CountAs => self.tell_binary(BinaryClause::CountAs, first, second),
+            Binary::SetTo => self.tell_binary(BinaryClause::SetTo, first, second),
+            Binary::SetStr => self.tell_binary(BinaryClause::SetStr, first, second),
+        }
+    }
+
+    fn take_variadic(
+        &mut self,
+        alloc: Global,
+        meaning: Variadic,
+        texts: Parts<'_>,
+    ) -> Result<Option<String>, LineError>
+        ensures { Runs result self.old self.new (Ok (variadic_command meaning texts.entry.parts)) }
+    {
+        match meaning {
+            Variadic::SelectValues => self.start_values(alloc, texts),
+            Variadic::Fields => self.tell_variadic(VariadicClause::Fields, texts),
+            Variadic::SetFields => self.tell_variadic(VariadicClause::SetFields, texts),
+            Variadic::Values => self.tell_variadic(VariadicClause::Values, texts),
+        }
     }
 }

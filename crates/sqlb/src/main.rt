@@ -16,7 +16,6 @@ mod script;
 #[cfg(test)]
 mod tests;
 mod text;
-mod texts;
 mod watched;
 
 use crate::fault::Fault;

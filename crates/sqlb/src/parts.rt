@@ -6,6 +6,10 @@ ghost use Rattle.sqlb.specs.Script.{Answers};
 
 use crate::fault::{LineError, Reason};
 use crate::scan::end_of_part;
+use sql_builder::SqlBuilderError;
+use sql_builder::text::Texts;
+use std::alloc::Global;
+use std::borrow::CowStr;
 use std::marker::Model;
 
 /// A text that is read line by line, part by part. Contracts see what is left of it.
@@ -132,6 +136,30 @@ impl<'a> Parts<'a> {
         match (self.next(), self.next(), self.next(), self.next()) {
             (Some(first), Some(second), Some(third), None) => Ok((first, second, third)),
             _ => Err(WRONG_ARGUMENTS),
+        }
+    }
+    /// The parts that are left, all of which are taken.
+    pub(crate) fn others(&mut self) -> Parts<'a>
+        ensures others { result.parts ≡ self.old.parts }
+        ensures taken { IsTaken self.old self.new }
+    {
+        let others = Parts {
+            text: self.text,
+            at: self.at,
+            in_line: self.in_line,
+        };
+        'parts: while self.next().is_some() {}
+        others
+    }
+}
+
+impl<'a> Texts<'a> for Parts<'a> {
+    ghost left = { λ parts. parts.parts };
+
+    fn next_text(&mut self, _alloc: Global) -> Result<Option<CowStr<'a>>, SqlBuilderError> {
+        match self.next() {
+            Some(part) => Ok(Some(CowStr::Borrowed(part))),
+            None => Ok(None),
         }
     }
 }

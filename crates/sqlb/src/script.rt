@@ -1,16 +1,49 @@
-//! Runs lines one after another.
-ghost use Rattle.std.specs.Prelude.{◌≡◌, None, OnErr, OnOk, is_some, option_map, string_bytes};
-ghost use Rattle.sqlb.specs.Lines.{command_in_parts};
-ghost use Rattle.sqlb.specs.Parts.{IsTaken};
-ghost use Rattle.sqlb.specs.Script.{Answers, told_after, told_answer};
+//! The statement that is open, and what the lines do to it.
+ghost use Rattle.std.specs.Prelude.{◌≡◌, IfOk, None, Ok, is_some};
+ghost use Rattle.sql_builder.specs.Builder.{started, with_condition, with_order};
+ghost use Rattle.sql_builder.specs.Calls.{SelectValues, SubqueryAs};
+ghost use Rattle.sql_builder.specs.Condition.{borrowed_view};
+ghost use Rattle.sql_builder.specs.Error.{FailsOnlyByMemory};
+ghost use Rattle.sql_builder.specs.Steps.{with_binary, with_call, with_unary, with_variadic};
+ghost use Rattle.sql_builder.specs.Views.{call_view, finish_view};
+ghost use Rattle.sqlb.specs.Lines.{Finishes, Starts};
+ghost use Rattle.sqlb.specs.Script.{Runs, Tells, start_on};
 
 use crate::fault::{LineError, Reason};
-use crate::lines::{Command, read_line};
 use crate::parts::Parts;
-use sql_builder::SqlBuilder;
-use sql_builder::calls::{Call, Finish, Start, begin, make, print};
+use sql_builder::calls::{
+    BinaryClause, BorrowedCondition, Call, Family, Finish, UnaryClause, VariadicClause, make,
+    make_binary, make_condition, make_order, make_unary, make_variadic, print, select_texts,
+};
+use sql_builder::{SqlBuilder, SqlBuilderError};
 use std::alloc::Global;
 use std::marker::Model;
+
+const NO_STATEMENT: LineError = LineError::Refused(Reason::NoStatement);
+
+/// How a statement on a table begins.
+#[derive(Clone, Copy)]
+pub(crate) enum TableStart {
+    SelectFrom,
+    InsertInto,
+    UpdateTable,
+    DeleteFrom,
+}
+
+impl TableStart {
+    #[inline(never)]
+    fn builder(self, alloc: Global, table: &str) -> Result<SqlBuilder, SqlBuilderError>
+        ensures made { IfOk result (λ b. b ≡ started (start_on self table.now)) }
+        ensures memory { FailsOnlyByMemory result }
+    {
+        match self {
+            TableStart::SelectFrom => SqlBuilder::select_from(alloc, table),
+            TableStart::InsertInto => SqlBuilder::insert_into(alloc, table),
+            TableStart::UpdateTable => SqlBuilder::update_table(alloc, table),
+            TableStart::DeleteFrom => SqlBuilder::delete_from(alloc, table),
+        }
+    }
+}
 
 /// The builder of the statement that is open, if one is. Contracts see what it was told.
 #[derive(Drop)]
@@ -28,9 +61,6 @@ impl Model for Script {
 }
 
 impl Script {
-    ghost use Rattle.sql_builder.specs.Views.{call_view, finish_view, start_view};
-    ghost use Rattle.sqlb.specs.Lines.{Starts, Calls, Finishes};
-
     /// No statement is open.
     pub(crate) fn new() -> Self
         ensures closed { result ≡ None }
@@ -45,66 +75,146 @@ impl Script {
         self.builder.is_some()
     }
 
-    /// Runs a line, and gives the statement that it finishes. Where it is refused, by the first
-    /// check that it fails or for want of memory, the same statement stays open.
-    pub(crate) fn take_line(
+    /// Opens a statement on a table, where none is open.
+    pub(crate) fn start_on(
         &mut self,
         alloc: Global,
-        parts: &mut Parts<'_>,
+        start: TableStart,
+        table: &str,
     ) -> Result<Option<String>, LineError>
-        ensures answer { Answers (option_map (λ s. string_bytes s)) result
-            (told_answer self.old (command_in_parts parts.old.parts)) }
-        ensures after { OnOk result
-            (self.new ≡ told_after self.old (command_in_parts parts.old.parts)) }
-        ensures err { OnErr result (self.new ≡ self.old) }
-        ensures taken { OnOk result (IsTaken parts.old parts.new) }
-    {
-        match read_line(alloc, parts)? {
-            Command::Start(start) => self.take_start(alloc, start),
-            Command::Call(call) => self.take_call(call),
-            Command::Finish(finish) => self.take_finish(&finish),
-        }
-    }
-
-    fn take_start(&mut self, alloc: Global, start: Start) -> Result<Option<String>, LineError>
-        ensures answer { Answers (option_map (λ s. string_bytes s)) result
-            (told_answer self.old (Ok (Starts (start_view start)))) }
-        ensures after { OnOk result
-            (self.new ≡ told_after self.old (Ok (Starts (start_view start)))) }
-        ensures err { OnErr result (self.new ≡ self.old) }
+        ensures { Runs result self.old self.new (Ok (Starts (start_on start table.now))) }
     {
         if self.builder.is_some() {
             return Err(LineError::Refused(Reason::StatementOpen));
         }
-        self.builder = Some(begin(alloc, &start)?);
+        self.builder = Some(start.builder(alloc, table)?);
         Ok(None)
     }
 
-    fn take_call(&mut self, call: Call) -> Result<Option<String>, LineError>
-        ensures answer { Answers (option_map (λ s. string_bytes s)) result
-            (told_answer self.old (Ok (Calls (call_view call)))) }
-        ensures after { OnOk result
-            (self.new ≡ told_after self.old (Ok (Calls (call_view call)))) }
-        ensures err { OnErr result (self.new ≡ self.old) }
+    /// Opens a statement of values, where none is open.
+    #[inline(never)]
+    pub(crate) fn start_values(
+        &mut self,
+        alloc: Global,
+        values: Parts<'_>,
+    ) -> Result<Option<String>, LineError>
+        ensures { Runs result self.old self.new (Ok (Starts (SelectValues values.entry.parts))) }
+    {
+        if self.builder.is_some() {
+            return Err(LineError::Refused(Reason::StatementOpen));
+        }
+        self.builder = Some(select_texts(alloc, values)?);
+        Ok(None)
+    }
+
+    /// Makes a call of the open statement.
+    pub(crate) fn tell(&mut self, call: &Call) -> Result<Option<String>, LineError>
+        ensures { Tells result self.old self.new (with_call (call_view call.now)) }
     {
         let Some(builder) = &mut self.builder else {
-            return Err(LineError::Refused(Reason::NoStatement));
+            return Err(NO_STATEMENT);
         };
-        make(builder, &call)?;
+        make(builder, call)?;
         Ok(None)
     }
 
-    fn take_finish(&mut self, finish: &Finish) -> Result<Option<String>, LineError>
-        ensures answer { Answers (option_map (λ s. string_bytes s)) result
-            (told_answer self.old (Ok (Finishes (finish_view finish.now)))) }
-        ensures after { OnOk result
-            (self.new ≡ told_after self.old (Ok (Finishes (finish_view finish.now)))) }
-        ensures err { OnErr result (self.new ≡ self.old) }
+    /// Makes a call of the open statement with one text.
+    pub(crate) fn tell_unary(
+        &mut self,
+        clause: UnaryClause,
+        text: &str,
+    ) -> Result<Option<String>, LineError>
+        ensures { Tells result self.old self.new (with_unary clause text.now) }
+    {
+        let Some(builder) = &mut self.builder else {
+            return Err(NO_STATEMENT);
+        };
+        make_unary(builder, clause, text)?;
+        Ok(None)
+    }
+
+    /// Makes a call of the open statement with two texts.
+    pub(crate) fn tell_binary<'a>(
+        &mut self,
+        clause: BinaryClause,
+        first: &'a str,
+        second: &'a str,
+    ) -> Result<Option<String>, LineError>
+        ensures { Tells result self.old self.new (with_binary clause first.now second.now) }
+    {
+        let Some(builder) = &mut self.builder else {
+            return Err(NO_STATEMENT);
+        };
+        make_binary(builder, clause, first, second)?;
+        Ok(None)
+    }
+
+    /// Orders the open statement by a field.
+    pub(crate) fn tell_order(
+        &mut self,
+        field: &str,
+        descending: bool,
+    ) -> Result<Option<String>, LineError>
+        ensures { Tells result self.old self.new (with_order descending field.now) }
+    {
+        let Some(builder) = &mut self.builder else {
+            return Err(NO_STATEMENT);
+        };
+        make_order(builder, field, descending)?;
+        Ok(None)
+    }
+
+    /// Makes a call of the open statement with a list of texts.
+    pub(crate) fn tell_variadic(
+        &mut self,
+        clause: VariadicClause,
+        texts: Parts<'_>,
+    ) -> Result<Option<String>, LineError>
+        ensures { Tells result self.old self.new (with_variadic clause texts.entry.parts) }
+    {
+        let Some(builder) = &mut self.builder else {
+            return Err(NO_STATEMENT);
+        };
+        make_variadic(builder, clause, texts)?;
+        Ok(None)
+    }
+
+    /// Adds a condition to the open statement.
+    pub(crate) fn tell_condition<'a>(
+        &mut self,
+        family: Family,
+        condition: BorrowedCondition<'a, Parts<'a>>,
+    ) -> Result<Option<String>, LineError>
+        ensures { Tells result self.old self.new
+            (with_condition family (borrowed_view (λ left. left.parts) condition.entry)) }
+    {
+        let Some(builder) = &mut self.builder else {
+            return Err(NO_STATEMENT);
+        };
+        make_condition(builder, family, condition)?;
+        Ok(None)
+    }
+
+    /// Prints the open statement, which is then closed.
+    pub(crate) fn finish(&mut self, finish: &Finish) -> Result<Option<String>, LineError>
+        ensures { Runs result self.old self.new (Ok (Finishes (finish_view finish.now))) }
     {
         let Some(builder) = &self.builder else {
-            return Err(LineError::Refused(Reason::NoStatement));
+            return Err(NO_STATEMENT);
         };
         let text = print(builder, finish)?;
+        self.builder = None;
+        Ok(Some(text))
+    }
+
+    /// Prints the open statement as a subquery of this name. The statement is then closed.
+    pub(crate) fn finish_as(&mut self, name: &str) -> Result<Option<String>, LineError>
+        ensures { Runs result self.old self.new (Ok (Finishes (SubqueryAs name.now))) }
+    {
+        let Some(builder) = &self.builder else {
+            return Err(NO_STATEMENT);
+        };
+        let text = builder.subquery_as(name)?;
         self.builder = None;
         Ok(Some(text))
     }
