@@ -9,13 +9,17 @@ ghost use Rattle.sql_builder.specs.Steps.{AddsBinary, RefusesBinary, RefusesUnar
 
 use crate::builder::SqlBuilder;
 use crate::clauses::{GroupedCondition, JoinOperator, append_to_last};
-use crate::concat::{Part, append, concat};
+use crate::concat::{Part, append};
 use crate::condition::{BorrowedCondition, Family};
 use crate::phrases::row;
 use crate::text_list::TextList;
 use sql_parts::lending::Held;
 use sql_parts::text::{Items, Texts};
 use sql_parts::{SqlBuilderError, ToText, escaped};
+
+// How many bytes are asked for at first for a join, so that one with a short constraint takes one
+// allocation.
+const JOIN_ROOM: usize = 40;
 
 /// A call with one text.
 #[derive(Clone, Copy)]
@@ -94,7 +98,8 @@ impl SqlBuilder {
     {
         let natural = if self.natural { "NATURAL " } else { "" };
         let words = JoinOperator::words(self.operator);
-        let join = concat(self.alloc, &[Part(natural), Part(words), Part(table)])?;
+        let mut join = String::with_capacity(self.alloc, JOIN_ROOM)?;
+        append(&mut join, &[Part(natural), Part(words), Part(table)])?;
         self.joins.push(join)?;
         self.natural = false;
         Ok(())

@@ -11,6 +11,9 @@ use sql_parts::text::Texts;
 use std::alloc::{AllocError, Global};
 use std::marker::Model;
 
+// How many bytes are asked for at first, so that few short texts take one allocation.
+const FIRST_ROOM: usize = 64;
+
 /// A list of texts, kept in one text with `, ` between each and the next. Contracts see the list.
 #[derive(Drop)]
 pub(crate) struct TextList {
@@ -63,6 +66,11 @@ impl TextList {
         if self.is_empty() { "" } else { ", " }
     }
 
+    // How much room is asked for at least: for the first text some for those to come too.
+    fn least_room(&self) -> usize {
+        if self.is_empty() { FIRST_ROOM } else { 0 }
+    }
+
     /// Appends a text that is made of parts. Where memory runs out, the list is as it was.
     pub(crate) fn push(&mut self, parts: &[Part<'_>]) -> Result<(), AllocError>
         ensures pushed { OnOk result (self.new ≡ self.old ++ concat_bytes parts.now ∷ []) }
@@ -70,7 +78,8 @@ impl TextList {
     {
         let gap = self.gap();
         let len = total_len(parts);
-        self.text.reserve(len.saturating_add(gap.len()))?;
+        let room = self.least_room().max(len.saturating_add(gap.len()));
+        self.text.reserve(room)?;
         self.lengths.reserve(1)?;
         self.text.push_str(gap)?;
         push_all(&mut self.text, parts)?;

@@ -55,17 +55,22 @@ pub fn esc<S: ToText>(alloc: Global, text: S) -> Result<String, SqlBuilderError>
     Ok(out)
 }
 
+// Room for so many marks that are doubled is taken at once.
+const SOME_MARKS: usize = 8;
+
 /// The text with each `'` in it doubled, borrowed where it has none. It fails only if memory runs
 /// out.
 /// `escaped("it's")` → `it''s`
 pub fn escaped(alloc: Global, text: &str) -> Result<CowStr<'_>, AllocError>
     ensures { IfOk result (λ s. cow_str_bytes s ≡ escaped text.now) }
 {
-    if split_at_mark(text, '\'').is_none() {
+    let Some((before, after)) = split_at_mark(text, '\'') else {
         return Ok(CowStr::Borrowed(text));
-    }
-    let mut out = String::new(alloc);
-    push_doubled(&mut out, '\'', text)?;
+    };
+    let mut out = String::with_capacity(alloc, text.len().saturating_add(SOME_MARKS))?;
+    out.push_str(before)?;
+    out.push_str("''")?;
+    push_doubled(&mut out, '\'', after)?;
     Ok(CowStr::Owned(out))
 }
 
