@@ -1,4 +1,4 @@
-use Rattle.std.proofs.Common.{◌∙◌, eqb, get_or, ap, arith}
+use Rattle.std.proofs.Common.{◌∙◌, eqb, get_or, ap}
 use Rattle.sql_parts.specs.declared.lexer.TheConstants.{WORD_BYTES}
 use Rattle.sql_parts.proofs.WordBytes.{word_bytes}
 use Rattle.sql_parts.proofs.lexer.is_word_byte.Goals as goal
