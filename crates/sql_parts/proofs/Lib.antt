@@ -33,5 +33,4 @@ pub mod Variants
 pub mod Waiting
 pub mod Walking
 pub mod Walks
-pub mod WordBytes
 pub mod WordTokens
