@@ -1,6 +1,6 @@
 -- What a token does to the BETWEENs that wait for their AND.
-use Rattle.std.proofs.Common.{◌≡◌, refl, sym, ◌∙◌, ap, ℕ, suc, ◌+◌, ◌<◌, Bool, true, false, not, cond, ◌&&◌, ◌||◌, eqb, leb, List, [], ◌∷◌, ◌++◌, length, reverse, Option, Some, None, unwrap_or, MatchOption, codes, inl, inr, arith}
-use Rattle.std.proofs.lemmas.Bool.{eqb-true, eq-eqb, ne_eqb, le-leb, lt-leb, leb-true, leb-false, cases_Bool, or_parts}
+use Rattle.std.proofs.Common.{◌≡◌, ◌≢◌, refl, sym, ◌∙◌, ap, ℕ, suc, ◌+◌, ◌<◌, Bool, true, false, not, cond, ◌&&◌, ◌||◌, eqb, leb, List, [], ◌∷◌, ◌++◌, length, reverse, Option, Some, None, unwrap_or, MatchOption, codes, inl, inr, arith}
+use Rattle.std.proofs.lemmas.Bool.{eqb-true, eq-eqb, ne_eqb, le-leb, lt-leb, leb-true, leb-false, cases_Bool}
 use Rattle.std.proofs.lemmas.Bool.Decides.{same_from_decides, Decides-eqb}
 use Rattle.std.proofs.lemmas.List.Sorted.{IsPermutation-reverse, list_any-IsPermutation}
 use Rattle.std.specs.List.{list_any}
@@ -10,6 +10,9 @@ use Rattle.std.proofs.Math.Bool.{and-false, and-true, beq, or-false, or-true}
 use Rattle.sql_parts.specs.Tokens.{Token}
 use Rattle.sql_parts.specs.Fragments.{has_ands, is_joining, is_word, lowers, raises, weight}
 use Rattle.sql_parts.specs.Waiting.{are_answered, is_answered}
+use Rattle.sql_parts.specs.Roles.{HasRole}
+use Rattle.sql_parts.specs.declared.roles.Role.{Role}
+use Rattle.sql_parts.specs.declared.roles.Role.TheVariants as role
 use Rattle.sql_parts.proofs.Waiting.{apart-lowers, apart-raises, has_ands-rule, is_and, lowers-apart, raises-alone, raises-apart, word_apart}
 
 answered-by : (height : ℕ) (token : Token) (ts : List Token) (up down and joined : Bool) → raises token ≡ up → lowers token ≡ down → is_and token ≡ and → is_joining token ≡ joined
@@ -164,12 +167,6 @@ all-joined waits outside token ts between up down a j b =
     all-flat waits outside token ts false true between up down a j b
     ∙ joined-left waits between (is_answered 0 0 ts) (are_answered 1 outside ts) (has_ands ts)
 
-pub no-join : (token : Token) → is_joining token ≡ false → is_word (codes "BETWEEN") token ≡ false
-no-join token none =
-    let others = or_parts (is_word (codes "OR") token) (is_and token || (is_word (codes "BETWEEN") token || false)) none in
-    let more = or_parts (is_and token) (is_word (codes "BETWEEN") token || false) others.1 in
-    (or_parts (is_word (codes "BETWEEN") token) false more.1).0
-
 pub all-other : (waits : Bool) (outside : List Bool) (token : Token) (ts : List Token) → raises token ≡ false → lowers token ≡ false → is_and token ≡ false → is_joining token ≡ false → is_word (codes "BETWEEN") token ≡ false
     → all_from (waits ∷ outside) (token ∷ ts) ≡ all_from (waits ∷ outside) ts
 all-other waits outside token ts up down a j b = all-flat waits outside token ts false false false up down a j b
@@ -207,3 +204,17 @@ none-waits waits outside =
     ∙ (λ i. not waits && not (list_any-IsPermutation (λ other. other) outside (reverse outside) (IsPermutation-reverse outside) i))
     ∙ not-or waits (list_any (λ other. other) (reverse outside))
     ∙ sym (and-true (are_answered 0 (waits ∷ reverse outside) []) ∙ are-empty 0 (waits ∷ reverse outside))
+
+-- a token with any other role changes nothing
+pub unmoved : (waits : Bool) (outside : List Bool) (one : Role) (token : Token) (ts : List Token) → HasRole one token
+    → one ≢ role.Raises → one ≢ role.Lowers → one ≢ role.And → one ≢ role.Or → one ≢ role.Between → all_from (waits ∷ outside) (token ∷ ts) ≡ all_from (waits ∷ outside) ts
+unmoved waits outside role.Raises token ts has up down and or between = absurd (up refl)
+unmoved waits outside role.Lowers token ts has up down and or between = absurd (down refl)
+unmoved waits outside role.And token ts has up down and or between = absurd (and refl)
+unmoved waits outside role.Or token ts has up down and or between = absurd (or refl)
+unmoved waits outside role.Between token ts has up down and or between = absurd (between refl)
+unmoved waits outside role.Parts token ts has up down and or between = all-other waits outside token ts has.raising has.lowering has.and has.joining has.between
+unmoved waits outside role.Not token ts has up down and or between = all-other waits outside token ts has.raising has.lowering has.and has.joining has.between
+unmoved waits outside role.Clause token ts has up down and or between = all-other waits outside token ts has.raising has.lowering has.and has.joining has.between
+unmoved waits outside role.Breaks token ts has up down and or between = all-other waits outside token ts has.raising has.lowering has.and has.joining has.between
+unmoved waits outside role.Plain token ts has up down and or between = all-other waits outside token ts has.raising has.lowering has.and has.joining has.between

@@ -1,10 +1,10 @@
 -- Levels of a list of tokens, counted from its front.
-use Rattle.std.proofs.Common.{◌≡◌, refl, sym, ◌∙◌, ap, ℕ, suc, ◌+◌, Bool, true, false, not, cond, ◌&&◌, ◌||◌, eqb, leb, List, [], ◌∷◌, length, map, take, ℤ, pos, ◌-ℤ◌, ◌≤ℤ◌, ◌<ℤ◌, inl, inr, arith}
+use Rattle.std.proofs.Common.{◌≡◌, refl, sym, ◌∙◌, ap, ℕ, suc, ◌+◌, Bool, true, false, not, cond, ◌&&◌, ◌||◌, eqb, leb, ltb, List, [], ◌∷◌, length, map, take, ℤ, pos, ◌-ℤ◌, ◌≤ℤ◌, ◌<ℤ◌, inl, inr, arith}
 use Rattle.std.specs.Prelude.{int_le}
 use Rattle.std.specs.Ordering.{int_eq}
 use Rattle.std.specs.List.{count_by, list_all, list_any}
 use Rattle.std.proofs.lemmas.Int.{ints}
-use Rattle.std.proofs.lemmas.Bool.{eqb-true, eq-eqb, leb-true, leb-false, cases_Bool}
+use Rattle.std.proofs.lemmas.Bool.{eqb-true, eq-eqb, le-leb, leb-true, leb-false, ltb-false, cases_Bool}
 use Rattle.std.proofs.lemmas.Bool.Decides.{same_from_decides, Decides-int_eq}
 use Rattle.std.proofs.lemmas.List.Folds.{list_all-map}
 use Rattle.std.proofs.lemmas.List.Sums.{sum_by-cons}
@@ -158,3 +158,14 @@ pub balanced-alone : (ts : List Token) → (is_balanced ts && not (has_outer (λ
 balanced-alone ts =
     (λ i. is_balanced ts && not (list_any (is_outer_place ts) (no_places ts i)) && not (never-first ts i))
     ∙ and-true (is_balanced ts && true) ∙ and-true (is_balanced ts)
+
+-- a token that may stand there goes along
+pub balances-step : (outer first : Token → Bool) (empty : Bool) (up down : ℕ) (token : Token) (ts behind : List Token) → ts ≡ token ∷ behind
+    → (empty && first token) ≡ false → (eqb up down && outer token) ≡ false → is_whole token ≡ true → ltb (up + weight raises token) (down + weight lowers token) ≡ false
+    → balances_from outer first false (up + weight raises token) (down + weight lowers token) behind ≡ balances_from outer first empty up down ts
+balances-step outer first empty up down token ts behind is none plain whole high =
+    let more = up + weight raises token in
+    let less = down + weight lowers token in
+    let level : leb less more ≡ true = le-leb less more (ltb-false more less high) in
+    sym (ap (balances_from outer first empty up down) is
+    ∙ (λ i. not (none i || plain i) && (whole i && level i) && balances_from outer first false more less behind))

@@ -7,6 +7,7 @@ pub mod Doubled
 pub mod FragmentRows
 pub mod JoinedTokens
 pub mod Kept
+pub mod Keywords
 pub mod LastPairs
 pub mod LevelCounts
 pub mod Lexing

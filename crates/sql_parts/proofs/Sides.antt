@@ -1,6 +1,7 @@
 -- The sides of OR, AND and NOT, read from the front of a list of tokens.
-use Rattle.std.proofs.Common.{◌≡◌, refl, ◌∙◌, ap, suc, Bool, true, false, not, ◌&&◌, ◌||◌, List, [], ◌∷◌}
+use Rattle.std.proofs.Common.{◌≡◌, refl, sym, ◌∙◌, ap, suc, Bool, true, false, not, ◌&&◌, ◌||◌, List, [], ◌∷◌}
 use Rattle.std.specs.List.{list_all}
+use Rattle.std.proofs.Math.Bool.{and_assoc}
 use Rattle.sql_parts.specs.Tokens.{Token}
 use Rattle.sql_parts.specs.Fragments.{has_left_sides, has_right_sides, is_at, is_before, is_closing, is_opening, needs_left, needs_right, places}
 use Rattle.sql_parts.proofs.LevelCounts.{each_place}
@@ -73,3 +74,13 @@ sides begins wants (token ∷ ts) =
 
 pub sides-are : (ts : List Token) → (has_left_sides ts && has_right_sides ts) ≡ has_sides_from true false ts
 sides-are ts = (λ i. left-is ts i && right-is ts i) ∙ sides true false ts
+
+-- a token that doesn't fit
+pub misfit : (begins wants : Bool) (token : Token) (ts : List Token) → (not (begins && needs_left token) && not (wants && is_closing token)) ≡ false
+    → has_sides_from begins wants (token ∷ ts) ≡ false
+misfit begins wants token ts is = sym (and_assoc (not (begins && needs_left token)) (not (wants && is_closing token)) _) ∙ ap (λ b. b && has_sides_from (is_opening token) (needs_right token) ts) is
+
+-- and one that does
+pub fit : (begins wants : Bool) (token : Token) (ts : List Token) → (not (begins && needs_left token) && not (wants && is_closing token)) ≡ true
+    → has_sides_from begins wants (token ∷ ts) ≡ has_sides_from (is_opening token) (needs_right token) ts
+fit begins wants token ts is = sym (and_assoc (not (begins && needs_left token)) (not (wants && is_closing token)) _) ∙ ap (λ b. b && has_sides_from (is_opening token) (needs_right token) ts) is

@@ -1,9 +1,7 @@
 -- What the code says of tokens, in the words of their definition.
 use Prim.Native.Char.{code}
-use Rattle.std.specs.Prelude.{◌≡◌, ℕ, Bool, ◌==◌, ◌||◌, List, [], ◌∷◌, Option, Some, None, drop, if◌then◌else◌, option_map}
+use Rattle.std.specs.Prelude.{◌≡◌, ℕ, ◌==◌, ◌||◌, List, [], ◌∷◌, Option, Some, None, drop, if◌then◌else◌, option_map}
 use Rattle.std.specs.Borrow.{Bor}
-use Rattle.std.specs.List.{list_any}
-use Rattle.sql_parts.specs.Fragments.{is_word}
 use Rattle.sql_parts.specs.Tokens as tokens
 use Rattle.sql_parts.specs.declared.lexer.Token.{Token}
 use Rattle.sql_parts.specs.declared.lexer.Token.TheVariants as seen
@@ -36,7 +34,3 @@ abbrev pub closing_mark : ℕ → Option ℕ
 closing_mark byte =
     if byte == code "'" || byte == code "\"" || byte == code "`" then Some byte
     else (if byte == code "[" then Some (code "]") else None)
-
--- a word that is one of the keywords that the code has
-abbrev pub is_listed_word : List (Bor (List ℕ)) → tokens.Token → Bool
-is_listed_word keywords token = list_any (λ keyword. is_word keyword.now token) keywords

@@ -2,39 +2,13 @@
 ghost use Rattle.std.specs.Prelude.{◌≡◌, ◌&&◌, [], ◌∷◌, List, IfOk, false, not, true};
 ghost use Rattle.sql_parts.specs.Error.{FailsOnlyByMemory};
 ghost use Rattle.sql_parts.specs.Fragments.{is_closing, is_opening, needs_left, needs_right};
-ghost use Rattle.sql_parts.specs.Lexing.{StandsFor};
+ghost use Rattle.sql_parts.specs.Roles.{HasRole};
 ghost use Rattle.sql_parts.specs.Tokens as tokens;
 ghost use Rattle.sql_parts.specs.Waiting.{all_have_ands, waiting};
 
 use crate::error::SqlBuilderError;
-use crate::levels::{lowers, raises};
-use crate::lexer::Token;
-use crate::words::{JOINING_WORDS, is_symbol, is_word, is_word_of};
+use crate::roles::Role;
 use std::alloc::Global;
-
-const OPENING_WORDS: [&str; 8] = [
-    "CASE", "WHEN", "THEN", "ELSE", "OR", "AND", "NOT", "BETWEEN",
-];
-
-const CLOSING_WORDS: [&str; 6] = ["END", "WHEN", "THEN", "ELSE", "OR", "AND"];
-
-const LEFT_WORDS: [&str; 2] = ["OR", "AND"];
-
-const RIGHT_WORDS: [&str; 3] = ["OR", "AND", "NOT"];
-
-// Whether an operand may begin behind the token.
-fn is_opening(token: Token<'_>) -> bool
-    ensures { (defined : tokens.Token) → StandsFor token.entry defined → result ≡ is_opening defined }
-{
-    is_symbol(token, b'(') || is_symbol(token, b',') || is_word_of(token, &OPENING_WORDS)
-}
-
-// Whether an operand may end before the token.
-fn is_closing(token: Token<'_>) -> bool
-    ensures { (defined : tokens.Token) → StandsFor token.entry defined → result ≡ is_closing defined }
-{
-    is_symbol(token, b')') || is_symbol(token, b',') || is_word_of(token, &CLOSING_WORDS)
-}
 
 /// What may not stand at the place reached.
 #[derive(Clone, Copy)]
@@ -57,21 +31,21 @@ impl Sides {
     }
 
     // Whether the token may stand there.
-    pub(crate) fn fits(self, token: Token<'_>) -> bool
-        ensures { (defined : tokens.Token) → StandsFor token.entry defined
+    pub(crate) fn fits(self, role: Role) -> bool
+        ensures { (defined : tokens.Token) → HasRole role defined
             → result ≡ (not (self.begins && needs_left defined) && not (self.wants && is_closing defined)) }
     {
-        !(self.begins && is_word_of(token, &LEFT_WORDS)) && !(self.wants && is_closing(token))
+        !(self.begins && role.needs_left()) && !(self.wants && role.closes())
     }
 
     // Behind the token.
-    pub(crate) fn behind(token: Token<'_>) -> Sides
-        ensures { (defined : tokens.Token) → StandsFor token.entry defined
+    pub(crate) fn behind(role: Role) -> Sides
+        ensures { (defined : tokens.Token) → HasRole role defined
             → result ≡ record { begins = is_opening defined; wants = needs_right defined } }
     {
         Sides {
-            begins: is_opening(token),
-            wants: is_word_of(token, &RIGHT_WORDS),
+            begins: role.opens(),
+            wants: role.needs_right(),
         }
     }
 
@@ -104,31 +78,38 @@ impl Betweens {
 
     // Reads the next token. It answers false where a BETWEEN that waits can't have its AND any
     // more.
-    pub(crate) fn read(&mut self, token: Token<'_>) -> Result<bool, SqlBuilderError>
-        ensures reads { (defined : tokens.Token) → StandsFor token.entry defined
+    pub(crate) fn read(&mut self, role: Role) -> Result<bool, SqlBuilderError>
+        ensures reads { (defined : tokens.Token) → HasRole role defined
             → IfOk result (λ may. (ts : List tokens.Token) → (may && all_have_ands self.new ts) ≡ all_have_ands self.old (defined ∷ ts)) }
         ensures memory { FailsOnlyByMemory result }
     {
-        if raises(token) {
-            self.outside.push(self.waits)?;
-            self.waits = false;
-            return Ok(true);
+        match role {
+            Role::Raises => {
+                self.outside.push(self.waits)?;
+                self.waits = false;
+                Ok(true)
+            }
+            Role::Lowers => {
+                let may = !self.waits;
+                self.waits = self.outside.pop().unwrap_or(false);
+                Ok(may)
+            }
+            Role::And => {
+                self.waits = false;
+                Ok(true)
+            }
+            Role::Or => {
+                let may = !self.waits;
+                self.waits = false;
+                Ok(may)
+            }
+            Role::Between => {
+                let may = !self.waits;
+                self.waits = true;
+                Ok(may)
+            }
+            _ => Ok(true),
         }
-        if lowers(token) {
-            let may = !self.waits;
-            self.waits = self.outside.pop().unwrap_or(false);
-            return Ok(may);
-        }
-        if is_word(token, "AND") {
-            self.waits = false;
-            return Ok(true);
-        }
-        if !is_word_of(token, &JOINING_WORDS) {
-            return Ok(true);
-        }
-        let may = !self.waits;
-        self.waits = is_word(token, "BETWEEN");
-        Ok(may)
     }
 
     // Whether none waits.

@@ -1,23 +1,10 @@
 //! The level of brackets at a place of a text, counted token by token.
 ghost use Rattle.std.specs.Prelude.{◌≡◌, ◌==◌, ◌+◌, ◌<◌, nat_lt};
 ghost use Rattle.sql_parts.specs.Fragments.{lowers, raises, weight};
-ghost use Rattle.sql_parts.specs.Lexing.{StandsFor};
+ghost use Rattle.sql_parts.specs.Roles.{HasRole};
 ghost use Rattle.sql_parts.specs.Tokens as tokens;
 
-use crate::lexer::Token;
-use crate::words::{is_symbol, is_word};
-
-pub(crate) fn raises(token: Token<'_>) -> bool
-    ensures { (defined : tokens.Token) → StandsFor token.entry defined → result ≡ raises defined }
-{
-    is_symbol(token, b'(') || is_word(token, "CASE")
-}
-
-pub(crate) fn lowers(token: Token<'_>) -> bool
-    ensures { (defined : tokens.Token) → StandsFor token.entry defined → result ≡ lowers defined }
-{
-    is_symbol(token, b')') || is_word(token, "END")
-}
+use crate::roles::Role;
 
 /// How many tokens before a place raised the level, and how many lowered it.
 #[derive(Clone, Copy)]
@@ -50,15 +37,15 @@ impl Level {
     }
 
     // The level behind a token.
-    pub(crate) fn behind(self, token: Token<'_>) -> Level
+    pub(crate) fn behind(self, role: Role) -> Level
         requires raised { self.raised < usize.MAX }
         requires lowered { self.lowered < usize.MAX }
-        ensures { (defined : tokens.Token) → StandsFor token.entry defined
+        ensures { (defined : tokens.Token) → HasRole role defined
             → result ≡ record { raised = self.raised + weight raises defined; lowered = self.lowered + weight lowers defined } }
     {
         Level {
-            raised: self.raised + usize::from(raises(token)),
-            lowered: self.lowered + usize::from(lowers(token)),
+            raised: self.raised + usize::from(role.raises()),
+            lowered: self.lowered + usize::from(role.lowers()),
         }
     }
 }

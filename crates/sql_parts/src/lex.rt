@@ -1,10 +1,10 @@
 //! Tests of fragments, which read a text as the tokens of SQL.
-ghost use Rattle.std.specs.Prelude.{◌≡◌, ◌&&◌, IfOk, not};
+ghost use Rattle.std.specs.Prelude.{◌≡◌, ◌&&◌, IfOk, codes, not};
 ghost use Rattle.sql_parts.specs.Apart.{apart};
 ghost use Rattle.sql_parts.specs.Error.{FailsOnlyByMemory};
-ghost use Rattle.sql_parts.specs.Fragments.{balanced, dangling, has_clause_word, has_outer, is_balanced, operand};
-ghost use Rattle.sql_parts.specs.Lexing.{is_listed_word};
+ghost use Rattle.sql_parts.specs.Fragments.{balanced, dangling, has_clause_word, has_outer, is_balanced, is_joining, is_word, operand};
 ghost use Rattle.sql_parts.specs.Places.{marks_of};
+ghost use Rattle.sql_parts.specs.Roles.{HasRole};
 ghost use Rattle.sql_parts.specs.Tokens as tokens;
 ghost use Rattle.sql_parts.specs.Tokens.{begins_with, has_semicolon};
 
@@ -16,7 +16,7 @@ use crate::levels::Level;
 pub use crate::lexer::is_closed;
 use crate::lexer::{Token, first_token};
 use crate::marks::Marks;
-use crate::words::{CLAUSE_WORDS, JOINING_WORDS, is_word_of};
+use crate::roles::{Role, first_role};
 use std::alloc::Global;
 
 /// Whether a `;` is among the tokens of the text. It can't be refused.
@@ -34,22 +34,37 @@ pub fn has_semicolon(text: &str) -> bool
     false
 }
 
-// Whether the text is balanced, none of the `outer` words stands at its level 0, and none of the
-// `first` words begins it.
-fn is_balanced_without(text: &str, outer: &[&str], first: &[&str]) -> bool
+// Whether the token may not be first, where the text is to be an operand.
+fn bars_first(operand: bool, role: Role) -> bool
+    ensures { (defined : tokens.Token) → HasRole role defined → result ≡ (operand && is_word (codes "NOT") defined) }
+{
+    operand && role.is_not()
+}
+
+// Whether the token may not stand at level 0, where the text is to be an operand.
+fn bars_outer(operand: bool, role: Role) -> bool
+    ensures { (defined : tokens.Token) → HasRole role defined → result ≡ (operand && is_joining defined) }
+{
+    operand && role.joins()
+}
+
+// Whether the text is balanced and, where it is to be an operand, has no OR, AND or BETWEEN at
+// level 0 and doesn't begin with NOT.
+#[inline(always)]
+fn is_balanced_as(text: &str, operand: bool) -> bool
     ensures { result ≡ (is_balanced (tokens.tokens text.now)
-        && not (has_outer (is_listed_word outer.now) (tokens.tokens text.now))
-        && not (begins_with (is_listed_word first.now) (tokens.tokens text.now))) }
+        && not (has_outer (λ token. operand && is_joining token) (tokens.tokens text.now))
+        && not (begins_with (λ token. operand && is_word (codes "NOT") token) (tokens.tokens text.now))) }
 {
     let mut level = Level::start();
     let mut is_empty = true;
     let mut rest = text;
-    while let Some((token, behind)) = first_token(rest) {
-        if is_empty && is_word_of(token, first) || level.is_outer() && is_word_of(token, outer) {
+    while let Some((role, behind)) = first_role(rest) {
+        if is_empty && bars_first(operand, role) || level.is_outer() && bars_outer(operand, role) {
             return false;
         }
-        level = level.behind(token);
-        if matches!(token, Token::Open | Token::Symbol(b';')) || level.is_below() {
+        level = level.behind(role);
+        if !role.is_whole() || level.is_below() {
             return false;
         }
         is_empty = false;
@@ -65,7 +80,7 @@ fn is_balanced_without(text: &str, outer: &[&str], first: &[&str]) -> bool
 pub fn is_balanced(text: &str) -> bool
     ensures { result ≡ balanced text.now }
 {
-    is_balanced_without(text, &[], &[])
+    is_balanced_as(text, false)
 }
 
 /// Whether the text is balanced, has no OR, AND or BETWEEN at level 0, and doesn't begin with NOT.
@@ -74,7 +89,7 @@ pub fn is_balanced(text: &str) -> bool
 pub fn is_operand(text: &str) -> bool
     ensures { result ≡ operand text.now }
 {
-    is_balanced_without(text, &JOINING_WORDS, &["NOT"])
+    is_balanced_as(text, true)
 }
 
 /// Whether a word that begins a clause stands at level 0 of the text: as many `(` and CASE stand
@@ -85,11 +100,11 @@ pub fn has_clause_word(text: &str) -> bool
 {
     let mut level = Level::start();
     let mut rest = text;
-    while let Some((token, behind)) = first_token(rest) {
-        if level.is_outer() && is_word_of(token, &CLAUSE_WORDS) {
+    while let Some((role, behind)) = first_role(rest) {
+        if level.is_outer() && role.is_clause() {
             return true;
         }
-        level = level.behind(token);
+        level = level.behind(role);
         rest = behind;
     }
     false
@@ -106,11 +121,11 @@ pub fn has_dangling(alloc: Global, text: &str) -> Result<bool, SqlBuilderError>
     let mut sides = Sides::start();
     let mut betweens = Betweens::new(alloc);
     let mut rest = text;
-    while let Some((token, behind)) = first_token(rest) {
-        if !sides.fits(token) || !betweens.read(token)? {
+    while let Some((role, behind)) = first_role(rest) {
+        if !sides.fits(role) || !betweens.read(role)? {
             return Ok(true);
         }
-        sides = Sides::behind(token);
+        sides = Sides::behind(role);
         rest = behind;
     }
     Ok(!sides.may_end() || !betweens.is_empty())

@@ -19,19 +19,34 @@ pub(crate) enum Token<'t> {
     Open,
 }
 
+// 1 for each byte that a word has, and 0 for each other.
+const WORD_BYTES: [u8; 256] = [
+    0, 0, 0, 0, 0, 0, 0, 0, 0, 0, 0, 0, 0, 0, 0, 0, 0, 0, 0, 0, 0, 0, 0, 0, 0, 0, 0, 0, 0, 0, 0, 0,
+    0, 0, 0, 0, 0, 0, 0, 0, 0, 0, 0, 0, 0, 0, 0, 0, 1, 1, 1, 1, 1, 1, 1, 1, 1, 1, 0, 0, 0, 0, 0, 0,
+    0, 1, 1, 1, 1, 1, 1, 1, 1, 1, 1, 1, 1, 1, 1, 1, 1, 1, 1, 1, 1, 1, 1, 1, 1, 1, 1, 0, 0, 0, 0, 1,
+    0, 1, 1, 1, 1, 1, 1, 1, 1, 1, 1, 1, 1, 1, 1, 1, 1, 1, 1, 1, 1, 1, 1, 1, 1, 1, 1, 0, 0, 0, 0, 0,
+    1, 1, 1, 1, 1, 1, 1, 1, 1, 1, 1, 1, 1, 1, 1, 1, 1, 1, 1, 1, 1, 1, 1, 1, 1, 1, 1, 1, 1, 1, 1, 1,
+    1, 1, 1, 1, 1, 1, 1, 1, 1, 1, 1, 1, 1, 1, 1, 1, 1, 1, 1, 1, 1, 1, 1, 1, 1, 1, 1, 1, 1, 1, 1, 1,
+    1, 1, 1, 1, 1, 1, 1, 1, 1, 1, 1, 1, 1, 1, 1, 1, 1, 1, 1, 1, 1, 1, 1, 1, 1, 1, 1, 1, 1, 1, 1, 1,
+    1, 1, 1, 1, 1, 1, 1, 1, 1, 1, 1, 1, 1, 1, 1, 1, 1, 1, 1, 1, 1, 1, 1, 1, 1, 1, 1, 1, 1, 1, 1, 1,
+];
+
+#[inline(always)]
 fn is_blank(byte: u8) -> bool
     ensures { result ≡ is_blank byte }
 {
     matches!(byte, b' ' | b'\t' | b'\n' | b'\r')
 }
 
+#[inline(always)]
 fn is_word_byte(byte: u8) -> bool
     ensures { result ≡ is_word_byte byte }
 {
-    byte.is_ascii_alphanumeric() || byte == b'_' || byte >= 0x80
+    WORD_BYTES[usize::from(byte)] == 1
 }
 
 // The mark that closes a quote which the byte opens, where it opens one.
+#[inline(always)]
 fn closing_mark(byte: u8) -> Option<char>
     ensures mark { result ≡ closing_mark byte }
     ensures one_byte { IfSome result (λ mark. mark < 128) }
@@ -71,6 +86,7 @@ fn behind_quote(mark: char, quoted: &str) -> Option<&str>
 
 // A comment or a quote: this token, and the text behind its end. Without an end it is open, up to
 // the end of the text.
+#[inline(always)]
 fn ended<'t>(token: Option<Token<'t>>, behind: Option<&'t str>) -> (Option<Token<'t>>, &'t str)
     ensures { MatchOption behind.entry ((result.0 ≡ Some seen.Open) × (result.1.now ≡ [])) (λ rest. result ≡ (token.entry, rest)) }
 {
@@ -81,6 +97,7 @@ fn ended<'t>(token: Option<Token<'t>>, behind: Option<&'t str>) -> (Option<Token
 }
 
 // The run of word characters at the front of a text, and the text behind it.
+#[inline(always)]
 fn split_word(text: &str) -> (&str, &str)
     ensures word { result.0.now ≡ take (prefix_len is_word_byte text.now) text.now }
     ensures rest { result.1.now ≡ drop (prefix_len is_word_byte text.now) text.now }
@@ -94,6 +111,7 @@ fn split_word(text: &str) -> (&str, &str)
 }
 
 // What the first rule that fits reads at the front of a text, and the text behind it.
+#[inline(always)]
 fn read(first: u8, text: &str) -> (Option<Token<'_>>, &str)
     requires first { text.now ≡ first ∷ drop 1 text.now }
     ensures { IsRead (drop 1 text.now) result (tokens.first first (drop 1 text.now)) }
@@ -102,15 +120,15 @@ fn read(first: u8, text: &str) -> (Option<Token<'_>>, &str)
         let (word, rest) = split_word(text);
         return (Some(Token::Word(word)), rest);
     }
+    let behind = &text[1..];
+    if is_blank(first) {
+        return (None, behind);
+    }
     if let Some(comment) = text.strip_prefix("--") {
         return ended(None, behind_ending("\n", comment));
     }
     if let Some(comment) = text.strip_prefix("/*") {
         return ended(None, behind_ending("*/", comment));
-    }
-    let behind = &text[1..];
-    if is_blank(first) {
-        return (None, behind);
     }
     match closing_mark(first) {
         Some(mark) => ended(Some(Token::Quoted), behind_quote(mark, behind)),
@@ -119,6 +137,7 @@ fn read(first: u8, text: &str) -> (Option<Token<'_>>, &str)
 }
 
 // The first token of a text, and the text behind it.
+#[inline(always)]
 pub(crate) fn first_token(text: &str) -> Option<(Token<'_>, &str)>
     ensures token { MatchOption result (tokens.tokens text.now ≡ [])
         (λ found. (token : tokens.Token) × StandsFor found.0 token

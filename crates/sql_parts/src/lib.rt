@@ -22,9 +22,9 @@ pub mod name;
 mod places;
 mod quotes;
 mod quoting;
+mod roles;
 mod scan;
 pub mod text;
-mod words;
 
 pub use arg::{Literal, SqlArg};
 pub use bind::{Bind, BindNames, Marks};

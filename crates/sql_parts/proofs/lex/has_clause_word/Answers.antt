@@ -4,8 +4,8 @@ use Rattle.sql_parts.specs.Tokens.{tokens}
 use Rattle.sql_parts.proofs.LevelCounts.{has_outer-is}
 use Rattle.sql_parts.proofs.lex.has_clause_word.Goals as goal
 
-pub loop-token-init : goal.loop-token-init
-loop-token-init c = record {
+pub loop-role-init : goal.loop-role-init
+loop-role-init c = record {
   text = search rules;
   raised = search rules;
   lowered = search rules;

@@ -6,13 +6,13 @@ use Rattle.sql_parts.specs.Tokens.{tokens}
 use Rattle.sql_parts.proofs.LevelCounts.{outer_from}
 use Rattle.sql_parts.proofs.lex.has_clause_word.Given as goal
 
-abbrev pub invariant-loop-token : goal.invariant-loop-token
-invariant-loop-token l = record {
+abbrev pub invariant-loop-role : goal.invariant-loop-role
+invariant-loop-role l = record {
   text : shadow (Utf8 l.rest);
   raised : l.level.raised + length l.rest ≤ length l.fn.text;
   lowered : l.level.lowered + length l.rest ≤ length l.fn.text;
   same : outer_from is_clause_word l.level.raised l.level.lowered (tokens l.rest) ≡ has_clause_word l.text;
 }
 
-abbrev pub decreases-loop-token : goal.decreases-loop-token
-decreases-loop-token l = length l.rest
+abbrev pub decreases-loop-role : goal.decreases-loop-role
+decreases-loop-role l = length l.rest

@@ -4,4 +4,4 @@ use Rattle.sql_parts.proofs.LevelCounts.{balanced-alone}
 use Rattle.sql_parts.proofs.lex.is_balanced.Goals as goal
 
 pub returns : goal.returns
-returns c = c.is_balanced_without.ensures ∙ balanced-alone (tokens c.args.text.now)
+returns c = c.is_balanced_as.ensures ∙ balanced-alone (tokens c.args.text.now)

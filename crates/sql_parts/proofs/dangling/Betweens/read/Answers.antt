@@ -1,38 +1,44 @@
-use Rattle.std.proofs.Common.{◌∷◌, ◌∙◌, ◌&&◌, not, ap, reverse, sym, false}
+use Rattle.std.proofs.Common.{◌∷◌, ◌∙◌, ◌&&◌, ap, false, not, reverse, subst, sym, true}
+use Rattle.sql_parts.specs.Roles.{HasRole}
 use Rattle.sql_parts.specs.Waiting.{waiting}
-use Rattle.sql_parts.proofs.Betweens.{all-and, all-joined, all-other, all-up, all_from, no-join, popped, pushed}
+use Rattle.sql_parts.proofs.Betweens.{all-and, all-joined, all-up, all_from, popped, pushed, unmoved}
 use Rattle.sql_parts.proofs.dangling.Betweens.read.Goals as goal
 
-pub returns-then-raises-clause-reads : goal.returns-then-raises-clause-reads
-returns-then-raises-clause-reads c = λ defined is ts.
-    ap (λ outside. all_from (false ∷ outside) ts) (pushed c.args.self.now.waits c.args.self.now.outside.items c.push.new.self.items c.in_ok-push.ensures.items)
-    ∙ sym (all-up (waiting c.args.self.now) defined ts (sym (c.raises.ensures defined is) ∙ c.if-raises.true))
+pub returns-in_ok-push-in-Raises-clause-reads : goal.returns-in_ok-push-in-Raises-clause-reads
+returns-in_ok-push-in-Raises-clause-reads c = λ defined is ts.
+    let old = c.args.self.now in
+    let has = subst (λ role. HasRole role defined) c.in-Raises.is is in
+    ap (λ outside. all_from (false ∷ outside) ts) (pushed old.waits old.outside.items c.push.new.self.items c.in_ok-push-in-Raises.ensures.items)
+    ∙ sym (all-up (waiting old) defined ts has.raising)
 
-pub returns-then-lowers-clause-reads : goal.returns-then-lowers-clause-reads
-returns-then-lowers-clause-reads c = λ defined is ts.
+pub returns-in-Lowers-clause-reads : goal.returns-in-Lowers-clause-reads
+returns-in-Lowers-clause-reads c = λ defined is ts.
     let old = c.args.self.now in
     let left = c.pop.new.self in
+    let has = subst (λ role. HasRole role defined) c.in-Lowers.is is in
     ap (λ waits. not old.waits && all_from (waits ∷ reverse left.items) ts) c.unwrap_or-self.ensures
-    ∙ popped old.waits c.pop.result old.outside.items left.items old.outside.len left.len defined ts
-    (sym (c.raises.ensures defined is) ∙ c.if-raises.false) (sym (c.lowers.ensures defined is) ∙ c.if-lowers.true)
-    c.pop.ensures.items old.outside.ok.0 c.pop.ensures.cases
+    ∙ popped old.waits c.pop.result old.outside.items left.items old.outside.len left.len defined ts has.raising has.lowering c.pop.ensures.items old.outside.ok.0 c.pop.ensures.cases
 
-pub returns-then-is_word-clause-reads : goal.returns-then-is_word-clause-reads
-returns-then-is_word-clause-reads c = λ defined is ts.
-    sym (all-and c.args.self.now.waits (reverse c.args.self.now.outside.items) defined ts (sym (c.is_word.ensures defined is) ∙ c.if-is_word.true))
-
-pub returns-then-not-is_word_of-clause-reads : goal.returns-then-not-is_word_of-clause-reads
-returns-then-not-is_word_of-clause-reads c = λ defined is ts.
+pub returns-in-And-clause-reads : goal.returns-in-And-clause-reads
+returns-in-And-clause-reads c = λ defined is ts.
     let old = c.args.self.now in
-    let none = sym (c.is_word_of.ensures defined is) ∙ c.if-not-is_word_of.true in
-    sym (all-other old.waits (reverse old.outside.items) defined ts
-    (sym (c.raises.ensures defined is) ∙ c.if-raises.false) (sym (c.lowers.ensures defined is) ∙ c.if-lowers.false)
-    (sym (c.is_word.ensures defined is) ∙ c.if-is_word.false) none (no-join defined none))
+    let has = subst (λ role. HasRole role defined) c.in-And.is is in
+    sym (all-and old.waits (reverse old.outside.items) defined ts has.and)
 
-pub returns-clause-reads : goal.returns-clause-reads
-returns-clause-reads c = λ defined is ts.
+pub returns-in-Or-clause-reads : goal.returns-in-Or-clause-reads
+returns-in-Or-clause-reads c = λ defined is ts.
     let old = c.args.self.now in
-    sym (all-joined old.waits (reverse old.outside.items) defined ts c.is_word-self.result
-    (sym (c.raises.ensures defined is) ∙ c.if-raises.false) (sym (c.lowers.ensures defined is) ∙ c.if-lowers.false)
-    (sym (c.is_word.ensures defined is) ∙ c.if-is_word.false) (sym (c.is_word_of.ensures defined is) ∙ c.if-not-is_word_of.false)
-    (sym (c.is_word-self.ensures defined is)))
+    let has = subst (λ role. HasRole role defined) c.in-Or.is is in
+    sym (all-joined old.waits (reverse old.outside.items) defined ts false has.raising has.lowering has.and has.joining has.between)
+
+pub returns-in-Between-clause-reads : goal.returns-in-Between-clause-reads
+returns-in-Between-clause-reads c = λ defined is ts.
+    let old = c.args.self.now in
+    let has = subst (λ role. HasRole role defined) c.in-Between.is is in
+    sym (all-joined old.waits (reverse old.outside.items) defined ts true has.raising has.lowering has.and has.joining has.between)
+
+pub returns-in_default-clause-reads : goal.returns-in_default-clause-reads
+returns-in_default-clause-reads c = λ defined is ts.
+    let old = c.args.self.now in
+    let any = c.in_default in
+    sym (unmoved old.waits (reverse old.outside.items) c.args.role defined ts is any.not-Raises any.not-Lowers any.not-And any.not-Or any.not-Between)
