@@ -8,7 +8,6 @@ ghost use Rattle.sqlb.specs.Tables.{found_in};
 ghost use Rattle.sqlb.specs.declared.fault.Reason.TheVariants.{WrongArguments};
 
 use crate::fault::LineError;
-use crate::names::is;
 use crate::parts::Parts;
 use sql_builder::calls::{BorrowedCondition, Percent, Relation};
 
@@ -43,15 +42,15 @@ impl Ending {
         ensures { result ≡ found_in comparisons ending.now }
     {
         Some(match ending {
-            _ if is(ending, "") => Ending::Raw,
-            _ if is(ending, "_is_null") => Ending::IsNull,
-            _ if is(ending, "_is_not_null") => Ending::IsNotNull,
-            _ if is(ending, "_eq") => Ending::Compare(Relation::Eq),
-            _ if is(ending, "_ne") => Ending::Compare(Relation::Ne),
-            _ if is(ending, "_gt") => Ending::Compare(Relation::Gt),
-            _ if is(ending, "_ge") => Ending::Compare(Relation::Ge),
-            _ if is(ending, "_lt") => Ending::Compare(Relation::Lt),
-            _ if is(ending, "_le") => Ending::Compare(Relation::Le),
+            "" => Ending::Raw,
+            "_is_null" => Ending::IsNull,
+            "_is_not_null" => Ending::IsNotNull,
+            "_eq" => Ending::Compare(Relation::Eq),
+            "_ne" => Ending::Compare(Relation::Ne),
+            "_gt" => Ending::Compare(Relation::Gt),
+            "_ge" => Ending::Compare(Relation::Ge),
+            "_lt" => Ending::Compare(Relation::Lt),
+            "_le" => Ending::Compare(Relation::Le),
             _ => return None,
         })
     }
@@ -62,14 +61,14 @@ impl Ending {
         ensures { result ≡ found_in likes ending.now }
     {
         Some(match ending {
-            _ if is(ending, "_like") => Ending::Like(false, Percent::Plain),
-            _ if is(ending, "_like_right") => Ending::Like(false, Percent::Right),
-            _ if is(ending, "_like_left") => Ending::Like(false, Percent::Left),
-            _ if is(ending, "_like_any") => Ending::Like(false, Percent::Any),
-            _ if is(ending, "_not_like") => Ending::Like(true, Percent::Plain),
-            _ if is(ending, "_not_like_right") => Ending::Like(true, Percent::Right),
-            _ if is(ending, "_not_like_left") => Ending::Like(true, Percent::Left),
-            _ if is(ending, "_not_like_any") => Ending::Like(true, Percent::Any),
+            "_like" => Ending::Like(false, Percent::Plain),
+            "_like_right" => Ending::Like(false, Percent::Right),
+            "_like_left" => Ending::Like(false, Percent::Left),
+            "_like_any" => Ending::Like(false, Percent::Any),
+            "_not_like" => Ending::Like(true, Percent::Plain),
+            "_not_like_right" => Ending::Like(true, Percent::Right),
+            "_not_like_left" => Ending::Like(true, Percent::Left),
+            "_not_like_any" => Ending::Like(true, Percent::Any),
             _ => return None,
         })
     }
@@ -80,14 +79,14 @@ impl Ending {
         ensures { result ≡ found_in memberships ending.now }
     {
         Some(match ending {
-            _ if is(ending, "_in") => Ending::InList(false),
-            _ if is(ending, "_in_quoted") => Ending::InQuoted(false),
-            _ if is(ending, "_in_query") => Ending::InQuery(false),
-            _ if is(ending, "_between") => Ending::Between(false),
-            _ if is(ending, "_not_in") => Ending::InList(true),
-            _ if is(ending, "_not_in_quoted") => Ending::InQuoted(true),
-            _ if is(ending, "_not_in_query") => Ending::InQuery(true),
-            _ if is(ending, "_not_between") => Ending::Between(true),
+            "_in" => Ending::InList(false),
+            "_in_quoted" => Ending::InQuoted(false),
+            "_in_query" => Ending::InQuery(false),
+            "_between" => Ending::Between(false),
+            "_not_in" => Ending::InList(true),
+            "_not_in_quoted" => Ending::InQuoted(true),
+            "_not_in_query" => Ending::InQuery(true),
+            "_not_between" => Ending::Between(true),
             _ => return None,
         })
     }

@@ -1,5 +1,5 @@
 //! The names that a line may begin with.
-ghost use Rattle.std.specs.Prelude.{◌≡◌, ◌≢◌, ◌++◌, ℕ, List, bytes_eq, false};
+ghost use Rattle.std.specs.Prelude.{◌≡◌, ◌≢◌, ◌++◌, ℕ, List, false};
 ghost use Rattle.sqlb.specs.Names.{condition_call, meaning_of, other_call};
 ghost use Rattle.sqlb.specs.Names.{ends, finishes, joins, lists, starts};
 ghost use Rattle.sqlb.specs.Tables.{found_in};
@@ -92,14 +92,6 @@ pub(crate) enum Variadic {
     Values,
 }
 
-/// Whether two names are equal. Their lengths are compared first, where this is called.
-#[inline(always)]
-pub(crate) fn is<'a>(name: &'a str, other: &'a str) -> bool
-    ensures { result ≡ bytes_eq name.now other.now }
-{
-    name.len() == other.len() && name == other
-}
-
 // Whether the first byte leaves it open that a name begins with a prefix.
 #[inline(always)]
 fn may_begin<'a>(name: &'a str, prefix: &'a str) -> bool
@@ -130,11 +122,11 @@ fn start_call(name: &str) -> Option<Meaning>
     ensures { result ≡ found_in starts name.now }
 {
     Some(match name {
-        _ if is(name, "select_from") => Meaning::Unary(Unary::SelectFrom),
-        _ if is(name, "insert_into") => Meaning::Unary(Unary::InsertInto),
-        _ if is(name, "update_table") => Meaning::Unary(Unary::UpdateTable),
-        _ if is(name, "delete_from") => Meaning::Unary(Unary::DeleteFrom),
-        _ if is(name, "select_values") => Meaning::Variadic(Variadic::SelectValues),
+        "select_from" => Meaning::Unary(Unary::SelectFrom),
+        "insert_into" => Meaning::Unary(Unary::InsertInto),
+        "update_table" => Meaning::Unary(Unary::UpdateTable),
+        "delete_from" => Meaning::Unary(Unary::DeleteFrom),
+        "select_values" => Meaning::Variadic(Variadic::SelectValues),
         _ => return None,
     })
 }
@@ -145,17 +137,17 @@ fn join_call(name: &str) -> Option<Meaning>
     ensures { result ≡ found_in joins name.now }
 {
     Some(match name {
-        _ if is(name, "and_table") => Meaning::Unary(Unary::AndTable),
-        _ if is(name, "natural") => Meaning::Nullary(Nullary::Natural),
-        _ if is(name, "left") => Meaning::Nullary(Nullary::Left),
-        _ if is(name, "left_outer") => Meaning::Nullary(Nullary::LeftOuter),
-        _ if is(name, "right") => Meaning::Nullary(Nullary::Right),
-        _ if is(name, "right_outer") => Meaning::Nullary(Nullary::RightOuter),
-        _ if is(name, "inner") => Meaning::Nullary(Nullary::Inner),
-        _ if is(name, "cross") => Meaning::Nullary(Nullary::Cross),
-        _ if is(name, "join") => Meaning::Unary(Unary::Join),
-        _ if is(name, "on") => Meaning::Unary(Unary::On),
-        _ if is(name, "on_eq") => Meaning::Binary(Binary::OnEq),
+        "and_table" => Meaning::Unary(Unary::AndTable),
+        "natural" => Meaning::Nullary(Nullary::Natural),
+        "left" => Meaning::Nullary(Nullary::Left),
+        "left_outer" => Meaning::Nullary(Nullary::LeftOuter),
+        "right" => Meaning::Nullary(Nullary::Right),
+        "right_outer" => Meaning::Nullary(Nullary::RightOuter),
+        "inner" => Meaning::Nullary(Nullary::Inner),
+        "cross" => Meaning::Nullary(Nullary::Cross),
+        "join" => Meaning::Unary(Unary::Join),
+        "on" => Meaning::Unary(Unary::On),
+        "on_eq" => Meaning::Binary(Binary::OnEq),
         _ => return None,
     })
 }
@@ -166,19 +158,19 @@ fn list_call(name: &str) -> Option<Meaning>
     ensures { result ≡ found_in lists name.now }
 {
     Some(match name {
-        _ if is(name, "distinct") => Meaning::Nullary(Nullary::Distinct),
-        _ if is(name, "field") => Meaning::Unary(Unary::Field),
-        _ if is(name, "fields") => Meaning::Variadic(Variadic::Fields),
-        _ if is(name, "set_field") => Meaning::Unary(Unary::SetField),
-        _ if is(name, "set_fields") => Meaning::Variadic(Variadic::SetFields),
-        _ if is(name, "count") => Meaning::Unary(Unary::Count),
-        _ if is(name, "count_as") => Meaning::Binary(Binary::CountAs),
-        _ if is(name, "set") => Meaning::Binary(Binary::SetTo),
-        _ if is(name, "set_str") => Meaning::Binary(Binary::SetStr),
-        _ if is(name, "values") => Meaning::Variadic(Variadic::Values),
-        _ if is(name, "select") => Meaning::Unary(Unary::Select),
-        _ if is(name, "returning") => Meaning::Unary(Unary::Returning),
-        _ if is(name, "returning_id") => Meaning::Nullary(Nullary::ReturningId),
+        "distinct" => Meaning::Nullary(Nullary::Distinct),
+        "field" => Meaning::Unary(Unary::Field),
+        "fields" => Meaning::Variadic(Variadic::Fields),
+        "set_field" => Meaning::Unary(Unary::SetField),
+        "set_fields" => Meaning::Variadic(Variadic::SetFields),
+        "count" => Meaning::Unary(Unary::Count),
+        "count_as" => Meaning::Binary(Binary::CountAs),
+        "set" => Meaning::Binary(Binary::SetTo),
+        "set_str" => Meaning::Binary(Binary::SetStr),
+        "values" => Meaning::Variadic(Variadic::Values),
+        "select" => Meaning::Unary(Unary::Select),
+        "returning" => Meaning::Unary(Unary::Returning),
+        "returning_id" => Meaning::Nullary(Nullary::ReturningId),
         _ => return None,
     })
 }
@@ -189,15 +181,15 @@ fn end_call(name: &str) -> Option<Meaning>
     ensures { result ≡ found_in ends name.now }
 {
     Some(match name {
-        _ if is(name, "group_by") => Meaning::Unary(Unary::GroupBy),
-        _ if is(name, "having") => Meaning::Unary(Unary::Having),
-        _ if is(name, "order_by") => Meaning::Flagged(Flagged::OrderBy),
-        _ if is(name, "order_asc") => Meaning::Unary(Unary::OrderAsc),
-        _ if is(name, "order_desc") => Meaning::Unary(Unary::OrderDesc),
-        _ if is(name, "limit") => Meaning::Unary(Unary::Limit),
-        _ if is(name, "offset") => Meaning::Unary(Unary::Offset),
-        _ if is(name, "union") => Meaning::Unary(Unary::Union),
-        _ if is(name, "union_all") => Meaning::Unary(Unary::UnionAll),
+        "group_by" => Meaning::Unary(Unary::GroupBy),
+        "having" => Meaning::Unary(Unary::Having),
+        "order_by" => Meaning::Flagged(Flagged::OrderBy),
+        "order_asc" => Meaning::Unary(Unary::OrderAsc),
+        "order_desc" => Meaning::Unary(Unary::OrderDesc),
+        "limit" => Meaning::Unary(Unary::Limit),
+        "offset" => Meaning::Unary(Unary::Offset),
+        "union" => Meaning::Unary(Unary::Union),
+        "union_all" => Meaning::Unary(Unary::UnionAll),
         _ => return None,
     })
 }
@@ -208,11 +200,11 @@ fn finish_call(name: &str) -> Option<Meaning>
     ensures { result ≡ found_in finishes name.now }
 {
     Some(match name {
-        _ if is(name, "sql") => Meaning::Nullary(Nullary::Sql),
-        _ if is(name, "query") => Meaning::Nullary(Nullary::Query),
-        _ if is(name, "query_values") => Meaning::Nullary(Nullary::QueryValues),
-        _ if is(name, "subquery") => Meaning::Nullary(Nullary::Subquery),
-        _ if is(name, "subquery_as") => Meaning::Unary(Unary::SubqueryAs),
+        "sql" => Meaning::Nullary(Nullary::Sql),
+        "query" => Meaning::Nullary(Nullary::Query),
+        "query_values" => Meaning::Nullary(Nullary::QueryValues),
+        "subquery" => Meaning::Nullary(Nullary::Subquery),
+        "subquery_as" => Meaning::Unary(Unary::SubqueryAs),
         _ => return None,
     })
 }
