@@ -1,10 +1,12 @@
 -- What doubling makes of a text that is cut at its first mark, and that doubled texts are told apart.
-use Rattle.std.proofs.Common.{◌≡◌, ◌≢◌, ℕ, suc, ◌<◌, List, [], ◌∷◌, ◌++◌, length, get_or, Option, Some, None, refl, arith}
+use Rattle.std.proofs.Common.{◌≡◌, ◌≢◌, ℕ, zero, suc, ◌+◌, ◌<◌, ◌≤◌, List, [], ◌∷◌, ◌++◌, length, get_or, take, drop, Option, Some, None, refl, subst, arith}
 use Rattle.std.specs.Borrow.{Bor}
+use Rattle.std.specs.Str.{IsCharBoundary, IsUtf8}
 use Rattle.std.specs.Prelude.{MatchOption, if◌then◌else◌, ◌==◌}
 use Rattle.std.proofs.lemmas.Grind.{flat_map-append}
 use Rattle.std.proofs.lemmas.Bool.Decides.{nat_tests}
 use Rattle.std.proofs.lemmas.List.{append_cancel_right}
+use Rattle.std.proofs.lemmas.Str.{IsCharBoundary-after_ascii, IsCharBoundary-start}
 use Rattle.std.proofs.lemmas.Str.Pattern.{IsSplitOnceResult, split_parts}
 use Rattle.sql_parts.specs.Quoting.{doubled, enclosed}
 
@@ -19,6 +21,37 @@ doubled-unmarked mark (byte ∷ text) unmarked =
 -- two texts in a row are doubled one after the other
 pub doubled-append : (mark : ℕ) (front back : List ℕ) → doubled mark (front ++ back) ≡ doubled mark front ++ doubled mark back
 doubled-append mark front back = flat_map-append (λ byte. if byte == mark then mark ∷ mark ∷ [] else byte ∷ []) front back
+
+-- a mark in front of marks may as well stand behind them
+mark-behind : (mark : ℕ) (text : List ℕ) (end : ℕ) (rest : List ℕ) → end ≤ length text → ((i : ℕ) → i < end → get_or text i 0 ≡ mark)
+    → mark ∷ (take end text ++ rest) ≡ take end text ++ (mark ∷ rest)
+mark-behind mark text zero rest within marks = refl
+mark-behind mark [] (suc end) rest within marks = refl
+mark-behind mark (byte ∷ text) (suc end) rest within marks =
+    let here : byte ≡ mark = marks 0 (omega arith) in
+    let later : mark ∷ (take end text ++ rest) ≡ take end text ++ (mark ∷ rest) = mark-behind mark text end rest (omega (arith, within)) (λ i h. marks (suc i) (omega arith)) in
+    cc
+
+-- marks at the front of a text stand there twice once they are doubled
+pub doubled-marks : (mark : ℕ) (text : List ℕ) (end : ℕ) → end ≤ length text → ((i : ℕ) → i < end → get_or text i 0 ≡ mark)
+    → doubled mark text ≡ take end text ++ (take end text ++ doubled mark (drop end text))
+doubled-marks mark text zero within marks = refl
+doubled-marks mark [] (suc end) within marks = refl
+doubled-marks mark (byte ∷ text) (suc end) within marks =
+    let here : byte ≡ mark = marks 0 (omega arith) in
+    let one : doubled mark (byte ∷ text) ≡ mark ∷ mark ∷ doubled mark text = grind (arith, nat_tests, here) in
+    let later = doubled-marks mark text end (omega (arith, within)) (λ i h. marks (suc i) (omega arith)) in
+    let behind = mark-behind mark text end (take end text ++ doubled mark (drop end text)) (omega (arith, within)) (λ i h. marks (suc i) (omega arith)) in
+    cc
+
+-- a character begins where marks end
+pub boundary-behind_marks : (mark : ℕ) (text : List ℕ) (end : ℕ) → mark < 128 → IsUtf8 text → end ≤ length text → ((i : ℕ) → i < end → get_or text i 0 ≡ mark)
+    → IsCharBoundary text end
+boundary-behind_marks mark text zero low utf8 within marks = IsCharBoundary-start text utf8
+boundary-behind_marks mark text (suc end) low utf8 within marks =
+    let last : get_or text end 0 ≡ mark = marks end (omega arith) in
+    let next : end + 1 ≡ suc end = omega arith in
+    subst (λ (n : ℕ). IsCharBoundary text n) next (IsCharBoundary-after_ascii text end utf8 (omega (arith, within)) (omega (arith, last, low)))
 
 -- a text that is cut around its first mark
 pub doubled-cut : (mark : ℕ) (text before after : List ℕ) → text ≡ before ++ (mark ∷ after)

@@ -1,5 +1,5 @@
 //! The marks that a text is put between.
-ghost use Rattle.std.specs.Prelude.{◌≡◌, ◌<◌, [], ◌∷◌, ◌++◌, length, string_bytes, IfSome, MatchOption, OnErr, OnOk};
+ghost use Rattle.std.specs.Prelude.{◌≡◌, ◌<◌, ◌≤◌, [], ◌∷◌, ◌++◌, length, string_bytes, IfSome, MatchOption, OnErr, OnOk};
 ghost use Rattle.std.specs.Io.{StartsWith};
 ghost use Rattle.sql_parts.specs.Quoting.{closing, doubled, opening};
 
@@ -56,11 +56,22 @@ pub(crate) fn split_at_mark(text: &str, mark: char) -> Option<(&str, &str)>
         ≡ parts.0.now ++ mark ∷ mark ∷ doubled mark parts.1.now) }
     ensures shorter { IfSome result (λ parts. length parts.1.now < length text.now) }
 {
-    // Before a search, which is long where marks stand one behind another.
-    match text.strip_prefix(mark) {
-        Some(after) => Some(("", after)),
-        None => text.split_once(mark),
+    text.split_once(mark)
+}
+
+// The marks at the front of a text, and the text behind them.
+fn split_marks(text: &str, mark: char) -> (&str, &str)
+    requires one_byte { mark < 128 }
+    ensures doubled { doubled mark text.now
+        ≡ result.0.now ++ (result.0.now ++ doubled mark result.1.now) }
+    ensures shorter { length result.1.now ≤ length text.now }
+{
+    let bytes = text.as_bytes();
+    let mut end = 0;
+    while end < bytes.len() && char::from(bytes[end]) == mark {
+        end += 1;
     }
+    text.split_at(end)
 }
 
 // Appends the text, and the mark twice behind it.
@@ -78,6 +89,20 @@ fn push_marked(out: &mut String, text: &str, mark: char) -> Result<(), AllocErro
     out.push(mark)
 }
 
+// Appends marks that stand one behind another, each written twice.
+#[tactic(auto, using(crate::proofs::Kept::kept_by_more))]
+fn push_twice(out: &mut String, marks: &str) -> Result<(), AllocError>
+    ensures text { OnOk result
+        (string_bytes out.new ≡ string_bytes out.old ++ marks.now ++ marks.now) }
+    ensures kept { OnErr result (StartsWith (string_bytes out.new) (string_bytes out.old)) }
+{
+    if marks.is_empty() {
+        return Ok(());
+    }
+    out.push_str(marks)?;
+    out.push_str(marks)
+}
+
 /// Appends the text with each `mark` in it written twice. Room for a closing mark is taken too.
 #[tactic(auto, using(crate::proofs::Kept::kept_by_more))]
 pub(crate) fn push_doubled(out: &mut String, mark: char, text: &str) -> Result<(), AllocError>
@@ -90,7 +115,9 @@ pub(crate) fn push_doubled(out: &mut String, mark: char, text: &str) -> Result<(
     let mut rest = text;
     'marks: while let Some((before, after)) = split_at_mark(rest, mark) {
         push_marked(out, before, mark)?;
-        rest = after;
+        let (marks, behind) = split_marks(after, mark);
+        push_twice(out, marks)?;
+        rest = behind;
     }
     out.push_str(rest)
 }

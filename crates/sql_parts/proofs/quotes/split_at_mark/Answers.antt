@@ -1,5 +1,5 @@
 use Rattle.sql_parts.proofs.Doubled.{doubled-split}
 use Rattle.sql_parts.proofs.quotes.split_at_mark.Goals as goal
 
-pub returns-in-None-clause-doubled : goal.returns-in-None-clause-doubled
-returns-in-None-clause-doubled c = doubled-split c.args.mark c.args.text.now c.split_once.result c.split_once.ensures.cases c.requires.one_byte
+pub returns-clause-doubled : goal.returns-clause-doubled
+returns-clause-doubled c = doubled-split c.args.mark c.args.text.now c.split_once.result c.split_once.ensures.cases c.requires.one_byte
