@@ -1,5 +1,5 @@
 -- Lengths of what comes of a list, element by element.
-use Rattle.std.proofs.Common.{◌≡◌, ℕ, zero, suc, ◌+◌, ◌<◌, ◌≤◌, List, [], ◌∷◌, ◌++◌, length, length-append, flat_map, take, get_or, arith}
+use Rattle.std.proofs.Common.{◌≡◌, ℕ, zero, suc, ◌+◌, ◌<◌, ◌≤◌, List, [], ◌∷◌, length, length-append, flat_map, take, get_or, arith}
 
 -- what comes of the elements before one, and of it, is no longer than what comes of all
 within : {X A : Type 0} (h : X → List A) (xs : List X) (i : ℕ) (d : X) → i < length xs

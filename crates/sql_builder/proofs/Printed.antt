@@ -1,13 +1,12 @@
 -- What the helpers that print need: one more element of a loop, and a layout's sections one after another.
-use Rattle.std.proofs.Common.{if◌then◌else◌, ◌≡◌, ◌≢◌, ℕ, ◌+◌, ◌<◌, ◌≤◌, Bool, List, [], ◌∷◌, ◌++◌, Option, None, Some, length, get_or, take, map, flat_map, codes, String, refl, ap, sym, ◌∙◌, append_assoc, arith}
+use Rattle.std.proofs.Common.{if◌then◌else◌, ◌≡◌, ◌≢◌, ℕ, ◌+◌, ◌<◌, ◌≤◌, Bool, List, [], ◌∷◌, ◌++◌, Option, None, Some, length, get_or, take, map, flat_map, codes, refl, ap, sym, ◌∙◌, append_assoc, arith}
 use Rattle.std.specs.Prelude.{nat_eq, not, ◌&&◌}
 use Rattle.std.proofs.lemmas.Bool.Decides.{nat_tests}
 use Rattle.std.proofs.lemmas.List.{take_more, map-append, append-nil}
 use Rattle.std.proofs.lemmas.Grind.{flat_map-append}
 use Rattle.sql_builder.specs.Builder.{ClauseTexts}
-use Rattle.sql_parts.specs.Text.{texts}
-use Rattle.sql_builder.specs.Layout.{byte_atoms, concat_sections, delete_sections, fields_or_star, group_by_sections, insert_sections, is_no_text, optional_section, order_by_sections, query, select_opening, union_opening, union_sections, update_sections, where_sections}
-use Rattle.sql_builder.specs.Phrases.{comma_list, further_table, in_brackets}
+use Rattle.sql_builder.specs.Layout.{byte_atoms, concat_sections, delete_sections, fields_or_star, group_by_sections, insert_sections, optional_section, order_by_sections, query, select_opening, union_opening, union_sections, update_sections, where_sections}
+use Rattle.sql_builder.specs.Phrases.{comma_list, in_brackets}
 use Rattle.sql_parts.specs.Text.{join_with}
 
 -- one more element of a loop over xs, of which each adds h of its value

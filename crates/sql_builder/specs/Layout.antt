@@ -145,11 +145,6 @@ module _ {A : Type 0} (word : List ℕ → List A) where
   abbrev pub subquery_as : List A → Clauses (List A) → List A
   subquery_as name r = word (codes "(") ++ (query r ++ (word (codes ") AS ") ++ name))
 
--- whether a text is empty
-abbrev pub is_no_text : List ℕ → Bool
-is_no_text [] = true
-is_no_text (byte ∷ bytes) = false
-
 -- no table, else what else is refused
 abbrev pub refuse_no_table : List ℕ → Option SqlBuilderError → Option SqlBuilderError
 refuse_no_table [] other = Some NoTableName

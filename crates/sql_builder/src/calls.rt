@@ -1,9 +1,7 @@
 //! Lists of calls, as values, and the statement that a list makes.
-ghost use Rattle.std.specs.Prelude.{◌≡◌, ◌++◌, ◌⊎◌, [], map, IfErr, IfOk, IfSome, IsNone, IsTrue, Ok, OnErr, OnOk, string_bytes};
+ghost use Rattle.std.specs.Prelude.{◌≡◌, ◌⊎◌, [], map, IfErr, IfOk, IfSome, IsNone, IsTrue, Ok, OnErr, OnOk, string_bytes};
 ghost use Rattle.sql_parts.specs.Error.{FailsOnlyByMemory, IsMemory};
 ghost use Rattle.sql_builder.specs.Views.{call_view, finish_view, start_view};
-ghost use Rattle.sql_builder.specs.Builder.{with_condition};
-ghost use Rattle.sql_builder.specs.Condition.{condition_view};
 ghost use Rattle.sql_builder.specs.Steps.{with_call};
 ghost use Rattle.sql_builder.specs.Calls.{SelectValues, clauses, kind_of};
 ghost use Rattle.sql_builder.specs.Clauses.{map_clauses};

@@ -4,7 +4,8 @@ ghost use Rattle.sql_parts.specs.Error.{FailsOnlyByMemory};
 ghost use Rattle.sql_builder.specs.Condition.{Between, Compare, InList, InQuery, InQuoted, IsNotNull, IsNull, Like, borrowed_view, condition_bytes, condition_view, is_behind, is_in_front, not_text, relation_text};
 
 use crate::concat::{Part, concat};
-use crate::phrases::{FIRST_ROOM, push_items, push_quoted_items};
+use crate::phrases::{push_items, push_quoted_items};
+use crate::text_list::FIRST_ROOM;
 use sql_parts::text::{Items, Texts};
 use sql_parts::{SqlBuilderError, escaped};
 use std::alloc::{AllocError, Global};

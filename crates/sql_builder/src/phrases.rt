@@ -5,6 +5,7 @@ ghost use Rattle.sql_parts.specs.Quoting.{quoted};
 ghost use Rattle.sql_builder.specs.Layout.{byte_atoms};
 ghost use Rattle.sql_builder.specs.Phrases.{comma_list, row};
 
+use crate::text_list::FIRST_ROOM;
 use sql_parts::text::Texts;
 use sql_parts::{SqlBuilderError, push_quoted};
 use std::alloc::Global;
@@ -76,9 +77,6 @@ pub(crate) fn push_quoted_items<'a, T: Texts<'a>>(
     }
     Ok(())
 }
-
-/// How many bytes are asked for at first for a list whose length isn't known.
-pub(crate) const FIRST_ROOM: usize = 64;
 
 /// The values in brackets, with commas between them.
 pub(crate) fn row<'a, T: Texts<'a>>(alloc: Global, values: T) -> Result<String, SqlBuilderError>

@@ -1,6 +1,5 @@
 //! Prints a builder's clauses as a statement or a query. Each call first adds up the bytes that it
 //! will write, and asks for them in one growth.
-ghost use Rattle.std.specs.List.{list_any};
 ghost use Rattle.std.specs.Prelude.{◌≡◌, ◌∷◌, ◌++◌, IsNone, IfOk, IfSome, None, Some, codes, flat_map, if◌then◌else◌, map, string_bytes};
 ghost use Rattle.sql_parts.specs.Error.{FailsOnlyByMemory};
 ghost use Rattle.sql_builder.specs.Builder.{condition_in_group, group_texts};

@@ -1,6 +1,6 @@
 //! The steps of the calls: one for each way to be handed texts, told by a constant which clause is
 //! meant, and one that adds a condition. Those that borrow their texts are public in `calls`.
-ghost use Rattle.std.specs.Prelude.{◌≡◌, [], ◌∷◌, ◌++◌, ℕ, List, map, codes, string_bytes, IfErr, OnOk, OnErr};
+ghost use Rattle.std.specs.Prelude.{◌≡◌, [], ◌∷◌, ◌++◌, map, codes, string_bytes, IfErr, OnOk, OnErr};
 ghost use Rattle.sql_parts.specs.Error.{FailsOnlyByMemory};
 ghost use Rattle.sql_builder.specs.Builder.{with_condition, with_condition_bytes, with_order, with_returning};
 ghost use Rattle.sql_builder.specs.Concat.{concat_bytes};
@@ -84,8 +84,6 @@ pub enum VariadicClause {
 
 impl SqlBuilder {
     ghost use Rattle.sql_builder.specs.Builder.{with_fields, with_fields_set, with_group_field, with_having, with_join, with_limit, with_offset, with_on, with_query, with_set, with_table, with_union};
-    ghost use Rattle.sql_builder.specs.Phrases.{constraint, order};
-    ghost use Rattle.sql_builder.specs.Layout.{byte_atoms};
 
     fn push_table(&mut self, table: &str) -> Result<(), SqlBuilderError>
         ensures { Tells result self.old self.new (with_table table.now) }

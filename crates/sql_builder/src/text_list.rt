@@ -11,8 +11,8 @@ use sql_parts::text::Texts;
 use std::alloc::{AllocError, Global};
 use std::marker::Model;
 
-// How many bytes are asked for at first, so that few short texts take one allocation.
-const FIRST_ROOM: usize = 64;
+/// How many bytes are asked for at first, so that few short texts take one allocation.
+pub(crate) const FIRST_ROOM: usize = 64;
 
 /// A list of texts, kept in one text with `, ` between each and the next. Contracts see the list.
 #[derive(Drop)]

@@ -3,7 +3,7 @@
 //! back; it is refused only for want of memory, and then leaves the builder as it was. Where its
 //! texts are operands, what it adds is an atom of truth, but of a condition that is handed in as it
 //! stands.
-ghost use Rattle.std.specs.Prelude.{◌≡◌, IfOk, false, map, true};
+ghost use Rattle.std.specs.Prelude.{◌≡◌, false, map, true};
 ghost use Rattle.sql_parts.specs.Error.{FailsOnlyByMemory};
 ghost use Rattle.sql_builder.specs.Steps.{is_negated};
 

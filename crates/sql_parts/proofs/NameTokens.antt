@@ -8,7 +8,7 @@ use Rattle.sql_parts.specs.Name.{Name, alias_text, fits_form, is_plain, is_plain
 use Rattle.sql_parts.specs.Quoting.{baquoted}
 use Rattle.sql_parts.specs.Text.{join_with}
 use Rattle.sql_parts.specs.Tokens as tokens
-use Rattle.sql_parts.specs.Tokens.{Token, Word, Symbol, closed, is_open, is_word_byte, tokens}
+use Rattle.sql_parts.specs.Tokens.{Word, Symbol, closed, is_open, is_word_byte, tokens}
 use Rattle.sql_parts.specs.declared.name.Form.{Form}
 use Rattle.sql_parts.specs.declared.name.Form.TheVariants.{Bare, Between}
 use Rattle.sql_parts.specs.declared.quotes.Quotes.TheVariants.{Back}

@@ -9,7 +9,7 @@ use Rattle.std.proofs.Math.Bool.{and_assoc, and-false, and-true}
 use Rattle.std.proofs.Math.IntN.{suc_ℤ, pred_ℤ, +ℤ_one, suc-pred}
 use Rattle.sql_parts.specs.Tokens.{Token, begins_with, is_empty}
 use Rattle.sql_parts.specs.Fragments as fragments
-use Rattle.sql_parts.specs.Fragments.{Placed, Outer, Inner, any_token, as_placed, is_joining, is_outer, is_whole, is_word, level, lowers, places, raises, weight}
+use Rattle.sql_parts.specs.Fragments.{Placed, any_token, as_placed, is_joining, is_outer, is_whole, is_word, level, lowers, places, raises, weight}
 use Rattle.sql_parts.proofs.LevelCounts as levels
 use Rattle.sql_parts.proofs.LevelCounts.{each_place, is_level_from, level_from, level_from-start, level_from-suc, level_from-zero, outer_from}
 use Rattle.sql_parts.proofs.Waiting.{raises-alone}

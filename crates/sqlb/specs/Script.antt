@@ -7,7 +7,7 @@ use Rattle.sql_builder.specs.SqlBuilderError.{SqlBuilderError}
 use Rattle.sql_builder.specs.Statement.{refusal_at, text_at, unless_refused}
 use Rattle.sql_builder.specs.Steps.{with_call}
 use Rattle.sql_builder.specs.Text.{pieces_text}
-use Rattle.sqlb.specs.Lines.{CommandText, CommandResult, Starts, Calls, Finishes}
+use Rattle.sqlb.specs.Lines.{CommandResult, Starts, Calls, Finishes}
 use Rattle.sqlb.specs.Output.{OpenStatement, finish_answer}
 use Rattle.sqlb.specs.declared.fault.Reason.{Reason}
 use Rattle.sqlb.specs.declared.fault.Reason.TheVariants.{NoStatement, StatementOpen}

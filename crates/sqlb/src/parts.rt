@@ -1,6 +1,5 @@
 //! The lines of a text, and their parts, between TABs.
-ghost use Rattle.std.specs.Prelude.{◌≡◌, ◌<◌, [], ◌∷◌, false, length, IsTrue, IsUtf8, MatchOption, OnOk};
-ghost use Rattle.sqlb.specs.Lines.{lines, parts_of};
+ghost use Rattle.std.specs.Prelude.{◌≡◌, ◌<◌, [], ◌∷◌, false, IsTrue, MatchOption, OnOk};
 ghost use Rattle.sqlb.specs.Parts.{IsNextLine, IsTaken, first_of, none_of, one_of, three_of, two_of};
 ghost use Rattle.sqlb.specs.Script.{Answers};
 
@@ -138,6 +137,7 @@ impl<'a> Parts<'a> {
             _ => Err(WRONG_ARGUMENTS),
         }
     }
+
     /// The parts that are left, all of which are taken.
     pub(crate) fn others(&mut self) -> Parts<'a>
         ensures others { result.parts ≡ self.old.parts }

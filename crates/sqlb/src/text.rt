@@ -1,5 +1,5 @@
 //! Finds how much of an input is text.
-ghost use Rattle.std.specs.Prelude.{◌≡◌, ◌≢◌, ◌-◌, ◌<◌, ◌≤◌, ℕ, false, length, slice_index, IsTrue, IsUtf8};
+ghost use Rattle.std.specs.Prelude.{◌≡◌, ◌≢◌, ◌-◌, ◌<◌, ◌≤◌, ℕ, false, length, slice_index, IsTrue};
 ghost use Rattle.std.specs.Str.{IsValidUpTo};
 ghost use Rattle.sqlb.specs.Text.{IsCut};
 

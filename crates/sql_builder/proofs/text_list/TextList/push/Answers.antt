@@ -1,4 +1,4 @@
-use Rattle.std.proofs.Common.{◌≡◌, ◌++◌, [], ◌∷◌, refl, arith, codes, length, string_bytes, ◌∙◌, append_assoc, ℕ}
+use Rattle.std.proofs.Common.{◌≡◌, ◌++◌, [], ◌∷◌, refl, arith, codes, length, string_bytes, ◌∙◌, append_assoc}
 use Rattle.std.proofs.lemmas.List.{append-nil}
 use Rattle.sql_parts.specs.Text.{join_with}
 use Rattle.sql_builder.specs.Concat.{concat_bytes}
