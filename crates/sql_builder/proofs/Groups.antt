@@ -6,6 +6,7 @@ use Rattle.std.proofs.lemmas.Grind.{flat_map-append}
 use Rattle.sql_parts.specs.Text.{join_with}
 use Rattle.sql_builder.specs.Builder.{condition_in_group, extend_last, group_texts, join_last}
 use Rattle.sql_builder.specs.Layout.{byte_atoms, concat_sections, where_sections}
+use Rattle.sql_builder.specs.Printed.{further_bytes, where_bytes, where_end, where_opening}
 use Rattle.sql_builder.proofs.Printed.{several}
 use Rattle.sql_builder.specs.declared.clauses.GroupedCondition.{GroupedCondition}
 use Rattle.sql_builder.specs.Filters.{Group, cut, lead_and_groups}
@@ -107,3 +108,19 @@ several_groups first further some =
     let told = map condition_in_group further in
     several (group_texts (first ∷ further)) (rw (length-map (lead_and_groups (λ (c : Told). c.0) told).1 (group_says (λ (c : Told). c.0) (λ c. c.1) (codes " OR "))) (omega (arith, more_groups told (sym (any-map further) ∙ some))))
     ∙ ap (λ t. codes " WHERE (" ++ (t ++ codes ")")) (sym (in_a_row (condition_in_group first) told))
+
+-- WHERE of a first condition and further ones
+pub where_is : (first : GroupedCondition) (further : List GroupedCondition)
+    → let opens = list_any (λ c. c.opens_group) further in
+    where_bytes (group_texts (first ∷ further))
+    ≡ (where_opening opens ++ string_bytes first.text) ++ (further_bytes (map condition_in_group further) ++ where_end opens)
+where_is first further = by (list_any (λ c. c.opens_group) further) refl
+  where
+    by : (opens : Bool) → list_any (λ c. c.opens_group) further ≡ opens → where_bytes (group_texts (first ∷ further))
+        ≡ (where_opening opens ++ string_bytes first.text) ++ (further_bytes (map condition_in_group further) ++ where_end opens)
+    by false none =
+        one_group first further none
+        ∙ ap (λ t. codes " WHERE " ++ (string_bytes first.text ++ t)) (sym (append-nil (further_bytes (map condition_in_group further))))
+    by true some =
+        several_groups first further some
+        ∙ ap (λ t. codes " WHERE (" ++ t) (append_assoc (string_bytes first.text) (further_bytes (map condition_in_group further)) (codes ")"))

@@ -5,8 +5,9 @@ use Rattle.std.proofs.lemmas.Bool.Decides.{nat_tests}
 use Rattle.std.proofs.lemmas.List.{take_more, map-append, append-nil}
 use Rattle.std.proofs.lemmas.Grind.{flat_map-append}
 use Rattle.sql_builder.specs.Builder.{ClauseTexts}
-use Rattle.sql_builder.specs.Layout.{byte_atoms, concat_sections, delete_sections, fields_or_star, group_by_sections, insert_sections, optional_section, order_by_sections, query, select_opening, union_opening, union_sections, update_sections, where_sections}
+use Rattle.sql_builder.specs.Layout.{byte_atoms, concat_sections, fields_or_star, group_by_sections, insert_sections, optional_section, order_by_sections, query, select_opening, union_opening, union_sections, where_sections}
 use Rattle.sql_builder.specs.Phrases.{comma_list, in_brackets}
+use Rattle.sql_builder.specs.Printed.{delete_bytes, group_by_bytes, insert_bytes, inserted_bytes, join_bytes, optional_bytes, order_by_bytes, update_bytes, where_bytes}
 use Rattle.sql_parts.specs.Text.{join_with}
 
 -- one more element of a loop over xs, of which each adds h of its value
@@ -65,48 +66,26 @@ unions_are : (unions : List (Bool × List ℕ))
 unions_are [] = refl
 unions_are (union ∷ unions) = ap (◌++◌ (union_opening union.0 ++ union.1)) (unions_are unions)
 
--- what is printed of a statement is added to what stands before it
-module _ (r : ClauseTexts) (start : List ℕ) where
-  pub query_added : {a b c d e f g h i : List ℕ}
-      → a ≡ start ++ (select_opening r.distinct ++ fields_or_star byte_atoms r.fields)
-      → b ≡ a ++ (codes " FROM " ++ r.table)
-      → c ≡ b ++ flat_map (λ join. codes " " ++ join) r.joins
-      → d ≡ c ++ concat_sections byte_atoms (where_sections byte_atoms r.groups)
-      → e ≡ d ++ concat_sections byte_atoms (group_by_sections byte_atoms r.group_fields r.having)
-      → f ≡ e ++ flat_map (λ union. union_opening union.0 ++ union.1) r.unions
-      → g ≡ f ++ concat_sections byte_atoms (order_by_sections byte_atoms r.unions r.order_fields)
-      → h ≡ g ++ concat_sections byte_atoms (optional_section (codes " LIMIT ") r.limit)
-      → i ≡ h ++ concat_sections byte_atoms (optional_section (codes " OFFSET ") r.offset)
-      → i ≡ start ++ query byte_atoms r
-  query_added p q s t u v w x y = simp (y, x, w, v, u, t, s, q, p, flat_map-append, append_assoc, unions_are)
+-- each statement, step by step
+module _ (r : ClauseTexts) where
+  pub query_is : query byte_atoms r
+      ≡ (select_opening r.distinct ++ fields_or_star byte_atoms r.fields) ++ ((codes " FROM " ++ r.table) ++ (join_bytes r.joins ++ (where_bytes r.groups
+      ++ (group_by_bytes r.group_fields r.having ++ (flat_map (λ union. union_opening union.0 ++ union.1) r.unions
+      ++ (order_by_bytes r.unions r.order_fields ++ (optional_bytes (codes " LIMIT ") r.limit ++ optional_bytes (codes " OFFSET ") r.offset)))))))
+  query_is = simp (flat_map-append, append_assoc, unions_are)
 
-  pub update_added : {a b c d : List ℕ}
-      → a ≡ start ++ (codes "UPDATE " ++ r.table)
-      → b ≡ a ++ (codes " SET " ++ comma_list byte_atoms r.sets)
-      → c ≡ b ++ concat_sections byte_atoms (where_sections byte_atoms r.groups)
-      → d ≡ c ++ concat_sections byte_atoms (optional_section (codes " RETURNING ") r.returning)
-      → d ≡ start ++ concat_sections byte_atoms (update_sections byte_atoms r)
-  update_added p q s t = simp (t, s, q, p, flat_map-append, append_assoc)
+  pub insert_is : insert_bytes r
+      ≡ (codes "INSERT INTO " ++ r.table) ++ ((codes " (" ++ comma_list byte_atoms r.fields) ++ (inserted_bytes r.query r.rows ++ optional_bytes (codes " RETURNING ") r.returning))
+  insert_is = by r.query
+    where
+      by : (query : Option (List ℕ)) → concat_sections byte_atoms (insert_sections byte_atoms query r)
+          ≡ (codes "INSERT INTO " ++ r.table) ++ ((codes " (" ++ comma_list byte_atoms r.fields) ++ (inserted_bytes query r.rows ++ optional_bytes (codes " RETURNING ") r.returning))
+      by None = simp (append_assoc)
+      by (Some query) = simp (append_assoc)
 
-  pub insert_rows_added : {a b c d : List ℕ}
-      → a ≡ start ++ (codes "INSERT INTO " ++ r.table)
-      → b ≡ a ++ (codes " (" ++ (comma_list byte_atoms r.fields ++ codes ")"))
-      → c ≡ b ++ (codes " VALUES " ++ comma_list byte_atoms r.rows)
-      → d ≡ c ++ concat_sections byte_atoms (optional_section (codes " RETURNING ") r.returning)
-      → d ≡ start ++ concat_sections byte_atoms (insert_sections byte_atoms None r)
-  insert_rows_added p q s t = simp (t, s, q, p, append_assoc)
+  pub update_is : update_bytes r
+      ≡ (codes "UPDATE " ++ r.table) ++ ((codes " SET " ++ comma_list byte_atoms r.sets) ++ (where_bytes r.groups ++ optional_bytes (codes " RETURNING ") r.returning))
+  update_is = simp (flat_map-append, append_assoc)
 
-  pub insert_query_added : (query : List ℕ) {a b c d : List ℕ}
-      → a ≡ start ++ (codes "INSERT INTO " ++ r.table)
-      → b ≡ a ++ (codes " (" ++ (comma_list byte_atoms r.fields ++ codes ")"))
-      → c ≡ b ++ (codes " " ++ query)
-      → d ≡ c ++ concat_sections byte_atoms (optional_section (codes " RETURNING ") r.returning)
-      → d ≡ start ++ concat_sections byte_atoms (insert_sections byte_atoms (Some query) r)
-  insert_query_added query p q s t = simp (t, s, q, p, append_assoc)
-
-  pub delete_added : {a b c : List ℕ}
-      → a ≡ start ++ (codes "DELETE FROM " ++ r.table)
-      → b ≡ a ++ concat_sections byte_atoms (where_sections byte_atoms r.groups)
-      → c ≡ b ++ concat_sections byte_atoms (optional_section (codes " RETURNING ") r.returning)
-      → c ≡ start ++ concat_sections byte_atoms (delete_sections byte_atoms r)
-  delete_added p q s = simp (s, q, p, flat_map-append, append_assoc)
+  pub delete_is : delete_bytes r ≡ (codes "DELETE FROM " ++ r.table) ++ (where_bytes r.groups ++ optional_bytes (codes " RETURNING ") r.returning)
+  delete_is = simp (flat_map-append, append_assoc)

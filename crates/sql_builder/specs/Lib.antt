@@ -12,6 +12,7 @@ pub mod Layout
 pub mod Meaning
 pub mod Parts
 pub mod Phrases
+pub mod Printed
 pub mod Reading
 pub mod Shape
 pub mod Statement

@@ -131,7 +131,3 @@ AddsConditionSealed family condition old new = AddsCondition family condition ol
 abbrev pub is_negated : Sense → Bool
 is_negated Plain = false
 is_negated Negated = true
-
--- where a call that prints is not refused, it adds this text to what it prints to
-abbrev pub Adds : {E Z : Type 0} → Result (Unit {0}) E → String Z → String Z → List ℕ → Type 0
-Adds result old new text = OnOk result (string_bytes new ≡ string_bytes old ++ text)

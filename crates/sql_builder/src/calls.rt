@@ -1,5 +1,5 @@
 //! Lists of calls, as values, and the statement that a list makes.
-ghost use Rattle.std.specs.Prelude.{◌≡◌, ◌⊎◌, [], map, IfErr, IfOk, IfSome, IsNone, IsTrue, Ok, OnErr, OnOk, string_bytes};
+ghost use Rattle.std.specs.Prelude.{◌≡◌, ◌⊎◌, ◌≤◌, ◌+◌, ◌-◌, ◌^◌, ◌++◌, [], length, map, min, IfErr, IfOk, IfSome, IsNone, IsOk, IsTrue, Ok, OnErr, OnOk, string_bytes, string_capacity, string_len};
 ghost use Rattle.sql_parts.specs.Error.{FailsOnlyByMemory, IsMemory};
 ghost use Rattle.sql_builder.specs.Views.{call_view, finish_view, start_view};
 ghost use Rattle.sql_builder.specs.Steps.{with_call};
@@ -253,7 +253,8 @@ fn build(alloc: Global, start: &Start, calls: &[Call]) -> Result<SqlBuilder, Sql
     Ok(builder)
 }
 
-/// Prints a builder. It is refused as the printing call that is meant, or for want of memory.
+/// Prints a builder. It is refused as the printing call that is meant, or fails because memory runs
+/// out.
 /// `print(&begin(&Start::SelectFrom("t")), &Finish::Query)` → `SELECT * FROM t`
 pub fn print(builder: &SqlBuilder, finish: &Finish) -> Result<String, SqlBuilderError>
     ensures text { IfOk result (λ s. string_bytes s
@@ -263,13 +264,40 @@ pub fn print(builder: &SqlBuilder, finish: &Finish) -> Result<String, SqlBuilder
     ensures memory { IsNone (refusal_at (finish_view finish.now) builder.now)
         → FailsOnlyByMemory result }
 {
-    match finish {
-        Finish::Sql => builder.sql(),
-        Finish::Query => builder.query(),
-        Finish::QueryValues => builder.query_values(),
-        Finish::Subquery => builder.subquery(),
-        Finish::SubqueryAs(name) => builder.subquery_as(name),
-    }
+    builder.print(finish)
+}
+
+/// How many bytes `print` gives, or the greatest `usize` where it is more; also where `print` is
+/// refused.
+/// `printed_length(&begin(&Start::SelectFrom("t")), &Finish::Query)` → `15`
+pub fn printed_length(builder: &SqlBuilder, finish: &Finish) -> usize
+    ensures { result ≡ min (length (text_at (finish_view finish.now) builder.now)) (2 ^ 64 - 1) }
+{
+    builder.printed_len(finish)
+}
+
+/// Appends to a text what `print` gives. Where the statement isn't refused and the text has room for
+/// `printed_length` more bytes, this succeeds: it is refused as `print` is, or fails because memory
+/// runs out, and then the text is as it was.
+/// `{ let mut s = "-- "; print_to(&begin(&Start::SelectFrom("t")), &Finish::Query, &mut s); s }` →
+/// `-- SELECT * FROM t`
+pub fn print_to(
+    builder: &SqlBuilder,
+    finish: &Finish,
+    out: &mut String,
+) -> Result<(), SqlBuilderError>
+    ensures appended { OnOk result (string_bytes out.new
+        ≡ string_bytes out.old ++ text_at (finish_view finish.now) builder.now) }
+    ensures unchanged { OnErr result (string_bytes out.new ≡ string_bytes out.old) }
+    ensures refused { IfSome (refusal_at (finish_view finish.now) builder.now)
+        (λ refusal. result ≡ Err refusal) }
+    ensures memory { IsNone (refusal_at (finish_view finish.now) builder.now)
+        → FailsOnlyByMemory result }
+    ensures succeeds { IsNone (refusal_at (finish_view finish.now) builder.now)
+        → string_len out.old + length (text_at (finish_view finish.now) builder.now)
+        ≤ string_capacity out.old → IsOk result }
+{
+    builder.print_to(finish, out)
 }
 
 /// Makes the builder, makes the calls in order, and prints: the statement that the whole list

@@ -1,6 +1,7 @@
-//! Texts that are made of parts, each made in one allocation.
-ghost use Rattle.std.specs.Prelude.{◌≡◌, ◌++◌, ◌+◌, ◌-◌, ◌^◌, ◌<◌, ◌≤◌, length, min, string_bytes, string_capacity, string_len, IfOk, OnErr, OnOk};
-ghost use Rattle.sql_builder.specs.Concat.{concat_bytes};
+//! Texts that are made of parts, each made in one allocation: room is asked for first, and then the
+//! parts are written, which can't fail.
+ghost use Rattle.std.specs.Prelude.{◌≡◌, ◌++◌, length, string_bytes, IfOk, OnErr, OnOk};
+ghost use Rattle.sql_builder.specs.Concat.{HasRoom, Writes, at_most_usize, concat_bytes};
 
 use std::alloc::{AllocError, Global};
 
@@ -11,7 +12,7 @@ pub(crate) struct Part<'a>(pub(crate) &'a str);
 /// How many bytes the parts have, or the greatest `usize` where they have more.
 #[inline(always)]
 pub(crate) fn total_len(parts: &[Part<'_>]) -> usize
-    ensures { result ≡ min (length (concat_bytes parts.now)) (2 ^ 64 - 1) }
+    ensures { result ≡ at_most_usize (length (concat_bytes parts.now)) }
 {
     let mut len = 0usize;
     for part in parts {
@@ -20,19 +21,27 @@ pub(crate) fn total_len(parts: &[Part<'_>]) -> usize
     len
 }
 
-/// Appends the parts. It fails only where there is no room for them.
+/// Appends a text, for which there is room.
 #[inline(always)]
-pub(crate) fn push_all(out: &mut String, parts: &[Part<'_>]) -> Result<(), AllocError>
-    ensures added { OnOk result
-        (string_bytes out.new ≡ string_bytes out.old ++ concat_bytes parts.now) }
-    ensures full { OnErr result
-        (string_capacity out.old < string_len out.old + length (concat_bytes parts.now)) }
-    ensures capacity { string_capacity out.old ≤ string_capacity out.new }
+pub(crate) fn push_text(out: &mut String, text: &str)
+    requires room { HasRoom out.old text.now }
+    ensures { Writes out.old out.new text.now }
+{
+    match out.push_str(text) {
+        Ok(()) => {}
+        Err(_) => unreachable!(),
+    }
+}
+
+/// Appends the parts, for which there is room.
+#[inline(always)]
+pub(crate) fn push_all(out: &mut String, parts: &[Part<'_>])
+    requires room { HasRoom out.old (concat_bytes parts.now) }
+    ensures { Writes out.old out.new (concat_bytes parts.now) }
 {
     for part in parts {
-        out.push_str(part.0)?;
+        push_text(out, part.0);
     }
-    Ok(())
 }
 
 /// A text of the parts.
@@ -41,7 +50,7 @@ pub(crate) fn concat(alloc: Global, parts: &[Part<'_>]) -> Result<String, AllocE
     ensures { IfOk result (λ text. string_bytes text ≡ concat_bytes parts.now) }
 {
     let mut text = String::with_capacity(alloc, total_len(parts))?;
-    push_all(&mut text, parts)?;
+    push_all(&mut text, parts);
     Ok(text)
 }
 
@@ -52,5 +61,6 @@ pub(crate) fn append(text: &mut String, parts: &[Part<'_>]) -> Result<(), AllocE
     ensures unchanged { OnErr result (string_bytes text.new ≡ string_bytes text.old) }
 {
     text.reserve(total_len(parts))?;
-    push_all(text, parts)
+    push_all(text, parts);
+    Ok(())
 }

@@ -1,10 +1,26 @@
-//! How many bytes each printing call writes, so that it asks for its memory in one growth. A sum
-//! stops at the greatest `usize`; the writes don't rest on it.
+//! How many bytes each printing call writes, so that it asks for its memory in one allocation; where
+//! that is more than a `usize` says, the greatest `usize`, which no allocation gives.
+ghost use Rattle.std.specs.Prelude.{◌≡◌, ◌∷◌, length, map};
+ghost use Rattle.std.specs.List.{sum};
+ghost use Rattle.sql_parts.specs.Text.{optional_text, texts};
+ghost use Rattle.sql_builder.specs.Builder.{condition_in_group, group_texts};
+ghost use Rattle.sql_builder.specs.Concat.{at_most_usize};
+ghost use Rattle.sql_builder.specs.Layout.{byte_atoms, query, query_values};
+ghost use Rattle.sql_builder.specs.Printed.{delete_bytes, further_bytes, group_by_bytes, insert_bytes, join_bytes, optional_bytes, order_by_bytes, statement_bytes, update_bytes, where_bytes};
+ghost use Rattle.sql_builder.specs.Statement.{text_at};
+ghost use Rattle.sql_builder.specs.Views.{finish_view};
 
 use crate::builder::SqlBuilder;
-use crate::clauses::{GroupedCondition, Kind, any_opens_group};
+use crate::calls::Finish;
+use crate::clauses::{GroupedCondition, Kind};
+use crate::concat::{Part, total_len};
+use crate::printing::{fields_text, select_words, where_words};
+use crate::text_list::TextList;
+use crate::union_list::UnionList;
 
-fn sum(lengths: &[usize]) -> usize {
+fn sum(lengths: &[usize]) -> usize
+    ensures { result ≡ at_most_usize (sum lengths.now) }
+{
     let mut sum = 0usize;
     for length in lengths {
         sum = sum.saturating_add(*length);
@@ -12,14 +28,19 @@ fn sum(lengths: &[usize]) -> usize {
     sum
 }
 
-fn optional(words: &str, text: &Option<String>) -> usize {
+fn optional_len(words: &str, text: &Option<String>) -> usize
+    ensures { result ≡ at_most_usize (length (optional_bytes words.now (optional_text text.now))) }
+{
     match text {
-        Some(text) => words.len().saturating_add(text.len()),
+        Some(text) => total_len(&[Part(words), Part(text)]),
         None => 0,
     }
 }
 
-fn joins(joins: &[String]) -> usize {
+#[tactic(auto, using(crate::proofs::Printed::one_more))]
+fn joins_len(joins: &[String]) -> usize
+    ensures { result ≡ at_most_usize (length (join_bytes (texts joins.now))) }
+{
     let mut sum = 0usize;
     for join in joins {
         sum = sum.saturating_add(" ".len()).saturating_add(join.len());
@@ -27,7 +48,11 @@ fn joins(joins: &[String]) -> usize {
     sum
 }
 
-fn further_conditions(conditions: &[GroupedCondition]) -> usize {
+#[tactic(auto, using(crate::proofs::Printed::one_more))]
+fn further_len(conditions: &[GroupedCondition]) -> usize
+    ensures { result ≡ at_most_usize
+        (length (further_bytes (map condition_in_group conditions.now))) }
+{
     let mut sum = 0usize;
     for condition in conditions {
         sum = sum
@@ -37,110 +62,136 @@ fn further_conditions(conditions: &[GroupedCondition]) -> usize {
     sum
 }
 
-fn conditions(conditions: &[GroupedCondition]) -> usize {
-    match conditions {
-        [first, further @ ..] => {
-            let words = if any_opens_group(further) {
-                " WHERE ()"
-            } else {
-                " WHERE "
-            };
-            sum(&[words.len(), first.text.len(), further_conditions(further)])
-        }
-        [] => 0,
+fn conditions_len(first: &GroupedCondition, further: &[GroupedCondition]) -> usize
+    ensures { result ≡ at_most_usize
+        (length (where_bytes (group_texts (first.now ∷ further.now)))) }
+{
+    let (opening, end) = where_words(further);
+    sum(&[
+        opening.len(),
+        first.text.len(),
+        further_len(further),
+        end.len(),
+    ])
+}
+
+fn where_len(conditions: &[GroupedCondition]) -> usize
+    ensures { result ≡ at_most_usize (length (where_bytes (group_texts conditions.now))) }
+{
+    match conditions.split_first() {
+        Some((first, further)) => conditions_len(first, further),
+        None => 0,
     }
 }
 
+fn group_by_len(fields: &TextList, having: &Option<String>) -> usize
+    ensures { result ≡ at_most_usize (length (group_by_bytes fields.now (optional_text having.now))) }
+{
+    if fields.is_empty() {
+        return 0;
+    }
+    sum(&[
+        " GROUP BY ".len(),
+        fields.as_str().len(),
+        optional_len(" HAVING ", having),
+    ])
+}
+
+fn order_by_len(unions: &UnionList, fields: &TextList) -> usize
+    ensures { result ≡ at_most_usize (length (order_by_bytes unions.now fields.now)) }
+{
+    if fields.is_empty() || !unions.is_empty() {
+        return 0;
+    }
+    total_len(&[Part(" ORDER BY "), Part(fields.as_str())])
+}
+
 impl SqlBuilder {
-    fn select_length(&self) -> usize {
-        let words = if self.distinct {
-            "SELECT DISTINCT "
-        } else {
-            "SELECT "
-        };
-        let fields = if self.fields.is_empty() {
-            "*"
-        } else {
-            self.fields.as_str()
-        };
-        words.len().saturating_add(fields.len())
-    }
-
-    fn group_by_length(&self) -> usize {
-        if self.group_fields.is_empty() {
-            return 0;
-        }
+    fn query_len(&self) -> usize
+        ensures { result ≡ at_most_usize (length (query byte_atoms self.now)) }
+    {
         sum(&[
-            " GROUP BY ".len(),
-            self.group_fields.as_str().len(),
-            optional(" HAVING ", &self.having),
-        ])
-    }
-
-    fn order_by_length(&self) -> usize {
-        if self.order_fields.is_empty() || !self.unions.is_empty() {
-            return 0;
-        }
-        " ORDER BY "
-            .len()
-            .saturating_add(self.order_fields.as_str().len())
-    }
-
-    /// The bytes of the query.
-    pub(crate) fn query_length(&self) -> usize {
-        sum(&[
-            self.select_length(),
+            select_words(self.distinct).len(),
+            fields_text(&self.fields).len(),
             " FROM ".len(),
             self.table.len(),
-            joins(&self.joins),
-            conditions(&self.conditions),
-            self.group_by_length(),
+            joins_len(&self.joins),
+            where_len(&self.conditions),
+            group_by_len(&self.group_fields, &self.having),
             self.unions.as_str().len(),
-            self.order_by_length(),
-            optional(" LIMIT ", &self.limit),
-            optional(" OFFSET ", &self.offset),
+            order_by_len(&self.unions, &self.order_fields),
+            optional_len(" LIMIT ", &self.limit),
+            optional_len(" OFFSET ", &self.offset),
         ])
     }
 
-    /// The bytes of the query of values.
-    pub(crate) fn values_length(&self) -> usize {
-        "SELECT ".len().saturating_add(self.fields.as_str().len())
+    fn values_len(&self) -> usize
+        ensures { result ≡ at_most_usize (length (query_values byte_atoms self.now)) }
+    {
+        total_len(&[Part("SELECT "), Part(self.fields.as_str())])
     }
 
-    fn insert_length(&self) -> usize {
-        let (words, rows) = match &self.query {
-            Some(query) => (" ", query.as_str()),
-            None => (" VALUES ", self.rows.as_str()),
-        };
+    fn insert_len(&self) -> usize
+        ensures { result ≡ at_most_usize (length (insert_bytes self.now)) }
+    {
+        let (words, inserted) = self.inserted();
         sum(&[
-            "INSERT INTO  ()".len(),
+            "INSERT INTO  (".len(),
             self.table.len(),
             self.fields.as_str().len(),
             words.len(),
-            rows.len(),
-            optional(" RETURNING ", &self.returning),
+            inserted.len(),
+            optional_len(" RETURNING ", &self.returning),
         ])
     }
 
-    /// The bytes of the statement, without the semicolon at its end.
-    pub(crate) fn statement_length(&self) -> usize {
+    #[tactic(auto, using(crate::proofs::Printed::update_is))]
+    fn update_len(&self) -> usize
+        ensures { result ≡ at_most_usize (length (update_bytes self.now)) }
+    {
+        sum(&[
+            "UPDATE  SET ".len(),
+            self.table.len(),
+            self.sets.as_str().len(),
+            where_len(&self.conditions),
+            optional_len(" RETURNING ", &self.returning),
+        ])
+    }
+
+    #[tactic(auto, using(crate::proofs::Printed::delete_is))]
+    fn delete_len(&self) -> usize
+        ensures { result ≡ at_most_usize (length (delete_bytes self.now)) }
+    {
+        sum(&[
+            "DELETE FROM ".len(),
+            self.table.len(),
+            where_len(&self.conditions),
+            optional_len(" RETURNING ", &self.returning),
+        ])
+    }
+
+    fn statement_len(&self) -> usize
+        ensures { result ≡ at_most_usize (length (statement_bytes self.now)) }
+    {
         match self.kind {
-            Kind::SelectFrom => self.query_length(),
-            Kind::SelectValues => self.values_length(),
-            Kind::InsertInto => self.insert_length(),
-            Kind::UpdateTable => sum(&[
-                "UPDATE  SET ".len(),
-                self.table.len(),
-                self.sets.as_str().len(),
-                conditions(&self.conditions),
-                optional(" RETURNING ", &self.returning),
-            ]),
-            Kind::DeleteFrom => sum(&[
-                "DELETE FROM ".len(),
-                self.table.len(),
-                conditions(&self.conditions),
-                optional(" RETURNING ", &self.returning),
-            ]),
+            Kind::SelectFrom => self.query_len(),
+            Kind::SelectValues => self.values_len(),
+            Kind::InsertInto => self.insert_len(),
+            Kind::UpdateTable => self.update_len(),
+            Kind::DeleteFrom => self.delete_len(),
+        }
+    }
+
+    /// How many bytes a finish prints, also where it is refused.
+    pub(crate) fn printed_len(&self, finish: &Finish) -> usize
+        ensures { result ≡ at_most_usize (length (text_at (finish_view finish.now) self.now)) }
+    {
+        match finish {
+            Finish::Sql => self.statement_len().saturating_add(";".len()),
+            Finish::Query => self.query_len(),
+            Finish::QueryValues => self.values_len(),
+            Finish::Subquery => self.query_len().saturating_add("()".len()),
+            Finish::SubqueryAs(name) => { sum(&["() AS ".len(), self.query_len(), name.len()]) }
         }
     }
 }

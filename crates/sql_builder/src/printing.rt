@@ -1,249 +1,226 @@
 //! Prints a builder's clauses as a statement or a query. Each call first adds up the bytes that it
-//! will write, and asks for them in one growth.
-ghost use Rattle.std.specs.Prelude.{◌≡◌, ◌∷◌, ◌++◌, IsNone, IfOk, IfSome, None, Some, codes, flat_map, if◌then◌else◌, map, string_bytes};
+//! will write, and asks for them in one allocation; then it writes, which can't fail.
+ghost use Rattle.std.specs.Prelude.{◌≡◌, ◌≤◌, ◌+◌, ◌∷◌, ◌++◌, IfOk, IfSome, IsNone, IsOk, OnErr, OnOk, codes, length, map, string_bytes, string_capacity, string_len};
+ghost use Rattle.std.specs.List.{list_any};
 ghost use Rattle.sql_parts.specs.Error.{FailsOnlyByMemory};
-ghost use Rattle.sql_builder.specs.Builder.{condition_in_group, group_texts};
-ghost use Rattle.sql_builder.specs.Steps.{Adds};
 ghost use Rattle.sql_parts.specs.Text.{optional_text, texts};
-ghost use Rattle.sql_builder.specs.Layout.{byte_atoms, concat_sections, delete_sections, fields_or_star, group_by_sections, insert_sections, optional_section, order_by_sections, query, query_refusal, query_values, refusal, select_opening, sql, statement_sections, subquery, subquery_as, update_sections, where_sections};
+ghost use Rattle.sql_builder.specs.Builder.{condition_in_group, group_texts};
 ghost use Rattle.sql_builder.specs.Calls.{Query, Sql, Subquery, SubqueryAs};
+ghost use Rattle.sql_builder.specs.Concat.{HasRoom, Writes, at_most_usize};
+ghost use Rattle.sql_builder.specs.Layout.{byte_atoms, fields_or_star, query, query_refusal, query_values, refusal, select_opening, sql, subquery, subquery_as};
 ghost use Rattle.sql_builder.specs.Meaning.{HasTruthOfGroups, Nests, ReadsBack};
 ghost use Rattle.sql_builder.specs.Phrases.{comma_list};
+ghost use Rattle.sql_builder.specs.Printed.{delete_bytes, further_bytes, group_by_bytes, insert_bytes, inserted_bytes, join_bytes, optional_bytes, order_by_bytes, statement_bytes, update_bytes, where_bytes, where_end, where_opening};
 ghost use Rattle.sql_builder.specs.Shape.{HasShape, IsClosedAs, as_fragments};
-ghost use Rattle.sql_builder.specs.Statement.{unless_refused};
+ghost use Rattle.sql_builder.specs.Statement.{refusal_at, text_at, unless_refused};
 ghost use Rattle.sql_builder.specs.Text.{fixed_piece, raw_piece};
+ghost use Rattle.sql_builder.specs.Views.{finish_view};
 
 use crate::builder::SqlBuilder;
+use crate::calls::Finish;
 use crate::clauses::{GroupedCondition, Kind, any_opens_group};
+use crate::concat::push_text;
 use crate::text_list::TextList;
 use crate::union_list::UnionList;
 use sql_parts::{SqlBuilderError, ToText};
-use std::alloc::AllocError;
 
-// Each text, with `before` in front of it.
-#[tactic(auto, using(crate::proofs::Printed::one_more, std::proofs::lemmas::List::append_assoc))]
-fn push_each(out: &mut String, before: &str, parts: &[String]) -> Result<(), AllocError>
-    ensures { Adds result out.old out.new
-        (flat_map (λ part. before.now ++ part) (texts parts.now)) }
+// Words, and a text behind them.
+fn push_behind(out: &mut String, words: &str, text: &str)
+    requires room { HasRoom out.old (words.now ++ text.now) }
+    ensures { Writes out.old out.new (words.now ++ text.now) }
 {
-    for part in parts {
-        out.push_str(before)?;
-        out.push_str(part.as_str())?;
-    }
-    Ok(())
+    push_text(out, words);
+    push_text(out, text);
 }
 
 // The words, and the text behind them, if there is one.
-fn push_optional(out: &mut String, words: &str, text: &Option<String>) -> Result<(), AllocError>
-    ensures { Adds result out.old out.new
-        (concat_sections byte_atoms (optional_section words.now (optional_text text.now))) }
+fn push_optional(out: &mut String, words: &str, text: &Option<String>)
+    requires room { HasRoom out.old (optional_bytes words.now (optional_text text.now)) }
+    ensures { Writes out.old out.new (optional_bytes words.now (optional_text text.now)) }
 {
     if let Some(text) = text {
-        out.push_str(words)?;
-        out.push_str(text.as_str())?;
+        push_behind(out, words, text.as_str());
     }
-    Ok(())
 }
 
-#[tactic(auto, using(crate::proofs::Printed::some_fields, crate::proofs::Printed::no_fields))]
-fn push_fields(out: &mut String, fields: &TextList) -> Result<(), AllocError>
-    ensures { Adds result out.old out.new (fields_or_star byte_atoms fields.now) }
+// Words, and a list of texts with commas between them.
+fn push_list(out: &mut String, words: &str, items: &TextList)
+    requires room { HasRoom out.old (words.now ++ comma_list byte_atoms items.now) }
+    ensures { Writes out.old out.new (words.now ++ comma_list byte_atoms items.now) }
 {
-    out.push_str(if fields.is_empty() {
+    push_behind(out, words, items.as_str());
+}
+
+/// The words that a query begins with.
+pub(crate) fn select_words(distinct: bool) -> &'static str
+    ensures { result.now ≡ select_opening distinct }
+{
+    if distinct {
+        "SELECT DISTINCT "
+    } else {
+        "SELECT "
+    }
+}
+
+/// The fields, or `*` where there are none.
+#[tactic(auto, using(crate::proofs::Printed::some_fields, crate::proofs::Printed::no_fields))]
+pub(crate) fn fields_text(fields: &TextList) -> &str
+    ensures { result.now ≡ fields_or_star byte_atoms fields.now }
+{
+    if fields.is_empty() {
         "*"
     } else {
         fields.as_str()
-    })
+    }
+}
+
+fn push_select(out: &mut String, distinct: bool, fields: &TextList)
+    requires room { HasRoom out.old (select_opening distinct ++ fields_or_star byte_atoms fields.now) }
+    ensures { Writes out.old out.new (select_opening distinct ++ fields_or_star byte_atoms fields.now) }
+{
+    push_behind(out, select_words(distinct), fields_text(fields));
+}
+
+#[tactic(auto, using(crate::proofs::Printed::one_more))]
+fn push_joins(out: &mut String, joins: &[String])
+    requires room { HasRoom out.old (join_bytes (texts joins.now)) }
+    ensures { Writes out.old out.new (join_bytes (texts joins.now)) }
+{
+    for join in joins {
+        push_behind(out, " ", join.as_str());
+    }
 }
 
 // The brackets of two neighbours are written at once.
-#[tactic(auto, using(crate::proofs::Printed::one_more, std::proofs::lemmas::List::append_assoc))]
-fn push_further_conditions(
-    out: &mut String,
-    conditions: &[GroupedCondition],
-) -> Result<(), AllocError>
-    ensures { Adds result out.old out.new
-        (flat_map (λ c. (if c.0 then codes ") AND (" else codes " OR ") ++ c.1)
-        (map condition_in_group conditions.now)) }
+#[tactic(auto, using(crate::proofs::Printed::one_more))]
+fn push_further_conditions(out: &mut String, conditions: &[GroupedCondition])
+    requires room { HasRoom out.old (further_bytes (map condition_in_group conditions.now)) }
+    ensures { Writes out.old out.new (further_bytes (map condition_in_group conditions.now)) }
 {
     for condition in conditions {
-        out.push_str(condition.words())?;
-        out.push_str(condition.text.as_str())?;
+        push_behind(out, condition.words(), condition.text.as_str());
     }
-    Ok(())
 }
 
-#[tactic(auto, using(crate::proofs::Groups::one_group, crate::proofs::Groups::several_groups, std::proofs::lemmas::List::append_assoc))]
-fn push_conditions(
-    out: &mut String,
-    first: &GroupedCondition,
-    further: &[GroupedCondition],
-) -> Result<(), AllocError>
-    ensures { Adds result out.old out.new (concat_sections byte_atoms
-        (where_sections byte_atoms (group_texts (first.now ∷ further.now)))) }
+/// What is in front of the first condition and behind the last.
+pub(crate) fn where_words(further: &[GroupedCondition]) -> (&'static str, &'static str)
+    ensures opening { result.0.now ≡ where_opening (list_any (λ c. c.opens_group) further.now) }
+    ensures end { result.1.now ≡ where_end (list_any (λ c. c.opens_group) further.now) }
 {
-    let is_bracketed = any_opens_group(further);
-    out.push_str(if is_bracketed { " WHERE (" } else { " WHERE " })?;
-    out.push_str(first.text.as_str())?;
-    push_further_conditions(out, further)?;
-    if is_bracketed {
-        out.push_str(")")?;
+    if any_opens_group(further) {
+        (" WHERE (", ")")
+    } else {
+        (" WHERE ", "")
     }
-    Ok(())
 }
 
-fn push_where(out: &mut String, conditions: &[GroupedCondition]) -> Result<(), AllocError>
-    ensures { Adds result out.old out.new
-        (concat_sections byte_atoms (where_sections byte_atoms (group_texts conditions.now))) }
+fn push_conditions(out: &mut String, first: &GroupedCondition, further: &[GroupedCondition])
+    requires room { HasRoom out.old (where_bytes (group_texts (first.now ∷ further.now))) }
+    ensures { Writes out.old out.new (where_bytes (group_texts (first.now ∷ further.now))) }
 {
-    match conditions.split_first() {
-        Some((first, further)) => push_conditions(out, first, further),
-        None => Ok(()),
+    let (opening, end) = where_words(further);
+    push_behind(out, opening, first.text.as_str());
+    push_further_conditions(out, further);
+    push_text(out, end);
+}
+
+fn push_where(out: &mut String, conditions: &[GroupedCondition])
+    requires room { HasRoom out.old (where_bytes (group_texts conditions.now)) }
+    ensures { Writes out.old out.new (where_bytes (group_texts conditions.now)) }
+{
+    if let Some((first, further)) = conditions.split_first() {
+        push_conditions(out, first, further);
     }
 }
 
 #[tactic(auto, using(crate::proofs::Printed::some_group_fields, std::proofs::lemmas::List::append_assoc))]
-fn push_group_by(
-    out: &mut String,
-    fields: &TextList,
-    having: &Option<String>,
-) -> Result<(), AllocError>
-    ensures { Adds result out.old out.new (concat_sections byte_atoms
-        (group_by_sections byte_atoms fields.now (optional_text having.now))) }
+fn push_group_by(out: &mut String, fields: &TextList, having: &Option<String>)
+    requires room { HasRoom out.old (group_by_bytes fields.now (optional_text having.now)) }
+    ensures { Writes out.old out.new (group_by_bytes fields.now (optional_text having.now)) }
 {
     if !fields.is_empty() {
-        push_list(out, " GROUP BY ", fields)?;
-        push_optional(out, " HAVING ", having)?;
+        push_list(out, " GROUP BY ", fields);
+        push_optional(out, " HAVING ", having);
     }
-    Ok(())
-}
-
-fn push_select(out: &mut String, distinct: bool, fields: &TextList) -> Result<(), AllocError>
-    ensures { Adds result out.old out.new
-        (select_opening distinct ++ fields_or_star byte_atoms fields.now) }
-{
-    out.push_str("SELECT ")?;
-    if distinct {
-        out.push_str("DISTINCT ")?;
-    }
-    push_fields(out, fields)
-}
-
-// Words, and a text behind them.
-fn push_behind(out: &mut String, words: &str, text: &str) -> Result<(), AllocError>
-    ensures { Adds result out.old out.new (words.now ++ text.now) }
-{
-    out.push_str(words)?;
-    out.push_str(text)
-}
-
-// Words, and a list of texts with commas between them.
-fn push_list(out: &mut String, words: &str, items: &TextList) -> Result<(), AllocError>
-    ensures { Adds result out.old out.new (words.now ++ comma_list byte_atoms items.now) }
-{
-    push_behind(out, words, items.as_str())
 }
 
 // ORDER BY stands only where there is no union.
 #[tactic(auto, using(crate::proofs::Printed::ordered))]
-fn push_order_by(out: &mut String, unions: &UnionList, fields: &TextList) -> Result<(), AllocError>
-    ensures { Adds result out.old out.new (concat_sections byte_atoms
-        (order_by_sections byte_atoms unions.now fields.now)) }
+fn push_order_by(out: &mut String, unions: &UnionList, fields: &TextList)
+    requires room { HasRoom out.old (order_by_bytes unions.now fields.now) }
+    ensures { Writes out.old out.new (order_by_bytes unions.now fields.now) }
 {
     if unions.is_empty() && !fields.is_empty() {
-        push_list(out, " ORDER BY ", fields)?;
+        push_list(out, " ORDER BY ", fields);
     }
-    Ok(())
-}
-
-fn push_fields_of_insert(out: &mut String, fields: &TextList) -> Result<(), AllocError>
-    ensures { Adds result out.old out.new
-        (codes " (" ++ (comma_list byte_atoms fields.now ++ codes ")")) }
-{
-    push_list(out, " (", fields)?;
-    out.push_str(")")?;
-    Ok(())
 }
 
 impl SqlBuilder {
-    fn push_query(&self, out: &mut String) -> Result<(), AllocError>
-        ensures { Adds result out.old out.new (query byte_atoms self.now) }
+    fn push_query(&self, out: &mut String)
+        requires room { HasRoom out.old (query byte_atoms self.now) }
+        ensures { Writes out.old out.new (query byte_atoms self.now) }
     {
-        push_select(out, self.distinct, &self.fields)?;
-        push_behind(out, " FROM ", self.table.as_str())?;
-        push_each(out, " ", &self.joins)?;
-        push_where(out, &self.conditions)?;
-        push_group_by(out, &self.group_fields, &self.having)?;
-        out.push_str(self.unions.as_str())?;
-        push_order_by(out, &self.unions, &self.order_fields)?;
-        push_optional(out, " LIMIT ", &self.limit)?;
-        push_optional(out, " OFFSET ", &self.offset)?;
-        Ok(())
+        push_select(out, self.distinct, &self.fields);
+        push_behind(out, " FROM ", self.table.as_str());
+        push_joins(out, &self.joins);
+        push_where(out, &self.conditions);
+        push_group_by(out, &self.group_fields, &self.having);
+        push_text(out, self.unions.as_str());
+        push_order_by(out, &self.unions, &self.order_fields);
+        push_optional(out, " LIMIT ", &self.limit);
+        push_optional(out, " OFFSET ", &self.offset);
     }
 
-    fn push_values(&self, out: &mut String) -> Result<(), AllocError>
-        ensures { Adds result out.old out.new (query_values byte_atoms self.now) }
+    fn push_values(&self, out: &mut String)
+        requires room { HasRoom out.old (query_values byte_atoms self.now) }
+        ensures { Writes out.old out.new (query_values byte_atoms self.now) }
     {
-        push_list(out, "SELECT ", &self.fields)?;
-        Ok(())
+        push_list(out, "SELECT ", &self.fields);
     }
 
-    fn push_insert_of_rows(&self, out: &mut String) -> Result<(), AllocError>
-        ensures { Adds result out.old out.new
-            (concat_sections byte_atoms (insert_sections byte_atoms None self.now)) }
-    {
-        push_behind(out, "INSERT INTO ", self.table.as_str())?;
-        push_fields_of_insert(out, &self.fields)?;
-        push_list(out, " VALUES ", &self.rows)?;
-        push_optional(out, " RETURNING ", &self.returning)?;
-        Ok(())
-    }
-
-    fn push_insert_of_query(&self, out: &mut String, query: &str) -> Result<(), AllocError>
-        ensures { Adds result out.old out.new
-            (concat_sections byte_atoms (insert_sections byte_atoms (Some query.now) self.now)) }
-    {
-        push_behind(out, "INSERT INTO ", self.table.as_str())?;
-        push_fields_of_insert(out, &self.fields)?;
-        push_behind(out, " ", query)?;
-        push_optional(out, " RETURNING ", &self.returning)?;
-        Ok(())
-    }
-
-    fn push_insert(&self, out: &mut String) -> Result<(), AllocError>
-        ensures { Adds result out.old out.new
-            (concat_sections byte_atoms (insert_sections byte_atoms self.now.query self.now)) }
+    /// What an INSERT inserts, its query or its rows, and the words between its fields and that.
+    pub(crate) fn inserted(&self) -> (&'static str, &str)
+        ensures { result.0.now ++ result.1.now ≡ inserted_bytes self.now.query self.now.rows }
     {
         match &self.query {
-            Some(query) => self.push_insert_of_query(out, query.as_str()),
-            None => self.push_insert_of_rows(out),
+            Some(query) => (") ", query.as_str()),
+            None => (") VALUES ", self.rows.as_str()),
         }
     }
 
-    fn push_update(&self, out: &mut String) -> Result<(), AllocError>
-        ensures { Adds result out.old out.new
-            (concat_sections byte_atoms (update_sections byte_atoms self.now)) }
+    fn push_insert(&self, out: &mut String)
+        requires room { HasRoom out.old (insert_bytes self.now) }
+        ensures { Writes out.old out.new (insert_bytes self.now) }
     {
-        push_behind(out, "UPDATE ", self.table.as_str())?;
-        push_list(out, " SET ", &self.sets)?;
-        push_where(out, &self.conditions)?;
-        push_optional(out, " RETURNING ", &self.returning)?;
-        Ok(())
+        push_behind(out, "INSERT INTO ", self.table.as_str());
+        push_list(out, " (", &self.fields);
+        let (words, inserted) = self.inserted();
+        push_behind(out, words, inserted);
+        push_optional(out, " RETURNING ", &self.returning);
     }
 
-    fn push_delete(&self, out: &mut String) -> Result<(), AllocError>
-        ensures { Adds result out.old out.new
-            (concat_sections byte_atoms (delete_sections byte_atoms self.now)) }
+    fn push_update(&self, out: &mut String)
+        requires room { HasRoom out.old (update_bytes self.now) }
+        ensures { Writes out.old out.new (update_bytes self.now) }
     {
-        push_behind(out, "DELETE FROM ", self.table.as_str())?;
-        push_where(out, &self.conditions)?;
-        push_optional(out, " RETURNING ", &self.returning)?;
-        Ok(())
+        push_behind(out, "UPDATE ", self.table.as_str());
+        push_list(out, " SET ", &self.sets);
+        push_where(out, &self.conditions);
+        push_optional(out, " RETURNING ", &self.returning);
     }
 
-    fn push_statement(&self, out: &mut String) -> Result<(), AllocError>
-        ensures { Adds result out.old out.new
-            (concat_sections byte_atoms (statement_sections byte_atoms self.now.kind self.now)) }
+    fn push_delete(&self, out: &mut String)
+        requires room { HasRoom out.old (delete_bytes self.now) }
+        ensures { Writes out.old out.new (delete_bytes self.now) }
+    {
+        push_behind(out, "DELETE FROM ", self.table.as_str());
+        push_where(out, &self.conditions);
+        push_optional(out, " RETURNING ", &self.returning);
+    }
+
+    fn push_statement(&self, out: &mut String)
+        requires room { HasRoom out.old (statement_bytes self.now) }
+        ensures { Writes out.old out.new (statement_bytes self.now) }
     {
         match self.kind {
             Kind::SelectFrom => self.push_query(out),
@@ -251,6 +228,45 @@ impl SqlBuilder {
             Kind::InsertInto => self.push_insert(out),
             Kind::UpdateTable => self.push_update(out),
             Kind::DeleteFrom => self.push_delete(out),
+        }
+    }
+
+    fn push_sql(&self, out: &mut String)
+        requires room { HasRoom out.old (sql byte_atoms self.now) }
+        ensures { Writes out.old out.new (sql byte_atoms self.now) }
+    {
+        self.push_statement(out);
+        push_text(out, ";");
+    }
+
+    fn push_subquery(&self, out: &mut String)
+        requires room { HasRoom out.old (subquery byte_atoms self.now) }
+        ensures { Writes out.old out.new (subquery byte_atoms self.now) }
+    {
+        push_text(out, "(");
+        self.push_query(out);
+        push_text(out, ")");
+    }
+
+    fn push_subquery_as(&self, name: &str, out: &mut String)
+        requires room { HasRoom out.old (subquery_as byte_atoms name.now self.now) }
+        ensures { Writes out.old out.new (subquery_as byte_atoms name.now self.now) }
+    {
+        push_text(out, "(");
+        self.push_query(out);
+        push_behind(out, ") AS ", name);
+    }
+
+    fn push_finished(&self, finish: &Finish, out: &mut String)
+        requires room { HasRoom out.old (text_at (finish_view finish.now) self.now) }
+        ensures { Writes out.old out.new (text_at (finish_view finish.now) self.now) }
+    {
+        match finish {
+            Finish::Sql => self.push_sql(out),
+            Finish::Query => self.push_query(out),
+            Finish::QueryValues => self.push_values(out),
+            Finish::Subquery => self.push_subquery(out),
+            Finish::SubqueryAs(name) => self.push_subquery_as(name.as_str(), out),
         }
     }
 }
@@ -283,28 +299,46 @@ impl SqlBuilder {
         }
     }
 
-    fn push_sql(&self, out: &mut String) -> Result<(), AllocError>
-        ensures { Adds result out.old out.new (sql byte_atoms self.now) }
+    fn check_finish(&self, finish: &Finish) -> Result<(), SqlBuilderError>
+        ensures { result ≡ unless_refused (refusal_at (finish_view finish.now) self.now) tt }
     {
-        self.push_statement(out)?;
-        out.push_str(";")
+        match finish {
+            Finish::Sql => self.check(),
+            Finish::QueryValues => Ok(()),
+            Finish::Query | Finish::Subquery | Finish::SubqueryAs(_) => self.check_query(),
+        }
     }
 
-    fn push_subquery(&self, out: &mut String) -> Result<(), AllocError>
-        ensures { Adds result out.old out.new (subquery byte_atoms self.now) }
+    /// The text of a finish, in one allocation of its length.
+    pub(crate) fn print(&self, finish: &Finish) -> Result<String, SqlBuilderError>
+        ensures text { IfOk result (λ s. string_bytes s ≡ text_at (finish_view finish.now) self.now) }
+        ensures refused { IfSome (refusal_at (finish_view finish.now) self.now)
+            (λ refusal. result ≡ Err refusal) }
+        ensures memory { IsNone (refusal_at (finish_view finish.now) self.now)
+            → FailsOnlyByMemory result }
     {
-        out.push_str("(")?;
-        self.push_query(out)?;
-        out.push_str(")")
+        self.check_finish(finish)?;
+        let mut out = String::with_capacity(self.alloc, self.printed_len(finish))?;
+        self.push_finished(finish, &mut out);
+        Ok(out)
     }
 
-    fn push_subquery_as(&self, out: &mut String, name: &str) -> Result<(), AllocError>
-        ensures { Adds result out.old out.new (subquery_as byte_atoms name.now self.now) }
+    /// Appends the text of a finish, after one allocation at most.
+    pub(crate) fn print_to(&self, finish: &Finish, out: &mut String) -> Result<(), SqlBuilderError>
+        ensures appended { OnOk result (string_bytes out.new
+            ≡ string_bytes out.old ++ text_at (finish_view finish.now) self.now) }
+        ensures unchanged { OnErr result (string_bytes out.new ≡ string_bytes out.old) }
+        ensures refused { IfSome (refusal_at (finish_view finish.now) self.now)
+            (λ refusal. result ≡ Err refusal) }
+        ensures memory { IsNone (refusal_at (finish_view finish.now) self.now)
+            → FailsOnlyByMemory result }
+        ensures room { IsNone (refusal_at (finish_view finish.now) self.now)
+            → HasRoom out.old (text_at (finish_view finish.now) self.now) → IsOk result }
     {
-        out.push_str("(")?;
-        self.push_query(out)?;
-        out.push_str(") AS ")?;
-        out.push_str(name)
+        self.check_finish(finish)?;
+        out.reserve(self.printed_len(finish))?;
+        self.push_finished(finish, out);
+        Ok(())
     }
 
     /// The statement, ended by `;`. It is refused with `NoTableName` where the table text is empty
@@ -332,11 +366,8 @@ impl SqlBuilder {
         ensures refused { IfSome (refusal self.now) (λ refusal. result ≡ Err refusal) }
         ensures memory { IsNone (refusal self.now) → FailsOnlyByMemory result }
     {
-        self.check()?;
-        let length = self.statement_length().saturating_add(";".len());
-        let mut out = String::with_capacity(self.alloc, length)?;
-        self.push_sql(&mut out)?;
-        Ok(out)
+        let statement = self.print(&Finish::Sql)?;
+        Ok(statement)
     }
 
     /// The query, on a builder of any kind. It is refused with `NoGroupBy` where there is a HAVING
@@ -361,9 +392,7 @@ impl SqlBuilder {
         ensures refused { IfSome (query_refusal self.now) (λ refusal. result ≡ Err refusal) }
         ensures memory { IsNone (query_refusal self.now) → FailsOnlyByMemory result }
     {
-        self.check_query()?;
-        let mut query = String::with_capacity(self.alloc, self.query_length())?;
-        self.push_query(&mut query)?;
+        let query = self.print(&Finish::Query)?;
         Ok(query)
     }
 
@@ -381,9 +410,8 @@ impl SqlBuilder {
             ReadsBack (query_values fixed_piece (as_fragments self.now)) (string_bytes s)) }
         ensures memory { FailsOnlyByMemory result }
     {
-        let mut out = String::with_capacity(self.alloc, self.values_length())?;
-        self.push_values(&mut out)?;
-        Ok(out)
+        let query = self.print(&Finish::QueryValues)?;
+        Ok(query)
     }
 
     /// The query in brackets: an operand without an outer word that begins a clause, where the
@@ -401,11 +429,8 @@ impl SqlBuilder {
         ensures refused { IfSome (query_refusal self.now) (λ refusal. result ≡ Err refusal) }
         ensures memory { IsNone (query_refusal self.now) → FailsOnlyByMemory result }
     {
-        self.check_query()?;
-        let length = self.query_length().saturating_add("()".len());
-        let mut subquery = String::with_capacity(self.alloc, length)?;
-        self.push_subquery(&mut subquery)?;
-        Ok(subquery)
+        let query = self.print(&Finish::Subquery)?;
+        Ok(query)
     }
 
     /// The query in brackets, `AS` and the name: balanced, where the builder's texts and the name
@@ -426,9 +451,7 @@ impl SqlBuilder {
     {
         self.check_query()?;
         let name = name.to_text(self.alloc)?;
-        let length = self.query_length().saturating_add("() AS ".len());
-        let mut out = String::with_capacity(self.alloc, length.saturating_add(name.len()))?;
-        self.push_subquery_as(&mut out, name.as_str())?;
-        Ok(out)
+        let query = self.print(&Finish::SubqueryAs(name))?;
+        Ok(query)
     }
 }

@@ -5,7 +5,7 @@ ghost use Rattle.sql_parts.specs.Text.{join_with};
 ghost use Rattle.sql_builder.specs.Concat.{concat_bytes};
 ghost use Rattle.sql_builder.specs.TextLists.{gap_before};
 
-use crate::concat::{Part, push_all, total_len};
+use crate::concat::{Part, push_all, push_text, total_len};
 use sql_parts::SqlBuilderError;
 use sql_parts::text::Texts;
 use std::alloc::{AllocError, Global};
@@ -81,8 +81,8 @@ impl TextList {
         let room = self.least_room().max(len.saturating_add(gap.len()));
         self.text.reserve(room)?;
         self.lengths.reserve(1)?;
-        self.text.push_str(gap)?;
-        push_all(&mut self.text, parts)?;
+        push_text(&mut self.text, gap);
+        push_all(&mut self.text, parts);
         self.lengths.push(len)?;
         Ok(())
     }
@@ -105,7 +105,7 @@ impl TextList {
         self.lengths.reserve(1)?;
         self.text.clear();
         self.lengths.clear();
-        push_all(&mut self.text, parts)?;
+        push_all(&mut self.text, parts);
         self.lengths.push(len)?;
         Ok(())
     }
@@ -122,8 +122,8 @@ impl TextList {
         self.text
             .reserve(further.text.len().saturating_add(gap.len()))?;
         self.lengths.reserve(further.lengths.len())?;
-        self.text.push_str(gap)?;
-        self.text.push_str(further.text.as_str())?;
+        push_text(&mut self.text, gap);
+        push_text(&mut self.text, further.text.as_str());
         self.lengths.extend_from_slice(&further.lengths)?;
         Ok(())
     }

@@ -2,6 +2,7 @@
 ghost use Rattle.std.specs.Prelude.{◌≡◌, ◌++◌, [], ◌∷◌, ◌==◌, flat_map, length, IfOk, OnErr, OnOk};
 ghost use Rattle.sql_builder.specs.Layout.{union_opening};
 
+use crate::concat::push_text;
 use std::alloc::{AllocError, Global};
 use std::marker::Model;
 
@@ -66,8 +67,8 @@ impl UnionList {
         let words = words(all);
         self.text.reserve(query.len().saturating_add(words.len()))?;
         self.unions.reserve(1)?;
-        self.text.push_str(words)?;
-        self.text.push_str(query)?;
+        push_text(&mut self.text, words);
+        push_text(&mut self.text, query);
         self.unions.push((all, query.len()))?;
         Ok(())
     }

@@ -1,12 +1,19 @@
-use Rattle.std.specs.Prelude.{string_bytes}
+use Rattle.std.proofs.Common.{◌++◌, codes}
 use Rattle.sql_builder.specs.contracts.builder.SqlBuilder.{the_view}
-use Rattle.sql_builder.proofs.Printed.{update_added}
+use Rattle.sql_builder.specs.Layout.{byte_atoms}
+use Rattle.sql_builder.specs.Phrases.{comma_list}
+use Rattle.sql_builder.specs.Printed.{optional_bytes, where_bytes}
+use Rattle.sql_builder.proofs.Printed.{update_is}
+use Rattle.sql_builder.proofs.Room.{writes_both}
 use Rattle.sql_builder.proofs.builder.SqlBuilder.push_update.Goals as goal
 
 pub returns : goal.returns
 returns c =
-    rw (← c.self.view_is) (update_added (the_view c.self.inside) (string_bytes c.args.out.now)
-    (rw (c.as_str.ensures.value) at c.in_ok-push_behind.ensures)
-    c.in_ok-push_list.ensures
-    (rw (c.deref.ensures.value) at c.in_ok-push_where.ensures)
-    c.in_ok-push_optional.ensures)
+    let r = the_view c.self.inside in
+    rw (← c.self.view_is) (rw (update_is r)
+    (writes_both (codes "UPDATE " ++ r.table) _ c.args.out.now c.push_behind.new.out c.push_optional.new.out
+    (rw (c.as_str.ensures.value) at c.push_behind.ensures)
+    (writes_both (codes " SET " ++ comma_list byte_atoms r.sets) _ c.push_behind.new.out c.push_list.new.out c.push_optional.new.out
+    c.push_list.ensures
+    (writes_both (where_bytes r.groups) (optional_bytes (codes " RETURNING ") r.returning) c.push_list.new.out c.push_where.new.out c.push_optional.new.out
+    (rw (c.deref.ensures.value) at c.push_where.ensures) c.push_optional.ensures))))

@@ -6,14 +6,14 @@ use Rattle.sql_builder.proofs.union_list.UnionList.push.Goals as goal
 
 -- the text and the places are those of one more query
 longer : (c : goal.In_ok-push)
-    → (string_bytes c.push_str-2.new.self ≡ flat_map (λ union. union_opening union.0 ++ union.1) (c.args.self.now ++ (c.args.all, c.args.query.now) ∷ []))
+    → (string_bytes c.push_text-2.new.out ≡ flat_map (λ union. union_opening union.0 ++ union.1) (c.args.self.now ++ (c.args.all, c.args.query.now) ∷ []))
     × (c.push.new.self.items ≡ places_of (c.args.self.now ++ (c.args.all, c.args.query.now) ∷ []))
 longer c =
     let text = string_bytes c.self.inside.text in
     let kept = c.self.inside.unions.items in
     let more : Bool × List ℕ = (c.args.all, c.args.query.now) in
-    let new : string_bytes c.push_str-2.new.self ≡ text ++ (union_opening c.args.all ++ c.args.query.now) =
-    rw (c.in_ok-push_str-2.ensures.bytes, c.in_ok-push_str.ensures.bytes, c.in_ok-reserve.ensures.bytes, c.words-words.ensures)
+    let new : string_bytes c.push_text-2.new.out ≡ text ++ (union_opening c.args.all ++ c.args.query.now) =
+    rw (c.push_text-2.ensures.0, c.push_text.ensures.0, c.in_ok-reserve.ensures.bytes, c.words-words.ensures)
     (append_assoc text (union_opening c.args.all) c.args.query.now) in
     let places : c.push.new.self.items ≡ kept ++ (c.args.all, length c.args.query.now) ∷ [] =
     rw (c.in_ok-push.ensures.items, c.in_ok-reserve-2.ensures.items) refl in (
