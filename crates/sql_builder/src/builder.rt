@@ -7,9 +7,10 @@ ghost use Rattle.sql_builder.specs.Calls.{SelectFrom, SelectValues, InsertInto, 
 ghost use Rattle.sql_builder.specs.Clauses.{new_clauses};
 
 use crate::clauses::{GroupedCondition, JoinOperator, Kind, copy_conditions};
+use crate::optional_text::OptionalText;
 use crate::text_list::TextList;
 use crate::union_list::UnionList;
-use sql_parts::text::{Items, Texts, copies, copy};
+use sql_parts::text::{Items, Texts, copies};
 use sql_parts::{SqlBuilderError, ToText};
 use std::alloc::Global;
 use std::marker::Model;
@@ -30,15 +31,15 @@ pub struct SqlBuilder {
     pub(crate) fields: TextList,
     pub(crate) sets: TextList,
     pub(crate) rows: TextList,
-    pub(crate) query: Option<String>,
-    pub(crate) returning: Option<String>,
+    pub(crate) query: OptionalText,
+    pub(crate) returning: OptionalText,
     pub(crate) group_fields: TextList,
-    pub(crate) having: Option<String>,
+    pub(crate) having: OptionalText,
     pub(crate) conditions: Vec<GroupedCondition>,
     pub(crate) unions: UnionList,
     pub(crate) order_fields: TextList,
-    pub(crate) limit: Option<String>,
-    pub(crate) offset: Option<String>,
+    pub(crate) limit: OptionalText,
+    pub(crate) offset: OptionalText,
 }
 
 // A function of its own, so that a caller's proof sees one step where a builder is dropped, and not
@@ -72,7 +73,7 @@ impl Drop for SqlBuilder {
 impl Model for SqlBuilder {
     ghost use Rattle.std.specs.Prelude.{List, ℕ, string_bytes};
     ghost use Rattle.sql_builder.specs.Builder.{group_texts};
-    ghost use Rattle.sql_parts.specs.Text.{optional_text, texts};
+    ghost use Rattle.sql_parts.specs.Text.{texts};
     ghost use Rattle.sql_builder.specs.Clauses.{Clauses};
 
     ghost Value = { Clauses (List ℕ) };
@@ -87,25 +88,25 @@ impl Model for SqlBuilder {
       fields = b.fields;
       sets = b.sets;
       rows = b.rows;
-      query = optional_text b.query;
-      returning = optional_text b.returning;
+      query = b.query;
+      returning = b.returning;
       group_fields = b.group_fields;
-      having = optional_text b.having;
+      having = b.having;
       groups = group_texts b.conditions.items;
       unions = b.unions;
       order_fields = b.order_fields;
-      limit = optional_text b.limit;
-      offset = optional_text b.offset;
+      limit = b.limit;
+      offset = b.offset;
     } };
 }
 
 // Copies of the query, RETURNING, HAVING, LIMIT and OFFSET.
 type OptionalTexts = (
-    Option<String>,
-    Option<String>,
-    Option<String>,
-    Option<String>,
-    Option<String>,
+    OptionalText,
+    OptionalText,
+    OptionalText,
+    OptionalText,
+    OptionalText,
 );
 
 // Copies of the conditions, GROUP BY, the unions and ORDER BY.
@@ -113,7 +114,6 @@ type FurtherClauses = (Vec<GroupedCondition>, TextList, UnionList, TextList);
 
 impl SqlBuilder {
     ghost use Rattle.sql_builder.specs.Builder.{group_texts};
-    ghost use Rattle.sql_parts.specs.Text.{optional_text};
 
     fn new(alloc: Global, kind: Kind, table: String, fields: TextList) -> SqlBuilder
         ensures { result ≡ new_clauses kind (string_bytes table) fields }
@@ -129,15 +129,15 @@ impl SqlBuilder {
             fields,
             sets: TextList::new(alloc),
             rows: TextList::new(alloc),
-            query: None,
-            returning: None,
+            query: OptionalText::new(alloc),
+            returning: OptionalText::new(alloc),
             group_fields: TextList::new(alloc),
-            having: None,
+            having: OptionalText::new(alloc),
             conditions: Vec::new(alloc),
             unions: UnionList::new(alloc),
             order_fields: TextList::new(alloc),
-            limit: None,
-            offset: None,
+            limit: OptionalText::new(alloc),
+            offset: OptionalText::new(alloc),
         }
     }
 
@@ -241,19 +241,19 @@ impl SqlBuilder {
     }
 
     fn copy_texts(&self) -> Result<OptionalTexts, SqlBuilderError>
-        ensures query { IfOk result (λ copy. optional_text copy.0 ≡ self.now.query) }
-        ensures returning { IfOk result (λ copy. optional_text copy.1 ≡ self.now.returning) }
-        ensures having { IfOk result (λ copy. optional_text copy.2 ≡ self.now.having) }
-        ensures limit { IfOk result (λ copy. optional_text copy.3 ≡ self.now.limit) }
-        ensures offset { IfOk result (λ copy. optional_text copy.4 ≡ self.now.offset) }
+        ensures query { IfOk result (λ copy. copy.0 ≡ self.now.query) }
+        ensures returning { IfOk result (λ copy. copy.1 ≡ self.now.returning) }
+        ensures having { IfOk result (λ copy. copy.2 ≡ self.now.having) }
+        ensures limit { IfOk result (λ copy. copy.3 ≡ self.now.limit) }
+        ensures offset { IfOk result (λ copy. copy.4 ≡ self.now.offset) }
         ensures memory { FailsOnlyByMemory result }
     {
         Ok((
-            copy(self.alloc, &self.query)?,
-            copy(self.alloc, &self.returning)?,
-            copy(self.alloc, &self.having)?,
-            copy(self.alloc, &self.limit)?,
-            copy(self.alloc, &self.offset)?,
+            self.query.copy(self.alloc)?,
+            self.returning.copy(self.alloc)?,
+            self.having.copy(self.alloc)?,
+            self.limit.copy(self.alloc)?,
+            self.offset.copy(self.alloc)?,
         ))
     }
 

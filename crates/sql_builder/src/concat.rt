@@ -54,6 +54,18 @@ pub(crate) fn concat(alloc: Global, parts: &[Part<'_>]) -> Result<String, AllocE
     Ok(text)
 }
 
+/// Puts one text in the place of another, after one allocation at most. Where that fails, the text is
+/// as it was.
+pub(crate) fn replace(text: &mut String, with: &str) -> Result<(), AllocError>
+    ensures replaced { OnOk result (string_bytes text.new ≡ with.now) }
+    ensures unchanged { OnErr result (string_bytes text.new ≡ string_bytes text.old) }
+{
+    text.reserve(with.len().saturating_sub(text.len()))?;
+    text.clear();
+    push_text(text, with);
+    Ok(())
+}
+
 /// Appends the parts, after one allocation at most. Where that fails, the text is as it was.
 pub(crate) fn append(text: &mut String, parts: &[Part<'_>]) -> Result<(), AllocError>
     ensures added { OnOk result

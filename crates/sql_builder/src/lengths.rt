@@ -2,7 +2,7 @@
 //! that is more than a `usize` says, the greatest `usize`, which no allocation gives.
 ghost use Rattle.std.specs.Prelude.{◌≡◌, ◌∷◌, length, map};
 ghost use Rattle.std.specs.List.{sum};
-ghost use Rattle.sql_parts.specs.Text.{optional_text, texts};
+ghost use Rattle.sql_parts.specs.Text.{texts};
 ghost use Rattle.sql_builder.specs.Builder.{condition_in_group, group_texts};
 ghost use Rattle.sql_builder.specs.Concat.{at_most_usize};
 ghost use Rattle.sql_builder.specs.Layout.{byte_atoms, query, query_values};
@@ -15,6 +15,7 @@ use crate::calls::Finish;
 use crate::clauses::{GroupedCondition, Kind};
 use crate::concat::{Part, total_len};
 use crate::printing::{fields_text, select_words, where_words};
+use crate::optional_text::OptionalText;
 use crate::text_list::TextList;
 use crate::union_list::UnionList;
 
@@ -28,10 +29,10 @@ fn sum(lengths: &[usize]) -> usize
     sum
 }
 
-fn optional_len(words: &str, text: &Option<String>) -> usize
-    ensures { result ≡ at_most_usize (length (optional_bytes words.now (optional_text text.now))) }
+fn optional_len(words: &str, text: &OptionalText) -> usize
+    ensures { result ≡ at_most_usize (length (optional_bytes words.now text.now)) }
 {
-    match text {
+    match text.get() {
         Some(text) => total_len(&[Part(words), Part(text)]),
         None => 0,
     }
@@ -84,8 +85,8 @@ fn where_len(conditions: &[GroupedCondition]) -> usize
     }
 }
 
-fn group_by_len(fields: &TextList, having: &Option<String>) -> usize
-    ensures { result ≡ at_most_usize (length (group_by_bytes fields.now (optional_text having.now))) }
+fn group_by_len(fields: &TextList, having: &OptionalText) -> usize
+    ensures { result ≡ at_most_usize (length (group_by_bytes fields.now having.now)) }
 {
     if fields.is_empty() {
         return 0;

@@ -13,6 +13,7 @@ mod concat;
 mod condition;
 pub mod laws;
 mod lengths;
+mod optional_text;
 mod phrases;
 pub mod prelude;
 mod printing;

@@ -3,7 +3,7 @@
 ghost use Rattle.std.specs.Prelude.{◌≡◌, ◌≤◌, ◌+◌, ◌∷◌, ◌++◌, IfOk, IfSome, IsNone, IsOk, OnErr, OnOk, codes, length, map, string_bytes, string_capacity, string_len};
 ghost use Rattle.std.specs.List.{list_any};
 ghost use Rattle.sql_parts.specs.Error.{FailsOnlyByMemory};
-ghost use Rattle.sql_parts.specs.Text.{optional_text, texts};
+ghost use Rattle.sql_parts.specs.Text.{texts};
 ghost use Rattle.sql_builder.specs.Builder.{condition_in_group, group_texts};
 ghost use Rattle.sql_builder.specs.Calls.{Query, Sql, Subquery, SubqueryAs};
 ghost use Rattle.sql_builder.specs.Concat.{HasRoom, Writes, at_most_usize};
@@ -20,6 +20,7 @@ use crate::builder::SqlBuilder;
 use crate::calls::Finish;
 use crate::clauses::{GroupedCondition, Kind, any_opens_group};
 use crate::concat::push_text;
+use crate::optional_text::OptionalText;
 use crate::text_list::TextList;
 use crate::union_list::UnionList;
 use sql_parts::{SqlBuilderError, ToText};
@@ -34,12 +35,12 @@ fn push_behind(out: &mut String, words: &str, text: &str)
 }
 
 // The words, and the text behind them, if there is one.
-fn push_optional(out: &mut String, words: &str, text: &Option<String>)
-    requires room { HasRoom out.old (optional_bytes words.now (optional_text text.now)) }
-    ensures { Writes out.old out.new (optional_bytes words.now (optional_text text.now)) }
+fn push_optional(out: &mut String, words: &str, text: &OptionalText)
+    requires room { HasRoom out.old (optional_bytes words.now text.now) }
+    ensures { Writes out.old out.new (optional_bytes words.now text.now) }
 {
-    if let Some(text) = text {
-        push_behind(out, words, text.as_str());
+    if let Some(text) = text.get() {
+        push_behind(out, words, text);
     }
 }
 
@@ -134,9 +135,9 @@ fn push_where(out: &mut String, conditions: &[GroupedCondition])
 }
 
 #[tactic(auto, using(crate::proofs::Printed::some_group_fields, std::proofs::lemmas::List::append_assoc))]
-fn push_group_by(out: &mut String, fields: &TextList, having: &Option<String>)
-    requires room { HasRoom out.old (group_by_bytes fields.now (optional_text having.now)) }
-    ensures { Writes out.old out.new (group_by_bytes fields.now (optional_text having.now)) }
+fn push_group_by(out: &mut String, fields: &TextList, having: &OptionalText)
+    requires room { HasRoom out.old (group_by_bytes fields.now having.now) }
+    ensures { Writes out.old out.new (group_by_bytes fields.now having.now) }
 {
     if !fields.is_empty() {
         push_list(out, " GROUP BY ", fields);
@@ -182,8 +183,8 @@ impl SqlBuilder {
     pub(crate) fn inserted(&self) -> (&'static str, &str)
         ensures { result.0.now ++ result.1.now ≡ inserted_bytes self.now.query self.now.rows }
     {
-        match &self.query {
-            Some(query) => (") ", query.as_str()),
+        match self.query.get() {
+            Some(query) => (") ", query),
             None => (") VALUES ", self.rows.as_str()),
         }
     }
@@ -291,7 +292,7 @@ impl SqlBuilder {
         match self.kind {
             Kind::SelectFrom => self.check_query(),
             Kind::SelectValues if self.fields.is_empty() => Err(SqlBuilderError::NoValues),
-            Kind::InsertInto if self.query.is_none() && self.rows.is_empty() => {
+            Kind::InsertInto if !self.query.is_some() && self.rows.is_empty() => {
                 Err(SqlBuilderError::NoValues)
             }
             Kind::UpdateTable if self.sets.is_empty() => Err(SqlBuilderError::NoSetFields),

@@ -151,16 +151,15 @@ impl SqlBuilder {
     fn put_query(&mut self, query: &str) -> Result<(), SqlBuilderError>
         ensures { Tells result self.old self.new (with_query query.now) }
     {
-        self.query = Some(String::from_str(self.alloc, query)?);
-        self.rows = TextList::new(self.alloc);
+        self.query.set(query)?;
+        self.rows.clear();
         Ok(())
     }
 
     pub(crate) fn put_returning(&mut self, fields: &str) -> Result<(), SqlBuilderError>
         ensures { Tells result self.old self.new (with_returning fields.now) }
     {
-        self.returning = Some(String::from_str(self.alloc, fields)?);
-        Ok(())
+        Ok(self.returning.set(fields)?)
     }
 
     fn push_group_field(&mut self, field: &str) -> Result<(), SqlBuilderError>
@@ -172,8 +171,7 @@ impl SqlBuilder {
     fn put_having(&mut self, condition: &str) -> Result<(), SqlBuilderError>
         ensures { Tells result self.old self.new (with_having condition.now) }
     {
-        self.having = Some(String::from_str(self.alloc, condition)?);
-        Ok(())
+        Ok(self.having.set(condition)?)
     }
 
     fn push_union(&mut self, all: bool, query: &str) -> Result<(), SqlBuilderError>
@@ -185,15 +183,13 @@ impl SqlBuilder {
     fn put_limit(&mut self, limit: &str) -> Result<(), SqlBuilderError>
         ensures { Tells result self.old self.new (with_limit limit.now) }
     {
-        self.limit = Some(String::from_str(self.alloc, limit)?);
-        Ok(())
+        Ok(self.limit.set(limit)?)
     }
 
     fn put_offset(&mut self, offset: &str) -> Result<(), SqlBuilderError>
         ensures { Tells result self.old self.new (with_offset offset.now) }
     {
-        self.offset = Some(String::from_str(self.alloc, offset)?);
-        Ok(())
+        Ok(self.offset.set(offset)?)
     }
 
     #[tactic(auto, using(crate::proofs::Groups::one_more_condition))]
@@ -298,7 +294,7 @@ pub fn make_variadic<'a, T: Texts<'a>>(
         VariadicClause::Values => {
             let row = row(builder.alloc, texts)?;
             builder.rows.push(&[Part(row.as_str())])?;
-            builder.query = None;
+            builder.query.clear();
         }
     }
     Ok(())

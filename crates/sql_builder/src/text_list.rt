@@ -110,6 +110,14 @@ impl TextList {
         Ok(())
     }
 
+    /// Removes all texts.
+    pub(crate) fn clear(&mut self)
+        ensures { self.new ≡ [] }
+    {
+        self.text.clear();
+        self.lengths.clear();
+    }
+
     /// Appends the texts of another list. Where memory runs out, the list is as it was.
     pub(crate) fn append(&mut self, further: &TextList) -> Result<(), AllocError>
         ensures appended { OnOk result (self.new ≡ self.old ++ further.now) }

@@ -73,6 +73,14 @@ impl UnionList {
         Ok(())
     }
 
+    /// Removes all queries.
+    pub(crate) fn clear(&mut self)
+        ensures { self.new ≡ [] }
+    {
+        self.text.clear();
+        self.unions.clear();
+    }
+
     /// An equal list.
     pub(crate) fn copy(&self, alloc: Global) -> Result<UnionList, AllocError>
         ensures { IfOk result (λ copy. copy ≡ self.now) }
