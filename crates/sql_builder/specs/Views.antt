@@ -1,5 +1,5 @@
 -- What `run` is handed, each text as its bytes.
-use Rattle.std.specs.Prelude.{string_bytes}
+use Rattle.std.specs.Prelude.{ℕ, List, string_bytes}
 use Rattle.sql_parts.specs.Text.{texts}
 use Rattle.sql_builder.specs.Calls as text
 use Rattle.sql_builder.specs.Calls.{StartText, CallText, FinishText}
@@ -10,6 +10,8 @@ use Rattle.sql_builder.specs.declared.calls.Finish.{Finish}
 use Rattle.sql_builder.specs.declared.calls.Finish.TheVariants as finish
 use Rattle.sql_builder.specs.declared.calls.Start.{Start}
 use Rattle.sql_builder.specs.declared.calls.Start.TheVariants as start
+use Rattle.sql_builder.specs.declared.calls.TableStart.{TableStart}
+use Rattle.sql_builder.specs.declared.calls.TableStart.TheVariants as on
 
 -- a start, its texts as bytes
 abbrev pub start_view : Start → StartText
@@ -18,6 +20,13 @@ start_view (start.SelectValues values) = text.SelectValues (texts values.items)
 start_view (start.InsertInto table) = text.InsertInto (string_bytes table)
 start_view (start.UpdateTable table) = text.UpdateTable (string_bytes table)
 start_view (start.DeleteFrom table) = text.DeleteFrom (string_bytes table)
+
+-- a start on this table
+abbrev pub start_on : TableStart → List ℕ → StartText
+start_on on.SelectFrom table = text.SelectFrom table
+start_on on.InsertInto table = text.InsertInto table
+start_on on.UpdateTable table = text.UpdateTable table
+start_on on.DeleteFrom table = text.DeleteFrom table
 
 -- a call, its texts as bytes
 abbrev pub call_view : Call → CallText

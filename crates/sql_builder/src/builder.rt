@@ -1,5 +1,5 @@
 //! The builder: it is told clauses call by call, and prints a statement of them.
-ghost use Rattle.std.specs.Prelude.{◌≡◌, [], map, IfOk, string_bytes};
+ghost use Rattle.std.specs.Prelude.{◌≡◌, [], map, IfOk, OnErr, OnOk, string_bytes};
 ghost use Rattle.sql_parts.specs.Error.{FailsOnlyByMemory};
 ghost use Rattle.sql_parts.specs.Text.{texts};
 ghost use Rattle.sql_builder.specs.Builder.{started};
@@ -7,12 +7,13 @@ ghost use Rattle.sql_builder.specs.Calls.{SelectFrom, SelectValues, InsertInto, 
 ghost use Rattle.sql_builder.specs.Clauses.{new_clauses};
 
 use crate::clauses::{GroupedCondition, JoinOperator, Kind, copy_conditions};
+use crate::concat::replace;
 use crate::optional_text::OptionalText;
 use crate::text_list::TextList;
 use crate::union_list::UnionList;
 use sql_parts::text::{Items, Texts, copies};
 use sql_parts::{SqlBuilderError, ToText};
-use std::alloc::Global;
+use std::alloc::{AllocError, Global};
 use std::marker::Model;
 
 /// A builder of a statement. Contracts see it as its clauses, each text as its bytes.
@@ -153,6 +154,56 @@ impl SqlBuilder {
         Ok(SqlBuilder::new(alloc, kind, table, TextList::new(alloc)))
     }
 
+    // Removes every clause but the table. The buffers are kept, and the table's bytes.
+    fn clear(&mut self, kind: Kind)
+        ensures { self.new ≡ new_clauses kind self.old.table [] }
+    {
+        self.kind = kind;
+        self.joins.clear();
+        self.operator = None;
+        self.natural = false;
+        self.distinct = false;
+        self.fields.clear();
+        self.sets.clear();
+        self.rows.clear();
+        self.query.clear();
+        self.returning.clear();
+        self.group_fields.clear();
+        self.having.clear();
+        self.conditions.clear();
+        self.unions.clear();
+        self.order_fields.clear();
+        self.limit.clear();
+        self.offset.clear();
+    }
+
+    /// Makes this the builder of a statement on a table. Where memory runs out, it is as it was.
+    pub(crate) fn restart_on(&mut self, kind: Kind, table: &str) -> Result<(), AllocError>
+        ensures restarted { OnOk result (self.new ≡ new_clauses kind table.now []) }
+        ensures unchanged { OnErr result (self.new ≡ self.old) }
+    {
+        replace(&mut self.table, table)?;
+        self.clear(kind);
+        Ok(())
+    }
+
+    /// Makes this the builder of a SELECT of values that are taken one after another. Where memory
+    /// runs out, it is as it was.
+    pub(crate) fn restart_values<'a, T: Texts<'a>>(
+        &mut self,
+        values: T,
+    ) -> Result<(), SqlBuilderError>
+        ensures restarted { OnOk result (self.new ≡ started (SelectValues (T.left values))) }
+        ensures unchanged { OnErr result (self.new ≡ self.old) }
+        ensures memory { FailsOnlyByMemory result }
+    {
+        let fields = TextList::of(self.alloc, values)?;
+        self.table.clear();
+        self.clear(Kind::SelectValues);
+        self.fields = fields;
+        Ok(())
+    }
+
     /// A SELECT from this table, told nothing else. It is refused only for want of memory, as is
     /// each of the four starts below.
     /// `select_from("t")` → `SELECT * FROM t;`
@@ -172,18 +223,7 @@ impl SqlBuilder {
         ensures made { IfOk result (λ b. b ≡ started (SelectValues (map S.text values.now))) }
         ensures memory { FailsOnlyByMemory result }
     {
-        SqlBuilder::select_texts(alloc, Items { items: values })
-    }
-
-    /// A SELECT of values that are taken one after another, without a table.
-    pub(crate) fn select_texts<'a, T: Texts<'a>>(
-        alloc: Global,
-        values: T,
-    ) -> Result<SqlBuilder, SqlBuilderError>
-        ensures made { IfOk result (λ b. b ≡ started (SelectValues (T.left values))) }
-        ensures memory { FailsOnlyByMemory result }
-    {
-        let fields = TextList::of(alloc, values)?;
+        let fields = TextList::of(alloc, Items { items: values })?;
         Ok(SqlBuilder::new(alloc, Kind::SelectValues, String::new(alloc), fields))
     }
 

@@ -1,7 +1,7 @@
 //! Lists of calls, as values, and the statement that a list makes.
 ghost use Rattle.std.specs.Prelude.{◌≡◌, ◌⊎◌, ◌≤◌, ◌+◌, ◌-◌, ◌^◌, ◌++◌, [], length, map, min, IfErr, IfOk, IfSome, IsNone, IsOk, IsTrue, Ok, OnErr, OnOk, string_bytes, string_capacity, string_len};
 ghost use Rattle.sql_parts.specs.Error.{FailsOnlyByMemory, IsMemory};
-ghost use Rattle.sql_builder.specs.Views.{call_view, finish_view, start_view};
+ghost use Rattle.sql_builder.specs.Views.{call_view, finish_view, start_on, start_view};
 ghost use Rattle.sql_builder.specs.Steps.{with_call};
 ghost use Rattle.sql_builder.specs.Calls.{SelectValues, clauses, kind_of};
 ghost use Rattle.sql_builder.specs.Clauses.{map_clauses};
@@ -14,7 +14,7 @@ ghost use Rattle.sql_builder.specs.Text.{pieces_text};
 ghost use Rattle.sql_parts.specs.Tokens.{closed, tokens};
 
 use crate::builder::SqlBuilder;
-use crate::clauses::JoinOperator;
+use crate::clauses::{JoinOperator, Kind};
 pub use crate::condition::{BorrowedCondition, Condition, Family, Percent, Relation};
 pub use crate::steps::{
     BinaryClause, UnaryClause, VariadicClause, make_binary, make_condition, make_order, make_unary,
@@ -37,6 +37,19 @@ pub enum Start {
     UpdateTable(String),
     /// `delete_from` of this table.
     DeleteFrom(String),
+}
+
+/// How a statement on a table begins.
+#[derive(Clone, Copy)]
+pub enum TableStart {
+    /// `select_from`.
+    SelectFrom,
+    /// `insert_into`.
+    InsertInto,
+    /// `update_table`.
+    UpdateTable,
+    /// `delete_from`.
+    DeleteFrom,
 }
 
 /// A call that changes a builder.
@@ -143,18 +156,62 @@ pub fn begin(alloc: Global, start: &Start) -> Result<SqlBuilder, SqlBuilderError
     }
 }
 
-/// A SELECT of values that are taken one after another, without a table. It fails only if memory runs
-/// out.
-/// `select_texts(Items { items: [1, 2] }).sql()` → `SELECT 1, 2;`
-pub fn select_texts<'a, T: Texts<'a>>(
-    alloc: Global,
-    values: T,
-) -> Result<SqlBuilder, SqlBuilderError>
-    ensures made { IfOk result (λ b. b
-        ≡ map_clauses pieces_text (clauses (SelectValues (T.left values)) [])) }
+/// Makes a builder that of another start, and keeps its buffers. It fails only if memory runs out, and
+/// then leaves the builder as it was.
+/// `{ let mut b = select_from("t"); b.field("a"); restart(&mut b, &Start::DeleteFrom("u")); b.sql() }` →
+/// `DELETE FROM u;`
+pub fn restart(builder: &mut SqlBuilder, start: &Start) -> Result<(), SqlBuilderError>
+    ensures restarted { OnOk result (builder.new
+        ≡ map_clauses pieces_text (clauses (start_view start.now) [])) }
+    ensures unchanged { OnErr result (builder.new ≡ builder.old) }
     ensures memory { FailsOnlyByMemory result }
 {
-    SqlBuilder::select_texts(alloc, values)
+    match start {
+        Start::SelectFrom(table) => restart_on(builder, TableStart::SelectFrom, table),
+        Start::SelectValues(values) => restart_values(builder, Items { items: values }),
+        Start::InsertInto(table) => restart_on(builder, TableStart::InsertInto, table),
+        Start::UpdateTable(table) => restart_on(builder, TableStart::UpdateTable, table),
+        Start::DeleteFrom(table) => restart_on(builder, TableStart::DeleteFrom, table),
+    }
+}
+
+/// Makes a builder that of a statement on this table, and keeps its buffers. It fails only if memory
+/// runs out, and then leaves the builder as it was.
+/// `{ let mut b = select_from("t"); restart_on(&mut b, TableStart::DeleteFrom, "u"); b.sql() }` →
+/// `DELETE FROM u;`
+pub fn restart_on(
+    builder: &mut SqlBuilder,
+    start: TableStart,
+    table: &str,
+) -> Result<(), SqlBuilderError>
+    ensures restarted { OnOk result (builder.new
+        ≡ map_clauses pieces_text (clauses (start_on start table.now) [])) }
+    ensures unchanged { OnErr result (builder.new ≡ builder.old) }
+    ensures memory { FailsOnlyByMemory result }
+{
+    let kind = match start {
+        TableStart::SelectFrom => Kind::SelectFrom,
+        TableStart::InsertInto => Kind::InsertInto,
+        TableStart::UpdateTable => Kind::UpdateTable,
+        TableStart::DeleteFrom => Kind::DeleteFrom,
+    };
+    Ok(builder.restart_on(kind, table)?)
+}
+
+/// Makes a builder that of a SELECT of values that are taken one after another, without a table, and
+/// keeps its buffers. It fails only if memory runs out, and then leaves the builder as it was.
+/// `{ let mut b = select_from("t"); restart_values(&mut b, Items { items: [1, 2] }); b.sql() }` →
+/// `SELECT 1, 2;`
+pub fn restart_values<'a, T: Texts<'a>>(
+    builder: &mut SqlBuilder,
+    values: T,
+) -> Result<(), SqlBuilderError>
+    ensures restarted { OnOk result (builder.new
+        ≡ map_clauses pieces_text (clauses (SelectValues (T.left values)) [])) }
+    ensures unchanged { OnErr result (builder.new ≡ builder.old) }
+    ensures memory { FailsOnlyByMemory result }
+{
+    builder.restart_values(values)
 }
 
 /// Makes a call of a builder. It fails only if memory runs out, and then leaves the builder as it

@@ -14,8 +14,8 @@ use crate::builder::SqlBuilder;
 use crate::calls::Finish;
 use crate::clauses::{GroupedCondition, Kind};
 use crate::concat::{Part, total_len};
-use crate::printing::{fields_text, select_words, where_words};
 use crate::optional_text::OptionalText;
+use crate::printing::{fields_text, select_words, where_words};
 use crate::text_list::TextList;
 use crate::union_list::UnionList;
 
