@@ -1,5 +1,5 @@
 -- What a builder was told stands for the open statement.
-use Rattle.std.proofs.Common.{◌≡◌, ℕ, List, [], ◌∷◌, ◌++◌, Option, None, Some, Result, Ok, Err, String, string_bytes, false, refl, ap, sym}
+use Rattle.std.proofs.Common.{◌≡◌, ℕ, List, [], ◌∷◌, ◌++◌, Bool, Option, None, Some, Result, Ok, Err, false, refl, ap, sym}
 use Rattle.std.specs.Prelude.{IfSome, is_some, ok_or, option_map}
 use Rattle.sql_builder.specs.Builder.{ClauseTexts}
 use Rattle.sql_builder.specs.Calls.{CallText, Cond, FinishText, clauses}
@@ -57,22 +57,17 @@ told-is_some None = refl
 told-is_some (Some inside) = refl
 
 -- a text that was printed is what the finish answers
-pub prints_told : {Z : Type 0} (finish : FinishText) (r : ClauseTexts) (s : String Z) (result : Result (String Z) SqlBuilderError) → result ≡ Ok s
-    → string_bytes s ≡ text_at finish r → IfSome (refusal_at finish r) (λ refusal. result ≡ Err refusal) → finish_answer (printed finish r) ≡ Ok (Some (string_bytes s))
-prints_told finish r s result is text = by (refusal_at finish r)
-  where
-    by : (o : Option SqlBuilderError) → IfSome o (λ refusal. result ≡ Err refusal) → finish_answer (unless_refused o (text_at finish r)) ≡ Ok (Some (string_bytes s))
-    by None refused = ap (λ (t : List ℕ). Ok (Some t)) (sym text)
-    by (Some refusal) refused = cc
+pub prints_told : (finish : FinishText) (r : ClauseTexts) → refusal_at finish r ≡ None → finish_answer (printed finish r) ≡ Ok (Some (text_at finish r))
+prints_told finish r fine = rw fine refl
 
 -- a call of the open statement is what a line that makes it does
-pub runs_call : {Z : Type 0} (result : Result (Option (String Z)) LineError) (old new : Option ClauseTexts) (call : CallText)
-    → Tells result old new (with_call call) → Runs result old new (Ok (Calls call))
-runs_call (Ok printed) None new call e = absurd e
-runs_call (Ok printed) (Some r) new call e = (rw e.0 refl, e.1)
-runs_call (Err (Refused reason)) None new call e = (ap Err (sym e.0), e.1)
-runs_call (Err (Refused reason)) (Some r) new call e = absurd e
-runs_call (Err Memory) old new call e = e
+pub runs_call : (result : Result Bool LineError) (old new : Option ClauseTexts) (call : CallText) (text : List ℕ)
+    → Tells result old new (with_call call) → Runs result old new text (Ok (Calls call))
+runs_call (Ok finished) None new call text e = absurd e
+runs_call (Ok finished) (Some r) new call text e = (rw e.0 refl, e.1)
+runs_call (Err (Refused reason)) None new call text e = (ap Err (sym e.0), e.1)
+runs_call (Err (Refused reason)) (Some r) new call text e = absurd e
+runs_call (Err Memory) old new call text e = e
 
 -- the arguments of a condition that fit make its call
 pub makes_condition : (family : Family) (o : Option ConditionText) (condition : ConditionText) → ok_or o WrongArguments ≡ Ok condition

@@ -1,7 +1,7 @@
 -- What the lines of an input do one after another.
-use Rattle.std.specs.Prelude.{◌≡◌, ℕ, List, [], Option, Some, None, String, Result, Ok, Err, option_map, string_bytes}
+use Rattle.std.specs.Prelude.{◌≡◌, ℕ, List, [], Bool, true, false, Option, Some, None, Result, Ok, Err, option_map}
 use Rattle.sql_builder.specs.Builder.{ClauseTexts}
-use Rattle.sql_builder.specs.Calls.{FinishText, StartText, SelectFrom, InsertInto, UpdateTable, DeleteFrom, clauses}
+use Rattle.sql_builder.specs.Calls.{FinishText, StartText, clauses}
 use Rattle.sql_builder.specs.Clauses.{map_clauses}
 use Rattle.sql_builder.specs.SqlBuilderError.{SqlBuilderError}
 use Rattle.sql_builder.specs.Statement.{refusal_at, text_at, unless_refused}
@@ -11,17 +11,8 @@ use Rattle.sqlb.specs.Lines.{CommandResult, Starts, Calls, Finishes}
 use Rattle.sqlb.specs.Output.{OpenStatement, finish_answer}
 use Rattle.sqlb.specs.declared.fault.Reason.{Reason}
 use Rattle.sqlb.specs.declared.fault.Reason.TheVariants.{NoStatement, StatementOpen}
-use Rattle.sqlb.specs.declared.script.TableStart.{TableStart}
-use Rattle.sqlb.specs.declared.script.TableStart.TheVariants as on
 use Rattle.sqlb.specs.declared.fault.LineError.{LineError}
 use Rattle.sqlb.specs.declared.fault.LineError.TheVariants.{Refused, Memory}
-
--- a start on this table
-abbrev pub start_on : TableStart → List ℕ → StartText
-start_on on.SelectFrom table = SelectFrom table
-start_on on.InsertInto table = InsertInto table
-start_on on.UpdateTable table = UpdateTable table
-start_on on.DeleteFrom table = DeleteFrom table
 
 -- what an open statement has told its builder
 abbrev pub told : OpenStatement → ClauseTexts
@@ -54,16 +45,25 @@ Answers view (Ok value) wanted = wanted ≡ Ok (view value)
 Answers view (Err (Refused reason)) wanted = wanted ≡ Err reason
 Answers view (Err Memory) wanted = Unit {0}
 
--- A line is run: it answers what is wanted, and the statement is what it is then, or stays as it was where the line is refused.
-abbrev pub Runs : {Z : Type 0} → Result (Option (String Z)) LineError → Option ClauseTexts → Option ClauseTexts → CommandResult → Type 0
-Runs (Ok printed) old new command = (told_answer old command ≡ Ok (option_map (λ s. string_bytes s) printed)) × (new ≡ told_after old command)
-Runs (Err (Refused reason)) old new command = (told_answer old command ≡ Err reason) × (new ≡ old)
-Runs (Err Memory) old new command = new ≡ old
+-- what a line printed, if it finished a statement
+abbrev pub printed_if : List ℕ → Bool → Option (List ℕ)
+printed_if text true = Some text
+printed_if text false = None
+
+-- A line is run, and says whether it finished a statement: it answers what is wanted, and the statement is what it is then, or stays as it was where the line is refused.
+abbrev pub Runs : Result Bool LineError → Option ClauseTexts → Option ClauseTexts → List ℕ → CommandResult → Type 0
+Runs (Ok finished) old new text command = (told_answer old command ≡ Ok (printed_if text finished)) × (new ≡ told_after old command)
+Runs (Err (Refused reason)) old new text command = (told_answer old command ≡ Err reason) × (new ≡ old)
+Runs (Err Memory) old new text command = new ≡ old
+
+-- A statement is opened, and nothing is printed.
+abbrev pub Opens : Result Bool LineError → Option ClauseTexts → Option ClauseTexts → StartText → Type 0
+Opens result old new start = (text : List ℕ) → Runs result old new text (Ok (Starts start))
 
 -- A call is made of the open statement, and nothing is printed.
-abbrev pub Tells : {Z : Type 0} → Result (Option (String Z)) LineError → Option ClauseTexts → Option ClauseTexts → (ClauseTexts → ClauseTexts) → Type 0
-Tells (Ok printed) None new told = ⊥
-Tells (Ok printed) (Some r) new told = (printed ≡ None) × (new ≡ Some (told r))
+abbrev pub Tells : Result Bool LineError → Option ClauseTexts → Option ClauseTexts → (ClauseTexts → ClauseTexts) → Type 0
+Tells (Ok finished) None new told = ⊥
+Tells (Ok finished) (Some r) new told = (finished ≡ false) × (new ≡ Some (told r))
 Tells (Err (Refused reason)) None new told = (reason ≡ NoStatement) × (new ≡ None)
 Tells (Err (Refused reason)) (Some r) new told = ⊥
 Tells (Err Memory) old new told = new ≡ old

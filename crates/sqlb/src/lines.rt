@@ -1,16 +1,15 @@
 //! What each line makes of the open statement.
-ghost use Rattle.std.specs.Prelude.{◌≡◌, Ok, OnErr, OnOk, Some, ok_or, option_map, string_bytes};
+ghost use Rattle.std.specs.Prelude.{◌≡◌, List, Ok, OnErr, OnOk, Some, ok_or, string_bytes, ℕ};
 ghost use Rattle.sqlb.specs.Lines.{binary_command, command_in_parts, command_with, flag_in, nullary_command, unary_command, variadic_command};
 ghost use Rattle.sqlb.specs.Parts.{IsTaken};
-ghost use Rattle.sqlb.specs.Script.{Answers, Runs, told_after, told_answer};
+ghost use Rattle.sqlb.specs.Script.{Answers, Runs, printed_if, told_after, told_answer};
 ghost use Rattle.sqlb.specs.declared.fault.Reason.TheVariants.{WrongArguments};
 
 use crate::fault::{LineError, Reason};
 use crate::names::{Binary, Flagged, Meaning, Nullary, Unary, Variadic};
 use crate::parts::Parts;
-use crate::script::{Script, TableStart};
-use sql_builder::calls::{BinaryClause, Call, Finish, UnaryClause, VariadicClause};
-use std::alloc::Global;
+use crate::script::Script;
+use sql_builder::calls::{BinaryClause, Call, Finish, TableStart, UnaryClause, VariadicClause};
 
 const UNKNOWN_CALL: LineError = LineError::Refused(Reason::UnknownCall);
 
@@ -29,10 +28,10 @@ impl Script {
     /// check that it fails or for want of memory, the same statement stays open.
     pub(crate) fn take_line(
         &mut self,
-        alloc: Global,
         parts: &mut Parts<'_>,
-    ) -> Result<Option<String>, LineError>
-        ensures answer { Answers (option_map (λ s. string_bytes s)) result
+        statement: &mut String,
+    ) -> Result<bool, LineError>
+        ensures answer { Answers (printed_if (string_bytes statement.new)) result
             (told_answer self.old (command_in_parts parts.old.parts)) }
         ensures after { OnOk result
             (self.new ≡ told_after self.old (command_in_parts parts.old.parts)) }
@@ -43,27 +42,27 @@ impl Script {
             return Err(UNKNOWN_CALL);
         };
         match Meaning::of(name) {
-            Some(meaning) => self.take(alloc, meaning, parts),
+            Some(meaning) => self.take(meaning, parts, statement),
             None => Err(UNKNOWN_CALL),
         }
     }
 
     fn take(
         &mut self,
-        alloc: Global,
         meaning: Meaning,
         arguments: &mut Parts<'_>,
-    ) -> Result<Option<String>, LineError>
-        ensures ran { Runs result self.old self.new
+        statement: &mut String,
+    ) -> Result<bool, LineError>
+        ensures ran { Runs result self.old self.new (string_bytes statement.new)
             (command_with (Some meaning) arguments.old.parts) }
         ensures taken { OnOk result (IsTaken arguments.old arguments.new) }
     {
         match meaning {
             Meaning::Nullary(meaning) => {
                 arguments.none()?;
-                self.take_nullary(meaning)
+                self.take_nullary(meaning, statement)
             }
-            Meaning::Unary(meaning) => self.take_unary(alloc, meaning, arguments.one()?),
+            Meaning::Unary(meaning) => self.take_unary(meaning, arguments.one()?, statement),
             Meaning::Binary(meaning) => {
                 let (first, second) = arguments.two()?;
                 self.take_binary(meaning, first, second)
@@ -72,15 +71,16 @@ impl Script {
                 let (field, flag) = arguments.two()?;
                 self.tell_order(field, read_flag(flag)?)
             }
-            Meaning::Variadic(meaning) => self.take_variadic(alloc, meaning, arguments.others()),
+            Meaning::Variadic(meaning) => self.take_variadic(meaning, arguments.others()),
             Meaning::Where(family, ending) => {
                 self.tell_condition(family, ending.condition(arguments)?)
             }
         }
     }
 
-    fn take_nullary(&mut self, meaning: Nullary) -> Result<Option<String>, LineError>
-        ensures { Runs result self.old self.new (Ok (nullary_command meaning)) }
+    fn take_nullary(&mut self, meaning: Nullary, statement: &mut String) -> Result<bool, LineError>
+        ensures { Runs result self.old self.new (string_bytes statement.new)
+            (Ok (nullary_command meaning)) }
     {
         match meaning {
             Nullary::Natural => self.tell(&Call::Natural),
@@ -92,26 +92,27 @@ impl Script {
             Nullary::Cross => self.tell(&Call::Cross),
             Nullary::Distinct => self.tell(&Call::Distinct),
             Nullary::ReturningId => self.tell(&Call::ReturningId),
-            Nullary::Sql => self.finish(&Finish::Sql),
-            Nullary::Query => self.finish(&Finish::Query),
-            Nullary::QueryValues => self.finish(&Finish::QueryValues),
-            Nullary::Subquery => self.finish(&Finish::Subquery),
+            Nullary::Sql => self.finish(&Finish::Sql, statement),
+            Nullary::Query => self.finish(&Finish::Query, statement),
+            Nullary::QueryValues => self.finish(&Finish::QueryValues, statement),
+            Nullary::Subquery => self.finish(&Finish::Subquery, statement),
         }
     }
 
     fn take_unary(
         &mut self,
-        alloc: Global,
         meaning: Unary,
         text: &str,
-    ) -> Result<Option<String>, LineError>
-        ensures { Runs result self.old self.new (Ok (unary_command meaning text.now)) }
+        statement: &mut String,
+    ) -> Result<bool, LineError>
+        ensures { Runs result self.old self.new (string_bytes statement.new)
+            (Ok (unary_command meaning text.now)) }
     {
         match meaning {
-            Unary::SelectFrom => self.start_on(alloc, TableStart::SelectFrom, text),
-            Unary::InsertInto => self.start_on(alloc, TableStart::InsertInto, text),
-            Unary::UpdateTable => self.start_on(alloc, TableStart::UpdateTable, text),
-            Unary::DeleteFrom => self.start_on(alloc, TableStart::DeleteFrom, text),
+            Unary::SelectFrom => self.start_on(TableStart::SelectFrom, text),
+            Unary::InsertInto => self.start_on(TableStart::InsertInto, text),
+            Unary::UpdateTable => self.start_on(TableStart::UpdateTable, text),
+            Unary::DeleteFrom => self.start_on(TableStart::DeleteFrom, text),
             Unary::AndTable => self.tell_unary(UnaryClause::AndTable, text),
             Unary::Join => self.tell_unary(UnaryClause::Join, text),
             Unary::On => self.tell_unary(UnaryClause::On, text),
@@ -128,7 +129,7 @@ impl Script {
             Unary::OrderDesc => self.tell_unary(UnaryClause::OrderDesc, text),
             Unary::Limit => self.tell_unary(UnaryClause::Limit, text),
             Unary::Offset => self.tell_unary(UnaryClause::Offset, text),
-            Unary::SubqueryAs => self.finish_as(text),
+            Unary::SubqueryAs => self.finish_as(text, statement),
         }
     }
 
@@ -137,8 +138,8 @@ impl Script {
         meaning: Binary,
         first: &'a str,
         second: &'a str,
-    ) -> Result<Option<String>, LineError>
-        ensures { Runs result self.old self.new
+    ) -> Result<bool, LineError>
+        ensures { (printed : List ℕ) → Runs result self.old self.new printed
             (Ok (binary_command meaning first.now second.now)) }
     {
         match meaning {
@@ -149,16 +150,12 @@ impl Script {
         }
     }
 
-    fn take_variadic(
-        &mut self,
-        alloc: Global,
-        meaning: Variadic,
-        texts: Parts<'_>,
-    ) -> Result<Option<String>, LineError>
-        ensures { Runs result self.old self.new (Ok (variadic_command meaning texts.entry.parts)) }
+    fn take_variadic(&mut self, meaning: Variadic, texts: Parts<'_>) -> Result<bool, LineError>
+        ensures { (printed : List ℕ) → Runs result self.old self.new printed
+            (Ok (variadic_command meaning texts.entry.parts)) }
     {
         match meaning {
-            Variadic::SelectValues => self.start_values(alloc, texts),
+            Variadic::SelectValues => self.start_values(texts),
             Variadic::Fields => self.tell_variadic(VariadicClause::Fields, texts),
             Variadic::SetFields => self.tell_variadic(VariadicClause::SetFields, texts),
             Variadic::Values => self.tell_variadic(VariadicClause::Values, texts),

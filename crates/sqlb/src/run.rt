@@ -26,14 +26,15 @@ fn run_lines<W: Write>(alloc: Global, input: &[u8], writer: &mut Watched<W>) -> 
     ensures ended { writer.new.ended ≡ writer.old.ended }
 {
     let (text, is_cut) = lines_of_text(input);
-    let mut script = Script::new();
+    let mut script = Script::new(alloc)?;
+    let mut statement = String::new(alloc);
     let mut number = 0;
     let mut parts = Parts::of(text);
     'lines: while parts.next_line() {
         number += 1;
-        match script.take_line(alloc, &mut parts) {
-            Ok(Some(statement)) => write_line(writer, &statement)?,
-            Ok(None) => {}
+        match script.take_line(&mut parts, &mut statement) {
+            Ok(true) => write_line(writer, &statement)?,
+            Ok(false) => {}
             Err(LineError::Refused(reason)) => return Err(Fault::At(number, reason)),
             Err(LineError::Memory) => return Err(Fault::Memory),
         }

@@ -16,7 +16,7 @@ lines-init g c =
     let text = c.lines_of_text-is_cut.result.0.now in
     let short : length text < 2 ^ 63 = omega (arith, c.lines_of_text-is_cut.type_inv) in
     let all = unread_first c.lines_of_text-is_cut.result.1 c.args.input.now text c.lines_of_text-is_cut.ensures.whole c.lines_of_text-is_cut.ensures.cut in
-    rw (c.of-parts.ensures.behind, c.new-script.ensures.closed) record {
+    rw (c.of-parts.ensures.behind, c.in_ok-script.ensures.closed) record {
       not_failed = c.requires.not_failed;
       ended = refl;
       counted = omega (arith, short);
@@ -24,32 +24,32 @@ lines-init g c =
       ahead = (all.0, all.1, so_far-first _ c.args.input.now _ all.2);
     }
 
-pub returns-in_err-write_line-in-Ok-Some-clause-ran : goal.returns-in_err-write_line-in-Ok-Some-clause-ran
-returns-in_err-write_line-in-Ok-Some-clause-ran g c =
+pub returns-in_err-write_line-in-Ok-true-clause-ran : goal.returns-in_err-write_line-in-Ok-true-clause-ran
+returns-in_err-write_line-in-Ok-true-clause-ran g c =
     let next = c.next_line.ensures.line c.lines-test.true in
     let unread = c.lines.invariant.ahead.0 in
-    let accepts = rw (← command_of-line _ _ next, c.in-Ok-Some.field-0-is) at c.in-Ok-Some.ensures.answer in
-    let wrote = rw c.deref.ensures at c.in_err-write_line-in-Ok-Some.ensures.wrote in
-    let p = err_from_is_err_and c.from_residual.result c.from_residual.ensures.1 in
+    let accepts = rw (← command_of-line _ _ next, c.in-Ok-true.field-0-test) at c.in-Ok-true.ensures.answer in
+    let wrote = rw c.deref.ensures at c.in_err-write_line-in-Ok-true.ensures.wrote in
+    let p = err_from_is_err_and c.from_residual-in_err-write_line-in-Ok-true.result c.from_residual-in_err-write_line-in-Ok-true.ensures.1 in
     fails-in _ _ _ _ _ _ c.lines.invariant.ahead.2 next.line (lines c.next_line.new.self.behind ++ unread) (ap (λ l. l ++ unread) next.first) _ _ _ _ _ accepts wrote (rw (p.1, p.2))
 
-pub lines-preserved-in-Ok-Some : goal.lines-preserved-in-Ok-Some
-lines-preserved-in-Ok-Some g c =
+pub lines-preserved-in-Continue-branch-2 : goal.lines-preserved-in-Continue-branch-2
+lines-preserved-in-Continue-branch-2 g c =
     let next = c.next_line.ensures.line c.lines-test.true in
     let unread = c.lines.invariant.ahead.0 in
     let command = command_of-line _ _ next in
-    let accepts = rw (← command, c.in-Ok-Some.field-0-is) at c.in-Ok-Some.ensures.answer in
-    let wrote = rw c.deref.ensures at c.in_ok-write_line-in-Ok-Some.ensures.wrote in
-    rw (c.in-Ok-Some.ensures.taken.1) record {
+    let accepts = rw (← command, c.in-Ok-true.field-0-test) at c.in-Ok-true.ensures.answer in
+    let wrote = rw c.deref.ensures at c.in_ok-write_line-in-Ok-true.ensures.wrote in
+    rw (c.in-Ok-true.ensures.taken.1) record {
       not_failed = wrote.2.1;
       ended = c.write_line.ensures.ended ∙ c.lines.invariant.ended;
       counted = omega (arith, c.lines.invariant.counted, next.shorter);
-      taken = c.in-Ok-Some.ensures.taken.0;
+      taken = c.in-Ok-true.ensures.taken.0;
       ahead = (
         unread,
         c.lines.invariant.ahead.1,
         so_far-next _ _ _ _ _ _ c.lines.invariant.ahead.2 next.line (lines c.next_line.new.self.behind ++ unread) (ap (λ l. l ++ unread) next.first)
-            _ _ _ accepts (rw (← command) at c.in-Ok-Some.ensures.after) (subst (Appends _ _) (wrote.2.0 ∙ line_text _) wrote.1),
+            _ _ _ accepts (rw (← command) at c.in-Ok-true.ensures.after) (subst (Appends _ _) (wrote.2.0 ∙ line_text _) wrote.1),
       );
     }
 
@@ -58,17 +58,17 @@ lines-preserved g c =
     let next = c.next_line.ensures.line c.lines-test.true in
     let unread = c.lines.invariant.ahead.0 in
     let command = command_of-line _ _ next in
-    let accepts = rw (← command, c.in-Ok-None.field-0-is) at c.in-Ok-None.ensures.answer in
-    rw (c.in-Ok-None.ensures.taken.1) record {
+    let accepts = rw (← command, c.in-Ok-false.field-0-test) at c.in-Ok-false.ensures.answer in
+    rw (c.in-Ok-false.ensures.taken.1) record {
       not_failed = c.lines.invariant.not_failed;
       ended = c.lines.invariant.ended;
       counted = omega (arith, c.lines.invariant.counted, next.shorter);
-      taken = c.in-Ok-None.ensures.taken.0;
+      taken = c.in-Ok-false.ensures.taken.0;
       ahead = (
         unread,
         c.lines.invariant.ahead.1,
         so_far-next _ _ _ _ _ _ c.lines.invariant.ahead.2 next.line (lines c.next_line.new.self.behind ++ unread) (ap (λ l. l ++ unread) next.first)
-            _ _ _ accepts (rw (← command) at c.in-Ok-None.ensures.after) (Appends-nil _),
+            _ _ _ accepts (rw (← command) at c.in-Ok-false.ensures.after) (Appends-nil _),
       );
     }
 
