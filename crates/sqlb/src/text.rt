@@ -3,6 +3,7 @@ ghost use Rattle.std.specs.Prelude.{◌≡◌, ◌≢◌, ◌-◌, ◌<◌, ◌�
 ghost use Rattle.std.specs.Str.{IsValidUpTo};
 ghost use Rattle.sqlb.specs.Text.{IsCut};
 
+use crate::utf8::from_utf8;
 use std::str;
 
 // Where the last line ends that has a line feed.
@@ -36,8 +37,8 @@ pub(crate) fn lines_of_text(input: &[u8]) -> (&str, bool)
     ensures whole { result.1 ≡ false → result.0.now ≡ input.now }
     ensures cut { IsTrue result.1 → IsCut input.now result.0.now }
 {
-    match str::from_utf8(input) {
+    match from_utf8(input) {
         Ok(text) => (text, false),
-        Err(fault) => (lines_before(input, fault.valid_up_to()), true),
+        Err(valid) => (lines_before(input, valid), true),
     }
 }

@@ -1,0 +1,149 @@
+//! A test for UTF-8 that reads many bytes at a time.
+ghost use Rattle.std.specs.Prelude.{◌≡◌, ◌<◌, ◌≤◌, length, map, take, IsTrue, MatchResult};
+ghost use Rattle.std.specs.Int.{bit_at, is_in_range};
+ghost use Rattle.std.specs.Simd.Lanes.{mask_l};
+ghost use Rattle.std.specs.Str.{IsUtf8, IsValidUpTo};
+ghost use Rattle.sqlb.specs.Utf8.{BeginsText};
+
+use std::simd::prelude::*;
+use std::str;
+
+const LANES: usize = 64;
+
+/// How many bytes are left to std where a block holds characters that are not tested here.
+const STRETCH: usize = 256;
+
+// A bit for each byte of a block that is in a range.
+#[inline(always)]
+fn bytes_within(block: u8x64, least: u8, most: u8) -> u64
+    ensures { result ≡ mask_l (map (is_in_range least most) block) }
+{
+    let within = block.simd_ge(u8x64::splat(least)) & block.simd_le(u8x64::splat(most));
+    within.to_bitmask()
+}
+
+#[inline(always)]
+fn is_ascii(block: u8x64) -> bool
+    ensures { IsTrue result → IsUtf8 block }
+{
+    bytes_within(block, 0x80, 0xff) == 0
+}
+
+// Whether a block begins a text. Where it holds a character of four bytes, or one that begins with
+// 0xe0 or 0xed, behind which only some bytes may stand, the answer is no.
+#[inline(always)]
+fn begins_text(block: u8x64) -> bool
+    ensures { IsTrue result → BeginsText block }
+{
+    let high = bytes_within(block, 0x80, 0xff);
+    let tails = bytes_within(block, 0x80, 0xbf);
+    let twos = bytes_within(block, 0xc2, 0xdf);
+    if high == twos + tails {
+        return tails == twos << 1;
+    }
+    let threes = bytes_within(block, 0xe1, 0xef);
+    if high != twos + threes + tails || bytes_within(block, 0xed, 0xed) != 0 {
+        return false;
+    }
+    tails == ((twos + threes) << 1).wrapping_add(threes << 2)
+}
+
+// Where the last character of a block begins, from the bytes that begin none.
+#[inline(always)]
+fn last_char_start(tails: u64) -> usize
+    ensures within { result < LANES }
+    ensures start { 0 < result → bit_at tails result ≡ 0 }
+{
+    match tails >> 61 {
+        0..=3 => 63,
+        4..=5 => 62,
+        6 => 61,
+        _ => 0,
+    }
+}
+
+// How many bytes of a block are whole characters, or 0 where that is not tested here.
+#[inline(always)]
+fn run_in_block(block: u8x64) -> usize
+    ensures within { result ≤ LANES }
+    ensures text { IsUtf8 (take result block) }
+{
+    if is_ascii(block) {
+        return LANES;
+    }
+    if !begins_text(block) {
+        return 0;
+    }
+    last_char_start(bytes_within(block, 0x80, 0xbf))
+}
+
+// How many bytes at the front are blocks of ASCII, of which many an input has no others.
+fn ascii_prefix(bytes: &[u8]) -> usize
+    ensures within { result ≤ length bytes.now }
+    ensures text { IsUtf8 (take result bytes.now) }
+{
+    let mut at = 0;
+    while bytes.len() - at >= LANES {
+        if !is_ascii(u8x64::from_slice(&bytes[at..])) {
+            break;
+        }
+        at += LANES;
+    }
+    at
+}
+
+// How many bytes at the front are characters that are tested here.
+fn block_prefix(bytes: &[u8]) -> usize
+    ensures within { result ≤ length bytes.now }
+    ensures text { IsUtf8 (take result bytes.now) }
+{
+    let mut at = 0;
+    while bytes.len() - at >= LANES {
+        let run = run_in_block(u8x64::from_slice(&bytes[at..]));
+        if run == 0 {
+            break;
+        }
+        at += run;
+    }
+    at
+}
+
+// How many bytes at the front std finds to be characters, of a few.
+fn stretch_prefix(bytes: &[u8]) -> usize
+    ensures within { result ≤ length bytes.now }
+    ensures text { IsUtf8 (take result bytes.now) }
+{
+    let end = bytes.len().min(STRETCH);
+    match str::from_utf8(&bytes[..end]) {
+        Ok(_) => end,
+        Err(fault) => fault.valid_up_to(),
+    }
+}
+
+fn text_prefix(bytes: &[u8]) -> usize
+    ensures within { result ≤ length bytes.now }
+    ensures text { IsUtf8 (take result bytes.now) }
+{
+    let mut at = ascii_prefix(bytes);
+    while at < bytes.len() {
+        at += block_prefix(&bytes[at..]);
+        let run = stretch_prefix(&bytes[at..]);
+        if run == 0 {
+            break;
+        }
+        at += run;
+    }
+    at
+}
+
+/// As `str::from_utf8`, but of a fault it says only where it stands.
+pub(crate) fn from_utf8(bytes: &[u8]) -> Result<&str, usize>
+    ensures { MatchResult result (λ text. text.now ≡ bytes.now)
+        (λ valid. IsValidUpTo bytes.now valid) }
+{
+    let at = text_prefix(bytes);
+    match str::from_utf8(&bytes[at..]) {
+        Ok(_) => Ok(unsafe { str::from_utf8_unchecked(bytes) }),
+        Err(fault) => Err(at + fault.valid_up_to()),
+    }
+}
