@@ -14,13 +14,13 @@ use Rattle.sqlb.proofs.ByteMasks.{bit, bit_is, mask, number}
 
 -- a character in front of a text
 
-two : (c : ℕ) → 128 ≤ c → c < 2048 → encode c ≡ (192 + c / 64) ∷ next c ∷ []
+encode_two : (c : ℕ) → 128 ≤ c → c < 2048 → encode c ≡ (192 + c / 64) ∷ next c ∷ []
 unfolding encode
-two c low high = rw (le-ltb c 128 low, lt-ltb c 2048 high) refl
+encode_two c low high = rw (le-ltb c 128 low, lt-ltb c 2048 high) refl
 
-three : (c : ℕ) → 2048 ≤ c → c < 65536 → encode c ≡ (224 + c / 4096) ∷ next (c / 64) ∷ next c ∷ []
+encode_three : (c : ℕ) → 2048 ≤ c → c < 65536 → encode c ≡ (224 + c / 4096) ∷ next (c / 64) ∷ next c ∷ []
 unfolding encode
-three c low high = rw (le-ltb c 128 (omega (arith, low)), le-ltb c 2048 low, lt-ltb c 65536 high) refl
+encode_three c low high = rw (le-ltb c 128 (omega (arith, low)), le-ltb c 2048 low, lt-ltb c 65536 high) refl
 
 any_scalar : (c : ℕ) → (c < 55296) ⊎ ((57344 ≤ c) × (c < 1114112)) → scalar c ≡ true
 any_scalar c (inl low) = low_scalar c low
@@ -46,7 +46,7 @@ two_before x y xs first tail utf8 =
     let c = (x - 192) * 64 + (y - 128) in
     let p : 192 + c / 64 ≡ x = omega arith in
     let q : next c ≡ y = omega arith in
-    char_before c (x ∷ y ∷ []) xs (low_scalar c (omega arith)) (two c (omega arith) (omega arith) ∙ (λ k. p k ∷ q k ∷ [])) utf8
+    char_before c (x ∷ y ∷ []) xs (low_scalar c (omega arith)) (encode_two c (omega arith) (omega arith) ∙ (λ k. p k ∷ q k ∷ [])) utf8
 
 three_before : (x y z : ℕ) (xs : List ℕ) → IsThree x → IsTail y → IsTail z → IsUtf8 xs → IsUtf8 (x ∷ y ∷ z ∷ xs)
 three_before x y z xs first second last utf8 =
@@ -55,9 +55,9 @@ three_before x y z xs first second last utf8 =
     let q : next (c / 64) ≡ y = omega arith in
     let r : next c ≡ z = omega arith in
     let ok : (c < 55296) ⊎ ((57344 ≤ c) × (c < 1114112)) = elim (cases_lt x 237) [ inl low ↦ inl (omega arith) | inr high ↦ inr (omega arith, omega arith) ] in
-    char_before c (x ∷ y ∷ z ∷ []) xs (any_scalar c ok) (three c (omega arith) (omega arith) ∙ (λ k. p k ∷ q k ∷ r k ∷ [])) utf8
+    char_before c (x ∷ y ∷ z ∷ []) xs (any_scalar c ok) (encode_three c (omega arith) (omega arith) ∙ (λ k. p k ∷ q k ∷ r k ∷ [])) utf8
 
--- the masks of a block: q stands for the bits that are shifted out of it
+-- q, above the bits of a mask
 
 abbrev above : List ℕ → ℕ → ℕ
 above [] q = q
@@ -79,7 +79,7 @@ threes = mask 225 239
 abbrev pub tails : List ℕ → ℕ
 tails = mask 128 191
 
--- no byte begins a longer character, or one of the three that has its own rule
+-- no byte begins a character of four bytes, and none has a rule of its own for what follows
 pub record AreShort (xs : List ℕ) : Type 0 where
   pub all : high xs ≡ twos xs + threes xs + tails xs
   pub none : mask 237 237 xs ≡ 0
@@ -90,7 +90,7 @@ short_after x xs small short = record {
   none = omega (arith, short.none);
 }
 
--- xs is text that goes on where front ends, up to a character that end would complete
+-- front and xs are UTF-8, but for a last character whose end is missing
 abbrev Begins : List ℕ → List ℕ → Type 0
 Begins front xs = (end : List ℕ) × IsUtf8 (front ++ (xs ++ end))
 
@@ -98,7 +98,9 @@ Begins front xs = (end : List ℕ) × IsUtf8 (front ++ (xs ++ end))
 abbrev LacksOne : List ℕ → Type 0
 LacksOne front = (y : ℕ) → IsTail y → (xs : List ℕ) → IsUtf8 xs → IsUtf8 (front ++ y ∷ xs)
 
+-- q stands for the bits that are shifted out of a block
 module _ (q : ℕ) where
+  -- behind each first byte are its tails, and the first of them go on with what is before xs
   abbrev Follow : List ℕ → ℕ → Type 0
   Follow xs owed = tails xs + above xs q ≡ 2 * twos xs + 6 * threes xs + owed
 

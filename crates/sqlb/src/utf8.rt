@@ -10,10 +10,10 @@ use std::str;
 
 const LANES: usize = 64;
 
-/// How many bytes are left to std where a block holds characters that are not tested here.
+/// How many bytes std tests where a block holds characters that are not tested here.
 const STRETCH: usize = 256;
 
-// A bit for each byte of a block that is in a range.
+// A bit for each byte of a block that is in a range, the lowest for the first.
 #[inline(always)]
 fn bytes_within(block: u8x64, least: u8, most: u8) -> u64
     ensures { result ≡ mask_l (map (is_in_range least most) block) }
@@ -29,8 +29,8 @@ fn is_ascii(block: u8x64) -> bool
     bytes_within(block, 0x80, 0xff) == 0
 }
 
-// Whether a block begins a text. Where it holds a character of four bytes, or one that begins with
-// 0xe0 or 0xed, behind which only some bytes may stand, the answer is no.
+// Whether a block begins a text. Of one with a character of four bytes the answer is no, and of one
+// with 0xe0 or 0xed, behind which only some of the tails may stand.
 #[inline(always)]
 fn begins_text(block: u8x64) -> bool
     ensures { IsTrue result → BeginsText block }
@@ -38,6 +38,7 @@ fn begins_text(block: u8x64) -> bool
     let high = bytes_within(block, 0x80, 0xff);
     let tails = bytes_within(block, 0x80, 0xbf);
     let twos = bytes_within(block, 0xc2, 0xdf);
+    // These share no bit, so that a sum has the bits of both.
     if high == twos + tails {
         return tails == twos << 1;
     }
@@ -48,7 +49,7 @@ fn begins_text(block: u8x64) -> bool
     tails == ((twos + threes) << 1).wrapping_add(threes << 2)
 }
 
-// Where the last character of a block begins, from the bytes that begin none.
+// Where the last character of a block begins, which may end in the next. Tails begin none.
 #[inline(always)]
 fn last_char_start(tails: u64) -> usize
     ensures within { result < LANES }
@@ -62,7 +63,7 @@ fn last_char_start(tails: u64) -> usize
     }
 }
 
-// How many bytes of a block are whole characters, or 0 where that is not tested here.
+// How many bytes of a block are text, or 0 where it holds characters that are not tested here.
 #[inline(always)]
 fn run_in_block(block: u8x64) -> usize
     ensures within { result ≤ LANES }
@@ -77,7 +78,7 @@ fn run_in_block(block: u8x64) -> usize
     last_char_start(bytes_within(block, 0x80, 0xbf))
 }
 
-// How many bytes at the front are blocks of ASCII, of which many an input has no others.
+// How many bytes at the front are blocks of ASCII. Many inputs have no others.
 fn ascii_prefix(bytes: &[u8]) -> usize
     ensures within { result ≤ length bytes.now }
     ensures text { IsUtf8 (take result bytes.now) }
@@ -92,7 +93,7 @@ fn ascii_prefix(bytes: &[u8]) -> usize
     at
 }
 
-// How many bytes at the front are characters that are tested here.
+// How many bytes at the front are text that is tested here.
 fn block_prefix(bytes: &[u8]) -> usize
     ensures within { result ≤ length bytes.now }
     ensures text { IsUtf8 (take result bytes.now) }
@@ -108,7 +109,7 @@ fn block_prefix(bytes: &[u8]) -> usize
     at
 }
 
-// How many bytes at the front std finds to be characters, of a few.
+// How many bytes at the front are text, of a stretch that std tests.
 fn stretch_prefix(bytes: &[u8]) -> usize
     ensures within { result ≤ length bytes.now }
     ensures text { IsUtf8 (take result bytes.now) }
@@ -120,6 +121,7 @@ fn stretch_prefix(bytes: &[u8]) -> usize
     }
 }
 
+// How many bytes at the front are text. What is behind them begins with a fault.
 fn text_prefix(bytes: &[u8]) -> usize
     ensures within { result ≤ length bytes.now }
     ensures text { IsUtf8 (take result bytes.now) }
@@ -145,5 +147,85 @@ pub(crate) fn from_utf8(bytes: &[u8]) -> Result<&str, usize>
     match str::from_utf8(&bytes[at..]) {
         Ok(_) => Ok(unsafe { str::from_utf8_unchecked(bytes) }),
         Err(fault) => Err(at + fault.valid_up_to()),
+    }
+}
+
+#[cfg(test)]
+mod tests {
+    use super::from_utf8;
+    use std::alloc::{AllocError, Global};
+    use std::str;
+    use std::test::Fail;
+
+    /// Bytes, and whether they are text.
+    const SAMPLES: [(&[u8], bool); 30] = [
+        (b"", true),
+        (b"\x7f", true),
+        (b"\xc2\x80", true),
+        (b"\xdf\xbf", true),
+        (b"\xe0\xa0\x80", true),
+        (b"\xe1\x80\x80", true),
+        (b"\xe2\x82\xac", true),
+        (b"\xed\x9f\xbf", true),
+        (b"\xee\x80\x80", true),
+        (b"\xef\xbf\xbf", true),
+        (b"\xf0\x90\x80\x80", true),
+        (b"\xf4\x8f\xbf\xbf", true),
+        (b"\x80", false),
+        (b"\xbf\xbf", false),
+        (b"\xc0\x80", false),
+        (b"\xc1\xbf", false),
+        (b"\xc2", false),
+        (b"\xdfa", false),
+        (b"\xc3\xc3\xa9", false),
+        (b"\xc3\xa9\xa9", false),
+        (b"\xe0\x80\x80", false),
+        (b"\xe0\x9f\xbf", false),
+        (b"\xe1\x80", false),
+        (b"\xe1\xc3\xa9\x80", false),
+        (b"\xef\xbf\xbf\xbf", false),
+        (b"\xed\xa0\x80", false),
+        (b"\xf0\x8f\xbf\xbf", false),
+        (b"\xf4\x90\x80\x80", false),
+        (b"\xf5\x80\x80\x80", false),
+        (b"\xff", false),
+    ];
+
+    /// What stands behind a sample, to fill the blocks.
+    const FILLS: [&str; 5] = ["", "a", "é", "中", "🙂"];
+
+    fn placed(
+        alloc: Global,
+        before: usize,
+        sample: &[u8],
+        fill: &str,
+    ) -> Result<Vec<u8>, AllocError> {
+        let mut bytes = Vec::new(alloc);
+        for _ in 0..before {
+            bytes.push(b'a')?;
+        }
+        bytes.extend_from_slice(sample)?;
+        for _ in 0..150 {
+            bytes.extend_from_slice(fill.as_bytes())?;
+        }
+        Ok(bytes)
+    }
+
+    #[test]
+    fn same_as_std_at_each_place(rt: HostRuntime) -> Result<(), Fail> {
+        for (sample, is_text) in SAMPLES {
+            for fill in FILLS {
+                for before in 0..130 {
+                    let bytes = placed(rt.alloc(), before, sample, fill)?;
+                    let fault = from_utf8(&bytes).err();
+                    let want = str::from_utf8(&bytes)
+                        .err()
+                        .map(|fault| fault.valid_up_to());
+                    assert_eq!(rt; fault, want);
+                    assert_eq!(rt; fault.is_none(), is_text);
+                }
+            }
+        }
+        Ok(())
     }
 }
