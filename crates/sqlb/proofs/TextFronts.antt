@@ -1,7 +1,7 @@
 -- A front that is text, and what follows it.
 use Rattle.std.proofs.Common.{◌≡◌, ℕ, ◌+◌, ◌-◌, ◌≤◌, List, length, take, take-add, drop, subst, arith}
 use Rattle.std.specs.Str.{IsUtf8, IsValidUpTo}
-use Rattle.std.proofs.lemmas.List.{drop-take, length-drop, length-take, take-append-drop, take-take}
+use Rattle.std.proofs.lemmas.List.{drop-take, length-drop, length-take, take-append-drop, take_all, take-take}
 use Rattle.std.proofs.lemmas.Str.{IsCharBoundary-from_take, IsUtf8-append, IsUtf8-drop}
 
 pub text_more : (xs : List ℕ) (at run : ℕ) → IsUtf8 (take at xs) → IsUtf8 (take run (drop at xs)) → IsUtf8 (take (at + run) xs)
@@ -25,3 +25,6 @@ fault_after xs at n within front fault = record {
       fault.longest (m - at) (omega (arith, more)) (rw (← drop-take at (m - at) xs, sum) (IsUtf8-drop (take m xs) at text boundary))
       );
 }
+
+pub no_fault : (xs : List ℕ) (n : ℕ) → IsUtf8 xs → IsValidUpTo xs n → ⊥
+no_fault xs n text fault = fault.longest (length xs) fault.short (rw (take_all (length xs) xs (omega arith)) text)

@@ -4,7 +4,6 @@ ghost use Rattle.std.specs.Str.{IsValidUpTo};
 ghost use Rattle.sqlb.specs.Text.{IsCut};
 
 use crate::utf8::from_utf8;
-use std::str;
 
 // Where the last line ends that has a line feed.
 fn end_of_lines(text: &[u8]) -> usize
@@ -26,7 +25,7 @@ fn lines_before(input: &[u8], valid: usize) -> &str
     ensures { IsCut input.now result.now }
 {
     let end = end_of_lines(&input[..valid]);
-    match str::from_utf8(&input[..end]) {
+    match from_utf8(&input[..end]) {
         Ok(text) => text,
         Err(_) => unreachable!(),
     }
