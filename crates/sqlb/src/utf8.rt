@@ -78,17 +78,21 @@ fn run_in_block(block: u8x64) -> usize
     last_char_start(bytes_within(block, 0x80, 0xbf))
 }
 
-// How many bytes at the front are blocks of ASCII. Many inputs have no others.
+// How many bytes at the front are blocks of ASCII. Many inputs have no others, so two are tested a
+// step.
 fn ascii_prefix(bytes: &[u8]) -> usize
     ensures within { result ≤ length bytes.now }
     ensures text { IsUtf8 (take result bytes.now) }
 {
     let mut at = 0;
-    while bytes.len() - at >= LANES {
+    while bytes.len() - at >= 2 * LANES {
         if !is_ascii(u8x64::from_slice(&bytes[at..])) {
             break;
         }
-        at += LANES;
+        if !is_ascii(u8x64::from_slice(&bytes[at + LANES..])) {
+            break;
+        }
+        at += 2 * LANES;
     }
     at
 }
