@@ -1,4 +1,5 @@
 pub mod Blocks
+pub mod ByteMasks
 pub mod Cuts
 pub mod DecimalDigits
 pub mod Filled
@@ -9,7 +10,9 @@ pub mod Pieces
 pub mod Prefixes
 pub mod Reasons
 pub mod Rows
+pub mod ShortChars
 pub mod SoFar
 pub mod Splits
+pub mod TextFronts
 pub mod Told
 pub mod Unread

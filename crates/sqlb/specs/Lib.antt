@@ -9,4 +9,5 @@ pub mod Ran
 pub mod Script
 pub mod Tables
 pub mod Text
+pub mod Utf8
 pub mod Watch

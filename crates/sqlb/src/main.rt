@@ -16,6 +16,7 @@ mod script;
 #[cfg(test)]
 mod tests;
 mod text;
+mod utf8;
 mod watched;
 
 use crate::fault::Fault;

@@ -3,7 +3,7 @@ ghost use Rattle.std.specs.Prelude.{◌≡◌, ◌≢◌, ◌-◌, ◌<◌, ◌�
 ghost use Rattle.std.specs.Str.{IsValidUpTo};
 ghost use Rattle.sqlb.specs.Text.{IsCut};
 
-use std::str;
+use crate::utf8::from_utf8;
 
 // Where the last line ends that has a line feed.
 fn end_of_lines(text: &[u8]) -> usize
@@ -25,7 +25,7 @@ fn lines_before(input: &[u8], valid: usize) -> &str
     ensures { IsCut input.now result.now }
 {
     let end = end_of_lines(&input[..valid]);
-    match str::from_utf8(&input[..end]) {
+    match from_utf8(&input[..end]) {
         Ok(text) => text,
         Err(_) => unreachable!(),
     }
@@ -36,8 +36,8 @@ pub(crate) fn lines_of_text(input: &[u8]) -> (&str, bool)
     ensures whole { result.1 ≡ false → result.0.now ≡ input.now }
     ensures cut { IsTrue result.1 → IsCut input.now result.0.now }
 {
-    match str::from_utf8(input) {
+    match from_utf8(input) {
         Ok(text) => (text, false),
-        Err(fault) => (lines_before(input, fault.valid_up_to()), true),
+        Err(valid) => (lines_before(input, valid), true),
     }
 }

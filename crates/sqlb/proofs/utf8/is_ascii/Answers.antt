@@ -1,0 +1,6 @@
+use Rattle.std.proofs.Common.{arith, eqb-true}
+use Rattle.sqlb.proofs.ShortChars.{ascii}
+use Rattle.sqlb.proofs.utf8.is_ascii.Goals as goal
+
+pub returns : goal.returns
+returns c none = ascii c.args.block c.fits-block.1 (omega (arith, c.bytes_within.ensures, eqb-true _ _ none))
