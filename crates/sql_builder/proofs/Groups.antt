@@ -6,7 +6,7 @@ use Rattle.std.proofs.lemmas.Grind.{flat_map-append}
 use Rattle.sql_parts.specs.Text.{join_with}
 use Rattle.sql_builder.specs.Builder.{condition_in_group, extend_last, group_texts, join_last}
 use Rattle.sql_builder.specs.Layout.{byte_atoms, concat_sections, where_sections}
-use Rattle.sql_builder.specs.Printed.{further_bytes, where_bytes, where_end, where_opening}
+use Rattle.sql_builder.specs.Printed.{further_bytes, further_condition, where_bytes, where_end, where_opening}
 use Rattle.sql_builder.proofs.Printed.{several}
 use Rattle.sql_builder.specs.declared.clauses.GroupedCondition.{GroupedCondition}
 use Rattle.sql_builder.specs.Filters.{Group, cut, lead_and_groups}
@@ -57,10 +57,6 @@ one_more_condition xs c =
     ap texts_of (map-append condition_in_group xs (c ∷ [])) ∙ groups-snoc (λ (t : Told). t.0) (λ t. t.1) (codes " OR ") (map condition_in_group xs) (condition_in_group c)
 
 -- ---- what WHERE prints of them
-
--- a condition behind the first, where several groups stand in brackets
-abbrev pub further_condition : Bool × List ℕ → List ℕ
-further_condition c = (if c.0 then codes ") AND (" else codes " OR ") ++ c.1
 
 behind_first : (xs : List Told)
     → flat_map further_condition xs

@@ -12,9 +12,13 @@ optional_bytes words text = concat_sections byte_atoms (optional_section words t
 abbrev pub join_bytes : List (List ℕ) → List ℕ
 join_bytes joins = flat_map (λ join. codes " " ++ join) joins
 
--- the conditions behind the first, each with whether it opens a group
+-- a condition behind the first, with whether it opens a group
+abbrev pub further_condition : Bool × List ℕ → List ℕ
+further_condition c = (if c.0 then codes ") AND (" else codes " OR ") ++ c.1
+
+-- the conditions behind the first
 abbrev pub further_bytes : List (Bool × List ℕ) → List ℕ
-further_bytes conditions = flat_map (λ c. (if c.0 then codes ") AND (" else codes " OR ") ++ c.1) conditions
+further_bytes conditions = flat_map further_condition conditions
 
 -- what is in front of the first condition and behind the last, where a further one opens a group and where none does
 abbrev pub where_opening : Bool → List ℕ

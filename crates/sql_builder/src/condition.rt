@@ -197,6 +197,7 @@ fn not(negated: bool) -> &'static str
 }
 
 /// A field compared with a value.
+#[inline(never)]
 pub(crate) fn compare<'a>(
     alloc: Global,
     relation: Relation,
@@ -210,6 +211,7 @@ pub(crate) fn compare<'a>(
 }
 
 /// A field that is NULL.
+#[inline(never)]
 pub(crate) fn is_null(alloc: Global, field: &str) -> Result<String, AllocError>
     ensures { IfOk result (λ s. string_bytes s ≡ condition_bytes (IsNull field.now)) }
 {
@@ -217,6 +219,7 @@ pub(crate) fn is_null(alloc: Global, field: &str) -> Result<String, AllocError>
 }
 
 /// A field that is not NULL.
+#[inline(never)]
 pub(crate) fn is_not_null(alloc: Global, field: &str) -> Result<String, AllocError>
     ensures { IfOk result (λ s. string_bytes s ≡ condition_bytes (IsNotNull field.now)) }
 {
@@ -225,6 +228,7 @@ pub(crate) fn is_not_null(alloc: Global, field: &str) -> Result<String, AllocErr
 
 /// A field that is like a mask, which is quoted with its percent signs.
 #[tactic(auto, using(crate::proofs::Masks::quoted_mask))]
+#[inline(never)]
 pub(crate) fn like<'a>(
     alloc: Global,
     negated: bool,
@@ -277,6 +281,7 @@ fn field_in(alloc: Global, negated: bool, field: &str) -> Result<String, AllocEr
 }
 
 /// A field that is one of a list of values.
+#[inline(never)]
 pub(crate) fn in_list<'a, T: Texts<'a>>(
     alloc: Global,
     negated: bool,
@@ -294,6 +299,7 @@ pub(crate) fn in_list<'a, T: Texts<'a>>(
 }
 
 /// A field that is one of a list of values, each of which is quoted.
+#[inline(never)]
 pub(crate) fn in_quoted<'a, T: Texts<'a>>(
     alloc: Global,
     negated: bool,
@@ -311,6 +317,7 @@ pub(crate) fn in_quoted<'a, T: Texts<'a>>(
 }
 
 /// A field that is one of what a query gives.
+#[inline(never)]
 pub(crate) fn in_query<'a>(
     alloc: Global,
     negated: bool,
@@ -334,6 +341,7 @@ pub(crate) fn in_query<'a>(
 }
 
 /// A field between a least and a greatest value.
+#[inline(never)]
 pub(crate) fn between<'a>(
     alloc: Global,
     negated: bool,

@@ -10,7 +10,7 @@ ghost use Rattle.sql_builder.specs.Concat.{HasRoom, Writes, at_most_usize};
 ghost use Rattle.sql_builder.specs.Layout.{byte_atoms, fields_or_star, query, query_refusal, query_values, refusal, select_opening, sql, subquery, subquery_as};
 ghost use Rattle.sql_builder.specs.Meaning.{HasTruthOfGroups, Nests, ReadsBack};
 ghost use Rattle.sql_builder.specs.Phrases.{comma_list};
-ghost use Rattle.sql_builder.specs.Printed.{delete_bytes, further_bytes, group_by_bytes, insert_bytes, inserted_bytes, join_bytes, optional_bytes, order_by_bytes, statement_bytes, update_bytes, where_bytes, where_end, where_opening};
+ghost use Rattle.sql_builder.specs.Printed.{delete_bytes, further_bytes, further_condition, group_by_bytes, insert_bytes, inserted_bytes, join_bytes, optional_bytes, order_by_bytes, statement_bytes, update_bytes, where_bytes, where_end, where_opening};
 ghost use Rattle.sql_builder.specs.Shape.{HasShape, IsClosedAs, as_fragments};
 ghost use Rattle.sql_builder.specs.Statement.{refusal_at, text_at, unless_refused};
 ghost use Rattle.sql_builder.specs.Text.{fixed_piece, raw_piece};
@@ -92,14 +92,27 @@ fn push_joins(out: &mut String, joins: &[String])
     }
 }
 
-// The brackets of two neighbours are written at once.
+// The brackets of two neighbours are written at once, and by words of a length that is known here.
+#[inline(always)]
+fn push_further_condition(out: &mut String, condition: &GroupedCondition)
+    requires room { HasRoom out.old (further_condition (condition_in_group condition.now)) }
+    ensures { Writes out.old out.new (further_condition (condition_in_group condition.now)) }
+{
+    if condition.opens_group {
+        push_text(out, ") AND (");
+    } else {
+        push_text(out, " OR ");
+    }
+    push_text(out, condition.text.as_str());
+}
+
 #[tactic(auto, using(crate::proofs::Printed::one_more))]
 fn push_further_conditions(out: &mut String, conditions: &[GroupedCondition])
     requires room { HasRoom out.old (further_bytes (map condition_in_group conditions.now)) }
     ensures { Writes out.old out.new (further_bytes (map condition_in_group conditions.now)) }
 {
     for condition in conditions {
-        push_behind(out, condition.words(), condition.text.as_str());
+        push_further_condition(out, condition);
     }
 }
 

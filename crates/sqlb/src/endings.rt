@@ -102,6 +102,22 @@ impl Ending {
     {
         match self {
             Ending::Raw => Ok(BorrowedCondition::Raw(arguments.one()?)),
+            _ => self.condition_of_field(arguments),
+        }
+    }
+
+    // The same of a condition on a field. A function of its own has less to clear on each line.
+    #[inline(never)]
+    fn condition_of_field<'a>(
+        self,
+        arguments: &mut Parts<'a>,
+    ) -> Result<BorrowedCondition<'a, Parts<'a>>, LineError>
+        ensures condition { Answers (borrowed_view (λ left. left.parts)) result
+            (ok_or (condition_of self arguments.old.parts) WrongArguments) }
+        ensures taken { OnOk result (IsTaken arguments.old arguments.new) }
+    {
+        match self {
+            Ending::Raw => Ok(BorrowedCondition::Raw(arguments.one()?)),
             Ending::IsNull => Ok(BorrowedCondition::IsNull(arguments.one()?)),
             Ending::IsNotNull => Ok(BorrowedCondition::IsNotNull(arguments.one()?)),
             Ending::Compare(relation) => {

@@ -116,12 +116,12 @@ pub returns-then-is_open-clause-ran : goal.returns-then-is_open-clause-ran
 returns-then-is_open-clause-ran g c =
     let so_far = c.lines.invariant.ahead.2 in
     let end = ap₂ (λ (rest : List ℕ) (unread : List (List ℕ)). lines rest ++ unread) (c.next_line.ensures.none c.lines-test.false) (rw c.if-is_cut.false at c.lines.invariant.ahead.1) in
-    let still_open : is_some c.lines.script ≡ true = sym c.is_open.ensures.is_open ∙ c.if-is_open.true in
+    let still_open : is_some c.lines.script ≡ true = sym c.is_open-is_open.ensures.is_open ∙ c.if-is_open.true in
     (joined_texts so_far.texts, so_far.written, (rw still_open at (ends-fault _ _ _ _ _ _ so_far end), ends-written _ _ _ _ _ _ so_far end))
 
 pub returns-clause-ran : goal.returns-clause-ran
 returns-clause-ran g c =
     let so_far = c.lines.invariant.ahead.2 in
     let end = ap₂ (λ (rest : List ℕ) (unread : List (List ℕ)). lines rest ++ unread) (c.next_line.ensures.none c.lines-test.false) (rw c.if-is_cut.false at c.lines.invariant.ahead.1) in
-    let still_open = sym c.is_open.ensures.is_open ∙ c.if-is_open.false in
+    let still_open = sym c.is_open-is_open.ensures.is_open ∙ c.if-is_open.false in
     (joined_texts so_far.texts, so_far.written, (rw still_open at (ends-fault _ _ _ _ _ _ so_far end), ends-written _ _ _ _ _ _ so_far end))
