@@ -7,7 +7,7 @@ use crate::concat::{Part, concat};
 use crate::phrases::{push_items, push_quoted_items};
 use crate::text_list::FIRST_ROOM;
 use sql_parts::text::{Items, Texts};
-use sql_parts::{SqlBuilderError, escaped};
+use sql_parts::{SqlBuilderError, ToText, escaped};
 use std::alloc::{AllocError, Global};
 
 /// Which family a condition's call belongs to.
@@ -163,29 +163,29 @@ impl<'a, T: Texts<'a>> BorrowedCondition<'a, T> {
             ≡ condition_bytes (borrowed_view T.left self.entry)) }
         ensures memory { FailsOnlyByMemory result }
     {
-        Ok(match self {
-            BorrowedCondition::Raw(condition) => String::from_str(alloc, condition)?,
+        match self {
+            BorrowedCondition::Raw(condition) => condition.to_text(alloc),
             BorrowedCondition::Compare(relation, field, value) => {
-                compare(alloc, relation, field, value)?
+                compare(alloc, relation, field, value)
             }
             BorrowedCondition::Like(negated, percent, field, mask) => {
-                like(alloc, negated, percent, field, mask)?
+                like(alloc, negated, percent, field, mask)
             }
-            BorrowedCondition::IsNull(field) => is_null(alloc, field)?,
-            BorrowedCondition::IsNotNull(field) => is_not_null(alloc, field)?,
+            BorrowedCondition::IsNull(field) => is_null(alloc, field),
+            BorrowedCondition::IsNotNull(field) => is_not_null(alloc, field),
             BorrowedCondition::InList(negated, field, values) => {
-                in_list(alloc, negated, field, values)?
+                in_list(alloc, negated, field, values)
             }
             BorrowedCondition::InQuoted(negated, field, values) => {
-                in_quoted(alloc, negated, field, values)?
+                in_quoted(alloc, negated, field, values)
             }
             BorrowedCondition::InQuery(negated, field, query) => {
-                in_query(alloc, negated, field, query)?
+                in_query(alloc, negated, field, query)
             }
             BorrowedCondition::Between(negated, field, least, greatest) => {
-                between(alloc, negated, field, least, greatest)?
+                between(alloc, negated, field, least, greatest)
             }
-        })
+        }
     }
 }
 
@@ -203,27 +203,30 @@ pub(crate) fn compare<'a>(
     relation: Relation,
     field: &'a str,
     value: &'a str,
-) -> Result<String, AllocError>
-    ensures { IfOk result (λ s. string_bytes s
+) -> Result<String, SqlBuilderError>
+    ensures made { IfOk result (λ s. string_bytes s
         ≡ condition_bytes (Compare relation field.now value.now)) }
+    ensures memory { FailsOnlyByMemory result }
 {
-    concat(alloc, &[Part(field), Part(relation.sign()), Part(value)])
+    Ok(concat(alloc, &[Part(field), Part(relation.sign()), Part(value)])?)
 }
 
 /// A field that is NULL.
 #[inline(never)]
-pub(crate) fn is_null(alloc: Global, field: &str) -> Result<String, AllocError>
-    ensures { IfOk result (λ s. string_bytes s ≡ condition_bytes (IsNull field.now)) }
+pub(crate) fn is_null(alloc: Global, field: &str) -> Result<String, SqlBuilderError>
+    ensures made { IfOk result (λ s. string_bytes s ≡ condition_bytes (IsNull field.now)) }
+    ensures memory { FailsOnlyByMemory result }
 {
-    concat(alloc, &[Part(field), Part(" IS NULL")])
+    Ok(concat(alloc, &[Part(field), Part(" IS NULL")])?)
 }
 
 /// A field that is not NULL.
 #[inline(never)]
-pub(crate) fn is_not_null(alloc: Global, field: &str) -> Result<String, AllocError>
-    ensures { IfOk result (λ s. string_bytes s ≡ condition_bytes (IsNotNull field.now)) }
+pub(crate) fn is_not_null(alloc: Global, field: &str) -> Result<String, SqlBuilderError>
+    ensures made { IfOk result (λ s. string_bytes s ≡ condition_bytes (IsNotNull field.now)) }
+    ensures memory { FailsOnlyByMemory result }
 {
-    concat(alloc, &[Part(field), Part(" IS NOT NULL")])
+    Ok(concat(alloc, &[Part(field), Part(" IS NOT NULL")])?)
 }
 
 /// A field that is like a mask, which is quoted with its percent signs.
@@ -235,12 +238,13 @@ pub(crate) fn like<'a>(
     percent: Percent,
     field: &'a str,
     mask: &'a str,
-) -> Result<String, AllocError>
-    ensures { IfOk result (λ s. string_bytes s
+) -> Result<String, SqlBuilderError>
+    ensures made { IfOk result (λ s. string_bytes s
         ≡ condition_bytes (Like negated percent field.now mask.now)) }
+    ensures memory { FailsOnlyByMemory result }
 {
     let mask = escaped(alloc, mask)?;
-    like_escaped(alloc, not(negated), percent, field, mask.as_str())
+    Ok(like_escaped(alloc, not(negated), percent, field, mask.as_str())?)
 }
 
 // The same of a mask whose quotes are doubled.
@@ -323,12 +327,13 @@ pub(crate) fn in_query<'a>(
     negated: bool,
     field: &'a str,
     query: &'a str,
-) -> Result<String, AllocError>
-    ensures { IfOk result (λ s. string_bytes s
+) -> Result<String, SqlBuilderError>
+    ensures made { IfOk result (λ s. string_bytes s
         ≡ condition_bytes (InQuery negated field.now query.now)) }
+    ensures memory { FailsOnlyByMemory result }
 {
     let not = not(negated);
-    concat(
+    Ok(concat(
         alloc,
         &[
             Part(field),
@@ -337,7 +342,7 @@ pub(crate) fn in_query<'a>(
             Part(query),
             Part(")"),
         ],
-    )
+    )?)
 }
 
 /// A field between a least and a greatest value.
@@ -348,12 +353,13 @@ pub(crate) fn between<'a>(
     field: &'a str,
     least: &'a str,
     greatest: &'a str,
-) -> Result<String, AllocError>
-    ensures { IfOk result (λ s. string_bytes s
+) -> Result<String, SqlBuilderError>
+    ensures made { IfOk result (λ s. string_bytes s
         ≡ condition_bytes (Between negated field.now least.now greatest.now)) }
+    ensures memory { FailsOnlyByMemory result }
 {
     let not = not(negated);
-    concat(
+    Ok(concat(
         alloc,
         &[
             Part(field),
@@ -363,5 +369,5 @@ pub(crate) fn between<'a>(
             Part(" AND "),
             Part(greatest),
         ],
-    )
+    )?)
 }
