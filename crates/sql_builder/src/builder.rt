@@ -5,6 +5,7 @@ ghost use Rattle.sql_parts.specs.Text.{texts};
 ghost use Rattle.sql_builder.specs.Builder.{started};
 ghost use Rattle.sql_builder.specs.Calls.{SelectFrom, SelectValues, InsertInto, UpdateTable, DeleteFrom};
 ghost use Rattle.sql_builder.specs.Clauses.{new_clauses};
+ghost use Rattle.sql_builder.specs.declared.clauses.Kind.TheVariants as TheKinds;
 
 use crate::clauses::{GroupedCondition, JoinOperator, Kind, copy_conditions};
 use crate::concat::replace;
@@ -15,6 +16,7 @@ use sql_parts::text::{Items, Texts, copies};
 use sql_parts::{SqlBuilderError, ToText};
 use std::alloc::{AllocError, Global};
 use std::marker::Model;
+use std::mem::swap;
 
 /// A builder of a statement. Contracts see it as its clauses, each text as its bytes.
 pub struct SqlBuilder {
@@ -41,6 +43,8 @@ pub struct SqlBuilder {
     pub(crate) order_fields: TextList,
     pub(crate) limit: OptionalText,
     pub(crate) offset: OptionalText,
+    // Texts on their way into a list, which is then changed in one step or not at all.
+    pub(crate) spare: TextList,
 }
 
 // A function of its own, so that a caller's proof sees one step where a builder is dropped, and not
@@ -67,6 +71,7 @@ impl Drop for SqlBuilder {
             order_fields: _,
             limit: _,
             offset: _,
+            spare: _,
         } = self;
     }
 }
@@ -139,6 +144,7 @@ impl SqlBuilder {
             order_fields: TextList::new(alloc),
             limit: OptionalText::new(alloc),
             offset: OptionalText::new(alloc),
+            spare: TextList::new(alloc),
         }
     }
 
@@ -154,16 +160,15 @@ impl SqlBuilder {
         Ok(SqlBuilder::new(alloc, kind, table, TextList::new(alloc)))
     }
 
-    // Removes every clause but the table. The buffers are kept, and the table's bytes.
+    // Removes every clause but the table and the fields, and keeps the buffers.
     fn clear(&mut self, kind: Kind)
-        ensures { self.new ≡ new_clauses kind self.old.table [] }
+        ensures { self.new ≡ new_clauses kind self.old.table self.old.fields }
     {
         self.kind = kind;
         self.joins.clear();
         self.operator = None;
         self.natural = false;
         self.distinct = false;
-        self.fields.clear();
         self.sets.clear();
         self.rows.clear();
         self.query.clear();
@@ -183,6 +188,7 @@ impl SqlBuilder {
         ensures unchanged { OnErr result (self.new ≡ self.old) }
     {
         replace(&mut self.table, table)?;
+        self.fields.clear();
         self.clear(kind);
         Ok(())
     }
@@ -193,14 +199,15 @@ impl SqlBuilder {
         &mut self,
         values: T,
     ) -> Result<(), SqlBuilderError>
-        ensures restarted { OnOk result (self.new ≡ started (SelectValues (T.left values))) }
+        ensures restarted { OnOk result
+            (self.new ≡ new_clauses TheKinds.SelectValues [] (T.left values)) }
         ensures unchanged { OnErr result (self.new ≡ self.old) }
         ensures memory { FailsOnlyByMemory result }
     {
-        let fields = TextList::of(self.alloc, values)?;
+        self.spare.refill(self.alloc, values)?;
+        swap(&mut self.fields, &mut self.spare);
         self.table.clear();
         self.clear(Kind::SelectValues);
-        self.fields = fields;
         Ok(())
     }
 
@@ -223,7 +230,8 @@ impl SqlBuilder {
         ensures made { IfOk result (λ b. b ≡ started (SelectValues (map S.text values.now))) }
         ensures memory { FailsOnlyByMemory result }
     {
-        let fields = TextList::of(alloc, Items { items: values })?;
+        let mut fields = TextList::new(alloc);
+        fields.refill(alloc, Items { items: values })?;
         Ok(SqlBuilder::new(alloc, Kind::SelectValues, String::new(alloc), fields))
     }
 
@@ -342,6 +350,7 @@ impl SqlBuilder {
             order_fields,
             limit,
             offset,
+            spare: TextList::new(self.alloc),
         })
     }
 }

@@ -1,11 +1,10 @@
 //! Lists of texts with commas between them.
-ghost use Rattle.std.specs.Prelude.{◌≡◌, ◌++◌, IfOk, OnOk, codes, flat_map, map, string_bytes};
+ghost use Rattle.std.specs.Prelude.{◌≡◌, ◌++◌, OnOk, codes, flat_map, map, string_bytes};
 ghost use Rattle.sql_parts.specs.Error.{FailsOnlyByMemory};
 ghost use Rattle.sql_parts.specs.Quoting.{quoted};
 ghost use Rattle.sql_builder.specs.Layout.{byte_atoms};
-ghost use Rattle.sql_builder.specs.Phrases.{comma_list, row};
+ghost use Rattle.sql_builder.specs.Phrases.{comma_list};
 
-use crate::text_list::FIRST_ROOM;
 use sql_parts::text::Texts;
 use sql_parts::{SqlBuilderError, push_quoted};
 use std::alloc::Global;
@@ -76,16 +75,4 @@ pub(crate) fn push_quoted_items<'a, T: Texts<'a>>(
         push_further_quoted(alloc, out, texts)?;
     }
     Ok(())
-}
-
-/// The values in brackets, with commas between them.
-pub(crate) fn row<'a, T: Texts<'a>>(alloc: Global, values: T) -> Result<String, SqlBuilderError>
-    ensures made { IfOk result (λ s. string_bytes s ≡ row byte_atoms (T.left values)) }
-    ensures memory { FailsOnlyByMemory result }
-{
-    let mut text = String::with_capacity(alloc, FIRST_ROOM)?;
-    text.push_str("(")?;
-    push_items(alloc, &mut text, values)?;
-    text.push_str(")")?;
-    Ok(text)
 }

@@ -11,11 +11,10 @@ use crate::builder::SqlBuilder;
 use crate::clauses::{GroupedCondition, JoinOperator, append_to_last};
 use crate::concat::{Part, append};
 use crate::condition::{BorrowedCondition, Family};
-use crate::phrases::row;
-use crate::text_list::TextList;
 use sql_parts::lending::Held;
 use sql_parts::text::{Items, Texts};
 use sql_parts::{SqlBuilderError, ToText, escaped};
+use std::mem::swap;
 
 // How many bytes are asked for at first for a join, so that one with a short constraint takes one
 // allocation.
@@ -288,12 +287,19 @@ pub fn make_variadic<'a, T: Texts<'a>>(
     ensures refused { OnErr result (builder.new ≡ builder.old) }
     ensures memory { FailsOnlyByMemory result }
 {
+    builder.spare.refill(builder.alloc, texts)?;
     match clause {
-        VariadicClause::Fields => builder.fields.extend(builder.alloc, texts)?,
-        VariadicClause::SetFields => builder.fields = TextList::of(builder.alloc, texts)?,
+        VariadicClause::Fields if !builder.fields.is_empty() => {
+            builder.fields.append(&builder.spare)?;
+        }
+        VariadicClause::Fields | VariadicClause::SetFields => {
+            swap(&mut builder.fields, &mut builder.spare);
+        }
         VariadicClause::Values => {
-            let row = row(builder.alloc, texts)?;
-            builder.rows.push(&[Part(row.as_str())])?;
+            let row = builder.spare.as_str();
+            builder
+                .rows
+                .push(&[Part("("), Part(row), Part(")")])?;
             builder.query.clear();
         }
     }

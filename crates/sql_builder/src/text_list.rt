@@ -136,37 +136,21 @@ impl TextList {
         Ok(())
     }
 
-    /// A list of texts that are taken one after another.
-    pub(crate) fn of<'a, T: Texts<'a>>(
-        alloc: Global,
-        mut texts: T,
-    ) -> Result<TextList, SqlBuilderError>
-        ensures made { IfOk result (λ list. list ≡ T.left texts) }
-        ensures memory { FailsOnlyByMemory result }
-    {
-        let mut list = TextList::new(alloc);
-        while let Some(text) = texts.next_text(alloc)? {
-            list.push_text(text.as_str())?;
-        }
-        Ok(list)
-    }
-
-    /// Appends texts that are taken one after another. Where memory runs out, the list is as it was.
-    pub(crate) fn extend<'a, T: Texts<'a>>(
+    /// Puts texts that are taken one after another in the place of all. Where memory runs out, some
+    /// of them are there.
+    pub(crate) fn refill<'a, T: Texts<'a>>(
         &mut self,
         alloc: Global,
-        texts: T,
+        mut texts: T,
     ) -> Result<(), SqlBuilderError>
-        ensures extended { OnOk result (self.new ≡ self.old ++ T.left texts) }
-        ensures unchanged { OnErr result (self.new ≡ self.old) }
+        ensures refilled { OnOk result (self.new ≡ T.left texts) }
         ensures memory { FailsOnlyByMemory result }
     {
-        let further = TextList::of(alloc, texts)?;
-        if self.is_empty() {
-            *self = further;
-            return Ok(());
+        self.clear();
+        while let Some(text) = texts.next_text(alloc)? {
+            self.push_text(text.as_str())?;
         }
-        Ok(self.append(&further)?)
+        Ok(())
     }
 
     /// An equal list.
