@@ -32,8 +32,8 @@ module _ {K : Type 0} (words : K → List ℕ) (texts : List (K × List ℕ)) (t
   pub cut_out-kept : (flat_map (λ text. words text.0 ++ text.1) (cut_out words kept text) ≡ text) × (places_of (cut_out words kept text) ≡ kept)
   cut_out-kept = rw cut_out-is (sym laid_out, sym places)
 
--- whether a list is empty says what stands in front of one more text
-pub gap_is : (xs : List (List ℕ)) → (if nat_eq (length xs) 0 then [] else codes ", ") ≡ gap_before xs
+-- whether a list is empty says what is in front of one more text
+pub gap_is : (xs : List (List ℕ)) → comma_before (nat_eq (length xs) 0) ≡ gap_before xs
 gap_is [] = refl
 gap_is (x ∷ xs) = grind (arith, nat_tests)
 

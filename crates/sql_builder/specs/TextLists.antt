@@ -1,5 +1,5 @@
 -- Texts side by side in one text.
-use Rattle.std.specs.Prelude.{ℕ, ◌+◌, List, [], ◌∷◌, Bool, true, false, map, codes, drop, length, take}
+use Rattle.std.specs.Prelude.{ℕ, ◌+◌, List, [], ◌∷◌, Bool, true, false, if◌then◌else◌, map, codes, drop, length, take}
 
 -- The texts that are in one text, each behind the words of its kind, from the kind and the length of each.
 abbrev pub cut_out : {K : Type 0} → (K → List ℕ) → List (K × ℕ) → List ℕ → List (K × List ℕ)
@@ -14,8 +14,7 @@ places_of texts = map (λ text. (text.0, length text.1)) texts
 
 -- what is in front of a text of a list, which may be the first
 abbrev pub comma_before : Bool → List ℕ
-comma_before true = []
-comma_before false = codes ", "
+comma_before is_first = if is_first then [] else codes ", "
 
 -- the places of texts with these lengths
 abbrev pub places : List ℕ → List (Bool × ℕ)

@@ -297,9 +297,7 @@ pub fn make_variadic<'a, T: Texts<'a>>(
         }
         VariadicClause::Values => {
             let row = builder.spare.as_str();
-            builder
-                .rows
-                .push(&[Part("("), Part(row), Part(")")])?;
+            builder.rows.push(&[Part("("), Part(row), Part(")")])?;
             builder.query.clear();
         }
     }

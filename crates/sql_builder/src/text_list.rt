@@ -2,8 +2,8 @@
 ghost use Rattle.std.specs.Prelude.{◌≡◌, ◌++◌, [], ◌∷◌, ◌==◌, codes, length, IfOk, OnErr, OnOk};
 ghost use Rattle.sql_parts.specs.Error.{FailsOnlyByMemory};
 ghost use Rattle.sql_parts.specs.Text.{join_with};
-ghost use Rattle.sql_builder.specs.Concat.{concat_bytes};
-ghost use Rattle.sql_builder.specs.TextLists.{gap_before};
+ghost use Rattle.sql_builder.specs.Concat.{HasRoom, Writes, concat_bytes};
+ghost use Rattle.sql_builder.specs.TextLists.{comma_before};
 
 use crate::concat::{Part, push_all, push_text, total_len};
 use sql_parts::SqlBuilderError;
@@ -34,6 +34,17 @@ impl Model for TextList {
         (join_with (codes ", ") items ≡ string_bytes list.text) × (lengths_of items ≡ list.lengths.items) };
 }
 
+// Writes what is in front of a text, which may be the first.
+#[inline(always)]
+fn push_comma(out: &mut String, is_first: bool)
+    requires room { HasRoom out.old (comma_before is_first) }
+    ensures { Writes out.old out.new (comma_before is_first) }
+{
+    if !is_first {
+        push_text(out, ", ");
+    }
+}
+
 impl TextList {
     /// No text.
     pub(crate) fn new(alloc: Global) -> TextList
@@ -58,30 +69,18 @@ impl TextList {
         self.text.as_str()
     }
 
-    // What stands in front of one more text.
-    #[tactic(auto, using(crate::proofs::TextLists::gap_is))]
-    fn gap(&self) -> &'static str
-        ensures { result.now ≡ gap_before self.now }
-    {
-        if self.is_empty() { "" } else { ", " }
-    }
-
-    // How much room is asked for at least: for the first text some for those to come too.
-    fn least_room(&self) -> usize {
-        if self.is_empty() { FIRST_ROOM } else { 0 }
-    }
-
     /// Appends a text that is made of parts. Where memory runs out, the list is as it was.
     pub(crate) fn push(&mut self, parts: &[Part<'_>]) -> Result<(), AllocError>
         ensures pushed { OnOk result (self.new ≡ self.old ++ concat_bytes parts.now ∷ []) }
         ensures unchanged { OnErr result (self.new ≡ self.old) }
     {
-        let gap = self.gap();
+        let is_first = self.is_empty();
         let len = total_len(parts);
-        let room = self.least_room().max(len.saturating_add(gap.len()));
-        self.text.reserve(room)?;
+        let least = if is_first { FIRST_ROOM } else { 0 };
+        self.text
+            .reserve(least.max(len.saturating_add(", ".len())))?;
         self.lengths.reserve(1)?;
-        push_text(&mut self.text, gap);
+        push_comma(&mut self.text, is_first);
         push_all(&mut self.text, parts);
         self.lengths.push(len)?;
         Ok(())
@@ -126,11 +125,11 @@ impl TextList {
         if further.is_empty() {
             return Ok(());
         }
-        let gap = self.gap();
+        let is_first = self.is_empty();
         self.text
-            .reserve(further.text.len().saturating_add(gap.len()))?;
+            .reserve(further.text.len().saturating_add(", ".len()))?;
         self.lengths.reserve(further.lengths.len())?;
-        push_text(&mut self.text, gap);
+        push_comma(&mut self.text, is_first);
         push_text(&mut self.text, further.text.as_str());
         self.lengths.extend_from_slice(&further.lengths)?;
         Ok(())

@@ -3,7 +3,7 @@ use Rattle.std.proofs.lemmas.List.{append-nil}
 use Rattle.sql_parts.specs.Text.{join_with}
 use Rattle.sql_builder.specs.Concat.{concat_bytes}
 use Rattle.sql_builder.specs.TextLists.{gap_before, lengths_of}
-use Rattle.sql_builder.proofs.TextLists.{items, kept, more_lengths, more_text}
+use Rattle.sql_builder.proofs.TextLists.{gap_is, items, kept, more_lengths, more_text}
 use Rattle.sql_builder.proofs.text_list.TextList.push.Goals as goal
 
 -- the text and the lengths are those of one more text
@@ -18,7 +18,7 @@ longer c =
     let small = c.reserve.new.self.bytes.small in
     let size : length item ≡ c.total_len-len.result = grind (arith, c.total_len-len.ensures, c.saturating_add.ensures, room, small) in
     let new : string_bytes c.push_all.new.out ≡ text ++ (gap_before c.args.self.now ++ (item ++ [])) =
-    rw (c.push_all.ensures.0, c.push_text.ensures.0, c.in_ok-reserve.ensures.bytes, c.gap-gap.ensures, append-nil item)
+    rw (c.push_all.ensures.0, c.push_comma.ensures.0, c.in_ok-reserve.ensures.bytes, c.is_empty-is_first.ensures, gap_is c.args.self.now, append-nil item)
     (append_assoc text (gap_before c.args.self.now) item) in
     let more : c.push.new.self.items ≡ lens ++ length item ∷ [] = rw (c.in_ok-push.ensures.items, c.in_ok-reserve-2.ensures.items, size) refl in (
       new ∙ more_text text lens c.args.self.now c.self.view_is c.self.invariant.0 c.self.invariant.1 (item ∷ []) (omega arith),
