@@ -116,8 +116,8 @@ def lines(kind, count=1_000_000, name="a statement with {count:,} `{kind}` lines
 
 
 LINES = [
-    lines("mixed", 100_000, "{count:,} mixed statements", aim=0.36),
-    lines("short", 100_000, "{count:,} statements of ten short lines", aim=0.6),
+    lines("mixed", 100_000, "{count:,} mixed statements", aim=0.25),
+    lines("short", 100_000, "{count:,} statements of ten short lines", aim=0.4),
     lines("tiny", 500_000, "{count:,} statements of two short lines"),
     lines("long", 5_000, "{count:,} statements of ten lines, eight of them of 950 bytes"),
     lines("conditions", 2_000, "{count:,} statements with all fifty conditions"),
