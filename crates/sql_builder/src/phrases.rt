@@ -3,7 +3,7 @@ ghost use Rattle.std.specs.Prelude.{◌≡◌, ◌++◌, OnOk, codes, flat_map, 
 ghost use Rattle.sql_parts.specs.Error.{FailsOnlyByMemory};
 ghost use Rattle.sql_parts.specs.Quoting.{quoted};
 ghost use Rattle.sql_builder.specs.Layout.{byte_atoms};
-ghost use Rattle.sql_builder.specs.Phrases.{comma_list};
+ghost use Rattle.sql_builder.specs.Phrases.{comma_list, row};
 
 use sql_parts::text::Texts;
 use sql_parts::{SqlBuilderError, push_quoted};
@@ -74,5 +74,21 @@ pub(crate) fn push_quoted_items<'a, T: Texts<'a>>(
         push_quoted(out, first.as_str())?;
         push_further_quoted(alloc, out, texts)?;
     }
+    Ok(())
+}
+
+/// Appends the values in brackets, with commas between them.
+pub(crate) fn push_row<'a, T: Texts<'a>>(
+    alloc: Global,
+    out: &mut String,
+    values: T,
+) -> Result<(), SqlBuilderError>
+    ensures pushed { OnOk result (string_bytes out.new
+        ≡ string_bytes out.old ++ row byte_atoms (T.left values)) }
+    ensures memory { FailsOnlyByMemory result }
+{
+    out.push_str("(")?;
+    push_items(alloc, out, values)?;
+    out.push_str(")")?;
     Ok(())
 }

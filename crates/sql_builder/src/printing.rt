@@ -25,7 +25,8 @@ use crate::text_list::TextList;
 use crate::union_list::UnionList;
 use sql_parts::{SqlBuilderError, ToText};
 
-// Words, and a text behind them.
+// Words, and a text behind them. It is a part of each caller, where the words' length is known.
+#[inline(always)]
 fn push_behind(out: &mut String, words: &str, text: &str)
     requires room { HasRoom out.old (words.now ++ text.now) }
     ensures { Writes out.old out.new (words.now ++ text.now) }

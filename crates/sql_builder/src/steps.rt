@@ -287,17 +287,19 @@ pub fn make_variadic<'a, T: Texts<'a>>(
     ensures refused { OnErr result (builder.new ≡ builder.old) }
     ensures memory { FailsOnlyByMemory result }
 {
-    builder.spare.refill(builder.alloc, texts)?;
+    let spare = &mut builder.spare;
     match clause {
         VariadicClause::Fields if !builder.fields.is_empty() => {
-            builder.fields.append(&builder.spare)?;
+            spare.refill(builder.alloc, texts)?;
+            builder.fields.append(spare)?;
         }
         VariadicClause::Fields | VariadicClause::SetFields => {
-            swap(&mut builder.fields, &mut builder.spare);
+            spare.refill(builder.alloc, texts)?;
+            swap(&mut builder.fields, spare);
         }
         VariadicClause::Values => {
-            let row = builder.spare.as_str();
-            builder.rows.push(&[Part("("), Part(row), Part(")")])?;
+            spare.refill_with_row(builder.alloc, texts)?;
+            builder.rows.append(spare)?;
             builder.query.clear();
         }
     }

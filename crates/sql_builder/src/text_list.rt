@@ -3,9 +3,12 @@ ghost use Rattle.std.specs.Prelude.{◌≡◌, ◌++◌, [], ◌∷◌, ◌==◌
 ghost use Rattle.sql_parts.specs.Error.{FailsOnlyByMemory};
 ghost use Rattle.sql_parts.specs.Text.{join_with};
 ghost use Rattle.sql_builder.specs.Concat.{HasRoom, Writes, concat_bytes};
+ghost use Rattle.sql_builder.specs.Layout.{byte_atoms};
+ghost use Rattle.sql_builder.specs.Phrases.{row};
 ghost use Rattle.sql_builder.specs.TextLists.{comma_before};
 
 use crate::concat::{Part, push_all, push_text, total_len};
+use crate::phrases::push_row;
 use sql_parts::SqlBuilderError;
 use sql_parts::text::Texts;
 use std::alloc::{AllocError, Global};
@@ -149,6 +152,28 @@ impl TextList {
         while let Some(text) = texts.next_text(alloc)? {
             self.push_text(text.as_str())?;
         }
+        Ok(())
+    }
+
+    /// Puts one text in the place of all: a row of the values, which are taken one after another. Where
+    /// memory runs out, no text is there.
+    pub(crate) fn refill_with_row<'a, T: Texts<'a>>(
+        &mut self,
+        alloc: Global,
+        values: T,
+    ) -> Result<(), SqlBuilderError>
+        ensures refilled { OnOk result (self.new ≡ row byte_atoms (T.left values) ∷ []) }
+        ensures memory { FailsOnlyByMemory result }
+    {
+        self.clear();
+        self.text.reserve(FIRST_ROOM)?;
+        self.lengths.reserve(1)?;
+        let pushed = push_row(alloc, &mut self.text, values);
+        if pushed.is_err() {
+            self.text.clear();
+            return pushed;
+        }
+        self.lengths.push(self.text.len())?;
         Ok(())
     }
 
