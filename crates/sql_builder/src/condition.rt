@@ -165,6 +165,19 @@ impl<'a, T: Texts<'a>> BorrowedCondition<'a, T> {
     {
         match self {
             BorrowedCondition::Raw(condition) => condition.to_text(alloc),
+            _ => self.text_on_field(alloc),
+        }
+    }
+
+    // The same of a condition on a field. A function of its own has less to clear where it is called.
+    #[inline(never)]
+    fn text_on_field(self, alloc: Global) -> Result<String, SqlBuilderError>
+        ensures made { IfOk result (λ s. string_bytes s
+            ≡ condition_bytes (borrowed_view T.left self.entry)) }
+        ensures memory { FailsOnlyByMemory result }
+    {
+        match self {
+            BorrowedCondition::Raw(condition) => condition.to_text(alloc),
             BorrowedCondition::Compare(relation, field, value) => {
                 compare(alloc, relation, field, value)
             }
@@ -197,7 +210,6 @@ fn not(negated: bool) -> &'static str
 }
 
 /// A field compared with a value.
-#[inline(never)]
 pub(crate) fn compare<'a>(
     alloc: Global,
     relation: Relation,
@@ -212,7 +224,6 @@ pub(crate) fn compare<'a>(
 }
 
 /// A field that is NULL.
-#[inline(never)]
 pub(crate) fn is_null(alloc: Global, field: &str) -> Result<String, SqlBuilderError>
     ensures made { IfOk result (λ s. string_bytes s ≡ condition_bytes (IsNull field.now)) }
     ensures memory { FailsOnlyByMemory result }
@@ -221,7 +232,6 @@ pub(crate) fn is_null(alloc: Global, field: &str) -> Result<String, SqlBuilderEr
 }
 
 /// A field that is not NULL.
-#[inline(never)]
 pub(crate) fn is_not_null(alloc: Global, field: &str) -> Result<String, SqlBuilderError>
     ensures made { IfOk result (λ s. string_bytes s ≡ condition_bytes (IsNotNull field.now)) }
     ensures memory { FailsOnlyByMemory result }
@@ -231,7 +241,6 @@ pub(crate) fn is_not_null(alloc: Global, field: &str) -> Result<String, SqlBuild
 
 /// A field that is like a mask, which is quoted with its percent signs.
 #[tactic(auto, using(crate::proofs::Masks::quoted_mask))]
-#[inline(never)]
 pub(crate) fn like<'a>(
     alloc: Global,
     negated: bool,
@@ -285,7 +294,6 @@ fn field_in(alloc: Global, negated: bool, field: &str) -> Result<String, AllocEr
 }
 
 /// A field that is one of a list of values.
-#[inline(never)]
 pub(crate) fn in_list<'a, T: Texts<'a>>(
     alloc: Global,
     negated: bool,
@@ -303,7 +311,6 @@ pub(crate) fn in_list<'a, T: Texts<'a>>(
 }
 
 /// A field that is one of a list of values, each of which is quoted.
-#[inline(never)]
 pub(crate) fn in_quoted<'a, T: Texts<'a>>(
     alloc: Global,
     negated: bool,
@@ -321,7 +328,6 @@ pub(crate) fn in_quoted<'a, T: Texts<'a>>(
 }
 
 /// A field that is one of what a query gives.
-#[inline(never)]
 pub(crate) fn in_query<'a>(
     alloc: Global,
     negated: bool,
@@ -346,7 +352,6 @@ pub(crate) fn in_query<'a>(
 }
 
 /// A field between a least and a greatest value.
-#[inline(never)]
 pub(crate) fn between<'a>(
     alloc: Global,
     negated: bool,

@@ -36,6 +36,7 @@ fn push_behind(out: &mut String, words: &str, text: &str)
 }
 
 // The words, and the text behind them, if there is one.
+#[inline(always)]
 fn push_optional(out: &mut String, words: &str, text: &OptionalText)
     requires room { HasRoom out.old (optional_bytes words.now text.now) }
     ensures { Writes out.old out.new (optional_bytes words.now text.now) }
@@ -46,6 +47,7 @@ fn push_optional(out: &mut String, words: &str, text: &OptionalText)
 }
 
 // Words, and a list of texts with commas between them.
+#[inline(always)]
 fn push_list(out: &mut String, words: &str, items: &TextList)
     requires room { HasRoom out.old (words.now ++ comma_list byte_atoms items.now) }
     ensures { Writes out.old out.new (words.now ++ comma_list byte_atoms items.now) }
