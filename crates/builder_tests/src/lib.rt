@@ -3,6 +3,8 @@
 #![tactic(auto)]
 
 #[cfg(test)]
+mod borrowed_texts;
+#[cfg(test)]
 mod clones;
 #[cfg(test)]
 mod every_call;
