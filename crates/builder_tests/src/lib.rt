@@ -13,4 +13,6 @@ mod examples;
 #[cfg(test)]
 mod growths;
 #[cfg(test)]
+mod kept_buffers;
+#[cfg(test)]
 mod stated_laws;
