@@ -1,7 +1,7 @@
 """Reads the examples in doc comments, and writes them out as code.
 
 An example is a call, an arrow and what it prints, or a call that `is refused as` an error, or one that `appends` a text. It leaves out
-the allocator, `?`, boxes and the `&` of a list. One that begins with a dot is told to `select_from("t")`, and where a builder is left its `sql` is printed."""
+the allocator, `?`, boxes, the `&` of a list, and that a text is owned which a `let mut` binds. One that begins with a dot is told to `select_from("t")`, and where a builder is left its `sql` is printed."""
 
 import re
 from dataclasses import dataclass
@@ -10,7 +10,7 @@ from blocks import TOKEN, split_commas, split_spans
 
 CONSTRUCTORS = ("select_from", "select_values", "insert_into", "update_table", "delete_from")
 PRINTS = ("sql", "query", "query_values", "subquery", "subquery_as")
-OWNERS = ("copy", "run", "begin", "make", "print")
+OWNERS = ("copy", "run", "begin", "make", "print", "restart")
 BETWEEN = ("→", "is refused as", "appends")
 SIGNATURE = re.compile(r"^( *)(pub )?fn (\w+)(?:<[^(]*>)?\((.*?)\)(?: -> ([^{;]*?))?(?=\n\s*(?:ensures|requires|where|\{)|\s*[{;])", re.M | re.S)
 
@@ -92,7 +92,8 @@ class Writer:
                 made = self.with_brackets(made, name and name[1], token, inside, owned)
                 at = end
             else:
-                made += f"String::from_str(alloc, {token})?" if owned and token.startswith('"') else token
+                is_owned = owned or re.search(r"\blet mut \w+ = $", made)
+                made += f"String::from_str(alloc, {token})?" if is_owned and token.startswith('"') else token
             at += 1
         return made, last
 

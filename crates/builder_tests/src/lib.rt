@@ -3,6 +3,8 @@
 #![tactic(auto)]
 
 #[cfg(test)]
+mod borrowed_texts;
+#[cfg(test)]
 mod clones;
 #[cfg(test)]
 mod every_call;
@@ -10,5 +12,7 @@ mod every_call;
 mod examples;
 #[cfg(test)]
 mod growths;
+#[cfg(test)]
+mod kept_buffers;
 #[cfg(test)]
 mod stated_laws;

@@ -1,0 +1,51 @@
+//! The calls that take borrowed texts, each once.
+
+use sql_builder::calls::{
+    BinaryClause, BorrowedCondition, Family, UnaryClause, VariadicClause, make_binary,
+    make_condition, make_order, make_unary, make_variadic,
+};
+use sql_builder::text::Items;
+use sql_builder::{SqlBuilder, SqlBuilderError};
+use sql_parts::{escaped, push_quoted};
+use std::alloc::Global;
+use std::test::Fail;
+
+fn tell_fields(builder: &mut SqlBuilder) -> Result<(), SqlBuilderError> {
+    make_unary(builder, UnaryClause::Field, "a")?;
+    make_binary(builder, BinaryClause::CountAs, "b", "n")?;
+    let fields = Items { items: &["c", "d"] };
+    make_variadic(builder, VariadicClause::Fields, fields)
+}
+
+fn tell_condition_and_order(builder: &mut SqlBuilder) -> Result<(), SqlBuilderError> {
+    let values = Items { items: &["1", "2"] };
+    let condition = BorrowedCondition::InList(false, "a", values);
+    make_condition(builder, Family::And, condition)?;
+    make_order(builder, "a", true)
+}
+
+#[test]
+fn makes_calls_of_borrowed_texts(rt: HostRuntime) -> Result<(), Fail> {
+    let mut builder = SqlBuilder::select_from(rt.alloc(), "t")?;
+    tell_fields(&mut builder)?;
+    tell_condition_and_order(&mut builder)?;
+    assert_eq!(rt;
+        builder.sql()?.as_str(),
+        "SELECT a, COUNT(b) AS n, c, d FROM t WHERE a IN (1, 2) ORDER BY a DESC;"
+    );
+    Ok(())
+}
+
+fn equation(alloc: Global) -> Result<String, SqlBuilderError> {
+    let mut text = String::from_str(alloc, "a = ")?;
+    push_quoted(&mut text, "it's")?;
+    Ok(text)
+}
+
+#[test]
+fn quotes_borrowed_texts(rt: HostRuntime) -> Result<(), Fail> {
+    let alloc = rt.alloc();
+    assert_eq!(rt; equation(alloc)?.as_str(), "a = 'it''s'");
+    assert_eq!(rt; escaped(alloc, "it's")?.as_str(), "it''s");
+    Ok(())
+}
