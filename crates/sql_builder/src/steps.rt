@@ -130,12 +130,14 @@ impl SqlBuilder {
         Ok(self.fields.replace(&[Part(field)])?)
     }
 
+    #[inline(always)]
     fn push_set(&mut self, parts: &[Part<'_>]) -> Result<(), SqlBuilderError>
         ensures { Tells result self.old self.new (with_set (concat_bytes parts.now)) }
     {
         Ok(self.sets.push(parts)?)
     }
 
+    #[inline(never)]
     fn push_quoted_set<'a>(
         &mut self,
         field: &'a str,

@@ -73,6 +73,7 @@ impl TextList {
     }
 
     /// Appends a text that is made of parts. Where memory runs out, the list is as it was.
+    #[inline(always)]
     pub(crate) fn push(&mut self, parts: &[Part<'_>]) -> Result<(), AllocError>
         ensures pushed { OnOk result (self.new ≡ self.old ++ concat_bytes parts.now ∷ []) }
         ensures unchanged { OnErr result (self.new ≡ self.old) }
