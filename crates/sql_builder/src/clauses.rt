@@ -97,6 +97,7 @@ pub(crate) fn append_to_last(joins: &mut [String], parts: &[Part<'_>]) -> Result
     }
 }
 
+#[inline(never)]
 pub(crate) fn copy_conditions(
     alloc: Global,
     conditions: &[GroupedCondition],
