@@ -1,6 +1,5 @@
 -- Lengths of what comes of a list, element by element.
 use Rattle.std.proofs.Common.{◌≡◌, ℕ, zero, suc, ◌+◌, ◌<◌, ◌≤◌, List, [], ◌∷◌, length, length-append, flat_map, map, take, get_or, arith}
-use Rattle.sql_builder.specs.Concat.{at_most_usize}
 
 -- what comes of the elements before one, and of it, is no longer than what comes of all
 pub within : {X A : Type 0} (h : X → List A) (xs : List X) (i : ℕ) (d : X) → i < length xs
@@ -19,10 +18,3 @@ within_values h v (y ∷ ys) zero x l e = rw e (grind (arith, length-append (h (
 within_values h v (y ∷ ys) (suc i) x l e =
     let later = within_values h v ys i x (omega arith) e in
     grind (arith, length-append (h (v y)) (flat_map h (map v ys)), length-append (h (v y)) (flat_map h (map v (take i ys))), later)
-
--- a part of a sum that stops at the greatest `usize`, and the sum does
-pub stops_left : (a b : ℕ) → at_most_usize (at_most_usize a + b) ≡ at_most_usize (a + b)
-stops_left a b = omega arith
-
-pub stops_right : (a b : ℕ) → at_most_usize (a + at_most_usize b) ≡ at_most_usize (a + b)
-stops_right a b = omega arith

@@ -7,7 +7,7 @@ use Rattle.std.proofs.lemmas.List.Folds.{flat_map-map}
 use Rattle.std.proofs.lemmas.Simd.{map-map}
 use Rattle.std.proofs.lemmas.Grind.{flat_map-append}
 use Rattle.sql_parts.specs.Text.{join_with}
-use Rattle.sql_builder.specs.TextLists.{comma_before, cut_out, gap_before, items_of, lengths_of, places, places_of}
+use Rattle.sql_builder.specs.TextLists.{comma_before, cut_out, items_of, lengths_of, places, places_of}
 
 -- texts, each behind the words of its kind, are cut out again
 pub cut_out-laid_out : {K : Type 0} (words : K → List ℕ) (texts : List (K × List ℕ))
@@ -32,7 +32,12 @@ module _ {K : Type 0} (words : K → List ℕ) (texts : List (K × List ℕ)) (t
   pub cut_out-kept : (flat_map (λ text. words text.0 ++ text.1) (cut_out words kept text) ≡ text) × (places_of (cut_out words kept text) ≡ kept)
   cut_out-kept = rw cut_out-is (sym laid_out, sym places)
 
--- whether a list is empty says what is in front of one more text
+-- what is in front of one more text
+abbrev pub gap_before : List (List ℕ) → List ℕ
+gap_before [] = []
+gap_before (x ∷ xs) = codes ", "
+
+-- whether a list is empty says it
 pub gap_is : (xs : List (List ℕ)) → comma_before (nat_eq (length xs) 0) ≡ gap_before xs
 gap_is [] = refl
 gap_is (x ∷ xs) = grind (arith, nat_tests)

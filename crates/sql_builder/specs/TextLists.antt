@@ -28,8 +28,3 @@ items_of lens text = map (λ item. item.1) (cut_out comma_before (places lens) t
 -- how long each text is
 abbrev pub lengths_of : List (List ℕ) → List ℕ
 lengths_of texts = map (λ text. length text) texts
-
--- what is in front of one more text
-abbrev pub gap_before : List (List ℕ) → List ℕ
-gap_before [] = []
-gap_before (x ∷ xs) = codes ", "

@@ -310,8 +310,7 @@ fn build(alloc: Global, start: &Start, calls: &[Call]) -> Result<SqlBuilder, Sql
     Ok(builder)
 }
 
-/// Prints a builder. It is refused as the printing call that is meant, or fails because memory runs
-/// out.
+/// Prints a builder. It fails as the printing call that is meant does, or because memory runs out.
 /// `print(&begin(&Start::SelectFrom("t")), &Finish::Query)` → `SELECT * FROM t`
 pub fn print(builder: &SqlBuilder, finish: &Finish) -> Result<String, SqlBuilderError>
     ensures text { IfOk result (λ s. string_bytes s
@@ -324,8 +323,8 @@ pub fn print(builder: &SqlBuilder, finish: &Finish) -> Result<String, SqlBuilder
     builder.print(finish)
 }
 
-/// How many bytes `print` gives, or the greatest `usize` where it is more; also where `print` is
-/// refused.
+/// How many bytes `print` gives, or the greatest `usize` where there are more; also where `print`
+/// fails.
 /// `printed_length(&begin(&Start::SelectFrom("t")), &Finish::Query)` → `15`
 pub fn printed_length(builder: &SqlBuilder, finish: &Finish) -> usize
     ensures { result ≡ min (length (text_at (finish_view finish.now) builder.now)) (2 ^ 64 - 1) }
@@ -333,9 +332,8 @@ pub fn printed_length(builder: &SqlBuilder, finish: &Finish) -> usize
     builder.printed_len(finish)
 }
 
-/// Appends to a text what `print` gives. Where the statement isn't refused and the text has room for
-/// `printed_length` more bytes, this succeeds: it is refused as `print` is, or fails because memory
-/// runs out, and then the text is as it was.
+/// Appends to a text what `print` gives. It fails where `print` does, and then the text is as it was.
+/// Where the text has room for `printed_length` more bytes, memory can't run out.
 /// `{ let mut s = "-- "; print_to(&begin(&Start::SelectFrom("t")), &Finish::Query, &mut s); s }` →
 /// `-- SELECT * FROM t`
 pub fn print_to(

@@ -97,6 +97,7 @@ pub(crate) fn append_to_last(joins: &mut [String], parts: &[Part<'_>]) -> Result
     }
 }
 
+/// Copies of the conditions. As a part of `clone` it took a step more for each.
 #[inline(never)]
 pub(crate) fn copy_conditions(
     alloc: Global,

@@ -192,7 +192,7 @@ impl SqlBuilder {
             Finish::Query => self.query_len(),
             Finish::QueryValues => self.values_len(),
             Finish::Subquery => self.query_len().saturating_add("()".len()),
-            Finish::SubqueryAs(name) => { sum(&["() AS ".len(), self.query_len(), name.len()]) }
+            Finish::SubqueryAs(name) => sum(&["() AS ".len(), self.query_len(), name.len()]),
         }
     }
 }

@@ -1,12 +1,12 @@
 //! Prints a builder's clauses as a statement or a query. Each call first adds up the bytes that it
 //! will write, and asks for them in one allocation; then it writes, which can't fail.
-ghost use Rattle.std.specs.Prelude.{◌≡◌, ◌≤◌, ◌+◌, ◌∷◌, ◌++◌, IfOk, IfSome, IsNone, IsOk, OnErr, OnOk, codes, length, map, string_bytes, string_capacity, string_len};
+ghost use Rattle.std.specs.Prelude.{◌≡◌, ◌∷◌, ◌++◌, IfOk, IfSome, IsNone, IsOk, OnErr, OnOk, map, string_bytes};
 ghost use Rattle.std.specs.List.{list_any};
 ghost use Rattle.sql_parts.specs.Error.{FailsOnlyByMemory};
 ghost use Rattle.sql_parts.specs.Text.{texts};
 ghost use Rattle.sql_builder.specs.Builder.{condition_in_group, group_texts};
 ghost use Rattle.sql_builder.specs.Calls.{Query, Sql, Subquery, SubqueryAs};
-ghost use Rattle.sql_builder.specs.Concat.{HasRoom, Writes, at_most_usize};
+ghost use Rattle.sql_builder.specs.Concat.{HasRoom, Writes};
 ghost use Rattle.sql_builder.specs.Layout.{byte_atoms, fields_or_star, query, query_refusal, query_values, refusal, select_opening, sql, subquery, subquery_as};
 ghost use Rattle.sql_builder.specs.Meaning.{HasTruthOfGroups, Nests, ReadsBack};
 ghost use Rattle.sql_builder.specs.Phrases.{comma_list};
@@ -326,7 +326,8 @@ impl SqlBuilder {
         }
     }
 
-    /// The text of a finish, in one allocation of its length.
+    /// The text of a finish, in one allocation of its length. Its callers take the Result apart by
+    /// `?`, so that search finds what follows of the text.
     pub(crate) fn print(&self, finish: &Finish) -> Result<String, SqlBuilderError>
         ensures text { IfOk result (λ s. string_bytes s ≡ text_at (finish_view finish.now) self.now) }
         ensures refused { IfSome (refusal_at (finish_view finish.now) self.now)
@@ -349,7 +350,7 @@ impl SqlBuilder {
             (λ refusal. result ≡ Err refusal) }
         ensures memory { IsNone (refusal_at (finish_view finish.now) self.now)
             → FailsOnlyByMemory result }
-        ensures room { IsNone (refusal_at (finish_view finish.now) self.now)
+        ensures succeeds { IsNone (refusal_at (finish_view finish.now) self.now)
             → HasRoom out.old (text_at (finish_view finish.now) self.now) → IsOk result }
     {
         self.check_finish(finish)?;

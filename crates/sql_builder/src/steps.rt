@@ -130,6 +130,7 @@ impl SqlBuilder {
         Ok(self.fields.replace(&[Part(field)])?)
     }
 
+    // A part of each caller, where the number of parts is known.
     #[inline(always)]
     fn push_set(&mut self, parts: &[Part<'_>]) -> Result<(), SqlBuilderError>
         ensures { Tells result self.old self.new (with_set (concat_bytes parts.now)) }
@@ -137,6 +138,7 @@ impl SqlBuilder {
         Ok(self.sets.push(parts)?)
     }
 
+    // A function of its own has less to clear where it is called.
     #[inline(never)]
     fn push_quoted_set<'a>(
         &mut self,

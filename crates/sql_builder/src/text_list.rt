@@ -72,7 +72,8 @@ impl TextList {
         self.text.as_str()
     }
 
-    /// Appends a text that is made of parts. Where memory runs out, the list is as it was.
+    /// Appends a text that is made of parts. Where memory runs out, the list is as it was. It is a part
+    /// of each caller, where the number of parts is known.
     #[inline(always)]
     pub(crate) fn push(&mut self, parts: &[Part<'_>]) -> Result<(), AllocError>
         ensures pushed { OnOk result (self.new ≡ self.old ++ concat_bytes parts.now ∷ []) }

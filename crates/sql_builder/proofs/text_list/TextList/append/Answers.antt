@@ -1,8 +1,8 @@
 use Rattle.std.proofs.Common.{◌≡◌, ◌++◌, ◌<◌, refl, ap, arith, codes, length, string_bytes, sym, ◌∙◌, append_assoc}
 use Rattle.std.proofs.lemmas.Bool.Decides.{nat_tests}
 use Rattle.sql_parts.specs.Text.{join_with}
-use Rattle.sql_builder.specs.TextLists.{gap_before, lengths_of}
-use Rattle.sql_builder.proofs.TextLists.{gap_is, items, kept, more_lengths, more_text}
+use Rattle.sql_builder.specs.TextLists.{lengths_of}
+use Rattle.sql_builder.proofs.TextLists.{gap_before, gap_is, items, kept, more_lengths, more_text}
 use Rattle.sql_builder.proofs.text_list.TextList.append.Goals as goal
 
 -- the text and the lengths are those of both lists

@@ -2,8 +2,8 @@ use Rattle.std.proofs.Common.{◌≡◌, ◌++◌, [], ◌∷◌, refl, arith, c
 use Rattle.std.proofs.lemmas.List.{append-nil}
 use Rattle.sql_parts.specs.Text.{join_with}
 use Rattle.sql_builder.specs.Concat.{concat_bytes}
-use Rattle.sql_builder.specs.TextLists.{gap_before, lengths_of}
-use Rattle.sql_builder.proofs.TextLists.{gap_is, items, kept, more_lengths, more_text}
+use Rattle.sql_builder.specs.TextLists.{lengths_of}
+use Rattle.sql_builder.proofs.TextLists.{gap_before, gap_is, items, kept, more_lengths, more_text}
 use Rattle.sql_builder.proofs.text_list.TextList.push.Goals as goal
 
 -- the text and the lengths are those of one more text
