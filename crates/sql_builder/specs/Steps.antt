@@ -2,7 +2,7 @@
 use Rattle.std.specs.Prelude.{◌≡◌, ℕ, List, [], ◌∷◌, Bool, true, false, codes, String, string_bytes, Result, Ok, Err, OnOk, ◌++◌}
 use Rattle.sql_parts.specs.Error.{IsMemory}
 use Rattle.sql_parts.specs.declared.error.SqlBuilderError.{SqlBuilderError}
-use Rattle.sql_builder.specs.Builder.{ClauseTexts, RefusesConstraint, with_condition, with_distinct, with_fields, with_fields_set, with_group_field, with_having, with_join, with_limit, with_natural, with_offset, with_on, with_operator, with_order, with_query, with_returning, with_row, with_set, with_table, with_union}
+use Rattle.sql_builder.specs.Builder.{ClauseTexts, HasJoin, RefusesConstraint, with_condition, with_distinct, with_fields, with_fields_set, with_group_field, with_having, with_join, with_limit, with_natural, with_offset, with_on, with_operator, with_order, with_query, with_returning, with_row, with_set, with_table, with_union}
 use Rattle.sql_builder.specs.Calls as call
 use Rattle.sql_builder.specs.Calls.{CallText}
 use Rattle.sql_builder.specs.Layout.{byte_atoms}
@@ -122,6 +122,24 @@ with_call (call.OrderDesc field) r = with_unary unary.OrderDesc field r
 with_call (call.Limit limit) r = with_unary unary.Limit limit r
 with_call (call.Offset offset) r = with_unary unary.Offset offset r
 with_call (call.Cond family condition) r = with_condition family condition r
+
+-- a call may take memory: one that sets a truth value or an operator takes none, and a constraint only where there is a join
+abbrev pub MayTakeMemory : CallText → ClauseTexts → Type 0
+MayTakeMemory call.Natural r = ⊥
+MayTakeMemory call.Left r = ⊥
+MayTakeMemory call.LeftOuter r = ⊥
+MayTakeMemory call.Right r = ⊥
+MayTakeMemory call.RightOuter r = ⊥
+MayTakeMemory call.Inner r = ⊥
+MayTakeMemory call.Cross r = ⊥
+MayTakeMemory call.Distinct r = ⊥
+MayTakeMemory (call.On constraint) r = HasJoin r
+MayTakeMemory (call.OnEq left right) r = HasJoin r
+MayTakeMemory _ r = Unit {0}
+
+-- how a call of a list of calls fails: because memory runs out, and only where it may take memory
+abbrev pub RefusesCall : CallText → ClauseTexts → SqlBuilderError → Type 0
+RefusesCall call r refusal = IsMemory refusal × MayTakeMemory call r
 
 -- `AddsCondition` as a word that does not unfold by itself, so that the condition stays one term in proofs
 unfoldable pub AddsConditionSealed : Family → ConditionText → ClauseTexts → ClauseTexts → Type 0

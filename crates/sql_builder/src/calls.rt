@@ -2,7 +2,7 @@
 ghost use Rattle.std.specs.Prelude.{◌≡◌, ◌⊎◌, ◌≤◌, ◌+◌, ◌-◌, ◌^◌, ◌++◌, [], length, map, min, IfErr, IfOk, IfSome, IsNone, IsOk, IsTrue, Ok, OnErr, OnOk, string_bytes, string_capacity, string_len};
 ghost use Rattle.sql_parts.specs.Error.{FailsOnlyByMemory, IsMemory};
 ghost use Rattle.sql_builder.specs.Views.{call_view, finish_view, start_on, start_view};
-ghost use Rattle.sql_builder.specs.Steps.{with_call};
+ghost use Rattle.sql_builder.specs.Steps.{RefusesCall, with_call};
 ghost use Rattle.sql_builder.specs.Calls.{SelectValues, clauses, kind_of};
 ghost use Rattle.sql_builder.specs.Clauses.{map_clauses};
 ghost use Rattle.sql_builder.specs.Meaning.{HasBalancedFragments, HasFitFragments, HasTruthOf, condition_groups, is_nested, is_unenclosed, prints_where};
@@ -215,13 +215,13 @@ pub fn restart_values<'a, T: Texts<'a>>(
 }
 
 /// Makes a call of a builder. It fails only if memory runs out, and then leaves the builder as it
-/// was.
+/// was; `natural`, `distinct`, the six operators, and `on` and `on_eq` without a join can't fail.
 /// `{ let mut b = begin(&Start::SelectFrom("t")); make(&mut b, &Call::Field("a")); b.sql() }` →
 /// `SELECT a FROM t;`
 pub fn make(builder: &mut SqlBuilder, call: &Call) -> Result<(), SqlBuilderError>
     ensures made { OnOk result (builder.new ≡ with_call (call_view call.now) builder.old) }
     ensures refused { OnErr result (builder.new ≡ builder.old) }
-    ensures memory { FailsOnlyByMemory result }
+    ensures memory { IfErr result (RefusesCall (call_view call.now) builder.old) }
 {
     match call {
         Call::Natural => {
