@@ -20,7 +20,7 @@ answers token =
 abbrev nth : ℕ → List Bool → Bool
 nth i found = get_or found i false
 
-has-role : (role : Role) (token : Token) → answers token ≡ answers (sample role) → HasRole role token
+pub has-role : (role : Role) (token : Token) → answers token ≡ answers (sample role) → HasRole role token
 has-role role token same = record {
   raising = ap (nth 0) same;
   lowering = ap (nth 1) same;

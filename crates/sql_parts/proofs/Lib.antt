@@ -16,6 +16,8 @@ pub mod MarkerLemmas
 pub mod NameRows
 pub mod NameTokens
 pub mod Names
+pub mod OperandRows
+pub mod Operands
 pub mod Pieces
 pub mod Reader
 pub mod Reading

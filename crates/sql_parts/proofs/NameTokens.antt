@@ -25,7 +25,7 @@ plain-word (byte ∷ text) is =
     let parts = and_parts (is_plain_byte byte) (is_plain text) is in
     and_from _ _ (plain-word_byte byte parts.0) (plain-word text parts.1)
 
-plain-tokens : (text : List ℕ) → is_plain text ≡ true → tokens text ≡ word_tokens text
+pub plain-tokens : (text : List ℕ) → is_plain text ≡ true → tokens text ≡ word_tokens text
 plain-tokens [] is = refl
 plain-tokens (byte ∷ text) is = word-tokens byte text (plain-word (byte ∷ text) is)
 

@@ -52,10 +52,10 @@ map-begun [] last = (_, _, refl)
 map-begun (digit ∷ front) last = (_, _, refl)
 
 -- the digits of a number that is not 0, as bytes
-abbrev glyphs : ℕ → List ℕ
+abbrev pub glyphs : ℕ → List ℕ
 glyphs n = map (λ digit. 48 + digit) (digits_of 10 n)
 
-decimal-glyphs : (n : ℕ) → decimal_text (suc n) ≡ glyphs (suc n)
+pub decimal-glyphs : (n : ℕ) → decimal_text (suc n) ≡ glyphs (suc n)
 decimal-glyphs n = ap (λ test. if test then codes "0" else glyphs (suc n)) (ne_eqb (suc n) 0 (λ e. omega arith))
 
 decimal-begun : (n : ℕ) → Begun (decimal_text (suc n))

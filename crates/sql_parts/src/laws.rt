@@ -1,9 +1,12 @@
 //! Facts about the definitions that the contracts of this crate speak of.
-ghost use Rattle.std.specs.Prelude.{◌≡◌, ◌++◌, IsTrue, List, ℕ};
+ghost use Rattle.std.specs.Prelude.{◌≡◌, ◌++◌, Bool, IsTrue, List, ℕ, ℤ};
 ghost use Rattle.sql_parts.specs.Apart.{apart};
 ghost use Rattle.sql_parts.specs.Laws.{DifferInTexts, LeavesWithout, UndoesDoubling, WritesApart, colon, dollar, question_mark, token_count};
 ghost use Rattle.sql_parts.specs.Quoting.{baquoted, brquoted, dquoted, escaped, quoted};
-ghost use Rattle.sql_parts.specs.Literal.{LiteralValue};
+ghost use Rattle.sql_parts.specs.Literal.{LiteralValue, literal_text};
+ghost use Rattle.sql_parts.specs.Name.{Name, safe_text};
+ghost use Rattle.sql_parts.specs.Operands.{NamesAreOperands, StandsAsOperand, has_operand_parts, is_operand_alias};
+ghost use Rattle.sql_parts.specs.Text.{bool_text, number_text};
 ghost use Rattle.sql_parts.specs.Templates.{Cycle, First, Marks, Names, Nums, Value, bound};
 ghost use Rattle.sql_parts.specs.Tokens.{clean, closed, tokens};
 
@@ -52,4 +55,32 @@ pub fn bound_texts_keep_the_count()
     ensures count { (template : List ℕ) (marks : Marks) (one other : Value → LiteralValue)
         → IsTrue (apart template marks) → DifferInTexts one other
         → token_count (bound template marks one) ≡ token_count (bound template marks other) }
+{}
+
+/// The text of each literal is an operand, balanced and closed, and has no outer word that begins
+/// a clause; so is that of each number and truth value as `ToText` writes it, and so is what
+/// `quote` gives. It does nothing when it runs.
+/// `quote("a OR b")` → `'a OR b'`
+pub fn literals_are_operands()
+    ensures literals { (literal : LiteralValue) → StandsAsOperand (literal_text literal) }
+    ensures numbers { (number : ℤ) → StandsAsOperand (number_text number) }
+    ensures truths { (value : Bool) → StandsAsOperand (bool_text value) }
+    ensures quote { (text : List ℕ) → StandsAsOperand (quoted text) }
+{}
+
+/// A text between quotes is such an operand, in each of the four kinds of quotes, and so is a name
+/// in each form that writes its parts between quotes, or bare where each is such an operand itself:
+/// with an alias, where that stands between quotes or is such an operand too. It does nothing when
+/// it runs.
+/// `SqlName::new("a").add("b c").safe()` → `` `a`.`b c` ``
+pub fn quoted_names_are_operands()
+    ensures baquote { (text : List ℕ) → StandsAsOperand (baquoted text) }
+    ensures brquote { (text : List ℕ) → StandsAsOperand (brquoted text) }
+    ensures dquote { (text : List ℕ) → StandsAsOperand (dquoted text) }
+    ensures quoted { NamesAreOperands quoted }
+    ensures baquoted { NamesAreOperands baquoted }
+    ensures brquoted { NamesAreOperands brquoted }
+    ensures dquoted { NamesAreOperands dquoted }
+    ensures safe { (name : Name) → IsTrue (has_operand_parts name)
+        → IsTrue (is_operand_alias name.alias) → StandsAsOperand (safe_text name) }
 {}
