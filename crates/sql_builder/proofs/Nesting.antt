@@ -30,7 +30,7 @@ module _ (r : Clauses Pieces) (parts : CalmParts r) where
   query-balanced : has_balanced_fragments (query fixed_piece r) ≡ true → is_balanced (pieces_tokens (query fixed_piece r)) ≡ true
   query-balanced all = and_from _ _ (some-select r.distinct _) (shape-even (query fixed_piece r) all (query-even r parts))
 
-  inner-balanced : (name : Pieces) → has_balanced_fragments (query fixed_piece r ++ name) ≡ true → has_balanced_fragments (query fixed_piece r) ≡ true
+  pub inner-balanced : (name : Pieces) → has_balanced_fragments (query fixed_piece r ++ name) ≡ true → has_balanced_fragments (query fixed_piece r) ≡ true
   inner-balanced name all = (and_parts _ _ (sym (list_all-append is_balanced_piece (query fixed_piece r) name) ∙ all)).0
 
   subquery-even : has_balanced_fragments (subquery fixed_piece r) ≡ true → is_even (pieces_tokens (query fixed_piece r)) ≡ true

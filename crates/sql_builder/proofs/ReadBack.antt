@@ -79,16 +79,16 @@ module _ (start : StartText) (calls : List CallText) (finish : FinishText) where
   abbrev said : Clauses Pieces
   said = clauses start calls
 
-  abbrev printed : Option SqlBuilderError → Result Pieces SqlBuilderError
+  abbrev pub printed : Option SqlBuilderError → Result Pieces SqlBuilderError
   printed refusal = unless_refused refusal (layout finish said)
 
-  abbrev refused : Option SqlBuilderError
+  abbrev pub refused : Option SqlBuilderError
   refused = refusal_at finish (map_clauses pieces_text said)
 
-  text-is : (text : List ℕ) → text_unless_refused (Ok (layout finish said)) ≡ Ok text → text ≡ pieces_text (layout finish said)
+  pub text-is : (text : List ℕ) → text_unless_refused (Ok (layout finish said)) ≡ Ok text → text ≡ pieces_text (layout finish said)
   text-is text is = let same : pieces_text (layout finish said) ≡ text = cc is in sym same
 
-  printed-tokens : (text : List ℕ) → text_unless_refused (Ok (layout finish said)) ≡ Ok text → HasShape (layout finish said) text
+  pub printed-tokens : (text : List ℕ) → text_unless_refused (Ok (layout finish said)) ≡ Ok text → HasShape (layout finish said) text
   printed-tokens text is = let same : pieces_text (layout finish said) ≡ text = cc is in λ all. ap tokens (sym same) ∙ (printed-shaped start calls finish).shape_is all
 
   any-reads : (refusal : Option SqlBuilderError) (text : List ℕ) → text_unless_refused (printed refusal) ≡ Ok text

@@ -17,6 +17,7 @@ pub mod Reading
 pub mod Shape
 pub mod Statement
 pub mod Steps
+pub mod Tables
 pub mod Text
 pub mod TextLists
 pub mod Truths
@@ -29,6 +30,7 @@ pub use Rattle.sql_parts.specs.Fragments
 pub use Rattle.sql_parts.specs.Lending
 pub use Rattle.sql_parts.specs.Literal
 pub use Rattle.sql_parts.specs.Name
+pub use Rattle.sql_parts.specs.Operands
 pub use Rattle.sql_parts.specs.Pairs
 pub use Rattle.sql_parts.specs.Places
 pub use Rattle.sql_parts.specs.Quoting

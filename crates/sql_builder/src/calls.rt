@@ -7,9 +7,11 @@ ghost use Rattle.sql_builder.specs.Calls.{SelectValues, clauses, kind_of};
 ghost use Rattle.sql_builder.specs.Clauses.{map_clauses};
 ghost use Rattle.sql_builder.specs.Meaning.{HasBalancedFragments, HasFitFragments, HasTruthOf, condition_groups, is_nested, is_unenclosed, prints_where};
 ghost use Rattle.sql_builder.specs.Fitting.{has_fit_conditions};
+ghost use Rattle.sql_builder.specs.Handed.{Bare, is_fit};
 ghost use Rattle.sql_builder.specs.Reading.{clause_list, read};
 ghost use Rattle.sql_builder.specs.Shape.{HasClosedFragments, shape};
 ghost use Rattle.sql_builder.specs.Statement.{refusal_at, statement, text_at};
+ghost use Rattle.sql_builder.specs.Tables.{makes_table};
 ghost use Rattle.sql_builder.specs.Text.{pieces_text};
 ghost use Rattle.sql_parts.specs.Tokens.{closed, tokens};
 
@@ -367,7 +369,7 @@ pub fn print_to(
 /// SELECT from a table, an UPDATE or a DELETE, is the least over the groups of the greatest over a
 /// group's conditions. Where each fragment is balanced, those behind a UNION too, what `query` and
 /// `subquery_as` print is balanced, and what `subquery` prints is an operand without an outer word
-/// that begins a clause.
+/// that begins a clause; nor has what `subquery_as` prints one, where its name has none.
 /// `run(&Start::SelectFrom("t"), &[Call::Field("a")], &Finish::Sql)` → `SELECT a FROM t;`
 pub fn run(
     alloc: Global,
@@ -396,6 +398,9 @@ pub fn run(
     ensures nests { HasBalancedFragments (start_view start.now) (map call_view calls.now)
         (finish_view finish.now) → IfOk result (λ s.
         IsTrue (is_nested (finish_view finish.now) (string_bytes s))) }
+    ensures nests_as_table { IsTrue (makes_table (finish_view finish.now))
+        → HasBalancedFragments (start_view start.now) (map call_view calls.now)
+        (finish_view finish.now) → IfOk result (λ s. IsTrue (is_fit (Bare (string_bytes s)))) }
 {
     let builder = build(alloc, start, calls)?;
     print(&builder, finish)

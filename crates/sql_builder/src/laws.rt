@@ -6,12 +6,13 @@ ghost use Rattle.sql_builder.specs.Laws.{BuildersEndInOneSemicolon, ConditionsAr
 ghost use Rattle.sql_builder.specs.Truths.{False, True, Unknown};
 ghost use Rattle.sql_builder.specs.Shape.{EndsInOneSemicolon, has_closed_fragments, has_no_semicolons};
 ghost use Rattle.sql_builder.specs.Statement.{pieces};
+ghost use Rattle.sql_builder.specs.Tables.{SubqueriesNestAsTables};
 ghost use Rattle.sql_builder.specs.Text.{pieces_text};
 ghost use Rattle.sql_parts.specs.Tokens.{tokens};
 
 pub use sql_parts::laws::{
-    bound_texts_keep_the_count, doubling_is_undone, quoting_is_injective, tokens_join_at_edges,
-    unmarked_is_unchanged,
+    bound_texts_keep_the_count, doubling_is_undone, literals_are_operands,
+    quoted_names_are_operands, quoting_is_injective, tokens_join_at_edges, unmarked_is_unchanged,
 };
 
 /// `fields` of a list and then of another is `fields` of the two joined.
@@ -133,4 +134,13 @@ pub fn worked_truths()
         (codes "((a) OR (b)) AND (NOT c AND d)") Unknown }
     ensures with_brackets { IsValued a_without_c (codes "(a OR b) AND (c)") False }
     ensures without_brackets { IsValued a_without_c (codes "a OR b AND c") True }
+{}
+
+/// Where each fragment of a query is balanced, those behind a UNION too, what `subquery` prints of
+/// it is fit to be handed in as a table: balanced, and without an outer word that begins a clause;
+/// and so is what `subquery_as` prints, where its name has no such word.
+/// `.subquery_as("s")` → `(SELECT * FROM t) AS s`
+#[tactic(auto, using(crate::proofs::Tables::subqueries_nest))]
+pub fn subqueries_nest_as_tables()
+    ensures { SubqueriesNestAsTables }
 {}

@@ -13,6 +13,7 @@ ghost use Rattle.sql_builder.specs.Phrases.{comma_list};
 ghost use Rattle.sql_builder.specs.Printed.{delete_bytes, further_bytes, further_condition, group_by_bytes, insert_bytes, inserted_bytes, join_bytes, optional_bytes, order_by_bytes, statement_bytes, update_bytes, where_bytes, where_end, where_opening};
 ghost use Rattle.sql_builder.specs.Shape.{HasShape, IsClosedAs, as_fragments};
 ghost use Rattle.sql_builder.specs.Statement.{refusal_at, text_at, unless_refused};
+ghost use Rattle.sql_builder.specs.Tables.{NestsAsTable};
 ghost use Rattle.sql_builder.specs.Text.{fixed_piece, raw_piece};
 ghost use Rattle.sql_builder.specs.Views.{finish_view};
 
@@ -452,9 +453,10 @@ impl SqlBuilder {
     }
 
     /// The query in brackets, `AS` and the name: balanced, where the builder's texts and the name
-    /// are. It is refused as `query` is.
+    /// are, and without an outer word that begins a clause, where the name has none; so it serves
+    /// as a table. It is refused as `query` is.
     /// `.subquery_as("s")` → `(SELECT * FROM t) AS s`
-    #[tactic(auto, using(crate::proofs::Layouts::subquery_as_shape, crate::proofs::Layouts::subquery_as_closed, crate::proofs::ReadBack::subquery_as_nests))]
+    #[tactic(auto, using(crate::proofs::Layouts::subquery_as_shape, crate::proofs::Layouts::subquery_as_closed, crate::proofs::ReadBack::subquery_as_nests, crate::proofs::Tables::subquery_as_table))]
     pub fn subquery_as<S: ToText>(&self, name: S) -> Result<String, SqlBuilderError>
         ensures text { IfOk result (λ s. string_bytes s
             ≡ subquery_as byte_atoms (S.text name) self.now) }
@@ -464,6 +466,9 @@ impl SqlBuilder {
             (raw_piece (S.text name)) (as_fragments self.now)) (string_bytes s)) }
         ensures nests { IfOk result (λ s. Nests (SubqueryAs (S.text name)) (subquery_as fixed_piece
             (raw_piece (S.text name)) (as_fragments self.now)) (string_bytes s)) }
+        ensures nests_as_table { IfOk result (λ s. NestsAsTable (SubqueryAs (S.text name))
+            (subquery_as fixed_piece (raw_piece (S.text name)) (as_fragments self.now))
+            (string_bytes s)) }
         ensures refused { IfSome (query_refusal self.now) (λ refusal. result ≡ Err refusal) }
         ensures memory { IsNone (query_refusal self.now) → FailsOnlyByMemory result }
     {

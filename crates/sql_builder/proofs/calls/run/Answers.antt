@@ -4,6 +4,7 @@ use Rattle.sql_builder.specs.Calls.{clauses}
 use Rattle.sql_builder.proofs.ClauseShapes.{statement_closed, statement_shape}
 use Rattle.sql_builder.proofs.ReadBack.{statement_clauses, statement_nests, statement_truth}
 use Rattle.sql_builder.proofs.Runs.{statement_printed, statement_refused}
+use Rattle.sql_builder.proofs.Tables.{statement_table}
 use Rattle.sql_builder.proofs.calls.run.Goals as goal
 
 pub returns-clause-text : goal.returns-clause-text
@@ -37,3 +38,7 @@ returns-clause-truth c =
 pub returns-clause-nests : goal.returns-clause-nests
 returns-clause-nests c =
     statement_nests (start_view c.args.start.now) (map call_view c.args.calls.now) (finish_view c.args.finish.now) c.print.result (returns-clause-text c)
+
+pub returns-clause-nests_as_table : goal.returns-clause-nests_as_table
+returns-clause-nests_as_table c = λ makes.
+    statement_table (start_view c.args.start.now) (map call_view c.args.calls.now) (finish_view c.args.finish.now) makes c.print.result (returns-clause-text c)

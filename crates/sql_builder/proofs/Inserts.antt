@@ -1,0 +1,200 @@
+-- An INSERT of a query reads back as its own clause, those of the query, and RETURNING.
+use Rattle.std.proofs.Common.{◌≡◌, refl, sym, ◌∙◌, ap, subst, ℕ, Bool, true, false, not, List, [], ◌∷◌, ◌++◌, Option, None, Some, map, pos, codes, append-nil, append_assoc, Result, Ok, Err, cc}
+use Rattle.std.specs.Prelude.{IfSome, IsTrue, IfOk, flat_map}
+use Rattle.std.specs.List.{list_all, list_any}
+use Rattle.std.proofs.lemmas.Bool.{and_from, and_parts, not-true, or_from}
+use Rattle.std.proofs.lemmas.List.Folds.{list_all-append}
+use Rattle.sql_parts.specs.Fragments as fragments
+use Rattle.sql_parts.specs.Fragments.{Placed, balanced, is_clause_word, is_outer, is_whole}
+use Rattle.sql_parts.specs.Tokens.{Token, Symbol, begins_with, tokens}
+use Rattle.sql_parts.proofs.Walks.{at_end, closes_from, has_outer, has_outer-is, is_balanced-is, is_even, placed, placed-is}
+use Rattle.sql_builder.specs.Clauses.{Clauses}
+use Rattle.sql_builder.specs.Fitting.{are_fit, has_balanced_fragments, is_balanced_piece, own}
+use Rattle.sql_builder.specs.Inserts.{has_fit_target, insert_clauses, is_fit_returning, is_one_query, lead_of, returning_clauses}
+use Rattle.sql_builder.specs.Layout.{Section, concat_sections, insert_target, optional_section, returning_sections, section, sql}
+use Rattle.sql_builder.specs.Parts.{Parts, parts_at, before_outer, with_front}
+use Rattle.sql_builder.specs.Phrases.{comma_list}
+use Rattle.sql_builder.specs.Reading.{Clause, is_union, own_placed, read, without_semicolon}
+use Rattle.sql_builder.specs.Shape.{HasShape, pieces_tokens}
+use Rattle.sql_builder.specs.Text.{Pieces, Fixed, fixed_piece, raw_piece}
+use Rattle.sql_builder.proofs.Balance.{balanced_even, even_closes, even_text, has_outer-append, is_even-append}
+use Rattle.sql_builder.proofs.CalmClauses.{CalmParts, calm-append, calm-list, calm-target}
+use Rattle.sql_builder.proofs.Joining.{placed-then}
+use Rattle.sql_builder.proofs.OwnSections.{Calm, Front, any_union, before-append, calm-front, front-append, lead_on, opening_clauses, own-outer, section-clauses, starts-lead, union-marks, with_last}
+use Rattle.sql_builder.proofs.OwnWords.{are_fit-is, are_fit_from, fit-balanced, fit-marks, fragments_closed, marks, same-parts, shape-even}
+use Rattle.sql_builder.proofs.Placing.{at_end-closes}
+use Rattle.sql_builder.proofs.ReadTokens.{semicolon-none, semicolon-one}
+use Rattle.sql_builder.proofs.Shapes.{pieces_tokens-append}
+
+-- ---- the parts of lists that are joined
+
+abbrev joined : Parts → Parts → Parts
+joined one other = record { lead = lead_on other.lead one.lead one.rest; rest = with_last other.lead one.rest ++ other.rest }
+
+joined-front : (is : Bool) (t : Token) (lead : List Token) (rest : List Clause) (other : Parts)
+    → with_front is t (joined (record { lead = lead; rest = rest }) other) ≡ joined (with_front is t (record { lead = lead; rest = rest })) other
+joined-front true t lead [] other = refl
+joined-front true t lead (c ∷ cs) other = refl
+joined-front false t lead [] other = refl
+joined-front false t lead (c ∷ cs) other = refl
+
+parts-joined : (test : Token → Bool) (a b : List Placed) → parts_at test (a ++ b) ≡ joined (parts_at test a) (parts_at test b)
+parts-joined test [] b = refl
+parts-joined test (m ∷ a) b =
+    ap (with_front (is_outer test m) (fragments.token_of m)) (parts-joined test a b)
+    ∙ joined-front (is_outer test m) (fragments.token_of m) (parts_at test a).lead (parts_at test a).rest (parts_at test b)
+
+-- ---- tokens that have no outer UNION
+
+-- balanced or none, and without an outer UNION
+record One (ts : List Token) : Type 0 where
+  even : is_even ts ≡ true
+  no_union : has_outer is_union ts ≡ false
+
+one-append : (a b : List Token) → One a → One b → One (a ++ b)
+one-append a b one other = record {
+  even = is_even-append a b one.even other.even;
+  no_union = has_outer-append is_union a b one.even ∙ or_from _ _ one.no_union other.no_union;
+}
+
+abbrev parts : List Token → Parts
+parts ts = parts_at is_clause_word (placed ts)
+
+parts-append : (a b : List Token) → One a → parts (a ++ b) ≡ joined (parts a) (parts b)
+parts-append a b one = ap (parts_at is_clause_word) (placed-then a b (at_end-closes (pos 0) a (even_closes a one.even))) ∙ parts-joined is_clause_word (placed a) (placed b)
+
+before-none : (test : Token → Bool) (ms : List Placed) → list_any (is_outer test) ms ≡ false → before_outer test ms ≡ ms
+before-none test ms none = ap (before_outer test) (sym (append-nil ms)) ∙ before-append test ms [] none ∙ append-nil ms
+
+-- such tokens are read to their end
+read-parts : (ts us : List Token) → without_semicolon ts ≡ us → One us → read ts ≡ (parts us).rest
+unfolding read
+read-parts ts us is one =
+    ap (λ vs. (parts_at is_clause_word (before_outer is_union (fragments.placed vs))).rest) is
+    ∙ ap (λ ms. (parts_at is_clause_word (before_outer is_union ms)).rest) (placed-is us)
+    ∙ ap (λ ms. (parts_at is_clause_word ms).rest) (before-none is_union (placed us) one.no_union)
+
+-- ---- a section of the builder's own
+
+module _ (words : List ℕ) (body : Pieces) (front : Front (tokens words)) (starts : begins_with is_clause_word (tokens words) ≡ true) (calm : Calm body) (fit : are_fit body ≡ true) where
+  abbrev here : Pieces
+  here = fixed_piece words ++ body
+
+  is-front : Front (own here)
+  is-front = front-append (tokens words) (own body) front (calm-front body calm)
+
+  fits : are_fit_from (pos 0) here ≡ true
+  fits = subst (λ l. are_fit_from l body ≡ true) (sym (at_end-closes (pos 0) (tokens words) (even_closes (tokens words) front.even))) (sym (are_fit-is body) ∙ fit)
+
+  same : marks (placed (pieces_tokens here)) ≡ marks (flat_map own_placed here)
+  same = fit-marks (pos 0) here refl fits is-front.laid
+
+  parts-are : parts (pieces_tokens here) ≡ parts_at is_clause_word (flat_map own_placed here)
+  parts-are = same-parts (placed (pieces_tokens here)) (flat_map own_placed here) same
+
+  section-one : One (pieces_tokens here)
+  section-one = record {
+    even = shape-even here (fit-balanced (pos 0) here fits) is-front.even;
+    no_union = union-marks (placed (pieces_tokens here)) ∙ ap any_union same ∙ sym (union-marks (flat_map own_placed here)) ∙ own-outer is_union here ∙ is-front.no_union;
+  }
+
+  section-rest : (parts (pieces_tokens here)).rest ≡ with_last (pieces_tokens body) (opening_clauses words)
+  section-rest = ap (λ (ps : Parts). ps.rest) parts-are ∙ section-clauses (section words body) calm
+
+  section-lead : (parts (pieces_tokens here)).lead ≡ []
+  section-lead = ap (λ (ps : Parts). ps.lead) parts-are ∙ starts-lead (tokens words) (flat_map own_placed body) starts
+
+-- ---- RETURNING
+
+abbrev returned : Option Pieces → List Token
+returned given = pieces_tokens (concat_sections fixed_piece (optional_section (codes " RETURNING ") given))
+
+-- tokens that begin with a clause word, if there is one, with these clauses
+record Tail (ts : List Token) (found : List Clause) : Type 0 where
+  one : One ts
+  lead : (parts ts).lead ≡ []
+  rest : (parts ts).rest ≡ found
+
+returned-front : Front (tokens (codes " RETURNING "))
+returned-front = record { laid = refl; even = refl; no_union = refl }
+
+returned-tail : (given : Option Pieces) → IfSome given Calm → is_fit_returning given ≡ true → Tail (returned given) (returning_clauses given)
+returned-tail None calm fit = record { one = record { even = refl; no_union = refl }; lead = refl; rest = refl }
+returned-tail (Some body) calm fit =
+    let words = codes " RETURNING " in
+    subst (λ ps. Tail (pieces_tokens ps) (returning_clauses (Some body))) (sym (append-nil (fixed_piece words ++ body))) (record {
+      one = section-one words body returned-front refl calm fit;
+      lead = section-lead words body returned-front refl calm fit;
+      rest = section-rest words body returned-front refl calm fit;
+    })
+
+-- ---- the whole
+
+-- behind a lead that other parts have
+joined-tail : (ts us : List Token) (found : List Clause) → One ts → Tail us found → parts (ts ++ us) ≡ record { lead = (parts ts).lead; rest = (parts ts).rest ++ found }
+joined-tail ts us found one tail =
+    parts-append ts us one
+    ∙ (λ i. joined (parts ts) (record { lead = tail.lead i; rest = tail.rest i }))
+    ∙ kept (parts ts).lead (parts ts).rest
+  where
+    last : (rest : List Clause) → with_last [] rest ≡ rest
+    last [] = refl
+    last (c ∷ []) = λ i. (c.0, append-nil c.1 i) ∷ []
+    last (c ∷ d ∷ cs) = ap (λ (more : List Clause). c ∷ more) (last (d ∷ cs))
+
+    on : (lead : List Token) (rest : List Clause) → lead_on [] lead rest ≡ lead
+    on lead [] = append-nil lead
+    on lead (c ∷ cs) = refl
+
+    kept : (lead : List Token) (rest : List Clause) → joined (record { lead = lead; rest = rest }) (record { lead = []; rest = found }) ≡ record { lead = lead; rest = rest ++ found }
+    kept lead rest = λ i. record { lead = on lead rest i; rest = last rest i ++ found }
+
+insert-front : Front (tokens (codes "INSERT INTO "))
+insert-front = record { laid = refl; even = refl; no_union = refl }
+
+module _ (r : Clauses Pieces) (query : List ℕ) (calm : CalmParts r) (is_one : is_one_query query ≡ true) (fit : has_fit_target r ≡ true) where
+  target : Pieces
+  target = insert_target fixed_piece r
+
+  target-calm : Calm (insert_target fixed_piece r)
+  target-calm =
+      calm-append r.table (fixed_piece (codes " (") ++ (comma_list fixed_piece r.fields ++ fixed_piece (codes ")"))) calm.table
+      (calm-target (comma_list fixed_piece r.fields) (calm-list r.fields calm.fields))
+
+  target-fit : are_fit (insert_target fixed_piece r) ≡ true
+  target-fit = (and_parts (are_fit (insert_target fixed_piece r)) (is_fit_returning r.returning) fit).0
+
+  query-one : One (tokens query)
+  query-one =
+      let both = and_parts (balanced query) _ is_one in
+      record { even = even_text query both.0; no_union = sym (has_outer-is is_union (tokens query)) ∙ not-true _ both.1 }
+
+  tail : Tail (returned r.returning) (returning_clauses r.returning)
+  tail = returned-tail r.returning calm.returning (and_parts (are_fit (insert_target fixed_piece r)) (is_fit_returning r.returning) fit).1
+
+  abbrev front : List Token
+  front = pieces_tokens (fixed_piece (codes "INSERT INTO ") ++ insert_target fixed_piece r)
+
+  front-one : One front
+  front-one = section-one (codes "INSERT INTO ") (insert_target fixed_piece r) insert-front refl target-calm target-fit
+
+  whole-one : One (front ++ (tokens query ++ returned r.returning))
+  whole-one = one-append front (tokens query ++ returned r.returning) front-one (one-append (tokens query) (returned r.returning) query-one tail.one)
+
+  -- the clauses that the whole has
+  whole-clauses : (parts (front ++ (tokens query ++ returned r.returning))).rest ≡ insert_clauses r (tokens query)
+  whole-clauses =
+      ap (λ (ps : Parts). ps.rest) (parts-append front (tokens query ++ returned r.returning) front-one)
+      ∙ ap (λ (ps : Parts). with_last ps.lead (parts front).rest ++ ps.rest) (joined-tail (tokens query) (returned r.returning) (returning_clauses r.returning) query-one tail)
+      ∙ ap (λ (cs : List Clause). with_last (parts (tokens query)).lead cs ++ ((parts (tokens query)).rest ++ returning_clauses r.returning))
+      (section-rest (codes "INSERT INTO ") (insert_target fixed_piece r) insert-front refl target-calm target-fit)
+      ∙ (λ i. insert_with (ap (λ ms. (parts_at is_clause_word ms).lead) (sym (placed-is (tokens query))) i) (sym (read-parts (tokens query) (tokens query) (semicolon-none (tokens query) (and_parts (list_all is_whole (tokens query)) _ query-one.even).0) query-one) i))
+    where
+      abbrev insert_with : List Token → List Clause → List Clause
+      insert_with lead found = (fragments_word, into ∷ (pieces_tokens (insert_target fixed_piece r) ++ lead)) ∷ (found ++ returning_clauses r.returning)
+        where
+          fragments_word : Token
+          fragments_word = Token.Word (codes "INSERT")
+
+          into : Token
+          into = Token.Word (codes "INTO")

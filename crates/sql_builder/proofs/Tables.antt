@@ -1,0 +1,87 @@
+-- A query between brackets serves as a table, with a name behind it too.
+use Rattle.std.proofs.Common.{◌≡◌, refl, sym, ◌∙◌, ap, false, true, not, List, [], ◌∷◌, ◌++◌, ℕ, Option, None, Some, Result, Ok, Err, String, string_bytes, codes, append-nil, append_assoc, IfOk}
+use Rattle.std.specs.Prelude.{IsTrue}
+use Rattle.std.proofs.lemmas.Bool.{and_parts, and_from, false≢true, not-true, not_from_false, or_from}
+use Rattle.sql_parts.specs.Fragments.{balanced, has_clause_word, is_clause_word}
+use Rattle.sql_parts.specs.Tokens.{Token, Word, Symbol, tokens}
+use Rattle.sql_parts.specs.declared.error.SqlBuilderError.{SqlBuilderError}
+use Rattle.sql_parts.proofs.Walks.{has_outer-is}
+use Rattle.sql_builder.specs.Builder.{ClauseTexts}
+use Rattle.sql_builder.specs.Calls.{CallText, FinishText, StartText, Sql, Query, QueryValues, Subquery, SubqueryAs, clauses}
+use Rattle.sql_builder.specs.Clauses.{Clauses}
+use Rattle.sql_builder.specs.Fitting.{has_balanced_fragments}
+use Rattle.sql_builder.specs.Handed.{Bare, is_fit}
+use Rattle.sql_builder.specs.Layout.{byte_atoms, query, subquery_as}
+use Rattle.sql_builder.specs.Meaning.{HasBalancedFragments}
+use Rattle.sql_builder.specs.Shape.{HasShape, as_fragments, pieces_tokens}
+use Rattle.sql_builder.specs.Statement.{layout_at, statement, text_unless_refused, unless_refused}
+use Rattle.sql_builder.specs.Tables.{NestsAsTable, SubqueriesNestAsTables, makes_table}
+use Rattle.sql_builder.specs.Text.{Pieces, fixed_piece, pieces_text, raw_piece}
+use Rattle.sql_builder.specs.WhereTokens as where_tokens
+use Rattle.sql_builder.proofs.Balance.{has_outer-append, is_even-brackets, no_clause-brackets}
+use Rattle.sql_builder.proofs.CalmClauses.{CalmParts, clauses-calm, raw-calm}
+use Rattle.sql_builder.proofs.Layouts.{subquery_as_shape}
+use Rattle.sql_builder.proofs.Nesting.{inner-balanced, nests}
+use Rattle.sql_builder.proofs.OwnLayouts.{query-even}
+use Rattle.sql_builder.proofs.OwnWords.{fragments_closed, shape-even}
+use Rattle.sql_builder.proofs.ReadBack.{layout, printed, printed-tokens, refused}
+use Rattle.sql_builder.proofs.Shapes.{pieces_tokens-append}
+use Rattle.sql_builder.proofs.WhereTokens.{has_clause}
+
+module _ (r : Clauses Pieces) (parts : CalmParts r) where
+  -- the query in brackets, AS and the name
+  named-tokens : (name : List ℕ) → pieces_tokens (subquery_as fixed_piece (raw_piece name) r) ≡ where_tokens.in_brackets (pieces_tokens (query fixed_piece r)) ++ Word (codes "AS") ∷ tokens name
+  unfolding where_tokens.in_brackets
+  named-tokens name =
+      ap (λ ts. Symbol 40 ∷ ts)
+      (pieces_tokens-append (query fixed_piece r) (fixed_piece (codes ") AS ") ++ raw_piece name)
+      ∙ ap (λ ts. pieces_tokens (query fixed_piece r) ++ Symbol 41 ∷ Word (codes "AS") ∷ ts) (append-nil (tokens name))
+      ∙ sym (append_assoc (pieces_tokens (query fixed_piece r)) (Symbol 41 ∷ []) (Word (codes "AS") ∷ tokens name)))
+
+  named-no_clause : (name : List ℕ) → has_balanced_fragments (subquery_as fixed_piece (raw_piece name) r) ≡ true → has_clause (tokens name) ≡ false
+      → has_clause (pieces_tokens (subquery_as fixed_piece (raw_piece name) r)) ≡ false
+  named-no_clause name all none =
+      let inner = pieces_tokens (query fixed_piece r) in
+      let even = shape-even (query fixed_piece r) (inner-balanced r parts (fixed_piece (codes ") AS ") ++ raw_piece name) all) (query-even r parts) in
+      ap has_clause (named-tokens name)
+      ∙ has_outer-append is_clause_word (where_tokens.in_brackets inner) (Word (codes "AS") ∷ tokens name) (is_even-brackets inner even)
+      ∙ or_from _ _ (no_clause-brackets inner even) none
+
+  pub table : (finish : FinishText) (text : List ℕ) → HasShape (layout_at fixed_piece raw_piece finish r) text → NestsAsTable finish (layout_at fixed_piece raw_piece finish r) text
+  table Sql text shaped = λ makes all. absurd (false≢true makes)
+  table Query text shaped = λ makes all. absurd (false≢true makes)
+  table QueryValues text shaped = λ makes all. absurd (false≢true makes)
+  table Subquery text shaped = λ makes all.
+      let both = and_parts _ (not (has_clause_word text)) (nests r parts Subquery text shaped all) in
+      and_from _ _ (and_parts (balanced text) _ (and_parts _ _ both.0).0).0 both.1
+  table (SubqueryAs name) text shaped = λ makes all.
+      let same = shaped (fragments_closed (subquery_as fixed_piece (raw_piece name) r) all) in
+      let none = sym (has_outer-is is_clause_word (tokens name)) ∙ not-true _ makes in
+      and_from _ _ (nests r parts (SubqueryAs name) text shaped all)
+      (not_from_false _ (has_outer-is is_clause_word (tokens text) ∙ ap has_clause same ∙ named-no_clause name all none))
+
+-- ---- a list of calls
+
+module _ (start : StartText) (calls : List CallText) (finish : FinishText) (makes : makes_table finish ≡ true) where
+  any-table : (refusal : Option SqlBuilderError) (text : List ℕ) → text_unless_refused (printed start calls finish refusal) ≡ Ok text
+      → IfOk (printed start calls finish refusal) (λ ps. IsTrue (has_balanced_fragments ps)) → IsTrue (is_fit (Bare text))
+  any-table None text is all = table (clauses start calls) (clauses-calm start calls) finish text (printed-tokens start calls finish text is) makes all
+  any-table (Some refusal) text is all = cc is
+
+  pub statement_table : {Z : Type 0} (result : Result (String Z) SqlBuilderError) → IfOk result (λ s. statement start calls finish ≡ Ok (string_bytes s))
+      → HasBalancedFragments start calls finish → IfOk result (λ s. IsTrue (is_fit (Bare (string_bytes s))))
+  statement_table (Err e) is all = tt
+  statement_table (Ok s) is all = any-table (refused start calls finish) (string_bytes s) is all
+
+pub subqueries_nest : SubqueriesNestAsTables
+subqueries_nest start calls finish makes all = by (refused start calls finish) all
+  where
+    by : (refusal : Option SqlBuilderError) → IfOk (printed start calls finish refusal) (λ ps. IsTrue (has_balanced_fragments ps))
+        → IfOk (text_unless_refused (printed start calls finish refusal)) (λ text. IsTrue (is_fit (Bare text)))
+    by None all = any-table start calls finish makes None (pieces_text (layout finish (clauses start calls))) refl all
+    by (Some refusal) all = tt
+
+-- ---- a builder
+
+pub subquery_as_table : (r : ClauseTexts) (text name : List ℕ) → text ≡ subquery_as byte_atoms name r → NestsAsTable (SubqueryAs name) (subquery_as fixed_piece (raw_piece name) (as_fragments r)) text
+subquery_as_table r text name is = table (as_fragments r) (raw-calm r) (SubqueryAs name) text (subquery_as_shape r text name is)
