@@ -1,28 +1,37 @@
 -- An INSERT of a query reads back as its own clause, those of the query, and RETURNING.
-use Rattle.std.proofs.Common.{◌≡◌, refl, sym, ◌∙◌, ap, subst, ℕ, Bool, true, false, not, List, [], ◌∷◌, ◌++◌, Option, None, Some, map, pos, codes, append-nil, append_assoc, Result, Ok, Err, cc}
-use Rattle.std.specs.Prelude.{IfSome, IsTrue, IfOk, flat_map}
+use Rattle.std.proofs.Common.{◌≡◌, refl, sym, ◌∙◌, ap, subst, ℕ, Bool, true, false, not, List, [], ◌∷◌, ◌++◌, Option, None, Some, map, pos, codes, append-nil, append_assoc}
+use Rattle.std.specs.Prelude.{IfSome, IfOk, flat_map, option_map}
 use Rattle.std.specs.List.{list_all, list_any}
 use Rattle.std.proofs.lemmas.Bool.{and_from, and_parts, not-true, or_from}
 use Rattle.std.proofs.lemmas.List.Folds.{list_all-append}
 use Rattle.sql_parts.specs.Fragments as fragments
 use Rattle.sql_parts.specs.Fragments.{Placed, balanced, is_clause_word, is_outer, is_whole}
-use Rattle.sql_parts.specs.Tokens.{Token, Symbol, begins_with, tokens}
+use Rattle.sql_parts.specs.Tokens.{Token, Word, Symbol, begins_with, tokens}
 use Rattle.sql_parts.proofs.Walks.{at_end, closes_from, has_outer, has_outer-is, is_balanced-is, is_even, placed, placed-is}
+use Rattle.sql_parts.specs.declared.error.SqlBuilderError.{SqlBuilderError}
+use Rattle.sql_builder.specs.Builder.{ClauseTexts}
+use Rattle.sql_builder.specs.Calls as call
+use Rattle.sql_builder.specs.Calls.{CallText, Sql, clauses, query_of}
 use Rattle.sql_builder.specs.Clauses.{Clauses}
 use Rattle.sql_builder.specs.Fitting.{are_fit, has_balanced_fragments, is_balanced_piece, own}
-use Rattle.sql_builder.specs.Inserts.{has_fit_target, insert_clauses, is_fit_returning, is_one_query, lead_of, returning_clauses}
-use Rattle.sql_builder.specs.Layout.{Section, concat_sections, insert_target, optional_section, returning_sections, section, sql}
+use Rattle.sql_builder.specs.Inserts.{BuildersOfInsertsReadBack, InsertsReadBack, has_fit_target, insert_clauses, is_fit_returning, is_one_query, lead_of, returning_clauses}
+use Rattle.sql_builder.specs.Layout.{Section, byte_atoms, insert_sections, refusal_of, concat_sections, insert_target, optional_section, returning_sections, section, sql, statement_sections}
 use Rattle.sql_builder.specs.Parts.{Parts, parts_at, before_outer, with_front}
 use Rattle.sql_builder.specs.Phrases.{comma_list}
 use Rattle.sql_builder.specs.Reading.{Clause, is_union, own_placed, read, without_semicolon}
-use Rattle.sql_builder.specs.Shape.{HasShape, pieces_tokens}
-use Rattle.sql_builder.specs.Text.{Pieces, Fixed, fixed_piece, raw_piece}
+use Rattle.sql_builder.specs.Shape.{HasShape, as_fragments, pieces_tokens}
+use Rattle.sql_builder.specs.Statement.{text_unless_refused, unless_refused}
+use Rattle.sql_builder.specs.declared.clauses.Kind.{Kind}
+use Rattle.sql_builder.specs.declared.clauses.Kind.TheVariants.{InsertInto}
+use Rattle.sql_builder.specs.Text.{Pieces, fixed_piece, pieces_text, raw_piece}
 use Rattle.sql_builder.proofs.Balance.{balanced_even, even_closes, even_text, has_outer-append, is_even-append}
-use Rattle.sql_builder.proofs.CalmClauses.{CalmParts, calm-append, calm-list, calm-target}
+use Rattle.sql_builder.proofs.CalmClauses.{CalmParts, calm-append, calm-list, calm-target, clauses-calm, raw-calm}
 use Rattle.sql_builder.proofs.Joining.{placed-then}
+use Rattle.sql_builder.proofs.Layouts.{sql_shape}
 use Rattle.sql_builder.proofs.OwnSections.{Calm, Front, any_union, before-append, calm-front, front-append, lead_on, opening_clauses, own-outer, section-clauses, starts-lead, union-marks, with_last}
 use Rattle.sql_builder.proofs.OwnWords.{are_fit-is, are_fit_from, fit-balanced, fit-marks, fragments_closed, marks, same-parts, shape-even}
 use Rattle.sql_builder.proofs.Placing.{at_end-closes}
+use Rattle.sql_builder.proofs.ReadBack.{layout, printed-tokens, refused}
 use Rattle.sql_builder.proofs.ReadTokens.{semicolon-none, semicolon-one}
 use Rattle.sql_builder.proofs.Shapes.{pieces_tokens-append}
 
@@ -149,13 +158,22 @@ joined-tail ts us found one tail =
     kept : (lead : List Token) (rest : List Clause) → joined (record { lead = lead; rest = rest }) (record { lead = []; rest = found }) ≡ record { lead = lead; rest = rest ++ found }
     kept lead rest = λ i. record { lead = on lead rest i; rest = last rest i ++ found }
 
+-- the clauses by the query's lead and by its own
+abbrev insert_with : Clauses Pieces → List Token → List Clause → List Clause
+insert_with r lead found =
+    (Word (codes "INSERT"), Word (codes "INTO") ∷ (pieces_tokens (insert_target fixed_piece r) ++ lead)) ∷ (found ++ returning_clauses r.returning)
+
+balanced-append : (a b : Pieces) → has_balanced_fragments a ≡ true → has_balanced_fragments b ≡ true → has_balanced_fragments (a ++ b) ≡ true
+balanced-append a b one other = list_all-append is_balanced_piece a b ∙ and_from _ _ one other
+
+returned-balanced : (given : Option Pieces) → is_fit_returning given ≡ true → has_balanced_fragments (concat_sections fixed_piece (optional_section (codes " RETURNING ") given)) ≡ true
+returned-balanced None fit = refl
+returned-balanced (Some body) fit = balanced-append body [] (fit-balanced (pos 0) body (sym (are_fit-is body) ∙ fit)) refl
+
 insert-front : Front (tokens (codes "INSERT INTO "))
 insert-front = record { laid = refl; even = refl; no_union = refl }
 
 module _ (r : Clauses Pieces) (query : List ℕ) (calm : CalmParts r) (is_one : is_one_query query ≡ true) (fit : has_fit_target r ≡ true) where
-  target : Pieces
-  target = insert_target fixed_piece r
-
   target-calm : Calm (insert_target fixed_piece r)
   target-calm =
       calm-append r.table (fixed_piece (codes " (") ++ (comma_list fixed_piece r.fields ++ fixed_piece (codes ")"))) calm.table
@@ -168,6 +186,9 @@ module _ (r : Clauses Pieces) (query : List ℕ) (calm : CalmParts r) (is_one : 
   query-one =
       let both = and_parts (balanced query) _ is_one in
       record { even = even_text query both.0; no_union = sym (has_outer-is is_union (tokens query)) ∙ not-true _ both.1 }
+
+  query-read : read (tokens query) ≡ (parts (tokens query)).rest
+  query-read = read-parts (tokens query) (tokens query) (semicolon-none (tokens query) (and_parts (list_all is_whole (tokens query)) _ query-one.even).0) query-one
 
   tail : Tail (returned r.returning) (returning_clauses r.returning)
   tail = returned-tail r.returning calm.returning (and_parts (are_fit (insert_target fixed_piece r)) (is_fit_returning r.returning) fit).1
@@ -188,13 +209,67 @@ module _ (r : Clauses Pieces) (query : List ℕ) (calm : CalmParts r) (is_one : 
       ∙ ap (λ (ps : Parts). with_last ps.lead (parts front).rest ++ ps.rest) (joined-tail (tokens query) (returned r.returning) (returning_clauses r.returning) query-one tail)
       ∙ ap (λ (cs : List Clause). with_last (parts (tokens query)).lead cs ++ ((parts (tokens query)).rest ++ returning_clauses r.returning))
       (section-rest (codes "INSERT INTO ") (insert_target fixed_piece r) insert-front refl target-calm target-fit)
-      ∙ (λ i. insert_with (ap (λ ms. (parts_at is_clause_word ms).lead) (sym (placed-is (tokens query))) i) (sym (read-parts (tokens query) (tokens query) (semicolon-none (tokens query) (and_parts (list_all is_whole (tokens query)) _ query-one.even).0) query-one) i))
-    where
-      abbrev insert_with : List Token → List Clause → List Clause
-      insert_with lead found = (fragments_word, into ∷ (pieces_tokens (insert_target fixed_piece r) ++ lead)) ∷ (found ++ returning_clauses r.returning)
-        where
-          fragments_word : Token
-          fragments_word = Token.Word (codes "INSERT")
+      ∙ (λ i. insert_with r (ap (λ ms. (parts_at is_clause_word ms).lead) (sym (placed-is (tokens query))) i) (sym query-read i))
 
-          into : Token
-          into = Token.Word (codes "INTO")
+  -- the tokens that are printed
+  abbrev printed : Pieces
+  printed = concat_sections fixed_piece (section (codes "INSERT INTO ") (insert_target fixed_piece r ++ (fixed_piece (codes " ") ++ raw_piece query)) ∷ returning_sections r) ++ fixed_piece (codes ";")
+
+  abbrev opened : Pieces
+  opened = fixed_piece (codes "INSERT INTO ") ++ (insert_target fixed_piece r ++ (fixed_piece (codes " ") ++ raw_piece query))
+
+  insert-tokens : pieces_tokens printed ≡ (front ++ (tokens query ++ returned r.returning)) ++ Symbol 59 ∷ []
+  insert-tokens =
+      pieces_tokens-append (opened ++ concat_sections fixed_piece (returning_sections r)) (fixed_piece (codes ";"))
+      ∙ ap (λ ts. ts ++ Symbol 59 ∷ [])
+      (pieces_tokens-append opened (concat_sections fixed_piece (returning_sections r))
+      ∙ ap (λ ts. ts ++ returned r.returning)
+      (pieces_tokens-append (fixed_piece (codes "INSERT INTO ") ++ insert_target fixed_piece r) (fixed_piece (codes " ") ++ raw_piece query) ∙ ap (λ ts. front ++ ts) (append-nil (tokens query)))
+      ∙ append_assoc front (tokens query) (returned r.returning))
+
+  -- each fragment is balanced
+  target-balanced : has_balanced_fragments (insert_target fixed_piece r) ≡ true
+  target-balanced = fit-balanced (pos 0) (insert_target fixed_piece r) (sym (are_fit-is (insert_target fixed_piece r)) ∙ target-fit)
+
+  printed-balanced : has_balanced_fragments printed ≡ true
+  printed-balanced =
+      balanced-append (opened ++ concat_sections fixed_piece (returning_sections r)) (fixed_piece (codes ";"))
+      (balanced-append opened (concat_sections fixed_piece (returning_sections r))
+      (balanced-append (insert_target fixed_piece r) (fixed_piece (codes " ") ++ raw_piece query) target-balanced (and_from _ _ (and_parts (balanced query) _ is_one).0 refl))
+      (returned-balanced r.returning (and_parts (are_fit (insert_target fixed_piece r)) (is_fit_returning r.returning) fit).1))
+      refl
+
+  pub insert-reads : (text : List ℕ) → HasShape printed text → read (tokens text) ≡ insert_clauses r (tokens query)
+  insert-reads text shaped =
+      ap read (shaped (fragments_closed printed printed-balanced) ∙ insert-tokens)
+      ∙ read-parts ((front ++ (tokens query ++ returned r.returning)) ++ Symbol 59 ∷ []) (front ++ (tokens query ++ returned r.returning)) (semicolon-one (front ++ (tokens query ++ returned r.returning))) whole-one
+      ∙ whole-clauses
+
+-- ---- a list of calls
+
+-- what is printed, by the query that is given
+abbrev inserted : Option Pieces → Clauses Pieces → Pieces
+inserted given r = concat_sections fixed_piece (insert_sections fixed_piece given r) ++ fixed_piece (codes ";")
+
+pub inserts_read_back : InsertsReadBack
+inserts_read_back table calls query given is_one fit = by (refused (call.InsertInto table) calls Sql)
+  where
+    by : (refusal : Option SqlBuilderError)
+        → IfOk (text_unless_refused (unless_refused refusal (inserted (query_of calls) (clauses (call.InsertInto table) calls))))
+        (λ text. read (tokens text) ≡ insert_clauses (clauses (call.InsertInto table) calls) (tokens query))
+    by None =
+        let r = clauses (call.InsertInto table) calls in
+        let text = pieces_text (inserted (query_of calls) r) in
+        insert-reads r query (clauses-calm (call.InsertInto table) calls) is_one fit text
+        (subst (λ q. HasShape (inserted q r) text) given (printed-tokens (call.InsertInto table) calls Sql text refl))
+    by (Some refusal) = tt
+
+-- ---- a builder
+
+pub builders_of_inserts_read_back : BuildersOfInsertsReadBack
+builders_of_inserts_read_back r query kind given is_one fit =
+    let text = sql byte_atoms r in
+    let same : sql fixed_piece (as_fragments r) ≡ inserted (Some (raw_piece query)) (as_fragments r) =
+    ap (λ k. concat_sections fixed_piece (statement_sections fixed_piece k (as_fragments r)) ++ fixed_piece (codes ";")) kind
+    ∙ ap (λ q. inserted (option_map raw_piece q) (as_fragments r)) given in
+    insert-reads (as_fragments r) query (raw-calm r) is_one fit text (subst (λ ps. HasShape ps text) same (sql_shape r text refl))

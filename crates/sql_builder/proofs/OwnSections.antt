@@ -103,14 +103,14 @@ union-mark : (m : Placed) → is_outer is_union m ≡ (is_outer is_clause_word m
 union-mark (Outer t) = narrow (is_clause_word t) (is_union t) (not_union t)
 union-mark (Inner t) = refl
 
-abbrev any_union : List Mark → Bool
+abbrev pub any_union : List Mark → Bool
 any_union ms = list_any (λ (m : Mark). m.0 && is_union m.1) ms
 
-union-marks : (ms : List Placed) → list_any (is_outer is_union) ms ≡ any_union (marks ms)
+pub union-marks : (ms : List Placed) → list_any (is_outer is_union) ms ≡ any_union (marks ms)
 union-marks [] = refl
 union-marks (m ∷ ms) = cc (union-mark m, union-marks ms)
 
-before-append : (test : Token → Bool) (a b : List Placed) → list_any (is_outer test) a ≡ false → before_outer test (a ++ b) ≡ a ++ before_outer test b
+pub before-append : (test : Token → Bool) (a b : List Placed) → list_any (is_outer test) a ≡ false → before_outer test (a ++ b) ≡ a ++ before_outer test b
 before-append test [] b none = refl
 before-append test (m ∷ a) b none =
     let both = or_parts (is_outer test m) (list_any (is_outer test) a) none in
@@ -251,7 +251,7 @@ parts-cut test a b none = ap (λ (ps : Parts). ps.rest) (cut a)
     cut [] = λ i. record { lead = none i; rest = (parts_at test b).rest }
     cut (m ∷ c) = ap (with_front (is_outer test m) (token_of m)) (cut c) ∙ step (is_outer test m) (token_of m) (parts_at test c) (parts_at test b).rest
 
-starts-lead : (ts : List Token) (ms : List Placed) → begins_with is_clause_word ts ≡ true → (parts_at is_clause_word (map Outer ts ++ ms)).lead ≡ []
+pub starts-lead : (ts : List Token) (ms : List Placed) → begins_with is_clause_word ts ≡ true → (parts_at is_clause_word (map Outer ts ++ ms)).lead ≡ []
 starts-lead [] ms h = absurd (false≢true h)
 starts-lead (t ∷ ts) ms h = ap (λ b. (with_front b t (parts_at is_clause_word (map Outer ts ++ ms))).lead) h
 
@@ -273,7 +273,7 @@ with_last ts [] = []
 with_last ts (c ∷ []) = (c.0, c.1 ++ ts) ∷ []
 with_last ts (c ∷ d ∷ cs) = c ∷ with_last ts (d ∷ cs)
 
-abbrev lead_on : List Token → List Token → List Clause → List Token
+abbrev pub lead_on : List Token → List Token → List Clause → List Token
 lead_on ts lead [] = lead ++ ts
 lead_on ts lead (c ∷ cs) = lead
 

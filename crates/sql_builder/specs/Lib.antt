@@ -7,6 +7,7 @@ pub mod Condition
 pub mod Filters
 pub mod Fitting
 pub mod Handed
+pub mod Inserts
 pub mod Laws
 pub mod Layout
 pub mod Meaning
