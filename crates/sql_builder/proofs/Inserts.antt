@@ -1,5 +1,5 @@
 -- An INSERT of a query reads back as its own clause, those of the query, and RETURNING.
-use Rattle.std.proofs.Common.{◌≡◌, refl, sym, ◌∙◌, ap, subst, ℕ, Bool, true, false, not, List, [], ◌∷◌, ◌++◌, Option, None, Some, map, pos, codes, append-nil, append_assoc}
+use Rattle.std.proofs.Common.{◌≡◌, refl, sym, ◌∙◌, ap, subst, ℕ, Bool, true, false, List, [], ◌∷◌, ◌++◌, Option, None, Some, pos, codes, append-nil, append_assoc}
 use Rattle.std.specs.Prelude.{IfSome, IfOk, flat_map, option_map}
 use Rattle.std.specs.List.{list_all, list_any}
 use Rattle.std.proofs.lemmas.Bool.{and_from, and_parts, not-true, or_from}
@@ -7,31 +7,28 @@ use Rattle.std.proofs.lemmas.List.Folds.{list_all-append}
 use Rattle.sql_parts.specs.Fragments as fragments
 use Rattle.sql_parts.specs.Fragments.{Placed, balanced, is_clause_word, is_outer, is_whole}
 use Rattle.sql_parts.specs.Tokens.{Token, Word, Symbol, begins_with, tokens}
-use Rattle.sql_parts.proofs.Walks.{at_end, closes_from, has_outer, has_outer-is, is_balanced-is, is_even, placed, placed-is}
+use Rattle.sql_parts.proofs.Walks.{has_outer, has_outer-is, is_even, placed, placed-is}
 use Rattle.sql_parts.specs.declared.error.SqlBuilderError.{SqlBuilderError}
-use Rattle.sql_builder.specs.Builder.{ClauseTexts}
 use Rattle.sql_builder.specs.Calls as call
 use Rattle.sql_builder.specs.Calls.{CallText, Sql, clauses, query_of}
 use Rattle.sql_builder.specs.Clauses.{Clauses}
 use Rattle.sql_builder.specs.Fitting.{are_fit, has_balanced_fragments, is_balanced_piece, own}
-use Rattle.sql_builder.specs.Inserts.{BuildersOfInsertsReadBack, InsertsReadBack, has_fit_target, insert_clauses, is_fit_returning, is_one_query, lead_of, returning_clauses}
-use Rattle.sql_builder.specs.Layout.{Section, byte_atoms, insert_sections, refusal_of, concat_sections, insert_target, optional_section, returning_sections, section, sql, statement_sections}
+use Rattle.sql_builder.specs.Inserts.{BuildersOfInsertsReadBack, InsertsReadBack, has_fit_target, insert_clauses, is_fit_returning, is_one_query, returning_clauses}
+use Rattle.sql_builder.specs.Layout.{byte_atoms, insert_sections, concat_sections, insert_target, optional_section, returning_sections, section, sql, statement_sections}
 use Rattle.sql_builder.specs.Parts.{Parts, parts_at, before_outer, with_front}
 use Rattle.sql_builder.specs.Phrases.{comma_list}
 use Rattle.sql_builder.specs.Reading.{Clause, is_union, own_placed, read, without_semicolon}
 use Rattle.sql_builder.specs.Shape.{HasShape, as_fragments, pieces_tokens}
 use Rattle.sql_builder.specs.Statement.{text_unless_refused, unless_refused}
-use Rattle.sql_builder.specs.declared.clauses.Kind.{Kind}
-use Rattle.sql_builder.specs.declared.clauses.Kind.TheVariants.{InsertInto}
 use Rattle.sql_builder.specs.Text.{Pieces, fixed_piece, pieces_text, raw_piece}
-use Rattle.sql_builder.proofs.Balance.{balanced_even, even_closes, even_text, has_outer-append, is_even-append}
+use Rattle.sql_builder.proofs.Balance.{even_closes, even_text, has_outer-append, is_even-append}
 use Rattle.sql_builder.proofs.CalmClauses.{CalmParts, calm-append, calm-list, calm-target, clauses-calm, raw-calm}
 use Rattle.sql_builder.proofs.Joining.{placed-then}
 use Rattle.sql_builder.proofs.Layouts.{sql_shape}
 use Rattle.sql_builder.proofs.OwnSections.{Calm, Front, any_union, before-append, calm-front, front-append, lead_on, opening_clauses, own-outer, section-clauses, starts-lead, union-marks, with_last}
 use Rattle.sql_builder.proofs.OwnWords.{are_fit-is, are_fit_from, fit-balanced, fit-marks, fragments_closed, marks, same-parts, shape-even}
 use Rattle.sql_builder.proofs.Placing.{at_end-closes}
-use Rattle.sql_builder.proofs.ReadBack.{layout, printed-tokens, refused}
+use Rattle.sql_builder.proofs.ReadBack.{printed-tokens, refused}
 use Rattle.sql_builder.proofs.ReadTokens.{semicolon-none, semicolon-one}
 use Rattle.sql_builder.proofs.Shapes.{pieces_tokens-append}
 

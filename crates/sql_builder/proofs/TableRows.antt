@@ -1,7 +1,7 @@
 -- Worked rows of queries between brackets as tables: what the definitions give, by computing.
-use Rattle.std.specs.Prelude.{◌≡◌, ◌&&◌, not, Bool, [], ◌∷◌, codes, false, refl, true, Ok}
-use Rattle.sql_parts.specs.Fragments.{balanced, has_clause_word}
-use Rattle.sql_builder.specs.Calls.{FinishText, Query, SelectFrom, Sql, Subquery, SubqueryAs, Union}
+use Rattle.std.specs.Prelude.{◌≡◌, [], ◌∷◌, codes, false, refl, true, Ok}
+use Rattle.sql_parts.specs.Fragments.{balanced}
+use Rattle.sql_builder.specs.Calls.{Query, SelectFrom, Sql, Subquery, SubqueryAs, Union}
 use Rattle.sql_builder.specs.Fitting.{has_fit_texts}
 use Rattle.sql_builder.specs.Handed.{Bare, is_fit}
 use Rattle.sql_builder.specs.Statement.{statement}

@@ -3,7 +3,7 @@ use Rattle.std.proofs.Common.{◌≡◌, refl, sym, ◌∙◌, ap, false, true, 
 use Rattle.std.specs.Prelude.{IsTrue}
 use Rattle.std.proofs.lemmas.Bool.{and_parts, and_from, false≢true, not-true, not_from_false, or_from}
 use Rattle.sql_parts.specs.Fragments.{balanced, has_clause_word, is_clause_word}
-use Rattle.sql_parts.specs.Tokens.{Token, Word, Symbol, tokens}
+use Rattle.sql_parts.specs.Tokens.{Word, Symbol, tokens}
 use Rattle.sql_parts.specs.declared.error.SqlBuilderError.{SqlBuilderError}
 use Rattle.sql_parts.proofs.Walks.{has_outer-is}
 use Rattle.sql_builder.specs.Builder.{ClauseTexts}
@@ -14,7 +14,7 @@ use Rattle.sql_builder.specs.Handed.{Bare, is_fit}
 use Rattle.sql_builder.specs.Layout.{byte_atoms, query, subquery_as}
 use Rattle.sql_builder.specs.Meaning.{HasBalancedFragments}
 use Rattle.sql_builder.specs.Shape.{HasShape, as_fragments, pieces_tokens}
-use Rattle.sql_builder.specs.Statement.{layout_at, statement, text_unless_refused, unless_refused}
+use Rattle.sql_builder.specs.Statement.{layout_at, statement, text_unless_refused}
 use Rattle.sql_builder.specs.Tables.{NestsAsTable, SubqueriesNestAsTables, makes_table}
 use Rattle.sql_builder.specs.Text.{Pieces, fixed_piece, pieces_text, raw_piece}
 use Rattle.sql_builder.specs.WhereTokens as where_tokens
