@@ -10,13 +10,17 @@ fn states_its_laws() {
     laws::unmarked_is_unchanged();
     laws::tokens_join_at_edges();
     laws::bound_texts_keep_the_count();
+    laws::literals_are_operands();
+    laws::quoted_names_are_operands();
     laws::fields_join();
     laws::only_last_counts();
     laws::only_the_end_is_a_semicolon();
     laws::added_texts_keep_tokens();
     laws::conditions_are_atoms();
     laws::statements_read_back();
+    laws::inserts_read_back();
     laws::fit_texts_make_fit_fragments();
+    laws::subqueries_nest_as_tables();
     laws::truth_follows_the_form();
     laws::brackets_make_operands();
     laws::worked_truths();
