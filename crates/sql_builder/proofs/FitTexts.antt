@@ -59,7 +59,7 @@ Fit ps = FitAt (λ n. n) ps
 abbrev pub Inner : Pieces → Type 0
 Inner ps = FitAt suc ps
 
-fit-joins : (at : ℕ → ℕ) → Joins (FitAt at)
+pub fit-joins : (at : ℕ → ℕ) → Joins (FitAt at)
 fit-joins at = record {
   none = record { calm = calm-none; fits = λ n. refl };
   append = λ x y one other. record {
@@ -120,7 +120,7 @@ fit-takes = record {
 }
 
 -- the same, of an INSERT
-insert-takes : Takes true is_fit Fit Inner Calm
+pub insert-takes : Takes true is_fit Fit Inner Calm
 insert-takes = record {
   joins = fit-takes.joins;
   bare = fit-takes.bare;
@@ -138,10 +138,10 @@ insert-takes = record {
 inner-of : (x : Pieces) → Fit x → Inner x
 inner-of x fit = record { calm = fit.calm; fits = λ n. fit.fits (suc n) }
 
-target : (x : Pieces) → Inner x → Fit (fixed_piece (codes " (") ++ (x ++ fixed_piece (codes ")")))
+pub target : (x : Pieces) → Inner x → Fit (fixed_piece (codes " (") ++ (x ++ fixed_piece (codes ")")))
 target x inner = let made = enclosed x inner in record { calm = record { even = made.calm.even; no_word = made.calm.no_word }; fits = made.fits }
 
-fit-kept : Kept Fit
+pub fit-kept : Kept Fit
 fit-kept = record { joins = fit-joins (λ n. n); brackets = λ x fit. enclosed x (inner-of x fit); target = λ x fit. target x (inner-of x fit); calm = λ x fit. fit.calm }
 
 -- ---- what is printed up to the first UNION

@@ -3,10 +3,12 @@ use Rattle.std.specs.Prelude.{◌≡◌, ℕ, List, [], ◌∷◌, Ok, Some, cod
 use Rattle.sql_parts.specs.Tokens.{Word, tokens}
 use Rattle.sql_builder.specs.Calls as call
 use Rattle.sql_builder.specs.Calls.{CallText, clauses, query_of}
-use Rattle.sql_builder.specs.Inserts.{has_fit_target, insert_clauses, is_one_query, lead_of}
+use Rattle.sql_builder.specs.Inserts.{has_fit_insert_texts, has_fit_target, insert_clauses, is_one_query, lead_of}
+use Rattle.sql_builder.specs.Fitting.{has_fit_fragments}
+use Rattle.sql_builder.specs.Layout.{query}
 use Rattle.sql_builder.specs.Reading.{read}
 use Rattle.sql_builder.specs.Statement.{statement}
-use Rattle.sql_builder.specs.Text.{raw_piece}
+use Rattle.sql_builder.specs.Text.{fixed_piece, raw_piece}
 
 -- INSERT of this query, with the id returned
 abbrev of : List ℕ → List CallText
@@ -79,3 +81,34 @@ table-unfit = refl
 
 returned-unfit : has_fit_target (clauses (call.InsertInto (codes "t")) (call.Select chosen ∷ call.Returning (codes "id FROM t") ∷ [])) ≡ false
 returned-unfit = refl
+
+-- ---- what `query` prints
+
+-- a query with a union isn't one
+abbrev joined : List ℕ
+joined = codes "SELECT * FROM t UNION SELECT a FROM b"
+
+joined-printed : statement (call.SelectFrom (codes "t")) (call.Union (codes "SELECT a FROM b") ∷ []) call.Query ≡ Ok joined
+joined-printed = refl
+
+joined-asked : is_one_query joined ≡ false
+joined-asked = refl
+
+-- nor is one whose table is a query with a union, which isn't fit
+hidden-printed : statement (call.SelectFrom (codes "t UNION SELECT a FROM b")) [] call.Query ≡ Ok joined
+hidden-printed = refl
+
+hidden-unfit : has_fit_fragments (query fixed_piece (clauses (call.SelectFrom (codes "t UNION SELECT a FROM b")) [])) ≡ false
+hidden-unfit = refl
+
+-- ---- texts
+
+-- a field may have clause words, and so may the query
+texts-fit : has_fit_insert_texts (codes "t") (of chosen) ≡ true
+texts-fit = refl
+
+returned-texts : has_fit_insert_texts (codes "t") (call.Select chosen ∷ call.Returning (codes "id FROM t") ∷ []) ≡ false
+returned-texts = refl
+
+table-texts : has_fit_insert_texts (codes "t WHERE b") (of chosen) ≡ false
+table-texts = refl

@@ -1,20 +1,20 @@
 -- An INSERT of a query reads back as its own clause, those of the query, and RETURNING.
-use Rattle.std.proofs.Common.{◌≡◌, refl, sym, ◌∙◌, ap, subst, ℕ, Bool, true, false, List, [], ◌∷◌, ◌++◌, Option, None, Some, pos, codes, append-nil, append_assoc}
-use Rattle.std.specs.Prelude.{IfSome, IfOk, flat_map, option_map}
+use Rattle.std.proofs.Common.{◌≡◌, refl, sym, ◌∙◌, ap, subst, ℕ, Bool, true, false, List, [], ◌∷◌, ◌++◌, Option, None, Some, pos, codes, append-nil, append_assoc, map}
+use Rattle.std.specs.Prelude.{IfSome, IfOk, flat_map, option_map, IsTrue}
 use Rattle.std.specs.List.{list_all, list_any}
-use Rattle.std.proofs.lemmas.Bool.{and_from, and_parts, not-true, or_from}
+use Rattle.std.proofs.lemmas.Bool.{and_from, and_parts, not-true, or_from, not_from_false}
 use Rattle.std.proofs.lemmas.List.Folds.{list_all-append}
 use Rattle.sql_parts.specs.Fragments as fragments
 use Rattle.sql_parts.specs.Fragments.{Placed, balanced, is_clause_word, is_outer, is_whole}
 use Rattle.sql_parts.specs.Tokens.{Token, Word, Symbol, begins_with, tokens}
-use Rattle.sql_parts.proofs.Walks.{has_outer, has_outer-is, is_even, placed, placed-is}
+use Rattle.sql_parts.proofs.Walks.{has_outer, has_outer-is, is_even, placed, placed-is, is_balanced, is_balanced-is}
 use Rattle.sql_parts.specs.declared.error.SqlBuilderError.{SqlBuilderError}
 use Rattle.sql_builder.specs.Calls as call
-use Rattle.sql_builder.specs.Calls.{CallText, Sql, clauses, query_of}
+use Rattle.sql_builder.specs.Calls.{CallText, Sql, clauses, query_of, Query}
 use Rattle.sql_builder.specs.Clauses.{Clauses}
-use Rattle.sql_builder.specs.Fitting.{are_fit, has_balanced_fragments, is_balanced_piece, own}
-use Rattle.sql_builder.specs.Inserts.{BuildersOfInsertsReadBack, InsertsReadBack, has_fit_target, insert_clauses, is_fit_returning, is_one_query, returning_clauses}
-use Rattle.sql_builder.specs.Layout.{byte_atoms, insert_sections, concat_sections, insert_target, optional_section, returning_sections, section, sql, statement_sections}
+use Rattle.sql_builder.specs.Fitting.{are_fit, has_balanced_fragments, is_balanced_piece, own, begins_union, has_fit_fragments}
+use Rattle.sql_builder.specs.Inserts.{BuildersOfInsertsReadBack, InsertsReadBack, has_fit_target, insert_clauses, is_fit_returning, is_one_query, returning_clauses, BuildersOfQueriesAreOne, QueriesAreOne}
+use Rattle.sql_builder.specs.Layout.{byte_atoms, insert_sections, concat_sections, insert_target, optional_section, returning_sections, section, sql, statement_sections, query, query_sections}
 use Rattle.sql_builder.specs.Parts.{Parts, parts_at, before_outer, with_front}
 use Rattle.sql_builder.specs.Phrases.{comma_list}
 use Rattle.sql_builder.specs.Reading.{Clause, is_union, own_placed, read, without_semicolon}
@@ -24,11 +24,14 @@ use Rattle.sql_builder.specs.Text.{Pieces, fixed_piece, pieces_text, raw_piece}
 use Rattle.sql_builder.proofs.Balance.{even_closes, even_text, has_outer-append, is_even-append}
 use Rattle.sql_builder.proofs.CalmClauses.{CalmParts, calm-append, calm-list, calm-target, clauses-calm, raw-calm}
 use Rattle.sql_builder.proofs.Joining.{placed-then}
-use Rattle.sql_builder.proofs.Layouts.{sql_shape}
-use Rattle.sql_builder.proofs.OwnSections.{Calm, Front, any_union, before-append, calm-front, front-append, lead_on, opening_clauses, own-outer, section-clauses, starts-lead, union-marks, with_last}
+use Rattle.sql_builder.proofs.Layouts.{sql_shape, query_shape}
+use Rattle.sql_builder.specs.Filters.{until}
+use Rattle.sql_builder.proofs.Nesting.{query-balanced}
+use Rattle.sql_builder.proofs.OwnLayouts.{query-opens}
+use Rattle.sql_builder.proofs.OwnSections.{Calm, Front, any_union, before-append, calm-front, front-append, lead_on, opening_clauses, own-outer, section-clauses, starts-lead, union-marks, with_last, sections-front, until-behind}
 use Rattle.sql_builder.proofs.OwnWords.{are_fit-is, are_fit_from, fit-balanced, fit-marks, fragments_closed, marks, same-parts, shape-even}
 use Rattle.sql_builder.proofs.Placing.{at_end-closes}
-use Rattle.sql_builder.proofs.ReadBack.{printed-tokens, refused}
+use Rattle.sql_builder.proofs.ReadBack.{printed-tokens, refused, printed}
 use Rattle.sql_builder.proofs.ReadTokens.{semicolon-none, semicolon-one}
 use Rattle.sql_builder.proofs.Shapes.{pieces_tokens-append}
 
@@ -80,6 +83,13 @@ read-parts ts us is one =
     ∙ ap (λ ms. (parts_at is_clause_word (before_outer is_union ms)).rest) (placed-is us)
     ∙ ap (λ ms. (parts_at is_clause_word ms).rest) (before-none is_union (placed us) one.no_union)
 
+-- pieces whose own words are laid as those of a statement
+pieces-one : (ps : Pieces) → Front (own ps) → are_fit_from (pos 0) ps ≡ true → One (pieces_tokens ps)
+pieces-one ps front fits = record {
+  even = shape-even ps (fit-balanced (pos 0) ps fits) front.even;
+  no_union = union-marks (placed (pieces_tokens ps)) ∙ ap any_union (fit-marks (pos 0) ps refl fits front.laid) ∙ sym (union-marks (flat_map own_placed ps)) ∙ own-outer is_union ps ∙ front.no_union;
+}
+
 -- ---- a section of the builder's own
 
 module _ (words : List ℕ) (body : Pieces) (front : Front (tokens words)) (starts : begins_with is_clause_word (tokens words) ≡ true) (calm : Calm body) (fit : are_fit body ≡ true) where
@@ -99,10 +109,7 @@ module _ (words : List ℕ) (body : Pieces) (front : Front (tokens words)) (star
   parts-are = same-parts (placed (pieces_tokens here)) (flat_map own_placed here) same
 
   section-one : One (pieces_tokens here)
-  section-one = record {
-    even = shape-even here (fit-balanced (pos 0) here fits) is-front.even;
-    no_union = union-marks (placed (pieces_tokens here)) ∙ ap any_union same ∙ sym (union-marks (flat_map own_placed here)) ∙ own-outer is_union here ∙ is-front.no_union;
-  }
+  section-one = pieces-one here is-front fits
 
   section-rest : (parts (pieces_tokens here)).rest ≡ with_last (pieces_tokens body) (opening_clauses words)
   section-rest = ap (λ (ps : Parts). ps.rest) parts-are ∙ section-clauses (section words body) calm
@@ -209,13 +216,13 @@ module _ (r : Clauses Pieces) (query : List ℕ) (calm : CalmParts r) (is_one : 
       ∙ (λ i. insert_with r (ap (λ ms. (parts_at is_clause_word ms).lead) (sym (placed-is (tokens query))) i) (sym query-read i))
 
   -- the tokens that are printed
-  abbrev printed : Pieces
-  printed = concat_sections fixed_piece (section (codes "INSERT INTO ") (insert_target fixed_piece r ++ (fixed_piece (codes " ") ++ raw_piece query)) ∷ returning_sections r) ++ fixed_piece (codes ";")
+  abbrev insert_pieces : Pieces
+  insert_pieces = concat_sections fixed_piece (section (codes "INSERT INTO ") (insert_target fixed_piece r ++ (fixed_piece (codes " ") ++ raw_piece query)) ∷ returning_sections r) ++ fixed_piece (codes ";")
 
   abbrev opened : Pieces
   opened = fixed_piece (codes "INSERT INTO ") ++ (insert_target fixed_piece r ++ (fixed_piece (codes " ") ++ raw_piece query))
 
-  insert-tokens : pieces_tokens printed ≡ (front ++ (tokens query ++ returned r.returning)) ++ Symbol 59 ∷ []
+  insert-tokens : pieces_tokens insert_pieces ≡ (front ++ (tokens query ++ returned r.returning)) ++ Symbol 59 ∷ []
   insert-tokens =
       pieces_tokens-append (opened ++ concat_sections fixed_piece (returning_sections r)) (fixed_piece (codes ";"))
       ∙ ap (λ ts. ts ++ Symbol 59 ∷ [])
@@ -228,19 +235,39 @@ module _ (r : Clauses Pieces) (query : List ℕ) (calm : CalmParts r) (is_one : 
   target-balanced : has_balanced_fragments (insert_target fixed_piece r) ≡ true
   target-balanced = fit-balanced (pos 0) (insert_target fixed_piece r) (sym (are_fit-is (insert_target fixed_piece r)) ∙ target-fit)
 
-  printed-balanced : has_balanced_fragments printed ≡ true
-  printed-balanced =
+  insert-balanced : has_balanced_fragments insert_pieces ≡ true
+  insert-balanced =
       balanced-append (opened ++ concat_sections fixed_piece (returning_sections r)) (fixed_piece (codes ";"))
       (balanced-append opened (concat_sections fixed_piece (returning_sections r))
       (balanced-append (insert_target fixed_piece r) (fixed_piece (codes " ") ++ raw_piece query) target-balanced (and_from _ _ (and_parts (balanced query) _ is_one).0 refl))
       (returned-balanced r.returning (and_parts (are_fit (insert_target fixed_piece r)) (is_fit_returning r.returning) fit).1))
       refl
 
-  pub insert-reads : (text : List ℕ) → HasShape printed text → read (tokens text) ≡ insert_clauses r (tokens query)
+  pub insert-reads : (text : List ℕ) → HasShape insert_pieces text → read (tokens text) ≡ insert_clauses r (tokens query)
   insert-reads text shaped =
-      ap read (shaped (fragments_closed printed printed-balanced) ∙ insert-tokens)
+      ap read (shaped (fragments_closed insert_pieces insert-balanced) ∙ insert-tokens)
       ∙ read-parts ((front ++ (tokens query ++ returned r.returning)) ++ Symbol 59 ∷ []) (front ++ (tokens query ++ returned r.returning)) (semicolon-one (front ++ (tokens query ++ returned r.returning))) whole-one
       ∙ whole-clauses
+
+-- ---- a query without unions
+
+module _ (r : Clauses Pieces) (calm : CalmParts r) (none : r.unions ≡ []) (fit : has_fit_fragments (query fixed_piece r) ≡ true) where
+  query-front : Front (own (query fixed_piece r))
+  query-front = sections-front Calm (query_sections fixed_piece r) (query-opens r calm none)
+
+  -- no piece begins a union
+  query-fits : are_fit_from (pos 0) (query fixed_piece r) ≡ true
+  query-fits =
+      let ps = query fixed_piece r in
+      let until-none : until begins_union ps ≡ ps = ap (until begins_union) (sym (append-nil ps)) ∙ until-behind ps [] query-front.no_union ∙ append-nil ps in
+      sym (are_fit-is ps) ∙ ap are_fit (sym until-none) ∙ fit
+
+  pub one-query : (text : List ℕ) → HasShape (query fixed_piece r) text → is_one_query text ≡ true
+  one-query text shaped =
+      let all = fit-balanced (pos 0) (query fixed_piece r) query-fits in
+      let same = shaped (fragments_closed (query fixed_piece r) all) in
+      and_from _ _ (is_balanced-is (tokens text) ∙ ap is_balanced same ∙ query-balanced r calm all)
+      (not_from_false _ (has_outer-is is_union (tokens text) ∙ ap (has_outer is_union) same ∙ (pieces-one (query fixed_piece r) query-front query-fits).no_union))
 
 -- ---- a list of calls
 
@@ -270,3 +297,18 @@ builders_of_inserts_read_back r query kind given is_one fit =
     ap (λ k. concat_sections fixed_piece (statement_sections fixed_piece k (as_fragments r)) ++ fixed_piece (codes ";")) kind
     ∙ ap (λ q. inserted (option_map raw_piece q) (as_fragments r)) given in
     insert-reads (as_fragments r) query (raw-calm r) is_one fit text (subst (λ ps. HasShape ps text) same (sql_shape r text refl))
+
+-- ---- queries without unions
+
+pub queries_are_one : QueriesAreOne
+queries_are_one start calls none fit = by (refused start calls Query) fit
+  where
+    by : (refusal : Option SqlBuilderError) → IfOk (printed start calls Query refusal) (λ ps. IsTrue (has_fit_fragments ps))
+        → IfOk (text_unless_refused (printed start calls Query refusal)) (λ text. IsTrue (is_one_query text))
+    by None fit = let text = pieces_text (query fixed_piece (clauses start calls)) in
+        one-query (clauses start calls) (clauses-calm start calls) none fit text (printed-tokens start calls Query text refl)
+    by (Some refusal) fit = tt
+
+pub builders_of_queries_are_one : BuildersOfQueriesAreOne
+builders_of_queries_are_one r none fit =
+    one-query (as_fragments r) (raw-calm r) (ap (map (λ (union : Bool × List ℕ). (union.0, raw_piece union.1))) none) fit (query byte_atoms r) (query_shape r (query byte_atoms r) refl)

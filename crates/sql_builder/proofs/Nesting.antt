@@ -27,7 +27,7 @@ some-select true ts = refl
 some-select false ts = refl
 
 module _ (r : Clauses Pieces) (parts : CalmParts r) where
-  query-balanced : has_balanced_fragments (query fixed_piece r) ≡ true → is_balanced (pieces_tokens (query fixed_piece r)) ≡ true
+  pub query-balanced : has_balanced_fragments (query fixed_piece r) ≡ true → is_balanced (pieces_tokens (query fixed_piece r)) ≡ true
   query-balanced all = and_from _ _ (some-select r.distinct _) (shape-even (query fixed_piece r) all (query-even r parts))
 
   pub inner-balanced : (name : Pieces) → has_balanced_fragments (query fixed_piece r ++ name) ≡ true → has_balanced_fragments (query fixed_piece r) ≡ true

@@ -213,7 +213,7 @@ module _ (P : Pieces → Type 0) (kept : Kept P) where
 
 -- an INSERT, whose fields have a property that its brackets turn to that of the rest
 module _ (P F : Pieces → Type 0) (kept : Kept P) (field_joins : Joins F) (target : (x : Pieces) → F x → P (fixed_piece (codes " (") ++ (x ++ fixed_piece (codes ")")))) where
-  target-kept : (r : Clauses Pieces) → PartsAre P F Calm r → P (insert_target fixed_piece r)
+  pub target-kept : (r : Clauses Pieces) → PartsAre P F Calm r → P (insert_target fixed_piece r)
   target-kept r parts =
       kept.joins.append r.table (fixed_piece (codes " (") ++ (comma_list fixed_piece r.fields ++ fixed_piece (codes ")"))) parts.table
       (target (comma_list fixed_piece r.fields) (listed F field_joins r.fields parts.fields))
@@ -407,6 +407,23 @@ sections-even [] all = refl
 sections-even (s ∷ sections) all =
     ap is_even (own-append (section_pieces s) (concat_sections fixed_piece sections))
     ∙ is_even-append (own (section_pieces s)) (own (concat_sections fixed_piece sections)) all.0.even (sections-even sections all.1)
+
+-- the sections of a query without unions
+pub query-opens : (r : Clauses Pieces) → CalmParts r → r.unions ≡ [] → AllOpen Calm (query_sections fixed_piece r)
+query-opens r parts none =
+    let wheres = where_sections fixed_piece r.groups in
+    let grouped = group_by_sections fixed_piece r.group_fields r.having in
+    let ordered = list_sections fixed_piece (codes " ORDER BY ") r.order_fields in
+    let first = (first-laid Calm calm-kept r parts wheres (wheres-laid Calm calm-kept r parts)).opens in
+    subst (λ us. AllOpen Calm (select Calm calm-kept r parts ∷ from Calm calm-kept r parts ∷ (wheres ++ (grouped ++ (union_sections us ++ (order_by_sections fixed_piece us r.order_fields ++ range_sections r)))))) (sym none) (
+      first.0,
+      (
+        first.1.0,
+        opens-append Calm wheres (grouped ++ (ordered ++ range_sections r)) first.1.1
+            (opens-append Calm grouped (ordered ++ range_sections r) (groups-laid Calm calm-kept r parts).opens
+            (opens-append Calm ordered (range_sections r) (list-laid Calm calm-kept (codes " ORDER BY ") r.order_fields (opening refl (λ ts. refl)) parts.order_fields).opens (range-laid Calm calm-kept r parts).opens)),
+      ),
+    )
 
 pub query-even : (r : Clauses Pieces) → CalmParts r → is_even (own (query fixed_piece r)) ≡ true
 query-even r parts =

@@ -1,13 +1,16 @@
 -- The clauses of an INSERT of a query, as its tokens read back.
-use Rattle.std.specs.Prelude.{◌≡◌, ℕ, Bool, true, not, ◌&&◌, IfOk, IsTrue, List, [], ◌∷◌, ◌++◌, Option, None, Some, codes}
+use Rattle.std.specs.Prelude.{◌≡◌, ℕ, Bool, true, not, ◌&&◌, ◌||◌, IfOk, IsTrue, List, [], ◌∷◌, ◌++◌, Option, None, Some, codes, flat_map}
+use Rattle.std.specs.List.{list_all}
 use Rattle.sql_parts.specs.Fragments.{balanced, has_outer, is_clause_word, placed}
 use Rattle.sql_parts.specs.Tokens.{Token, Word, tokens}
 use Rattle.sql_builder.specs.Builder.{ClauseTexts}
-use Rattle.sql_builder.specs.Calls.{CallText, Sql, clauses, query_of}
+use Rattle.sql_builder.specs.Calls.{CallText, StartText, Query, Sql, clauses, is_select, query_of, unions_in}
 use Rattle.sql_builder.specs.Calls as call
 use Rattle.sql_builder.specs.Clauses.{Clauses}
-use Rattle.sql_builder.specs.Fitting.{are_fit}
-use Rattle.sql_builder.specs.Layout.{byte_atoms, insert_target, sql}
+use Rattle.sql_builder.specs.Fitting.{are_fit, call_handed, has_fit_fragments}
+use Rattle.sql_builder.specs.Handed.{Bare, is_fit}
+use Rattle.sql_builder.specs.Layout.{byte_atoms, insert_target, query, sql}
+use Rattle.sql_builder.specs.Meaning.{HasFitFragments}
 use Rattle.sql_builder.specs.Parts.{parts_at}
 use Rattle.sql_builder.specs.Reading.{Clause, is_union, read}
 use Rattle.sql_builder.specs.Shape.{as_fragments, pieces_tokens}
@@ -54,3 +57,22 @@ abbrev pub BuildersOfInsertsReadBack : Type 0
 BuildersOfInsertsReadBack = (r : ClauseTexts) (query : List ℕ)
     → r.kind ≡ InsertInto → r.query ≡ Some query → IsTrue (is_one_query query) → IsTrue (has_fit_target (as_fragments r))
     → read (tokens (sql byte_atoms r)) ≡ insert_clauses (as_fragments r) (tokens query)
+
+-- what `query` prints without a union is one query, where its fragments are fit
+abbrev pub QueriesAreOne : Type 0
+QueriesAreOne = (start : StartText) (calls : List CallText)
+    → flat_map unions_in calls ≡ [] → HasFitFragments start calls Query → IfOk (statement start calls Query) (λ text. IsTrue (is_one_query text))
+
+-- the same of a builder
+abbrev pub BuildersOfQueriesAreOne : Type 0
+BuildersOfQueriesAreOne = (r : ClauseTexts)
+    → r.unions ≡ [] → IsTrue (has_fit_fragments (query fixed_piece (as_fragments r))) → IsTrue (is_one_query (query byte_atoms r))
+
+-- each text that is handed in is fit, but for queries
+abbrev pub has_fit_insert_texts : List ℕ → List CallText → Bool
+has_fit_insert_texts table calls = is_fit (Bare table) && list_all (λ c. is_select c || list_all is_fit (call_handed true c)) calls
+
+-- where these texts are fit, so are the fragments beside the query
+abbrev pub FitTextsMakeFitTargets : Type 0
+FitTextsMakeFitTargets = (table : List ℕ) (calls : List CallText)
+    → IsTrue (has_fit_insert_texts table calls) → IsTrue (has_fit_target (clauses (call.InsertInto table) calls))

@@ -2,7 +2,7 @@
 //! nothing.
 ghost use Rattle.std.specs.Prelude.{IfOk, IsTrue, List, codes};
 ghost use Rattle.sql_builder.specs.Calls.{CallText, Sql, StartText, having_in, limit_in, offset_in, returning_in};
-ghost use Rattle.sql_builder.specs.Inserts.{BuildersOfInsertsReadBack, InsertsReadBack};
+ghost use Rattle.sql_builder.specs.Inserts.{BuildersOfInsertsReadBack, BuildersOfQueriesAreOne, FitTextsMakeFitTargets, InsertsReadBack, QueriesAreOne};
 ghost use Rattle.sql_builder.specs.Laws.{BuildersEndInOneSemicolon, ConditionsAreAtoms, ConditionsKeepTokens, BracketsMakeOperands, CountsKeepTokens, EquationsKeepTokens, FieldsJoin, FitTextsMakeBalancedFragments, FitTextsMakeFitConditions, FitTextsMakeFitFragments, IsValued, OnlyLastCounts, QuotedEquationsKeepTokens, StatementsReadBack, TruthOfAnd, TruthOfBrackets, TruthOfNot, TruthOfOr, TruthOfWhere, a_without_c, brackets_and_not, range_and_case};
 ghost use Rattle.sql_builder.specs.Truths.{False, True, Unknown};
 ghost use Rattle.sql_builder.specs.Shape.{EndsInOneSemicolon, has_closed_fragments, has_no_semicolons};
@@ -148,10 +148,14 @@ pub fn subqueries_nest_as_tables()
 
 /// What `sql` prints of an INSERT of a query that is balanced and has no outer UNION reads back as
 /// its own clause, then what the query's tokens read back as, and RETURNING, where its other
-/// fragments are fit; the same of a builder.
+/// fragments are fit, which they are where its texts are; the same of a builder. What `query`
+/// prints is such a query, where it has no union and its fragments are fit.
 /// `insert_into("t").field("a").select("SELECT b FROM c")` → `INSERT INTO t (a) SELECT b FROM c;`
-#[tactic(auto, using(crate::proofs::Inserts::inserts_read_back, crate::proofs::Inserts::builders_of_inserts_read_back))]
+#[tactic(auto, using(crate::proofs::Inserts::inserts_read_back, crate::proofs::Inserts::builders_of_inserts_read_back, crate::proofs::Inserts::queries_are_one, crate::proofs::Inserts::builders_of_queries_are_one, crate::proofs::InsertTexts::fit_targets))]
 pub fn inserts_read_back()
     ensures statements { InsertsReadBack }
     ensures of_builders { BuildersOfInsertsReadBack }
+    ensures queries { QueriesAreOne }
+    ensures queries_of_builders { BuildersOfQueriesAreOne }
+    ensures texts { FitTextsMakeFitTargets }
 {}
