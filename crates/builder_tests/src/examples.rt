@@ -1,7 +1,7 @@
 //! Each example of the crate `callers` runs.
 
 use callers::chains::{cheapest_first, dearer, limit, repriced, titles, titles_printed};
-use callers::lists::{books_where, of_books};
+use callers::lists::{books_where, of_books, titled_above};
 use callers::strangers::{filled, sought_printed, titled, titled_bound};
 use callers::values::{Cents, Column, above, between, of_title, sold_in, title};
 use sql_builder::SqlBuilderError;
@@ -111,5 +111,15 @@ fn hands_in_what_leaves_the_statement_as_it_is(rt: HostRuntime) -> Result<(), Fa
     assert!(rt; refused.is_none(), "brackets that close too early");
     let refused = books_where(alloc, "stock > 0", "a UNION SELECT b")?;
     assert!(rt; refused.is_none(), "a word that begins a clause");
+    Ok(())
+}
+
+#[test]
+fn hands_in_values_without_a_test(rt: HostRuntime) -> Result<(), Fail> {
+    let alloc = rt.alloc();
+    assert_eq!(rt;
+        titled_above(alloc, "it's) OR (1 = 1", 9)?.as_str(),
+        "SELECT * FROM books WHERE (title = 'it''s) OR (1 = 1') AND (price > 9);"
+    );
     Ok(())
 }

@@ -4,14 +4,17 @@ ghost use Rattle.sql_builder.specs.Calls.{SelectFrom, Sql};
 ghost use Rattle.sql_builder.specs.Error.{FailsOnlyByMemory, IsMemory};
 ghost use Rattle.sql_builder.specs.Handed.{Bare, is_fit};
 ghost use Rattle.sql_builder.specs.Meaning.{HasTruthOf};
+ghost use Rattle.sql_builder.specs.Quoting.{quoted};
 ghost use Rattle.sql_builder.specs.Statement.{statement};
-ghost use Rattle.sql_builder.specs.Tokens.{tokens};
+ghost use Rattle.sql_builder.specs.Texts.{decimal_text};
+ghost use Rattle.sql_builder.specs.Tokens.{Str, tokens};
 ghost use Rattle.sql_builder.specs.Views.{call_view};
 
 use sql_builder::SqlBuilderError;
-use sql_builder::calls::{Call, Condition, Family, Finish, Start, run};
-use sql_builder::laws::fit_texts_make_fit_fragments;
+use sql_builder::calls::{Call, Condition, Family, Finish, Relation, Start, run};
+use sql_builder::laws::{fit_texts_make_fit_fragments, literals_are_operands};
 use sql_builder::lex::{has_clause_word, is_balanced};
+use sql_builder::prelude::*;
 use std::alloc::Global;
 
 /// The statement that these calls make of the table of books.
@@ -48,4 +51,27 @@ pub fn books_where(alloc: Global, one: &str, other: &str) -> Result<Option<Strin
     let condition = Condition::Raw(String::from_str(alloc, other)?);
     calls.push(Call::Cond(Family::And, condition))?;
     Ok(Some(run(alloc, &start, &calls, &Finish::Sql)?))
+}
+
+/// The books of this title above this price: its WHERE is true where both comparisons are, whatever
+/// text the title is. Nothing is tested, since a literal is an operand.
+pub fn titled_above(alloc: Global, title: &str, price: u64) -> Result<String, SqlBuilderError>
+    ensures text { IfOk result (λ s. string_bytes s ≡ codes "SELECT * FROM books WHERE (title = "
+        ++ (quoted title.now ++ (codes ") AND (price > " ++ (decimal_text price ++ codes ");")))) }
+    ensures truth { IfOk result (λ s. HasTruthOf
+        (((tokens (codes "title =") ++ Str title.now ∷ []) ∷ [])
+        ∷ ((tokens (codes "price >") ++ tokens (decimal_text price)) ∷ []) ∷ []) (string_bytes s)) }
+    ensures memory { FailsOnlyByMemory result }
+{
+    fit_texts_make_fit_fragments();
+    literals_are_operands();
+    let start = Start::SelectFrom(String::from_str(alloc, "books")?);
+    let mut calls = Vec::new(alloc);
+    let field = String::from_str(alloc, "title")?;
+    let condition = Condition::Compare(Relation::Eq, field, quote(alloc, title)?);
+    calls.push(Call::Cond(Family::And, condition))?;
+    let field = String::from_str(alloc, "price")?;
+    let condition = Condition::Compare(Relation::Gt, field, price.to_text(alloc)?);
+    calls.push(Call::Cond(Family::And, condition))?;
+    run(alloc, &start, &calls, &Finish::Sql)
 }

@@ -16,6 +16,7 @@ ghost use Rattle.sql_builder.specs.declared.condition.Relation.TheVariants.{Eq};
 ghost use Rattle.callers.specs.Columns.{by_author};
 
 use sql_builder::SqlBuilderError;
+use sql_builder::laws::literals_are_operands;
 use sql_builder::lex::stands_apart;
 use sql_builder::prelude::*;
 use std::alloc::Global;
@@ -95,6 +96,7 @@ pub fn sought_printed(
     ensures closed { IfOk result (λ s. IsTrue (closed (string_bytes s))) }
     ensures memory { FailsOnlyByMemory result }
 {
+    literals_are_operands();
     let builder = sought(alloc, title, author)?;
     builder.sql()
 }

@@ -7,10 +7,9 @@ use Rattle.sql_builder.specs.Layout.{refusal}
 use Rattle.sql_builder.specs.Shape.{HasClosedFragments}
 use Rattle.sql_builder.specs.declared.condition.Family.TheVariants.{And}
 use Rattle.sql_builder.specs.declared.condition.Relation.TheVariants.{Eq}
-use Rattle.sql_parts.specs.Literal.{words}
+use Rattle.sql_parts.specs.Operands.{StandsAsOperand}
 use Rattle.sql_parts.specs.Quoting.{quoted}
 use Rattle.sql_parts.specs.Tokens.{closed}
-use Rattle.sql_parts.proofs.WordTokens.{literal-closed}
 use Rattle.sql_builder.proofs.Callers.{Told, and_call, begun, chain_closed}
 use Rattle.sql_builder.proofs.Refusals.{call_keeps}
 use Rattle.callers.specs.Columns.{by_author}
@@ -40,9 +39,9 @@ two : (q p : List ℕ) → closed q ≡ true → closed p ≡ true
     → HasClosedFragments (SelectFrom (codes "books")) (Cond And (Compare Eq (codes "title") q) ∷ Cond And (Compare Eq (codes "author") p) ∷ []) Sql
 two q p is also = rw is (rw also refl)
 
-fragments : (title : List ℕ) (author : Option (List ℕ)) → HasClosedFragments (SelectFrom (codes "books")) (calls title author) Sql
-fragments title None = one (quoted title) (literal-closed (words title))
-fragments title (Some author) = two (quoted title) (quoted author) (literal-closed (words title)) (literal-closed (words author))
+fragments : ((text : List ℕ) → StandsAsOperand (quoted text)) → (title : List ℕ) (author : Option (List ℕ)) → HasClosedFragments (SelectFrom (codes "books")) (calls title author) Sql
+fragments law title None = one (quoted title) (law title).is_closed
+fragments law title (Some author) = two (quoted title) (quoted author) (law title).is_closed (law author).is_closed
 
 keeps : (author : Option (List ℕ)) (r : ClauseTexts) → IsNone (refusal r) → IsNone (refusal (by_author author r))
 keeps None r none = none
@@ -51,7 +50,7 @@ keeps (Some author) r none = call_keeps (asked (codes "author") author) r refl n
 pub returns-clause-closed : goal.returns-clause-closed
 returns-clause-closed c =
     let author = option_map (λ s. s.now) c.args.author in
-    chain_closed Sql c.sql.result (told c.args.title.now author _ c.in_ok-builder.ensures.told) c.sql.ensures.text c.sql.ensures.refused (fragments c.args.title.now author)
+    chain_closed Sql c.sql.result (told c.args.title.now author _ c.in_ok-builder.ensures.told) c.sql.ensures.text c.sql.ensures.refused (fragments c.literals_are_operands.ensures.quote c.args.title.now author)
 
 pub returns-clause-memory : goal.returns-clause-memory
 returns-clause-memory c = c.sql.ensures.memory (rw c.in_ok-builder.ensures.told (keeps (option_map (λ s. s.now) c.args.author) _ refl))
