@@ -12,7 +12,7 @@ use Rattle.sql_parts.specs.Apart.{literal_tokens}
 use Rattle.sql_parts.specs.Fragments.{as_placed, is_clause_word, is_joining, is_outer, is_whole, is_word, lowers, operand, raises}
 use Rattle.sql_parts.specs.Literal.{LiteralValue, null, truth, whole, words, literal_text}
 use Rattle.sql_parts.specs.Name.{Name, alias_tokens, fits_form, is_plain, name_parts, name_text, name_tokens, safe_form, safe_text, tokens_in, word_tokens, written_in}
-use Rattle.sql_parts.specs.Operands.{StandsAsOperand, has_operand_parts, is_bare_operand, is_operand_alias}
+use Rattle.sql_parts.specs.Operands.{ServesAsOperand, has_operand_parts, is_bare_operand, is_operand_alias}
 use Rattle.sql_parts.specs.Quoting.{between}
 use Rattle.sql_parts.specs.Roles.{HasRole}
 use Rattle.sql_parts.specs.Text.{bool_text, decimal_text}
@@ -81,8 +81,8 @@ inert-operand ts some all =
     and_from _ _ (inert-balanced ts some all)
     (and_from _ _ (not_from_false _ (none-outer is_joining (pos 0) ts (inert-none is_joining (λ t inert. inert.joining) ts all))) (not_from_false _ (no_not ts all)))
 
-pub stands : (text : List ℕ) (ts : List Token) → tokens text ≡ ts → not (is_empty ts) ≡ true → AllInert ts → closed text ≡ true → StandsAsOperand text
-stands text ts are some all shut = record {
+pub serves : (text : List ℕ) (ts : List Token) → tokens text ≡ ts → not (is_empty ts) ≡ true → AllInert ts → closed text ≡ true → ServesAsOperand text
+serves text ts are some all shut = record {
   is_operand = is_operand-is (tokens text) ∙ ap is_operand are ∙ inert-operand ts some all;
   is_balanced = is_balanced-is (tokens text) ∙ ap is_balanced are ∙ inert-balanced ts some all;
   is_closed = shut;
@@ -153,13 +153,13 @@ literal-some (whole (negsuc n)) = refl
 literal-some (words text) = refl
 
 -- the text of a literal
-pub literal-stands : (literal : LiteralValue) → StandsAsOperand (literal_text literal)
-literal-stands literal = stands (literal_text literal) (literal_tokens literal) (literal-is literal) (literal-some literal) (literal-inert literal) (literal-closed literal)
+pub literal-serves : (literal : LiteralValue) → ServesAsOperand (literal_text literal)
+literal-serves literal = serves (literal_text literal) (literal_tokens literal) (literal-is literal) (literal-some literal) (literal-inert literal) (literal-closed literal)
 
 -- a truth value as `ToText` writes it
-pub bool-stands : (value : Bool) → StandsAsOperand (bool_text value)
-bool-stands true = record { is_operand = refl; is_balanced = refl; is_closed = refl; no_clause_word = refl }
-bool-stands false = record { is_operand = refl; is_balanced = refl; is_closed = refl; no_clause_word = refl }
+pub bool-serves : (value : Bool) → ServesAsOperand (bool_text value)
+bool-serves true = record { is_operand = refl; is_balanced = refl; is_closed = refl; no_clause_word = refl }
+bool-serves false = record { is_operand = refl; is_balanced = refl; is_closed = refl; no_clause_word = refl }
 
 -- ---- names
 
@@ -178,9 +178,9 @@ quoted-inert Square text = inert _ refl
 quoted-inert Double text = inert _ refl
 
 -- a text between quotes
-pub between-stands : (quotes : Quotes) (text : List ℕ) → StandsAsOperand (between quotes text)
-between-stands quotes text =
-    stands (between quotes text) (quoted_token quotes text ∷ []) (between-tokens quotes text) refl (quoted-inert quotes text, tt) (between_closed quotes text _ refl)
+pub between-serves : (quotes : Quotes) (text : List ℕ) → ServesAsOperand (between quotes text)
+between-serves quotes text =
+    serves (between quotes text) (quoted_token quotes text ∷ []) (between-tokens quotes text) refl (quoted-inert quotes text, tt) (between_closed quotes text _ refl)
 
 parts-between : (quotes : Quotes) (parts : List (List ℕ)) → AllByRecursion AllInert (map (tokens_in (Between quotes)) parts)
 parts-between quotes [] = tt
@@ -251,21 +251,21 @@ some-front : (a b : List Token) → not (is_empty a) ≡ true → not (is_empty 
 some-front [] b some = absurd (false≢true some)
 some-front (t ∷ a) b some = refl
 
-name-stands : (form : Form) (name : Name) → fits_form form (name_parts name) ≡ true → Parts form name → is_operand_alias name.alias ≡ true → StandsAsOperand (name_text (written_in form) name)
-name-stands form name fits parts alias =
+name-serves : (form : Form) (name : Name) → fits_form form (name_parts name) ≡ true → Parts form name → is_operand_alias name.alias ≡ true → ServesAsOperand (name_text (written_in form) name)
+name-serves form name fits parts alias =
     let first = tokens_in form name.first in
     let rest = flat_map (λ item. Symbol 46 ∷ item) (map (tokens_in form) name.rest) in
-    stands (name_text (written_in form) name) (name_tokens (tokens_in form) name) (name_is form name _ refl fits)
+    serves (name_text (written_in form) name) (name_tokens (tokens_in form) name) (name_is form name _ refl fits)
     (some-front (first ++ rest) (alias_tokens name.alias) (some-front first rest parts.some))
     (append-inert (first ++ rest) (alias_tokens name.alias) (append-inert first rest parts.inert_parts.0 (dotted-inert (map (tokens_in form) name.rest) parts.inert_parts.1)) (alias-inert name.alias alias))
     (name_closed form name _ refl fits)
 
--- a name whose parts stand between quotes
+-- a name whose parts are between quotes
 between-parts : (quotes : Quotes) (name : Name) → Parts (Between quotes) name
 between-parts quotes name = record { some = refl; inert_parts = parts-between quotes (name_parts name) }
 
-pub quoted-name-stands : (quotes : Quotes) (name : Name) → is_operand_alias name.alias ≡ true → StandsAsOperand (name_text (between quotes) name)
-quoted-name-stands quotes name alias = name-stands (Between quotes) name refl (between-parts quotes name) alias
+pub quoted-name-serves : (quotes : Quotes) (name : Name) → is_operand_alias name.alias ≡ true → ServesAsOperand (name_text (between quotes) name)
+quoted-name-serves quotes name alias = name-serves (Between quotes) name refl (between-parts quotes name) alias
 
 -- a name in its safe form
 bare-parts : (name : Name) → list_all is_plain (name_parts name) ≡ true → list_all is_bare_operand (name_parts name) ≡ true → Parts Bare name
@@ -278,5 +278,5 @@ safe-parts : (plain : Bool) (name : Name) → list_all is_plain (name_parts name
 safe-parts true name plain bare = bare-parts name plain bare
 safe-parts false name isnt bare = between-parts Back name
 
-pub safe-name-stands : (name : Name) → has_operand_parts name ≡ true → is_operand_alias name.alias ≡ true → StandsAsOperand (safe_text name)
-safe-name-stands name parts alias = name-stands (safe_form name) name (safe_fits name) (safe-parts (list_all is_plain (name_parts name)) name refl parts) alias
+pub safe-name-serves : (name : Name) → has_operand_parts name ≡ true → is_operand_alias name.alias ≡ true → ServesAsOperand (safe_text name)
+safe-name-serves name parts alias = name-serves (safe_form name) name (safe_fits name) (safe-parts (list_all is_plain (name_parts name)) name refl parts) alias

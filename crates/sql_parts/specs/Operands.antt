@@ -1,4 +1,4 @@
--- Texts that are one operand wherever a statement takes one.
+-- Texts that are one operand wherever a statement takes one: literals, and names between quotes.
 use Rattle.std.specs.Prelude.{ℕ, Bool, true, not, ◌&&◌, ◌||◌, IsTrue, List, Option, Some, None}
 use Rattle.std.specs.List.{list_all}
 use Rattle.sql_parts.specs.Fragments.{balanced, has_clause_word, operand}
@@ -6,7 +6,7 @@ use Rattle.sql_parts.specs.Name.{Name, is_plain, name_parts, name_text}
 use Rattle.sql_parts.specs.Tokens.{closed}
 
 -- A text is an operand, is balanced and closed, and has no outer word that begins a clause.
-pub record StandsAsOperand (text : List ℕ) : Type 0 where
+pub record ServesAsOperand (text : List ℕ) : Type 0 where
   pub is_operand : IsTrue (operand text)
   pub is_balanced : IsTrue (balanced text)
   pub is_closed : IsTrue (closed text)
@@ -16,7 +16,7 @@ pub record StandsAsOperand (text : List ℕ) : Type 0 where
 abbrev pub is_bare_operand : List ℕ → Bool
 is_bare_operand text = operand text && not (has_clause_word text)
 
--- the alias, if there is one, stands between backquotes, or is an operand without an outer clause word
+-- the alias, if there is one, is written between backquotes, or is an operand without an outer clause word
 abbrev pub is_operand_alias : Option (List ℕ) → Bool
 is_operand_alias None = true
 is_operand_alias (Some alias) = not (is_plain alias) || is_bare_operand alias
@@ -27,4 +27,4 @@ has_operand_parts name = not (list_all is_plain (name_parts name)) || list_all i
 
 -- a name whose parts are written so is an operand, with an alias that is one
 abbrev pub NamesAreOperands : (List ℕ → List ℕ) → Type 0
-NamesAreOperands written = (name : Name) → IsTrue (is_operand_alias name.alias) → StandsAsOperand (name_text written name)
+NamesAreOperands written = (name : Name) → IsTrue (is_operand_alias name.alias) → ServesAsOperand (name_text written name)

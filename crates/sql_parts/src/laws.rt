@@ -5,7 +5,7 @@ ghost use Rattle.sql_parts.specs.Laws.{DifferInTexts, LeavesWithout, UndoesDoubl
 ghost use Rattle.sql_parts.specs.Quoting.{baquoted, brquoted, dquoted, escaped, quoted};
 ghost use Rattle.sql_parts.specs.Literal.{LiteralValue, literal_text};
 ghost use Rattle.sql_parts.specs.Name.{Name, safe_text};
-ghost use Rattle.sql_parts.specs.Operands.{NamesAreOperands, StandsAsOperand, has_operand_parts, is_operand_alias};
+ghost use Rattle.sql_parts.specs.Operands.{NamesAreOperands, ServesAsOperand, has_operand_parts, is_operand_alias};
 ghost use Rattle.sql_parts.specs.Text.{bool_text, number_text};
 ghost use Rattle.sql_parts.specs.Templates.{Cycle, First, Marks, Names, Nums, Value, bound};
 ghost use Rattle.sql_parts.specs.Tokens.{clean, closed, tokens};
@@ -62,25 +62,25 @@ pub fn bound_texts_keep_the_count()
 /// `quote` gives. It does nothing when it runs.
 /// `quote("a OR b")` → `'a OR b'`
 pub fn literals_are_operands()
-    ensures literals { (literal : LiteralValue) → StandsAsOperand (literal_text literal) }
-    ensures numbers { (number : ℤ) → StandsAsOperand (number_text number) }
-    ensures truths { (value : Bool) → StandsAsOperand (bool_text value) }
-    ensures quote { (text : List ℕ) → StandsAsOperand (quoted text) }
+    ensures literals { (literal : LiteralValue) → ServesAsOperand (literal_text literal) }
+    ensures numbers { (number : ℤ) → ServesAsOperand (number_text number) }
+    ensures truths { (value : Bool) → ServesAsOperand (bool_text value) }
+    ensures quote { (text : List ℕ) → ServesAsOperand (quoted text) }
 {}
 
 /// A text between quotes is such an operand, in each of the four kinds of quotes, and so is a name
 /// in each form that writes its parts between quotes, or bare where each is such an operand itself:
-/// with an alias, where that stands between quotes or is such an operand too. It does nothing when
+/// with an alias, where that is between quotes or is such an operand too. It does nothing when
 /// it runs.
 /// `SqlName::new("a").add("b c").safe()` → `` `a`.`b c` ``
 pub fn quoted_names_are_operands()
-    ensures baquote { (text : List ℕ) → StandsAsOperand (baquoted text) }
-    ensures brquote { (text : List ℕ) → StandsAsOperand (brquoted text) }
-    ensures dquote { (text : List ℕ) → StandsAsOperand (dquoted text) }
+    ensures baquote { (text : List ℕ) → ServesAsOperand (baquoted text) }
+    ensures brquote { (text : List ℕ) → ServesAsOperand (brquoted text) }
+    ensures dquote { (text : List ℕ) → ServesAsOperand (dquoted text) }
     ensures quoted { NamesAreOperands quoted }
     ensures baquoted { NamesAreOperands baquoted }
     ensures brquoted { NamesAreOperands brquoted }
     ensures dquoted { NamesAreOperands dquoted }
     ensures safe { (name : Name) → IsTrue (has_operand_parts name)
-        → IsTrue (is_operand_alias name.alias) → StandsAsOperand (safe_text name) }
+        → IsTrue (is_operand_alias name.alias) → ServesAsOperand (safe_text name) }
 {}

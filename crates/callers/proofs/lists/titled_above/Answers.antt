@@ -1,6 +1,6 @@
 use Rattle.std.proofs.Common.{◌≡◌, refl, sym, ◌∙◌, ap, subst, List, [], ◌∷◌, ◌++◌, ℕ, true, codes, map, pos, string_bytes, append-nil, IfOk}
 use Rattle.std.proofs.lemmas.Bool.{and_from}
-use Rattle.sql_parts.specs.Operands.{StandsAsOperand}
+use Rattle.sql_parts.specs.Operands.{ServesAsOperand}
 use Rattle.sql_parts.specs.Text.{decimal_text}
 use Rattle.sql_parts.specs.Tokens.{Str, tokens}
 use Rattle.sql_builder.specs.Calls.{CallText, Cond, SelectFrom, Sql}
@@ -18,8 +18,8 @@ abbrev asked : List ℕ → List ℕ → List CallText
 asked title price = Cond And (Compare Eq (codes "title") title) ∷ Cond And (Compare Gt (codes "price") price) ∷ []
 
 -- an operand is fit to be handed in
-fit : (text : List ℕ) → StandsAsOperand text → is_fit (Bare text) ≡ true
-fit text stands = and_from _ _ stands.is_balanced stands.no_clause_word
+fit : (text : List ℕ) → ServesAsOperand text → is_fit (Bare text) ≡ true
+fit text serves = and_from _ _ serves.is_balanced serves.no_clause_word
 
 texts_fit : (title price : List ℕ) → is_fit (Bare title) ≡ true → is_fit (Bare price) ≡ true → has_fit_texts (SelectFrom (codes "books")) (asked title price) Sql ≡ true
 texts_fit title price h k = and_from _ _ (and_from _ _ (and_from _ _ h refl) (and_from _ _ (and_from _ _ k refl) refl)) refl
@@ -36,7 +36,7 @@ returns-clause-truth c =
     let calls : map call_view c.deref.result.now ≡ asked title price =
     rw (c.deref.ensures.value, c.in_ok-push-2.ensures.items, c.in_ok-push.ensures.items, c.new-calls.ensures.items, c.in_ok-field.ensures.ok, c.in_ok-field-2.ensures.ok, c.in_ok-to_text.ensures.text) refl in
     let law = c.literals_are_operands.ensures in
-    let quoted = fit title (subst StandsAsOperand (sym c.in_ok-quote.ensures.text) (law.quote c.args.title.now)) in
+    let quoted = fit title (subst ServesAsOperand (sym c.in_ok-quote.ensures.text) (law.quote c.args.title.now)) in
     let fits = (λ i. has_fit_texts (SelectFrom (c.in_ok-from_str.ensures.ok i)) (calls i) Sql) ∙ texts_fit title price quoted (fit price (law.numbers (pos c.args.price))) in
     let start = SelectFrom (string_bytes c.in_ok-from_str.field-0) in
     let told = map call_view c.deref.result.now in

@@ -7,7 +7,7 @@ use Rattle.sql_builder.specs.Layout.{refusal}
 use Rattle.sql_builder.specs.Shape.{HasClosedFragments}
 use Rattle.sql_builder.specs.declared.condition.Family.TheVariants.{And}
 use Rattle.sql_builder.specs.declared.condition.Relation.TheVariants.{Eq}
-use Rattle.sql_parts.specs.Operands.{StandsAsOperand}
+use Rattle.sql_parts.specs.Operands.{ServesAsOperand}
 use Rattle.sql_parts.specs.Quoting.{quoted}
 use Rattle.sql_parts.specs.Tokens.{closed}
 use Rattle.sql_builder.proofs.Callers.{Told, and_call, begun, chain_closed}
@@ -39,7 +39,7 @@ two : (q p : List ℕ) → closed q ≡ true → closed p ≡ true
     → HasClosedFragments (SelectFrom (codes "books")) (Cond And (Compare Eq (codes "title") q) ∷ Cond And (Compare Eq (codes "author") p) ∷ []) Sql
 two q p is also = rw is (rw also refl)
 
-fragments : ((text : List ℕ) → StandsAsOperand (quoted text)) → (title : List ℕ) (author : Option (List ℕ)) → HasClosedFragments (SelectFrom (codes "books")) (calls title author) Sql
+fragments : ((text : List ℕ) → ServesAsOperand (quoted text)) → (title : List ℕ) (author : Option (List ℕ)) → HasClosedFragments (SelectFrom (codes "books")) (calls title author) Sql
 fragments law title None = one (quoted title) (law title).is_closed
 fragments law title (Some author) = two (quoted title) (quoted author) (law title).is_closed (law author).is_closed
 
