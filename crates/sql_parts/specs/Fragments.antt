@@ -1,9 +1,11 @@
 -- Fragments of SQL: the levels of their brackets, and which are balanced, operands, or dangling.
 use Prim.Native.Char.{code}
-use Rattle.std.specs.Prelude.{ℕ, zero, suc, ◌==◌, ◌&&◌, ◌||◌, Bool, true, false, not, nat_lt, List, [], ◌∷◌, length, take, map, ℤ, pos, ◌-ℤ◌, int_le, if◌then◌else◌, codes}
+use Rattle.std.specs.Prelude.{ℕ, zero, suc, ◌==◌, ◌&&◌, ◌||◌, Bool, true, false, not, nat_lt, List, [], ◌∷◌, length, take, map, ℤ, pos, ◌-ℤ◌, int_le, if◌then◌else◌, codes, IsTrue}
 use Rattle.std.specs.List.{count_by, list_all, list_any, zip}
 use Rattle.std.specs.Ordering.{int_eq}
 use Rattle.std.specs.Str.{str_eq_ignore_ascii_case}
+use Rattle.sql_parts.specs.Error.{IsMemory}
+use Rattle.sql_parts.specs.declared.error.SqlBuilderError.{SqlBuilderError}
 use Rattle.sql_parts.specs.Tokens.{Token, Word, Symbol, begins_with, is_empty, is_open, is_semicolon, tokens}
 
 -- a word that is this keyword, in capitals or not; a name or a text between quotes is no word
@@ -185,6 +187,10 @@ has_ands ts =
 -- an OR, AND or NOT stands where it may not, or a BETWEEN has no AND
 abbrev pub is_dangling : List Token → Bool
 is_dangling ts = not (has_left_sides ts && has_right_sides ts && has_ands ts)
+
+-- how a test fails that keeps a truth value for each level: because memory runs out, and only where a token raises the level
+abbrev pub RefusesLevels : List ℕ → SqlBuilderError → Type 0
+RefusesLevels text refusal = IsMemory refusal × IsTrue (list_any raises (tokens text))
 
 -- a text whose tokens dangle
 abbrev pub dangling : List ℕ → Bool

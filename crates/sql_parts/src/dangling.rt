@@ -1,7 +1,7 @@
 //! What dangles: an OR, AND or NOT where it may not stand, and a BETWEEN without its AND.
-ghost use Rattle.std.specs.Prelude.{◌≡◌, ◌&&◌, [], ◌∷◌, List, IfOk, false, not, true};
-ghost use Rattle.sql_parts.specs.Error.{FailsOnlyByMemory};
-ghost use Rattle.sql_parts.specs.Fragments.{is_closing, is_opening, needs_left, needs_right};
+ghost use Rattle.std.specs.Prelude.{◌≡◌, ◌&&◌, [], ◌∷◌, List, IfErr, IfOk, IsTrue, false, not, true};
+ghost use Rattle.sql_parts.specs.Error.{IsMemory};
+ghost use Rattle.sql_parts.specs.Fragments.{is_closing, is_opening, needs_left, needs_right, raises};
 ghost use Rattle.sql_parts.specs.Roles.{HasRole};
 ghost use Rattle.sql_parts.specs.Tokens as tokens;
 ghost use Rattle.sql_parts.specs.Waiting.{all_have_ands, waiting};
@@ -81,7 +81,8 @@ impl Betweens {
     pub(crate) fn read(&mut self, role: Role) -> Result<bool, SqlBuilderError>
         ensures reads { (defined : tokens.Token) → HasRole role defined
             → IfOk result (λ may. (ts : List tokens.Token) → (may && all_have_ands self.new ts) ≡ all_have_ands self.old (defined ∷ ts)) }
-        ensures memory { FailsOnlyByMemory result }
+        ensures memory { (defined : tokens.Token) → HasRole role defined
+            → IfErr result (λ e. IsMemory e × IsTrue (raises defined)) }
     {
         match role {
             Role::Raises => {

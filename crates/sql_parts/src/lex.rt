@@ -1,8 +1,8 @@
 //! Tests of fragments, which read a text as the tokens of SQL.
-ghost use Rattle.std.specs.Prelude.{◌≡◌, ◌&&◌, IfOk, codes, not};
+ghost use Rattle.std.specs.Prelude.{◌≡◌, ◌&&◌, IfErr, IfOk, codes, not};
 ghost use Rattle.sql_parts.specs.Apart.{apart};
 ghost use Rattle.sql_parts.specs.Error.{FailsOnlyByMemory};
-ghost use Rattle.sql_parts.specs.Fragments.{balanced, dangling, has_clause_word, has_outer, is_balanced, is_joining, is_word, operand};
+ghost use Rattle.sql_parts.specs.Fragments.{RefusesLevels, balanced, dangling, has_clause_word, has_outer, is_balanced, is_joining, is_word, operand};
 ghost use Rattle.sql_parts.specs.Places.{marks_of};
 ghost use Rattle.sql_parts.specs.Roles.{HasRole};
 ghost use Rattle.sql_parts.specs.Tokens as tokens;
@@ -112,11 +112,12 @@ pub fn has_clause_word(text: &str) -> bool
 
 /// Whether an OR or AND is the first token of the text or stands right behind a token that opens,
 /// an OR, AND or NOT is the last or stands right before one that closes, or a BETWEEN has no AND of
-/// its own level behind it. It is refused only for want of memory.
+/// its own level behind it. It fails only if memory runs out, and not where no token raises the
+/// level.
 /// `has_dangling("a AND")` → `true`
 pub fn has_dangling(alloc: Global, text: &str) -> Result<bool, SqlBuilderError>
     ensures dangling { IfOk result (λ b. b ≡ dangling text.now) }
-    ensures memory { FailsOnlyByMemory result }
+    ensures memory { IfErr result (RefusesLevels text.now) }
 {
     let mut sides = Sides::start();
     let mut betweens = Betweens::new(alloc);
