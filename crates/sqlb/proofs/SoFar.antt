@@ -1,6 +1,6 @@
 -- A run that has come as far as a line.
 use Rattle.std.proofs.Common.{◌≡◌, ℕ, ◌+◌, ◌-◌, Bool, true, false, List, [], ◌∷◌, ◌++◌, Option, None, Some, Result, Ok, Err, length, take, map, filter_map, flat_map, if◌then◌else◌, refl, sym, ap, ◌∙◌, append_assoc, arith, add-zero, codes, length-append, subst, suc}
-use Rattle.std.specs.Prelude.{IsTrue, IsUtf8, is_err, is_some, option_map}
+use Rattle.std.specs.Prelude.{IsOk, IsTrue, IsUtf8, is_err, is_some, option_map}
 use Rattle.std.specs.Io.{StartsWith}
 use Rattle.std.specs.Io.KnownBytes.{Appends}
 use Rattle.std.specs.List.{enumerate_from}
@@ -15,8 +15,8 @@ use Rattle.sql_builder.specs.Calls.{StartText, CallText}
 use Rattle.sqlb.specs.Device.{Wrote}
 use Rattle.sql_builder.specs.Filters.{since, until}
 use Rattle.sqlb.specs.Lines.{lines, CommandResult, command_in_parts, command_of, Starts, Calls, Finishes}
-use Rattle.sqlb.specs.Output.{OpenStatement, answer, answer_at, answers, call_in, end_fault, fault_at, first, is_finish, is_inside, is_start, open_statement, open_statement_in, output, printed_line, output_text, start_in}
-use Rattle.sqlb.specs.Ran.{AreWhole, Ran}
+use Rattle.sqlb.specs.Output.{OpenStatement, accepted_answers, answer, answer_at, answers, call_in, end_fault, fault_at, first, is_finish, is_inside, is_start, open_statement, open_statement_in, output, printed_line, output_text, start_in}
+use Rattle.sqlb.specs.Ran.{AreWhole, Ran, RunsOutInLine, StopsIn}
 use Rattle.sqlb.specs.Script.{told, told_after, told_answer}
 use Rattle.sqlb.specs.Parts.{IsNextLine, Left}
 use Rattle.sqlb.specs.Text.{IsCut}
@@ -113,6 +113,11 @@ joined_texts-append xs ys = ap (flat_map (λ statement. statement)) (finished_te
 pub line_text : (t : List ℕ) → t ++ codes "\n" ≡ joined_texts (Some t ∷ [])
 line_text t = sym (append-nil (t ++ codes "\n"))
 
+-- what a line answers that fails no check
+ok_value : (a : Answer) → IsOk a → (o : Option (List ℕ)) × (a ≡ Ok o)
+ok_value (Ok o) accepts = (o, refl)
+ok_value (Err reason) accepts = cc
+
 abbrev no_end : Bool → ℕ → List (ℕ × Reason)
 no_end is_open n = if is_open then (n, NoEnd) ∷ [] else []
 
@@ -205,6 +210,21 @@ module _ (old new : Option (List ℕ)) (text : List ℕ) (number : ℕ) (script 
       written = subst (Appends old newer) (sym (joined_texts-append so_far.texts (o ∷ []))) (Appends-trans old new newer (joined_texts so_far.texts) (joined_texts (o ∷ [])) so_far.written now);
     }
 
+    -- memory runs out in the line
+    pub stops-in_line : IsOk (told_answer script (command_of line)) → StopsIn (joined_texts so_far.texts) (accepted_answers text)
+    unfolding accepted_answers
+    stops-in_line accepts =
+        let told = ok_value (told_answer script (command_of line)) accepts in
+        let later = answers_from (so_far.done ++ command_of line ∷ []) (map command_of remaining) in
+        let here : answers_from so_far.done (map command_of ahead) ≡ Ok told.0 ∷ later
+        = ap (λ (ls : List (List ℕ)). answers_from so_far.done (map command_of ls)) next ∙ ap (λ (a : Answer). a ∷ later) (answer-here ∙ told.1) in (
+          map Ok so_far.texts,
+          Ok told.0,
+          until is_err later,
+          ap (until is_err) (answers-split ∙ ap (λ (l : List Answer). map Ok so_far.texts ++ l) here) ∙ until-accepted so_far.texts (Ok told.0 ∷ later),
+          refl,
+        )
+
     -- the line is refused
     module _ (reason : Reason) (refused : told_answer script (command_of line) ≡ Err reason) where
       refused-here : answers_from so_far.done (map command_of ahead) ≡ Err reason ∷ answers_from (so_far.done ++ command_of line ∷ []) (map command_of remaining)
@@ -238,12 +258,13 @@ module _ (old new : Option (List ℕ)) (text : List ℕ) (number : ℕ) (script 
     -- a write that fails in the line's statement fails the run
     pub fails-in : {T : Type 0} (newer : Option (List ℕ)) (t : List ℕ) (fault : Fault) (result : Result T Fault) (failed : Bool) → told_answer script (command_of line) ≡ Ok (Some t)
         → (part : List ℕ) × Appends new newer part × Wrote {T = Unit {0}} (Err fault) part (t ++ codes "\n") failed → result ≡ Err fault
-        → (written : List ℕ) × Appends old newer written × Ran result written (output text)
+        → (written : List ℕ) × Appends old newer written × Ran result written (output text) × RunsOutInLine result written text
     fails-in newer t Write result failed accepts wrote is =
         rw is (
           joined_texts so_far.texts ++ wrote.0,
           Appends-trans old new newer (joined_texts so_far.texts) wrote.0 so_far.written wrote.1,
           stops-in t wrote.0 accepts (subst (λ (all : List ℕ). StartsWith all wrote.0) (line_text t) wrote.2.0),
+          tt,
         )
     fails-in newer t Read result failed accepts wrote is = absurd wrote.2
     fails-in newer t Memory result failed accepts wrote is = absurd wrote.2

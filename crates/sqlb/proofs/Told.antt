@@ -67,7 +67,8 @@ runs_call (Ok finished) None new call text e = absurd e
 runs_call (Ok finished) (Some r) new call text e = (rw e.0 refl, e.1)
 runs_call (Err (Refused reason)) None new call text e = (ap Err (sym e.0), e.1)
 runs_call (Err (Refused reason)) (Some r) new call text e = absurd e
-runs_call (Err Memory) old new call text e = e
+runs_call (Err Memory) None new call text e = absurd e
+runs_call (Err Memory) (Some r) new call text e = (refl, e)
 
 -- the arguments of a condition that fit make its call
 pub makes_condition : (family : Family) (o : Option ConditionText) (condition : ConditionText) → ok_or o WrongArguments ≡ Ok condition

@@ -86,6 +86,10 @@ fault_at (n, Err reason) = Some (n, reason)
 abbrev pub end_fault : List CommandResult → List (ℕ × Reason)
 end_fault commands = if is_some (open_statement commands) then (length commands, NoEnd) ∷ [] else []
 
+-- the answers of an input's lines before the first that fails a check
+unfoldable pub accepted_answers : List ℕ → List (Result (Option (List ℕ)) Reason)
+accepted_answers input = until is_err (answers (map command_of (lines input)))
+
 -- the text that a line finishes, with a line feed
 abbrev pub printed_line : Result (Option (List ℕ)) Reason → Option (List ℕ)
 printed_line (Ok (Some text)) = Some (text ++ codes "\n")

@@ -1,8 +1,8 @@
 -- How a run ends, by what it read and what it wrote.
-use Rattle.std.specs.Prelude.{◌≡◌, ◌≢◌, ℕ, Bool, true, false, List, [], ◌++◌, Some, None, Result, Ok, Err, flat_map}
+use Rattle.std.specs.Prelude.{◌≡◌, ◌≢◌, ℕ, Bool, true, false, List, [], ◌∷◌, ◌++◌, Option, Some, None, Result, Ok, Err, filter_map, flat_map}
 use Rattle.std.specs.Io.{StartsWith}
 use Rattle.sql_builder.specs.Error.{IsMemory}
-use Rattle.sqlb.specs.Output.{Output, output_text}
+use Rattle.sqlb.specs.Output.{Output, accepted_answers, output_text, printed_line}
 use Rattle.sqlb.specs.declared.fault.Fault.{Fault}
 use Rattle.sqlb.specs.declared.fault.Fault.TheVariants.{At, Memory, Read, Write}
 use Rattle.sqlb.specs.declared.fault.Reason.{Reason}
@@ -22,6 +22,18 @@ Ran (Err (At line reason)) written out = (out.fault ≡ Some (line, reason)) × 
 Ran (Err Memory) written out = AreWhole written out.statements
 Ran (Err Write) written out = StartsWith (output_text out) written
 Ran (Err Read) written out = written ≡ []
+
+-- Memory ran out in a line that fails no check, as the lines before it fail none, and what those finish is written.
+abbrev pub StopsIn : List ℕ → List (Result (Option (List ℕ)) Reason) → Type 0
+StopsIn written accepted =
+    (before : List (Result (Option (List ℕ)) Reason)) × (here : Result (Option (List ℕ)) Reason)
+    × (after : List (Result (Option (List ℕ)) Reason)) × (accepted ≡ before ++ here ∷ after)
+    × (written ≡ flat_map (λ statement. statement) (filter_map printed_line before))
+
+-- Memory runs out in no line that fails a check.
+abbrev pub RunsOutInLine : {T : Type 0} → Result T Fault → List ℕ → List ℕ → Type 0
+RunsOutInLine (Err Memory) written input = StopsIn written (accepted_answers input)
+RunsOutInLine _ written input = Unit {0}
 
 -- The reader has ended, unless a read failed, or memory ran out with nothing written.
 abbrev pub EndsUnlessStopped : {T : Type 0} → Result T Fault → List ℕ → Bool → Type 0

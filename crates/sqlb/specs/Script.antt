@@ -1,5 +1,5 @@
 -- What the lines of an input do one after another.
-use Rattle.std.specs.Prelude.{◌≡◌, ℕ, List, [], Bool, true, false, Option, Some, None, Result, Ok, Err, option_map}
+use Rattle.std.specs.Prelude.{◌≡◌, ℕ, List, [], Bool, true, false, Option, Some, None, Result, Ok, Err, IsOk, option_map}
 use Rattle.sql_builder.specs.Builder.{ClauseTexts}
 use Rattle.sql_builder.specs.Calls.{FinishText, StartText, clauses}
 use Rattle.sql_builder.specs.Clauses.{map_clauses}
@@ -39,31 +39,38 @@ told_after before (Ok (Calls call)) = option_map (with_call call) before
 told_after before (Ok (Finishes finish)) = None
 told_after before (Err reason) = before
 
--- A call answers what is wanted, unless memory runs out.
+-- A check answers what is wanted; it takes no memory.
+abbrev pub Checks : {V W : Type 0} → (V → W) → Result V Reason → Result W Reason → Type 0
+Checks view (Ok value) wanted = wanted ≡ Ok (view value)
+Checks view (Err reason) wanted = wanted ≡ Err reason
+
+-- A call answers what is wanted, unless memory runs out, which it can't do in place of a reason.
 abbrev pub Answers : {V W : Type 0} → (V → W) → Result V LineError → Result W Reason → Type 0
 Answers view (Ok value) wanted = wanted ≡ Ok (view value)
 Answers view (Err (Refused reason)) wanted = wanted ≡ Err reason
-Answers view (Err Memory) wanted = Unit {0}
+Answers view (Err Memory) wanted = IsOk wanted
 
 -- what a line printed, if it finished a statement
 abbrev pub printed_if : List ℕ → Bool → Option (List ℕ)
 printed_if text true = Some text
 printed_if text false = None
 
--- A line is run, and says whether it finished a statement: it answers what is wanted, and the statement is what it is then, or stays as it was where the line is refused.
+-- A line is run, and says whether it finished a statement: it answers what is wanted, and the statement is what it is then,
+-- or stays as it was where the line fails a check, or where memory runs out in one that fails none.
 abbrev pub Runs : Result Bool LineError → Option ClauseTexts → Option ClauseTexts → List ℕ → CommandResult → Type 0
 Runs (Ok finished) old new text command = (told_answer old command ≡ Ok (printed_if text finished)) × (new ≡ told_after old command)
 Runs (Err (Refused reason)) old new text command = (told_answer old command ≡ Err reason) × (new ≡ old)
-Runs (Err Memory) old new text command = new ≡ old
+Runs (Err Memory) old new text command = IsOk (told_answer old command) × (new ≡ old)
 
 -- A statement is opened, and nothing is printed.
 abbrev pub Opens : Result Bool LineError → Option ClauseTexts → Option ClauseTexts → StartText → Type 0
 Opens result old new start = (text : List ℕ) → Runs result old new text (Ok (Starts start))
 
--- A call is made of the open statement, and nothing is printed.
+-- A call is made of the open statement, and nothing is printed. Without a statement memory can't run out.
 abbrev pub Tells : Result Bool LineError → Option ClauseTexts → Option ClauseTexts → (ClauseTexts → ClauseTexts) → Type 0
 Tells (Ok finished) None new told = ⊥
 Tells (Ok finished) (Some r) new told = (finished ≡ false) × (new ≡ Some (told r))
 Tells (Err (Refused reason)) None new told = (reason ≡ NoStatement) × (new ≡ None)
 Tells (Err (Refused reason)) (Some r) new told = ⊥
-Tells (Err Memory) old new told = new ≡ old
+Tells (Err Memory) None new told = ⊥
+Tells (Err Memory) (Some r) new told = new ≡ Some r

@@ -3,11 +3,11 @@ ghost use Rattle.std.specs.Prelude.{◌≡◌, OnOk, ok_or};
 ghost use Rattle.sql_builder.specs.Condition.{borrowed_view};
 ghost use Rattle.sqlb.specs.Endings.{comparisons, condition_of, ending_of, likes, memberships};
 ghost use Rattle.sqlb.specs.Parts.{IsTaken};
-ghost use Rattle.sqlb.specs.Script.{Answers};
+ghost use Rattle.sqlb.specs.Script.{Checks};
 ghost use Rattle.sqlb.specs.Tables.{found_in};
 ghost use Rattle.sqlb.specs.declared.fault.Reason.TheVariants.{WrongArguments};
 
-use crate::fault::LineError;
+use crate::fault::Reason;
 use crate::parts::Parts;
 use sql_builder::calls::{BorrowedCondition, Percent, Relation};
 
@@ -95,8 +95,8 @@ impl Ending {
     pub(crate) fn condition<'a>(
         self,
         arguments: &mut Parts<'a>,
-    ) -> Result<BorrowedCondition<'a, Parts<'a>>, LineError>
-        ensures condition { Answers (borrowed_view (λ left. left.parts)) result
+    ) -> Result<BorrowedCondition<'a, Parts<'a>>, Reason>
+        ensures condition { Checks (borrowed_view (λ left. left.parts)) result
             (ok_or (condition_of self arguments.old.parts) WrongArguments) }
         ensures taken { OnOk result (IsTaken arguments.old arguments.new) }
     {
@@ -111,8 +111,8 @@ impl Ending {
     fn condition_of_field<'a>(
         self,
         arguments: &mut Parts<'a>,
-    ) -> Result<BorrowedCondition<'a, Parts<'a>>, LineError>
-        ensures condition { Answers (borrowed_view (λ left. left.parts)) result
+    ) -> Result<BorrowedCondition<'a, Parts<'a>>, Reason>
+        ensures condition { Checks (borrowed_view (λ left. left.parts)) result
             (ok_or (condition_of self arguments.old.parts) WrongArguments) }
         ensures taken { OnOk result (IsTaken arguments.old arguments.new) }
     {

@@ -46,6 +46,17 @@ pub(crate) enum LineError {
     Memory,
 }
 
+impl From<Reason> for LineError {
+    ghost use Rattle.std.specs.Prelude.{◌≡◌};
+    ghost use Rattle.sqlb.specs.declared.fault.LineError.TheVariants.{Refused};
+
+    ghost from_gives = { λ reason error. error ≡ Refused reason };
+
+    fn from(reason: Reason) -> LineError {
+        LineError::Refused(reason)
+    }
+}
+
 impl From<AllocError> for LineError {
     ghost use Rattle.std.specs.Prelude.{◌≡◌};
     ghost use Rattle.sqlb.specs.declared.fault.LineError.TheVariants.{Memory};

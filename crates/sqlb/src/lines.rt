@@ -2,7 +2,7 @@
 ghost use Rattle.std.specs.Prelude.{◌≡◌, List, Ok, OnErr, OnOk, Some, ok_or, string_bytes, ℕ};
 ghost use Rattle.sqlb.specs.Lines.{binary_command, command_in_parts, command_with, flag_in, nullary_command, unary_command, variadic_command};
 ghost use Rattle.sqlb.specs.Parts.{IsTaken};
-ghost use Rattle.sqlb.specs.Script.{Answers, Runs, printed_if, told_after, told_answer};
+ghost use Rattle.sqlb.specs.Script.{Answers, Checks, Runs, printed_if, told_after, told_answer};
 ghost use Rattle.sqlb.specs.declared.fault.Reason.TheVariants.{WrongArguments};
 
 use crate::fault::{LineError, Reason};
@@ -11,21 +11,19 @@ use crate::parts::Parts;
 use crate::script::Script;
 use sql_builder::calls::{BinaryClause, Call, Finish, TableStart, UnaryClause, VariadicClause};
 
-const UNKNOWN_CALL: LineError = LineError::Refused(Reason::UnknownCall);
-
-fn read_flag(text: &str) -> Result<bool, LineError>
-    ensures { Answers (λ flag. flag) result (ok_or (flag_in text.now) WrongArguments) }
+fn read_flag(text: &str) -> Result<bool, Reason>
+    ensures { Checks (λ flag. flag) result (ok_or (flag_in text.now) WrongArguments) }
 {
     match text {
         "true" => Ok(true),
         "false" => Ok(false),
-        _ => Err(LineError::Refused(Reason::WrongArguments)),
+        _ => Err(Reason::WrongArguments),
     }
 }
 
 impl Script {
-    /// Runs a line, and gives the statement that it finishes. Where it is refused, by the first
-    /// check that it fails or for want of memory, the same statement stays open.
+    /// Runs a line, and answers whether it finished a statement. Where it fails a check, or memory
+    /// runs out in it, the same statement stays open.
     pub(crate) fn take_line(
         &mut self,
         parts: &mut Parts<'_>,
@@ -38,13 +36,9 @@ impl Script {
         ensures err { OnErr result (self.new ≡ self.old) }
         ensures taken { OnOk result (IsTaken parts.old parts.new) }
     {
-        let Some(name) = parts.next() else {
-            return Err(UNKNOWN_CALL);
-        };
-        match Meaning::of(name) {
-            Some(meaning) => self.take(meaning, parts, statement),
-            None => Err(UNKNOWN_CALL),
-        }
+        let name = parts.next().ok_or(Reason::UnknownCall)?;
+        let meaning = Meaning::of(name).ok_or(Reason::UnknownCall)?;
+        self.take(meaning, parts, statement)
     }
 
     fn take(

@@ -1,9 +1,9 @@
 //! The lines of a text, and their parts, between TABs.
 ghost use Rattle.std.specs.Prelude.{◌≡◌, ◌<◌, [], ◌∷◌, false, IsTrue, MatchOption, OnOk};
 ghost use Rattle.sqlb.specs.Parts.{IsNextLine, IsTaken, first_of, none_of, one_of, three_of, two_of};
-ghost use Rattle.sqlb.specs.Script.{Answers};
+ghost use Rattle.sqlb.specs.Script.{Checks};
 
-use crate::fault::{LineError, Reason};
+use crate::fault::Reason;
 use crate::scan::end_of_part;
 use sql_builder::SqlBuilderError;
 use sql_builder::text::Texts;
@@ -32,8 +32,6 @@ impl<'a> Model for Parts<'a> {
 
     ghost invariant = { λ parts. IsCharBoundary parts.text.now parts.at };
 }
-
-const WRONG_ARGUMENTS: LineError = LineError::Refused(Reason::WrongArguments);
 
 impl<'a> Parts<'a> {
     /// A text of which no line is read yet.
@@ -81,60 +79,60 @@ impl<'a> Parts<'a> {
     }
 
     /// The next part, which is taken, if there is one.
-    pub(crate) fn first(&mut self) -> Result<&'a str, LineError>
-        ensures first { Answers (λ part. (part.now, self.new.parts)) result
+    pub(crate) fn first(&mut self) -> Result<&'a str, Reason>
+        ensures first { Checks (λ part. (part.now, self.new.parts)) result
             (first_of self.old.parts) }
         ensures behind { self.new.behind ≡ self.old.behind }
     {
         match self.next() {
             Some(part) => Ok(part),
-            None => Err(WRONG_ARGUMENTS),
+            None => Err(Reason::WrongArguments),
         }
     }
 
     /// Nothing, if there is no part.
-    pub(crate) fn none(&mut self) -> Result<(), LineError>
-        ensures none { Answers (λ done. done) result (none_of self.old.parts) }
+    pub(crate) fn none(&mut self) -> Result<(), Reason>
+        ensures none { Checks (λ done. done) result (none_of self.old.parts) }
         ensures taken { OnOk result (IsTaken self.old self.new) }
     {
         match self.next() {
             None => Ok(()),
-            Some(_) => Err(WRONG_ARGUMENTS),
+            Some(_) => Err(Reason::WrongArguments),
         }
     }
 
     /// The one part, if there are no others.
-    pub(crate) fn one(&mut self) -> Result<&'a str, LineError>
-        ensures one { Answers (λ part. part.now) result (one_of self.old.parts) }
+    pub(crate) fn one(&mut self) -> Result<&'a str, Reason>
+        ensures one { Checks (λ part. part.now) result (one_of self.old.parts) }
         ensures taken { OnOk result (IsTaken self.old self.new) }
     {
         match (self.next(), self.next()) {
             (Some(part), None) => Ok(part),
-            _ => Err(WRONG_ARGUMENTS),
+            _ => Err(Reason::WrongArguments),
         }
     }
 
     /// The two parts, if there are no others.
-    pub(crate) fn two(&mut self) -> Result<(&'a str, &'a str), LineError>
-        ensures two { Answers (λ parts. (parts.0.now, parts.1.now)) result
+    pub(crate) fn two(&mut self) -> Result<(&'a str, &'a str), Reason>
+        ensures two { Checks (λ parts. (parts.0.now, parts.1.now)) result
             (two_of self.old.parts) }
         ensures taken { OnOk result (IsTaken self.old self.new) }
     {
         match (self.next(), self.next(), self.next()) {
             (Some(first), Some(second), None) => Ok((first, second)),
-            _ => Err(WRONG_ARGUMENTS),
+            _ => Err(Reason::WrongArguments),
         }
     }
 
     /// The three parts, if there are no others.
-    pub(crate) fn three(&mut self) -> Result<(&'a str, &'a str, &'a str), LineError>
-        ensures three { Answers (λ parts. (parts.0.now, parts.1.now, parts.2.now)) result
+    pub(crate) fn three(&mut self) -> Result<(&'a str, &'a str, &'a str), Reason>
+        ensures three { Checks (λ parts. (parts.0.now, parts.1.now, parts.2.now)) result
             (three_of self.old.parts) }
         ensures taken { OnOk result (IsTaken self.old self.new) }
     {
         match (self.next(), self.next(), self.next(), self.next()) {
             (Some(first), Some(second), Some(third), None) => Ok((first, second, third)),
-            _ => Err(WRONG_ARGUMENTS),
+            _ => Err(Reason::WrongArguments),
         }
     }
 

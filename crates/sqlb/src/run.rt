@@ -1,9 +1,9 @@
 //! Runs an input, from its bytes to the statements that it prints.
-ghost use Rattle.std.specs.Prelude.{◌≡◌, ◌↔◌, ℕ, List, true, false, IfErr, IsErrOf};
+ghost use Rattle.std.specs.Prelude.{◌≡◌, ◌↔◌, ℕ, List, None, true, false, IfErr, IsErrOf};
 ghost use Rattle.std.specs.Io.KnownBytes.{Appends, Consumes, IsAtEnd, append_known};
 ghost use Rattle.std.specs.Io.Buffered.{writer_contents};
 ghost use Rattle.sqlb.specs.Output.{output};
-ghost use Rattle.sqlb.specs.Ran.{EndsUnlessStopped, FailsOnlyToWrite, NamesNoMemory};
+ghost use Rattle.sqlb.specs.Ran.{EndsUnlessStopped, FailsOnlyToWrite, NamesNoMemory, RunsOutInLine};
 ghost use Rattle.sqlb.specs.Ran.{LosesOnlyIfDeviceFails, Ran, UnlessWriteFails};
 
 use crate::fault::{Fault, LineError, Reason};
@@ -17,17 +17,24 @@ use std::alloc::Global;
 use std::io::{BufWriter, Read, Write};
 use std::mem::forget;
 
-// Runs the lines of an input, and writes each statement where it is finished.
-fn run_lines<W: Write>(alloc: Global, input: &[u8], writer: &mut Watched<W>) -> Result<(), Fault>
+// Runs the lines of an input, and writes each statement where it is finished. No statement is open
+// before.
+fn run_lines<W: Write>(
+    alloc: Global,
+    input: &[u8],
+    mut script: Script,
+    writer: &mut Watched<W>,
+) -> Result<(), Fault>
+    requires none_open { script ≡ None }
     requires not_failed { writer.old.failed ≡ false }
     ensures ran { (written : List ℕ) × Appends (W.contents writer.old.inner)
-        (W.contents writer.new.inner) written × Ran result written (output input.now) }
+        (W.contents writer.new.inner) written × Ran result written (output input.now)
+        × RunsOutInLine result written input.now }
     ensures failed { FailsOnlyToWrite result writer.new.failed }
     ensures no_memory { IfErr result NamesNoMemory }
     ensures ended { writer.new.ended ≡ writer.old.ended }
 {
     let (text, is_cut) = lines_of_text(input);
-    let mut script = Script::new(alloc)?;
     let mut statement = String::new(alloc);
     let mut number = 0;
     let mut parts = Parts::of(text);
@@ -64,12 +71,14 @@ pub fn run_input<R: Read, W: Write>(
     requires reader_not_ended { reader.old.ended ≡ false }
     requires writer_not_failed { writer.old.failed ≡ false }
 
-    // Some bytes were read, and what is written agrees with what they say to print.
+    // Some bytes were read, and what is written agrees with what they say to print. Once the reader
+    // has ended, memory runs out in no line that fails a check.
     ensures ran { (taken : List ℕ) × (written : List ℕ)
         × Consumes (R.remaining reader.old.inner) (R.remaining reader.new.inner) taken
         × Appends (W.contents writer.old.inner) (W.contents writer.new.inner) written
         × Ran result written (output taken)
-        × EndsUnlessStopped result written reader.new.ended }
+        × EndsUnlessStopped result written reader.new.ended
+        × (reader.new.ended ≡ true → RunsOutInLine result written taken) }
     ensures end { reader.new.ended ≡ true → IsAtEnd (R.remaining reader.new.inner) }
 
     // No call of the writer is made before the reader has ended.
@@ -82,8 +91,9 @@ pub fn run_input<R: Read, W: Write>(
     // Want of memory is answered as `Memory`, and never as a line's reason.
     ensures no_memory { IfErr result NamesNoMemory }
 {
+    let script = Script::new(alloc)?;
     let text = read_all(alloc, reader)?;
-    run_lines(alloc, &text, writer)
+    run_lines(alloc, &text, script, writer)
 }
 
 /// Runs an input as `run_input` does, flushes the buffer before it answers, and gives the writer
@@ -104,7 +114,8 @@ pub(crate) fn run_flushed<R: Read, W: Write + Drop>(
         × Appends (writer_contents W.contents writer) (append_known (W.contents result.0) lost) written
         × Ran result.1 written (output taken)
         × LosesOnlyIfDeviceFails result.1 lost
-        × UnlessWriteFails result.1 (EndsUnlessStopped result.1 written reader.new.ended) }
+        × UnlessWriteFails result.1 (EndsUnlessStopped result.1 written reader.new.ended
+        × (reader.new.ended ≡ true → RunsOutInLine result.1 written taken)) }
     ensures read { IsErrOf result.1 Fault.Read ↔ (reader.new.failed ≡ true) }
     ensures no_memory { IfErr result.1 NamesNoMemory }
 {

@@ -1,6 +1,6 @@
 //! The statement that is open, and what the lines do to it. Each answers whether the line finished the
 //! statement.
-ghost use Rattle.std.specs.Prelude.{◌≡◌, IfErr, IfOk, None, Ok, is_some, string_bytes};
+ghost use Rattle.std.specs.Prelude.{◌≡◌, IfErr, IfOk, IsSome, None, Ok, OnOk, is_some, string_bytes};
 ghost use Rattle.sql_builder.specs.Builder.{with_condition, with_order};
 ghost use Rattle.sql_builder.specs.Calls.{SelectValues, SubqueryAs};
 ghost use Rattle.sql_builder.specs.Condition.{borrowed_view};
@@ -9,6 +9,7 @@ ghost use Rattle.sql_builder.specs.Views.{call_view, finish_view, start_on};
 ghost use Rattle.sqlb.specs.Lines.{Finishes};
 ghost use Rattle.sqlb.specs.Script.{Opens, Runs, Tells};
 ghost use Rattle.sqlb.specs.declared.fault.Fault.TheVariants.{Memory};
+ghost use Rattle.sqlb.specs.declared.fault.Reason.TheVariants.{NoStatement, StatementOpen};
 
 use crate::fault::{Fault, LineError, Reason};
 use crate::parts::Parts;
@@ -20,10 +21,6 @@ use sql_builder::calls::{
 };
 use std::alloc::Global;
 use std::marker::Model;
-
-const NO_STATEMENT: LineError = LineError::Refused(Reason::NoStatement);
-
-const STATEMENT_OPEN: LineError = LineError::Refused(Reason::StatementOpen);
 
 /// The statement that is open, if one is, and the buffers of those before it. Contracts see what the
 /// open statement's builder was given.
@@ -64,13 +61,35 @@ impl Script {
         self.is_open
     }
 
+    // The check of a start: no statement is open.
+    #[inline(always)]
+    fn check_closed(&self) -> Result<(), Reason>
+        ensures ok { OnOk result (self.now ≡ None) }
+        ensures err { IfErr result (λ reason. (reason ≡ StatementOpen) × IsSome self.now) }
+    {
+        if self.is_open {
+            return Err(Reason::StatementOpen);
+        }
+        Ok(())
+    }
+
+    // The check of a call and of a finish: a statement is open.
+    #[inline(always)]
+    fn check_open(&self) -> Result<(), Reason>
+        ensures ok { OnOk result (IsSome self.now) }
+        ensures err { IfErr result (λ reason. (reason ≡ NoStatement) × (self.now ≡ None)) }
+    {
+        if !self.is_open {
+            return Err(Reason::NoStatement);
+        }
+        Ok(())
+    }
+
     /// Opens a statement on a table, where none is open.
     pub(crate) fn start_on(&mut self, start: TableStart, table: &str) -> Result<bool, LineError>
         ensures { Opens result self.old self.new (start_on start table.now) }
     {
-        if self.is_open {
-            return Err(STATEMENT_OPEN);
-        }
+        self.check_closed()?;
         restart_on(&mut self.builder, start, table)?;
         self.is_open = true;
         Ok(false)
@@ -81,9 +100,7 @@ impl Script {
     pub(crate) fn start_values(&mut self, values: Parts<'_>) -> Result<bool, LineError>
         ensures { Opens result self.old self.new (SelectValues values.entry.parts) }
     {
-        if self.is_open {
-            return Err(STATEMENT_OPEN);
-        }
+        self.check_closed()?;
         restart_values(&mut self.builder, values)?;
         self.is_open = true;
         Ok(false)
@@ -93,9 +110,7 @@ impl Script {
     pub(crate) fn tell(&mut self, call: &Call) -> Result<bool, LineError>
         ensures { Tells result self.old self.new (with_call (call_view call.now)) }
     {
-        if !self.is_open {
-            return Err(NO_STATEMENT);
-        }
+        self.check_open()?;
         make(&mut self.builder, call)?;
         Ok(false)
     }
@@ -104,9 +119,7 @@ impl Script {
     pub(crate) fn tell_unary(&mut self, clause: UnaryClause, text: &str) -> Result<bool, LineError>
         ensures { Tells result self.old self.new (with_unary clause text.now) }
     {
-        if !self.is_open {
-            return Err(NO_STATEMENT);
-        }
+        self.check_open()?;
         make_unary(&mut self.builder, clause, text)?;
         Ok(false)
     }
@@ -120,9 +133,7 @@ impl Script {
     ) -> Result<bool, LineError>
         ensures { Tells result self.old self.new (with_binary clause first.now second.now) }
     {
-        if !self.is_open {
-            return Err(NO_STATEMENT);
-        }
+        self.check_open()?;
         make_binary(&mut self.builder, clause, first, second)?;
         Ok(false)
     }
@@ -131,9 +142,7 @@ impl Script {
     pub(crate) fn tell_order(&mut self, field: &str, descending: bool) -> Result<bool, LineError>
         ensures { Tells result self.old self.new (with_order descending field.now) }
     {
-        if !self.is_open {
-            return Err(NO_STATEMENT);
-        }
+        self.check_open()?;
         make_order(&mut self.builder, field, descending)?;
         Ok(false)
     }
@@ -146,9 +155,7 @@ impl Script {
     ) -> Result<bool, LineError>
         ensures { Tells result self.old self.new (with_variadic clause texts.entry.parts) }
     {
-        if !self.is_open {
-            return Err(NO_STATEMENT);
-        }
+        self.check_open()?;
         make_variadic(&mut self.builder, clause, texts)?;
         Ok(false)
     }
@@ -162,9 +169,7 @@ impl Script {
         ensures { Tells result self.old self.new
             (with_condition family (borrowed_view (λ left. left.parts) condition.entry)) }
     {
-        if !self.is_open {
-            return Err(NO_STATEMENT);
-        }
+        self.check_open()?;
         make_condition(&mut self.builder, family, condition)?;
         Ok(false)
     }
@@ -178,9 +183,7 @@ impl Script {
         ensures { Runs result self.old self.new (string_bytes statement.new)
             (Ok (Finishes (finish_view finish.now))) }
     {
-        if !self.is_open {
-            return Err(NO_STATEMENT);
-        }
+        self.check_open()?;
         statement.clear();
         print_to(&self.builder, finish, statement)?;
         self.is_open = false;
@@ -196,9 +199,7 @@ impl Script {
         ensures { Runs result self.old self.new (string_bytes statement.new)
             (Ok (Finishes (SubqueryAs name.now))) }
     {
-        if !self.is_open {
-            return Err(NO_STATEMENT);
-        }
+        self.check_open()?;
         *statement = self.builder.subquery_as(name)?;
         self.is_open = false;
         Ok(true)

@@ -35,5 +35,5 @@ returns-in_default-2-clause-ran g c =
       appends-lost contents _ buffered _ ran.1 (c.into_parts-below.ensures.inner ∙ ap writer_inner c.into_inner-2.ensures.inner) (Appends-kept _ _ _ ran.1 ran.3 c.flush_on-flushed.ensures.bytes),
       ran.4,
       loses_none c.run_input-answer.result lost none,
-      unless_write_fails c.run_input-answer.result _ ran.5,
+      unless_write_fails c.run_input-answer.result _ (ran.5, ran.6),
     )

@@ -5,7 +5,7 @@ use Rattle.std.proofs.KnownBytes.{Appends-nil}
 use Rattle.std.proofs.lemmas.Result.{err_from_is_err_and}
 use Rattle.sqlb.proofs.LineTexts.{command_of-no_text}
 use Rattle.sqlb.proofs.Reasons.{refused-holds_no_memory}
-use Rattle.sqlb.proofs.SoFar.{command_of-line, ends-fault, ends-written, fails-in, joined_texts, line_text, refused-by_open, refused-fault, refused-written, so_far-first, so_far-next, stops-whole, unread_first}
+use Rattle.sqlb.proofs.SoFar.{command_of-line, ends-fault, ends-written, fails-in, joined_texts, line_text, refused-by_open, refused-fault, refused-written, so_far-first, so_far-next, stops-in_line, stops-whole, unread_first}
 use Rattle.sqlb.specs.Lines.{lines}
 use Rattle.sqlb.specs.Script.{told_answer}
 use Rattle.sqlb.specs.declared.fault.Reason.TheVariants.{NotUtf8}
@@ -16,7 +16,7 @@ lines-init g c =
     let text = c.lines_of_text-is_cut.result.0.now in
     let short : length text < 2 ^ 63 = omega (arith, c.lines_of_text-is_cut.type_inv) in
     let all = unread_first c.lines_of_text-is_cut.result.1 c.args.input.now text c.lines_of_text-is_cut.ensures.whole c.lines_of_text-is_cut.ensures.cut in
-    rw (c.of-parts.ensures.behind, c.in_ok-script.ensures.closed) record {
+    rw (c.of-parts.ensures.behind, c.requires.none_open) record {
       not_failed = c.requires.not_failed;
       ended = refl;
       counted = omega (arith, short);
@@ -30,11 +30,11 @@ returns-in_err-write_line-in-Ok-true-clause-ran g c =
     let unread = c.lines.invariant.ahead.0 in
     let accepts = rw (← command_of-line _ _ next, c.in-Ok-true.field-0-test) at c.in-Ok-true.ensures.answer in
     let wrote = rw c.deref.ensures at c.in_err-write_line-in-Ok-true.ensures.wrote in
-    let p = err_from_is_err_and c.from_residual-in_err-write_line-in-Ok-true.result c.from_residual-in_err-write_line-in-Ok-true.ensures.1 in
+    let p = err_from_is_err_and c.from_residual.result c.from_residual.ensures.1 in
     fails-in _ _ _ _ _ _ c.lines.invariant.ahead.2 next.line (lines c.next_line.new.self.behind ++ unread) (ap (λ l. l ++ unread) next.first) _ _ _ _ _ accepts wrote (rw (p.1, p.2))
 
-pub lines-preserved-in-Continue-branch-2 : goal.lines-preserved-in-Continue-branch-2
-lines-preserved-in-Continue-branch-2 g c =
+pub lines-preserved-in-Continue-1 : goal.lines-preserved-in-Continue-1
+lines-preserved-in-Continue-1 g c =
     let next = c.next_line.ensures.line c.lines-test.true in
     let unread = c.lines.invariant.ahead.0 in
     let command = command_of-line _ _ next in
@@ -85,6 +85,7 @@ returns-in-Err-Refused-clause-ran g c =
         rw c.in-Err-Refused.field-0-is (refused-fault _ _ _ _ _ _ so_far next.line (lines c.next_line.new.self.behind ++ unread) ahead _ refused),
         refused-written _ _ _ _ _ _ so_far next.line (lines c.next_line.new.self.behind ++ unread) ahead _ refused,
       ),
+      tt,
     )
 
 pub returns-in-Err-Refused-clause-no_memory : goal.returns-in-Err-Refused-clause-no_memory
@@ -97,8 +98,16 @@ returns-in-Err-Refused-clause-no_memory g c =
 
 pub returns-in-Err-Memory-clause-ran : goal.returns-in-Err-Memory-clause-ran
 returns-in-Err-Memory-clause-ran g c =
+    let next = c.next_line.ensures.line c.lines-test.true in
+    let unread = c.lines.invariant.ahead.0 in
     let so_far = c.lines.invariant.ahead.2 in
-    (joined_texts so_far.texts, so_far.written, stops-whole _ _ _ _ _ _ so_far)
+    let ahead = ap (λ l. l ++ unread) next.first in
+    let accepts = rw (← command_of-line _ _ next, c.in-Err-Memory.field-0-is) at c.in-Err-Memory.ensures.answer in (
+      joined_texts so_far.texts,
+      so_far.written,
+      stops-whole _ _ _ _ _ _ so_far,
+      stops-in_line _ _ _ _ _ _ so_far next.line (lines c.next_line.new.self.behind ++ unread) ahead accepts,
+    )
 
 pub returns-then-is_cut-clause-ran : goal.returns-then-is_cut-clause-ran
 returns-then-is_cut-clause-ran g c =
@@ -110,6 +119,7 @@ returns-then-is_cut-clause-ran g c =
       joined_texts so_far.texts,
       so_far.written,
       (refused-fault _ _ _ _ _ _ so_far unread.0 unread.1 ahead NotUtf8 refused, refused-written _ _ _ _ _ _ so_far unread.0 unread.1 ahead NotUtf8 refused),
+      tt,
     )
 
 pub returns-then-is_open-clause-ran : goal.returns-then-is_open-clause-ran
@@ -117,11 +127,11 @@ returns-then-is_open-clause-ran g c =
     let so_far = c.lines.invariant.ahead.2 in
     let end = ap₂ (λ (rest : List ℕ) (unread : List (List ℕ)). lines rest ++ unread) (c.next_line.ensures.none c.lines-test.false) (rw c.if-is_cut.false at c.lines.invariant.ahead.1) in
     let still_open : is_some c.lines.script ≡ true = sym c.is_open-is_open.ensures.is_open ∙ c.if-is_open.true in
-    (joined_texts so_far.texts, so_far.written, (rw still_open at (ends-fault _ _ _ _ _ _ so_far end), ends-written _ _ _ _ _ _ so_far end))
+    (joined_texts so_far.texts, so_far.written, (rw still_open at (ends-fault _ _ _ _ _ _ so_far end), ends-written _ _ _ _ _ _ so_far end), tt)
 
 pub returns-clause-ran : goal.returns-clause-ran
 returns-clause-ran g c =
     let so_far = c.lines.invariant.ahead.2 in
     let end = ap₂ (λ (rest : List ℕ) (unread : List (List ℕ)). lines rest ++ unread) (c.next_line.ensures.none c.lines-test.false) (rw c.if-is_cut.false at c.lines.invariant.ahead.1) in
     let still_open = sym c.is_open-is_open.ensures.is_open ∙ c.if-is_open.false in
-    (joined_texts so_far.texts, so_far.written, (rw still_open at (ends-fault _ _ _ _ _ _ so_far end), ends-written _ _ _ _ _ _ so_far end))
+    (joined_texts so_far.texts, so_far.written, (rw still_open at (ends-fault _ _ _ _ _ _ so_far end), ends-written _ _ _ _ _ _ so_far end), tt)
