@@ -19,3 +19,8 @@ ReadingFails (Err Memory) failed ended = (failed ≡ false) × (ended ≡ false)
 ReadingFails (Err Read) failed ended = (failed ≡ true) × (ended ≡ false)
 ReadingFails (Err Write) failed ended = ⊥
 ReadingFails (Err (At line reason)) failed ended = ⊥
+
+-- the text is written, or a beginning of it where the writer has failed
+abbrev pub IsWrittenUnless : Bool → List ℕ → List ℕ → Type 0
+IsWrittenUnless false text written = written ≡ text
+IsWrittenUnless true text written = StartsWith text written

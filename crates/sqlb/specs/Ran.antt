@@ -1,8 +1,10 @@
 -- How a run ends, by what it read and what it wrote.
 use Rattle.std.specs.Prelude.{◌≡◌, ◌≢◌, ℕ, Bool, true, false, List, [], ◌∷◌, ◌++◌, Option, Some, None, Result, Ok, Err, filter_map, flat_map}
 use Rattle.std.specs.Io.{StartsWith}
+use Rattle.std.specs.Io.KnownBytes.{Appends, Consumes, append_known}
 use Rattle.sql_builder.specs.Error.{IsMemory}
-use Rattle.sqlb.specs.Output.{Output, accepted_answers, output_text, printed_line}
+use Rattle.sqlb.specs.Fault.{fault_status}
+use Rattle.sqlb.specs.Output.{Output, accepted_answers, output, output_text, printed_line}
 use Rattle.sqlb.specs.declared.fault.Fault.{Fault}
 use Rattle.sqlb.specs.declared.fault.Fault.TheVariants.{At, Memory, Read, Write}
 use Rattle.sqlb.specs.declared.fault.Reason.{Reason}
@@ -76,3 +78,19 @@ LosesOnlyIfDeviceFails (Err (At line reason)) lost = lost ≡ []
 LosesOnlyIfDeviceFails (Err Memory) lost = lost ≡ []
 LosesOnlyIfDeviceFails (Err Write) lost = Unit {0}
 LosesOnlyIfDeviceFails (Err Read) lost = Unit {0}
+
+-- A run over a buffered writer, by its answer: so many bytes were read, and what the writer below holds, with what is lost behind
+-- it, is what it and its buffer held before, and what was written; this agrees with what the bytes read say to print.
+abbrev pub RanFlushed : {T : Type 0} → Result T Fault → Option (List ℕ) → Option (List ℕ) → Bool → Option (List ℕ) → Option (List ℕ) → Type 0
+RanFlushed answer unread left ended held below =
+    (taken : List ℕ) × (written : List ℕ) × (lost : List ℕ)
+    × Consumes unread left taken
+    × Appends held (append_known below lost) written
+    × Ran answer written (output taken)
+    × LosesOnlyIfDeviceFails answer lost
+    × UnlessWriteFails answer (EndsUnlessStopped answer written ended × (ended ≡ true → RunsOutInLine answer written taken))
+
+-- the exit status of an answer: 0 where there is no fault
+abbrev pub status_of : {T : Type 0} → Result T Fault → ℕ
+status_of (Ok done) = 0
+status_of (Err fault) = fault_status fault

@@ -1,10 +1,10 @@
 //! Runs an input, from its bytes to the statements that it prints.
 ghost use Rattle.std.specs.Prelude.{◌≡◌, ◌↔◌, ℕ, List, None, true, false, IfErr, IsErrOf};
-ghost use Rattle.std.specs.Io.KnownBytes.{Appends, Consumes, IsAtEnd, append_known};
+ghost use Rattle.std.specs.Io.KnownBytes.{Appends, Consumes, IsAtEnd};
 ghost use Rattle.std.specs.Io.Buffered.{writer_contents};
 ghost use Rattle.sqlb.specs.Output.{output};
 ghost use Rattle.sqlb.specs.Ran.{EndsUnlessStopped, FailsOnlyToWrite, NamesNoMemory, RunsOutInLine};
-ghost use Rattle.sqlb.specs.Ran.{LosesOnlyIfDeviceFails, Ran, UnlessWriteFails};
+ghost use Rattle.sqlb.specs.Ran.{Ran, RanFlushed};
 
 use crate::fault::{Fault, LineError, Reason};
 use crate::input::read_all;
@@ -97,36 +97,33 @@ pub fn run_input<R: Read, W: Write>(
 }
 
 /// Runs an input as `run_input` does, flushes the buffer before it answers, and gives the writer
-/// back. Where a write has failed, nothing more is written or flushed; a flush that fails is the
-/// fault `Write`, unless a read has failed. What is still held back then is lost.
+/// below it back. Where a write has failed, nothing more is written or flushed; a flush that fails
+/// is the fault `Write`, unless a read has failed. What is still held back then is lost.
 pub(crate) fn run_flushed<R: Read, W: Write + Drop>(
     alloc: Global,
     reader: &mut Watched<R>,
     writer: BufWriter<W>,
-) -> (W, Result<(), Fault>)
+) -> (Watched<W>, Result<(), Fault>)
     requires reader_not_failed { reader.old.failed ≡ false }
     requires reader_not_ended { reader.old.ended ≡ false }
 
-    // What the writer holds, with what is lost behind it, is what it and its buffer held and what
-    // was written, which agrees with what the bytes read say to print.
-    ensures ran { (taken : List ℕ) × (written : List ℕ) × (lost : List ℕ)
-        × Consumes (R.remaining reader.old.inner) (R.remaining reader.new.inner) taken
-        × Appends (writer_contents W.contents writer) (append_known (W.contents result.0) lost) written
-        × Ran result.1 written (output taken)
-        × LosesOnlyIfDeviceFails result.1 lost
-        × UnlessWriteFails result.1 (EndsUnlessStopped result.1 written reader.new.ended
-        × (reader.new.ended ≡ true → RunsOutInLine result.1 written taken)) }
+    ensures ran { RanFlushed result.1 (R.remaining reader.old.inner) (R.remaining reader.new.inner)
+        reader.new.ended (writer_contents W.contents writer) (W.contents result.0.inner) }
     ensures read { IsErrOf result.1 Fault.Read ↔ (reader.new.failed ≡ true) }
+
+    // Unless a read has failed, `Write` is answered exactly where a write or a flush has failed.
+    ensures write { reader.new.failed ≡ false
+        → (IsErrOf result.1 Fault.Write ↔ (result.0.failed ≡ true)) }
     ensures no_memory { IfErr result.1 NamesNoMemory }
 {
     let mut writer = Watched::new(writer);
     let answer = run_input(alloc, reader, &mut writer);
     // Dropped whole, a buffered writer would try once more to write what it holds.
     if writer.failed() {
-        return (writer.into_inner().into_parts().0, Err(Fault::Write));
+        return (writer.into_below(), Err(Fault::Write));
     }
     let flushed = writer.flush_on();
-    let below = writer.into_inner().into_parts().0;
+    let below = writer.into_below();
     match answer {
         Err(Fault::Read) => (below, Err(Fault::Read)),
         _ if flushed.is_err() => (below, Err(Fault::Write)),

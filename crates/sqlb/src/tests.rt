@@ -5,6 +5,7 @@ ghost use Rattle.std.specs.Prelude.{◌<◌, ◌≤◌, IfOk};
 use crate::fault::{Fault, Reason};
 use crate::output::write_fault;
 use crate::run::{run_flushed, run_input};
+use crate::streams::{Ended, run_streams};
 use crate::watched::Watched;
 use sql_builder::SqlBuilderError;
 use std::alloc::{AllocError, Global};
@@ -358,7 +359,7 @@ fn run_buffered<R: Read + Drop>(
     let writer = BufWriter::with_capacity(alloc, 24, writer)?;
     let (writer, answer) = run_flushed(alloc, &mut reader, writer);
     let (line, _) = fault_line(alloc, answer);
-    Ok((writer, line))
+    Ok((writer.into_inner(), line))
 }
 
 #[test]
@@ -379,6 +380,33 @@ fn prints_what_the_lines_say(rt: HostRuntime) -> Result<(), Fail> {
                 "row {row}"
             );
         }
+    }
+    Ok(())
+}
+
+// The writer of a run that has ended, or one that holds nothing.
+fn below(ended: Ended<Small>) -> Small {
+    match ended.writer {
+        Some(writer) => writer.into_inner(),
+        None => Small::new(0, 1, 0),
+    }
+}
+
+#[test]
+fn faults_go_to_the_error_writer(rt: HostRuntime) -> Result<(), Fail> {
+    for (row, (input, prints, fault, status)) in ROWS.iter().enumerate() {
+        let mut reader = Watched::new(*input);
+        let mut errors = Watched::new(Small::new(HELD, HELD, 0));
+        let writer = Small::new(HELD, HELD, 0);
+        let ended = run_streams(rt.alloc(), &mut reader, writer, &mut errors);
+        let status_given = ended.status;
+        let written = below(ended);
+        let errors = errors.into_inner();
+        assert_eq!(rt;
+            (written.held(), errors.held(), status_given),
+            (*prints, *fault, *status),
+            "row {row}"
+        );
     }
     Ok(())
 }

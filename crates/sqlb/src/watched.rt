@@ -1,7 +1,7 @@
 //! A reader or a writer that remembers whether it failed and whether it ended.
 ghost use Rattle.std.specs.Prelude.{◌≡◌, ◌||◌, [], false, is_err, OnOk};
 ghost use Rattle.std.specs.Io.{ReadsAtMost, WritesAtMost};
-ghost use Rattle.std.specs.Io.Buffered.{writer_buffer, writer_contents};
+ghost use Rattle.std.specs.Io.Buffered.{writer_buffer, writer_contents, writer_inner};
 ghost use Rattle.std.specs.Io.KnownBytes.{Keeps, ReadConsumes, WriteAppends};
 ghost use Rattle.sqlb.specs.Watch.{fails_to_write, gives_end};
 
@@ -126,6 +126,20 @@ impl<W: Write> Watched<W> {
 }
 
 impl<W: Write + Drop> Watched<BufWriter<W>> {
+    // The writer below the buffer, and what the calls answered. Nothing is written here: what the
+    // buffer holds back is lost.
+    pub(crate) fn into_below(self) -> Watched<W>
+        ensures inner { result.inner ≡ writer_inner self.inner }
+        ensures failed { result.failed ≡ self.failed }
+        ensures ended { result.ended ≡ self.ended }
+    {
+        Watched {
+            inner: self.inner.into_parts().0,
+            has_failed: self.has_failed,
+            has_ended: self.has_ended,
+        }
+    }
+
     // A flush by one who tries nothing again after an error.
     pub(crate) fn flush_on(&mut self) -> io::Result<()>
         requires not_failed { self.old.failed ≡ false }
