@@ -1,6 +1,6 @@
 //! Prints a builder's clauses as a statement or a query. Each call first adds up the bytes that it
 //! will write, and asks for them in one allocation; then it writes, which can't fail.
-ghost use Rattle.std.specs.Prelude.{◌≡◌, ◌∷◌, ◌++◌, IfOk, IfSome, IsNone, IsOk, OnErr, OnOk, map, string_bytes};
+ghost use Rattle.std.specs.Prelude.{◌≡◌, [], ◌∷◌, ◌++◌, IfOk, IfSome, IsNone, IsOk, OnErr, OnOk, length, map, string_bytes, string_capacity};
 ghost use Rattle.std.specs.List.{list_any};
 ghost use Rattle.sql_parts.specs.Error.{FailsOnlyByMemory};
 ghost use Rattle.sql_parts.specs.Text.{texts};
@@ -25,6 +25,7 @@ use crate::optional_text::OptionalText;
 use crate::text_list::TextList;
 use crate::union_list::UnionList;
 use sql_parts::{SqlBuilderError, ToText};
+use std::alloc::AllocError;
 
 // Words, and a text behind them. It is a part of each caller, where the words' length is known.
 #[inline(always)]
@@ -327,6 +328,16 @@ impl SqlBuilder {
         }
     }
 
+    // An empty text with room for just the text of a finish.
+    #[inline(always)]
+    fn room_for(&self, finish: &Finish) -> Result<String, AllocError>
+        ensures empty { IfOk result (λ s. string_bytes s ≡ []) }
+        ensures exact { IfOk result (λ s. string_capacity s
+            ≡ length (text_at (finish_view finish.now) self.now)) }
+    {
+        String::with_capacity(self.alloc, self.printed_len(finish))
+    }
+
     /// The text of a finish, in one allocation of its length. Its callers take the Result apart by
     /// `?`, so that search finds what follows of the text.
     pub(crate) fn print(&self, finish: &Finish) -> Result<String, SqlBuilderError>
@@ -337,7 +348,7 @@ impl SqlBuilder {
             → FailsOnlyByMemory result }
     {
         self.check_finish(finish)?;
-        let mut out = String::with_capacity(self.alloc, self.printed_len(finish))?;
+        let mut out = self.room_for(finish)?;
         self.push_finished(finish, &mut out);
         Ok(out)
     }
