@@ -18,8 +18,15 @@ fn states_its_laws() {
     laws::added_texts_keep_tokens();
     laws::conditions_are_atoms();
     laws::statements_read_back();
+    laws::statements_keep_tokens();
+    laws::statements_have_truth();
+    laws::statements_nest();
+    laws::builders_print_statements();
     laws::inserts_read_back();
     laws::fit_texts_make_fit_fragments();
+    laws::closed_texts_make_closed_fragments();
+    laws::texts_pass_call_by_call();
+    laws::selects_need_group_by();
     laws::subqueries_nest_as_tables();
     laws::truth_follows_the_form();
     laws::brackets_make_operands();

@@ -11,8 +11,8 @@ use Rattle.sql_builder.specs.Shape.{EndsInOneSemicolon, HasClosedFragments, shap
 use Rattle.sql_builder.specs.Statement.{layout_at, refusal_at, statement, text_at}
 use Rattle.sql_builder.specs.Steps.{with_call}
 use Rattle.sql_builder.specs.Text.{fixed_piece, pieces_text, raw_piece}
-use Rattle.sql_builder.proofs.ClauseShapes.{statement_closed, statement_shape}
 use Rattle.sql_builder.proofs.Runs.{clauses-snoc, clauses-start, statement_printed, text_of_layout}
+use Rattle.sql_builder.proofs.StatementLaws.{of_statement, statements_are_closed, statements_keep_tokens}
 
 -- the clauses after calls, one after another
 abbrev pub with_calls : List CallText → ClauseTexts → ClauseTexts
@@ -69,7 +69,7 @@ pub chain_tokens : {Z : Type 0} {start : StartText} {calls : List CallText} {r :
     → IfOk result (λ s. string_bytes s ≡ text_at finish r) → IfSome (refusal_at finish r) (λ e. result ≡ Err e)
     → HasClosedFragments start calls finish → shape start calls finish ≡ Ok ts → IfOk result (λ s. tokens (string_bytes s) ≡ ts)
 chain_tokens {Z = Z} {start = start} {calls = calls} {ts = ts} finish result told printed refused all is =
-    by result (statement_shape start calls finish result (chain_statement finish result told printed refused) all)
+    by result (of_statement start calls finish _ result (chain_statement finish result told printed refused) (statements_keep_tokens start calls finish all))
   where
     by : (result : Result (String Z) SqlBuilderError) → IfOk result (λ s. shape start calls finish ≡ Ok (tokens (string_bytes s))) → IfOk result (λ s. tokens (string_bytes s) ≡ ts)
     by (Err e) h = tt
@@ -80,7 +80,7 @@ pub chain_closed : {Z : Type 0} {start : StartText} {calls : List CallText} {r :
     → IfOk result (λ s. string_bytes s ≡ text_at finish r) → IfSome (refusal_at finish r) (λ e. result ≡ Err e)
     → HasClosedFragments start calls finish → IfOk result (λ s. IsTrue (closed (string_bytes s)))
 chain_closed {start = start} {calls = calls} finish result told printed refused all =
-    statement_closed start calls finish result (chain_statement finish result told printed refused) all
+    of_statement start calls finish _ result (chain_statement finish result told printed refused) (statements_are_closed start calls finish all)
 
 -- all but the last of a list
 abbrev pub but_last : {X : Type 0} → List X → List X

@@ -1,7 +1,6 @@
 -- The pieces of each clause of a list of calls keep their tokens.
-use Rattle.std.proofs.Common.{◌≡◌, ℕ, Bool, true, false, List, [], ◌∷◌, ◌++◌, Option, None, Some, map, codes, refl, flat_map, subst, Result, Ok, Err, IfOk, String, string_bytes, ap, sym, ◌∙◌}
+use Rattle.std.proofs.Common.{◌≡◌, ℕ, Bool, true, false, List, [], ◌∷◌, ◌++◌, Option, None, Some, map, codes, refl, flat_map, subst, IfOk, ap, sym, ◌∙◌}
 use Rattle.std.specs.Prelude.{IfSome, IsTrue}
-use Rattle.std.specs.Result.{result_map_both}
 use Rattle.sql_builder.specs.Builder.{ClauseTexts, with_fields, with_on, with_set}
 use Rattle.std.specs.List.{AllByRecursion}
 use Rattle.sql_parts.specs.Tokens.{closed, ends_with, is_edge, tokens}
@@ -14,8 +13,8 @@ use Rattle.sql_builder.specs.Condition.{ConditionText, condition_bytes, conditio
 use Rattle.sql_builder.specs.Filters.{Group, in_place, last_said, since, until}
 use Rattle.sql_builder.specs.Phrases.{comma_list, count, count_as, equation, join_words, order}
 use Rattle.sql_builder.specs.Clauses.{Clauses, map_clauses}
-use Rattle.sql_builder.specs.Shape.{EndsInOneSemicolon, has_closed_fragments, has_no_semicolons, AddsText, HasClosedFragments, KeepsTokens, as_fragments, pieces_tokens, shape}
-use Rattle.sql_builder.specs.Statement.{layout_at, pieces, refusal_at, statement, text_unless_refused, unless_refused}
+use Rattle.sql_builder.specs.Shape.{EndsInOneSemicolon, has_closed_fragments, has_no_semicolons, AddsText, KeepsTokens, as_fragments}
+use Rattle.sql_builder.specs.Statement.{layout_at, pieces, refusal_at, unless_refused}
 use Rattle.sql_builder.specs.Text.{Pieces, fixed_piece, pieces_text, quoted_piece, raw_piece}
 use Rattle.sql_builder.specs.Steps.{AddsBinary, with_binary}
 use Rattle.sql_builder.specs.declared.steps.BinaryClause.{BinaryClause}
@@ -194,30 +193,6 @@ clauses-parts start calls =
 -- what a list of calls prints
 pub printed-shaped : (start : StartText) (calls : List CallText) (finish : FinishText) → Shaped (layout_at fixed_piece raw_piece finish (clauses start calls))
 printed-shaped start calls finish = layout-shaped finish (clauses start calls) (clauses-parts start calls)
-
--- what is known of a text that is a statement, where the statement's pieces keep their tokens
-module _ (layout : Pieces) (inside : Shaped layout) where
-  printed-shape : (refusal : Option SqlBuilderError) (text : List ℕ) → text_unless_refused (unless_refused refusal layout) ≡ Ok text
-      → IfOk (unless_refused refusal layout) (λ printed. IsTrue (has_closed_fragments printed))
-      → result_map_both pieces_tokens (λ e. e) (unless_refused refusal layout) ≡ Ok (tokens text)
-  printed-shape None text is all = let same : pieces_text layout ≡ text = cc is in ap Ok (sym (inside.shape_is all) ∙ ap tokens same)
-  printed-shape (Some refusal) text is all = cc is
-
-  printed-closed : (refusal : Option SqlBuilderError) (text : List ℕ) → text_unless_refused (unless_refused refusal layout) ≡ Ok text
-      → IfOk (unless_refused refusal layout) (λ printed. IsTrue (has_closed_fragments printed)) → IsTrue (closed text)
-  printed-closed None text is all = let same : pieces_text layout ≡ text = cc is in subst (λ t. closed t ≡ true) same (shape_closed layout inside all)
-  printed-closed (Some refusal) text is all = cc is
-
-module _ {Z : Type 0} (start : StartText) (calls : List CallText) (finish : FinishText) where
-  pub statement_shape : (result : Result (String Z) SqlBuilderError) → IfOk result (λ s. statement start calls finish ≡ Ok (string_bytes s))
-      → HasClosedFragments start calls finish → IfOk result (λ s. shape start calls finish ≡ Ok (tokens (string_bytes s)))
-  statement_shape (Err e) is all = tt
-  statement_shape (Ok s) is all = printed-shape _ (printed-shaped start calls finish) (refusal_at finish (map_clauses pieces_text (clauses start calls))) (string_bytes s) is all
-
-  pub statement_closed : (result : Result (String Z) SqlBuilderError) → IfOk result (λ s. statement start calls finish ≡ Ok (string_bytes s))
-      → HasClosedFragments start calls finish → IfOk result (λ s. IsTrue (closed (string_bytes s)))
-  statement_closed (Err e) is all = tt
-  statement_closed (Ok s) is all = printed-closed _ (printed-shaped start calls finish) (refusal_at finish (map_clauses pieces_text (clauses start calls))) (string_bytes s) is all
 
 -- what a condition and a call with two texts print
 keeps : (printed : Pieces) (text : List ℕ) → Inside printed → pieces_text printed ≡ text → KeepsTokens printed text

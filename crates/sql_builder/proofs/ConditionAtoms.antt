@@ -25,7 +25,7 @@ use Rattle.sql_parts.specs.Fragments.{is_joining, operand, balanced}
 use Rattle.sql_builder.proofs.ClauseShapes.{adds, condition_keeps}
 use Rattle.sql_builder.specs.Builder.{ClauseTexts, with_condition, with_condition_bytes}
 use Rattle.sql_builder.specs.declared.condition.Family.{Family}
-use Rattle.sql_builder.proofs.BalancedPieces.{Balanced, balanced-joins, quoteds-balanced, raws-balanced, within}
+use Rattle.sql_builder.proofs.PassingTexts.{Passes, passes-joins, quoteds-pass, raws-pass, within}
 use Rattle.sql_builder.specs.Steps.{AddsConditionSealed}
 
 walked : (f : List ℕ) → operand f ≡ true → is_operand (tokens f) ≡ true
@@ -48,8 +48,8 @@ in-atom : (negated : Bool) (f : List ℕ) (inner : Pieces) → operand f ≡ tru
 in-atom true f inner h even = subst (λ ts. IsAtom (tokens f ++ not_word ∷ in_word ∷ ts)) (sym (pieces_tokens-brackets inner)) (atom_not_in (tokens f) (pieces_tokens inner) (walked f h) even)
 in-atom false f inner h even = subst (λ ts. IsAtom (tokens f ++ in_word ∷ ts)) (sym (pieces_tokens-brackets inner)) (atom_in (tokens f) (pieces_tokens inner) (walked f h) even)
 
-list-even : (items : List Pieces) → Each Calm items → Each Balanced items → is_even (pieces_tokens (comma_list fixed_piece items)) ≡ true
-list-even items calm all = shape-even (comma_list fixed_piece items) (listed Balanced balanced-joins items all) (calm-list items calm).even
+list-even : (items : List Pieces) → Each Calm items → Each (Passes balanced) items → is_even (pieces_tokens (comma_list fixed_piece items)) ≡ true
+list-even items calm all = shape-even (comma_list fixed_piece items) (listed (Passes balanced) (passes-joins balanced) items all) (calm-list items calm).even
 
 between : (negated : Bool) (f a b : List ℕ) → operand f ≡ true → operand a ≡ true → operand b ≡ true → IsAtom (cond_tokens (Between negated f a b))
 between true f a b h k l = subst (λ ts. IsAtom (tokens f ++ not_word ∷ between_word ∷ (tokens a ++ and_word ∷ ts))) (sym (append-nil (tokens b))) (atom_not_between (tokens f) (tokens a) (tokens b) (walked f h) (walked a k) (walked b l))
@@ -64,10 +64,10 @@ condition_atom (IsNull field) = λ h. atom_null (tokens field) (walked field h)
 condition_atom (IsNotNull field) = λ h. atom_not_null (tokens field) (walked field h)
 condition_atom (InList negated field values) = λ h.
     let both = and_parts (operand field) (list_all balanced values) h in
-    in-atom negated field (comma_list fixed_piece (map raw_piece values)) both.0 (list-even (map raw_piece values) (map-all Calm raw_piece calm-raw values) (raws-balanced values both.1))
+    in-atom negated field (comma_list fixed_piece (map raw_piece values)) both.0 (list-even (map raw_piece values) (map-all Calm raw_piece calm-raw values) (raws-pass balanced values both.1))
 condition_atom (InQuoted negated field values) = λ h.
     in-atom negated field (comma_list fixed_piece (map quoted_piece values)) h
-    (list-even (map quoted_piece values) (map-all Calm quoted_piece (λ v. record { even = refl; no_word = refl }) values) (quoteds-balanced values))
+    (list-even (map quoted_piece values) (map-all Calm quoted_piece (λ v. record { even = refl; no_word = refl }) values) (quoteds-pass balanced values))
 condition_atom (InQuery negated field query) = λ h.
     let both = and_parts (operand field) (balanced query) h in
     in-atom negated field (raw_piece query) both.0 (shape-even (raw_piece query) (and_from _ _ both.1 refl) refl)
@@ -91,10 +91,10 @@ operands_balanced (IsNotNull field) h = and_from _ _ (operand_balanced field h) 
 operands_balanced (InList negated field values) h =
     let both = and_parts (operand field) (list_all balanced values) h in
     and_from _ _ (operand_balanced field both.0)
-    (within (not_text negated ++ codes " IN (") (comma_list fixed_piece (map raw_piece values)) (codes ")") (listed Balanced balanced-joins (map raw_piece values) (raws-balanced values both.1)))
+    (within balanced (not_text negated ++ codes " IN (") (comma_list fixed_piece (map raw_piece values)) (codes ")") (listed (Passes balanced) (passes-joins balanced) (map raw_piece values) (raws-pass balanced values both.1)))
 operands_balanced (InQuoted negated field values) h =
     and_from _ _ (operand_balanced field h)
-    (within (not_text negated ++ codes " IN (") (comma_list fixed_piece (map quoted_piece values)) (codes ")") (listed Balanced balanced-joins (map quoted_piece values) (quoteds-balanced values)))
+    (within balanced (not_text negated ++ codes " IN (") (comma_list fixed_piece (map quoted_piece values)) (codes ")") (listed (Passes balanced) (passes-joins balanced) (map quoted_piece values) (quoteds-pass balanced values)))
 operands_balanced (InQuery negated field query) h =
     let both = and_parts (operand field) (balanced query) h in
     and_from _ _ (operand_balanced field both.0) (and_from _ _ both.1 refl)

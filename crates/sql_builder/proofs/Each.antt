@@ -27,6 +27,13 @@ last-some {Y = Y} P f each (x ∷ xs) before holds = by (f x) (each x) (λ said 
     by None keeps rest = rest before holds
     by (Some y) keeps rest = rest (Some y) keeps
 
+-- a test that another one implies
+pub all-weaker : {X : Type 0} (ok other : X → Bool) → ((x : X) → ok x ≡ true → other x ≡ true) → (xs : List X) → list_all ok xs ≡ true → list_all other xs ≡ true
+all-weaker ok other each [] all = refl
+all-weaker ok other each (x ∷ xs) all =
+    let both = and_parts (ok x) (list_all ok xs) all in
+    and_from _ _ (each x both.0) (all-weaker ok other each xs both.1)
+
 -- what holds of all elements holds of those of each group that they are cut into
 module _ {X : Type 0} (ok opens : X → Bool) where
   abbrev group_ok : Group X → Bool

@@ -1,12 +1,12 @@
 -- Texts that are fit, one by one, make fragments that are fit.
-use Rattle.sql_builder.specs.Handed.{Bare, Enclosed, is_fit}
+use Rattle.sql_builder.specs.Handed.{Handed, Bare, Enclosed, is_fit}
+use Rattle.sql_builder.specs.HandedTexts.{all_pass, handed_text}
 use Rattle.sql_builder.proofs.ConditionPieces.{condition-kept}
-use Rattle.sql_builder.proofs.Takes.{Each, Joins, Takes, before-each, joined, listed}
+use Rattle.sql_builder.proofs.Takes.{Each, Joins, Takes, listed}
 use Rattle.std.proofs.Common.{◌≡◌, refl, sym, ◌∙◌, ap, subst, ℕ, suc, ℤ, Bool, true, false, not, ◌&&◌, List, [], ◌∷◌, ◌++◌, Option, None, Some, IfOk, map, pos, codes}
-use Rattle.std.specs.Prelude.{IfSome, IsTrue}
-use Rattle.std.specs.List.{AllByRecursion, list_all}
+use Rattle.std.specs.Prelude.{IsTrue}
+use Rattle.std.specs.List.{list_all}
 use Rattle.std.proofs.lemmas.Bool.{and_parts, and_from, false≢true}
-use Rattle.std.proofs.lemmas.List.Folds.{list_all-map}
 use Rattle.sql_parts.specs.Fragments.{balanced, has_clause_word, is_clause_word}
 use Rattle.sql_parts.specs.Tokens.{Token, tokens}
 use Rattle.sql_parts.specs.declared.error.SqlBuilderError.{SqlBuilderError}
@@ -15,19 +15,17 @@ use Rattle.sql_builder.specs.Calls.{CallText, FinishText, StartText, SelectFrom,
 use Rattle.sql_builder.specs.Clauses.{Clauses}
 use Rattle.sql_builder.specs.Condition.{not_text, condition_pieces}
 use Rattle.sql_builder.specs.Filters.{until}
-use Rattle.sql_builder.specs.Fitting.{are_fit, has_fit_fragments, begins_union, call_handed, encloses_fields, field_text, finish_handed, has_balanced_fragments, has_fit_conditions, has_fit_texts, own, own_tokens, start_handed}
+use Rattle.sql_builder.specs.Fitting.{are_fit, has_fit_fragments, begins_union, call_handed, encloses_fields, finish_handed, has_balanced_fragments, has_fit_conditions, has_fit_texts, own, own_tokens, start_handed}
 use Rattle.sql_builder.specs.Laws.{FitTextsMakeBalancedFragments, FitTextsMakeFitConditions, FitTextsMakeFitFragments}
-use Rattle.sql_builder.specs.Layout.{Section, concat_sections, fields_or_star, group_by_sections, insert_sections, insert_target, list_sections, optional_section, order_by_sections, query, query_sections, range_sections, returning_sections, statement_sections, union_sections, values_sections, where_sections}
+use Rattle.sql_builder.specs.Layout.{Section, concat_sections}
 use Rattle.sql_builder.specs.Meaning.{is_unenclosed}
 use Rattle.sql_builder.specs.Phrases.{comma_list, in_brackets}
 use Rattle.sql_builder.specs.Statement.{unless_refused}
 use Rattle.sql_builder.specs.Text as printed
 use Rattle.sql_builder.specs.Text.{Piece, Pieces, fixed_piece, quoted_piece, raw_piece}
-use Rattle.sql_builder.specs.declared.clauses.Kind.{Kind}
-use Rattle.sql_builder.specs.declared.clauses.Kind.TheVariants as kind
 use Rattle.sql_builder.proofs.Balance.{is_even-append}
 use Rattle.sql_builder.proofs.CalmClauses.{calm-append, calm-brackets, calm-none, calm-raw}
-use Rattle.sql_builder.proofs.Each.{append-all}
+use Rattle.sql_builder.proofs.Each.{all-weaker}
 use Rattle.sql_builder.proofs.ClauseParts.{PartsAre}
 use Rattle.sql_builder.proofs.Handing.{clauses-kept}
 use Rattle.sql_builder.proofs.OwnWords.{are_fit-is, are_fit_from, even-ends, or_so}
@@ -37,7 +35,7 @@ use Rattle.sql_builder.proofs.OwnWords as own_words
 use Rattle.sql_builder.proofs.Placing.{at_end-append}
 use Rattle.sql_builder.proofs.ReadBack.{layout}
 use Rattle.sql_builder.proofs.WhereTokens.{has_clause}
-use Rattle.sql_builder.proofs.BalancedPieces.{Balanced, balanced-append, balanced-joins, quoteds-balanced, raw-balanced, raws-balanced, within}
+use Rattle.sql_builder.proofs.PassingTexts.{Passes, printed-passes}
 use Rattle.sql_builder.proofs.Layouts as layouts
 use Rattle.sql_builder.proofs.ClauseShapes.{clauses-parts}
 
@@ -174,128 +172,18 @@ layout-fits (SubqueryAs name) r parts good bare = absurd (false≢true bare)
 
 -- ---- all that is printed is balanced
 
-bare-balanced : (text : List ℕ) → is_fit (Bare text) ≡ true → balanced text ≡ true
-bare-balanced text h = (and_parts (balanced text) (not (has_clause_word text)) h).0
+fit-balanced : (handed : Handed) → is_fit handed ≡ true → balanced (handed_text handed) ≡ true
+fit-balanced (Bare text) h = (and_parts (balanced text) (not (has_clause_word text)) h).0
+fit-balanced (Enclosed text) h = h
 
-field-balanced : (enclosed : Bool) (field : List ℕ) → is_fit (field_text enclosed field) ≡ true → balanced field ≡ true
-field-balanced true field h = h
-field-balanced false field h = bare-balanced field h
+all-balanced : (handed : List Handed) → list_all is_fit handed ≡ true → all_pass balanced handed ≡ true
+all-balanced handed all = all-weaker is_fit (λ h. balanced (handed_text h)) fit-balanced handed all
 
-balanced-takes : (enclosed : Bool) → Takes enclosed is_fit Balanced Balanced Balanced
-balanced-takes enclosed = record {
-  joins = balanced-joins;
-  bare = λ text h. raw-balanced text (bare-balanced text h);
-  quoted = λ text. refl;
-  row = λ values all. within (codes "(") (comma_list fixed_piece (map raw_piece values)) (codes ")") (listed Balanced balanced-joins (map raw_piece values) (raws-balanced values (sym (list_all-map is_fit Enclosed values) ∙ all)));
-  in_list = λ negated values all. within (not_text negated ++ codes " IN (") (comma_list fixed_piece (map raw_piece values)) (codes ")") (listed Balanced balanced-joins (map raw_piece values) (raws-balanced values (sym (list_all-map is_fit Enclosed values) ∙ all)));
-  in_quoted = λ negated values. within (not_text negated ++ codes " IN (") (comma_list fixed_piece (map quoted_piece values)) (codes ")") (listed Balanced balanced-joins (map quoted_piece values) (quoteds-balanced values));
-  in_query = λ negated query h. within (not_text negated ++ codes " IN (") (raw_piece query) (codes ")") (raw-balanced query h);
-  field = λ field h. raw-balanced field (field-balanced enclosed field h);
-  count = λ field h. within (codes "COUNT(") (raw_piece field) (codes ")") (raw-balanced field h);
-  count_as = λ field name h k. and_from _ _ h (and_from _ _ (field-balanced enclosed name k) refl);
-  union = λ query h. raw-balanced query h;
-}
-
--- the bodies of sections
-abbrev Bodies : List (Section Piece) → Type 0
-Bodies sections = AllByRecursion (λ (s : Section Piece). Balanced s.body) sections
-
-bodies-append : (one other : List (Section Piece)) → Bodies one → Bodies other → Bodies (one ++ other)
-bodies-append one other all too = append-all (λ (s : Section Piece). Balanced s.body) one other all too
-
-sections-balanced : (sections : List (Section Piece)) → Bodies sections → Balanced (concat_sections fixed_piece sections)
-sections-balanced [] all = refl
-sections-balanced (s ∷ sections) all = balanced-append s.body (concat_sections fixed_piece sections) all.0 (sections-balanced sections all.1)
-
-optional-bodies : (words : List ℕ) (body : Option Pieces) → IfSome body Balanced → Bodies (optional_section words body)
-optional-bodies words None h = tt
-optional-bodies words (Some body) h = (h, tt)
-
-list-bodies : (words : List ℕ) (items : List Pieces) → Each Balanced items → Bodies (list_sections fixed_piece words items)
-list-bodies words [] all = tt
-list-bodies words (item ∷ items) all = (listed Balanced balanced-joins (item ∷ items) all, tt)
-
-in-brackets : (items : List Pieces) → Each Balanced items → Each Balanced (map (in_brackets fixed_piece) items)
-in-brackets [] all = tt
-in-brackets (item ∷ items) all = (within (codes "(") item (codes ")") all.0, in-brackets items all.1)
-
-where-bodies : (groups : List Pieces) → Each Balanced groups → Bodies (where_sections fixed_piece groups)
-where-bodies [] all = tt
-where-bodies (g ∷ []) all = (all.0, tt)
-where-bodies (g ∷ h ∷ gs) all =
-    (joined Balanced balanced-joins (codes " AND ") (record { even = refl; no_word = refl }) (map (in_brackets fixed_piece) (g ∷ h ∷ gs)) (in-brackets (g ∷ h ∷ gs) all), tt)
-
-group_by-bodies : (fields : List Pieces) (having : Option Pieces) → Each Balanced fields → IfSome having Balanced → Bodies (group_by_sections fixed_piece fields having)
-group_by-bodies [] having all h = tt
-group_by-bodies (field ∷ fields) having all h = (listed Balanced balanced-joins (field ∷ fields) all, optional-bodies (codes " HAVING ") having h)
-
-union-bodies : (unions : List (Bool × Pieces)) → AllByRecursion (λ (union : Bool × Pieces). Balanced union.1) unions → Bodies (union_sections unions)
-union-bodies [] all = tt
-union-bodies (union ∷ unions) all = (all.0, union-bodies unions all.1)
-
-order_by-bodies : (unions : List (Bool × Pieces)) (fields : List Pieces) → Each Balanced fields → Bodies (order_by_sections fixed_piece unions fields)
-order_by-bodies [] fields all = list-bodies (codes " ORDER BY ") fields all
-order_by-bodies (union ∷ unions) fields all = tt
-
-fields-balanced : (fields : List Pieces) → Each Balanced fields → Balanced (fields_or_star fixed_piece fields)
-fields-balanced [] all = refl
-fields-balanced (field ∷ fields) all = listed Balanced balanced-joins (field ∷ fields) all
-
-module _ (r : Clauses Pieces) (parts : PartsAre Balanced Balanced Balanced r) where
-  wheres : Bodies (where_sections fixed_piece r.groups)
-  wheres = where-bodies r.groups parts.groups
-
-  returned : Bodies (returning_sections r)
-  returned = optional-bodies (codes " RETURNING ") r.returning parts.returning
-
-  query-bodies : Bodies (query_sections fixed_piece r)
-  query-bodies =
-      let grouped = group_by_sections fixed_piece r.group_fields r.having in
-      let united = union_sections r.unions in
-      let ordered = order_by_sections fixed_piece r.unions r.order_fields in (
-        fields-balanced r.fields parts.fields,
-        (
-          balanced-append r.table _ parts.table (before-each Balanced balanced-joins (codes " ") (record { even = refl; no_word = refl }) r.joins parts.joins),
-          bodies-append (where_sections fixed_piece r.groups) (grouped ++ (united ++ (ordered ++ range_sections r))) wheres
-              (bodies-append grouped (united ++ (ordered ++ range_sections r)) (group_by-bodies r.group_fields r.having parts.group_fields parts.having)
-              (bodies-append united (ordered ++ range_sections r) (union-bodies r.unions parts.unions)
-              (bodies-append ordered (range_sections r) (order_by-bodies r.unions r.order_fields parts.order_fields)
-              (bodies-append (optional_section (codes " LIMIT ") r.limit) (optional_section (codes " OFFSET ") r.offset)
-              (optional-bodies (codes " LIMIT ") r.limit parts.limit) (optional-bodies (codes " OFFSET ") r.offset parts.offset))))),
-        ),
-      )
-
-  values-bodies : Bodies (values_sections fixed_piece r)
-  values-bodies = (listed Balanced balanced-joins r.fields parts.fields, tt)
-
-  target-balanced : Balanced (insert_target fixed_piece r)
-  target-balanced =
-      balanced-append r.table _ parts.table
-      (within (codes " (") (comma_list fixed_piece r.fields) (codes ")") (listed Balanced balanced-joins r.fields parts.fields))
-
-  insert-bodies : (given : Option Pieces) → IfSome given Balanced → Bodies (insert_sections fixed_piece given r)
-  insert-bodies None h = (target-balanced, (listed Balanced balanced-joins r.rows parts.rows, returned))
-  insert-bodies (Some query) h = (balanced-append (insert_target fixed_piece r) (fixed_piece (codes " ") ++ query) target-balanced h, returned)
-
-  statement-bodies : (k : Kind) → Bodies (statement_sections fixed_piece k r)
-  statement-bodies kind.SelectFrom = query-bodies
-  statement-bodies kind.SelectValues = values-bodies
-  statement-bodies kind.InsertInto = insert-bodies r.query parts.query
-  statement-bodies kind.UpdateTable =
-      (parts.table, (listed Balanced balanced-joins r.sets parts.sets, bodies-append (where_sections fixed_piece r.groups) (returning_sections r) wheres returned))
-  statement-bodies kind.DeleteFrom = (parts.table, bodies-append (where_sections fixed_piece r.groups) (returning_sections r) wheres returned)
-
-  query-balanced : Balanced (query fixed_piece r)
-  query-balanced = sections-balanced (query_sections fixed_piece r) query-bodies
-
-  layout-balanced : (finish : FinishText) → list_all is_fit (finish_handed finish) ≡ true → Balanced (layout finish r)
-  layout-balanced Sql h = balanced-append (concat_sections fixed_piece (statement_sections fixed_piece r.kind r)) (fixed_piece (codes ";")) (sections-balanced (statement_sections fixed_piece r.kind r) (statement-bodies r.kind)) refl
-  layout-balanced Query h = query-balanced
-  layout-balanced QueryValues h = sections-balanced (values_sections fixed_piece r) values-bodies
-  layout-balanced Subquery h = within (codes "(") (query fixed_piece r) (codes ")") query-balanced
-  layout-balanced (SubqueryAs name) h =
-      balanced-append (query fixed_piece r) (fixed_piece (codes ") AS ") ++ raw_piece name) query-balanced
-      (raw-balanced name (bare-balanced name (and_parts (is_fit (Bare name)) true h).0))
+calls-balanced : (enclosed : Bool) (calls : List CallText) → list_all (λ c. list_all is_fit (call_handed enclosed c)) calls ≡ true
+    → list_all (λ c. all_pass balanced (call_handed enclosed c)) calls ≡ true
+calls-balanced enclosed calls all =
+    all-weaker (λ (c : CallText). list_all is_fit (call_handed enclosed c)) (λ (c : CallText). all_pass balanced (call_handed enclosed c))
+    (λ c. all-balanced (call_handed enclosed c)) calls all
 
 -- ---- what the texts that are handed in make
 
@@ -328,10 +216,11 @@ module _ (start : StartText) (calls : List CallText) (finish : FinishText) (all 
       let first = and_parts (list_all is_fit (start_handed start)) calls_fit both.0 in
       (first.0, first.1, both.1)
 
-  all-balanced : Balanced (layout finish (clauses start calls))
-  all-balanced =
+  printed-balanced : Passes balanced (layout finish (clauses start calls))
+  printed-balanced =
       let enclosed = encloses_fields start finish in
-      layout-balanced (clauses start calls) (clauses-kept enclosed is_fit Balanced Balanced Balanced (balanced-takes enclosed) start calls told.0 (first-fields start finish told.0) told.1) finish told.2
+      printed-passes balanced enclosed start calls finish (all-balanced (start_handed start) told.0) (calls-balanced enclosed calls told.1)
+      (all-balanced (finish_handed finish) told.2)
 
 -- fields that nothing encloses
 bare-fit : (start : StartText) (calls : List CallText) (finish : FinishText) → encloses_fields start finish ≡ false → has_fit_texts start calls finish ≡ true → is_unenclosed finish ≡ true
@@ -361,7 +250,7 @@ all-fit (InsertInto table) calls QueryValues all bare = bare-fit (InsertInto tab
 all-fit (InsertInto table) calls Subquery all bare = absurd (false≢true bare)
 all-fit (InsertInto table) calls (SubqueryAs name) all bare = absurd (false≢true bare)
 
-unless : (refusal : Option SqlBuilderError) (printed : Pieces) (test : Pieces → Bool) → test printed ≡ true → IfOk (unless_refused refusal printed) (λ ps. IsTrue (test ps))
+pub unless : (refusal : Option SqlBuilderError) (printed : Pieces) (test : Pieces → Bool) → test printed ≡ true → IfOk (unless_refused refusal printed) (λ ps. IsTrue (test ps))
 unless None printed test h = h
 unless (Some refusal) printed test h = tt
 
@@ -372,4 +261,4 @@ pub fit_conditions : FitTextsMakeFitConditions
 fit_conditions start calls finish all = conditions-fit (encloses_fields start finish) calls (told start calls finish all).1
 
 pub balanced_fragments : FitTextsMakeBalancedFragments
-balanced_fragments start calls finish h = unless _ (layout finish (clauses start calls)) has_balanced_fragments (all-balanced start calls finish h)
+balanced_fragments start calls finish h = unless _ (layout finish (clauses start calls)) has_balanced_fragments (printed-balanced start calls finish h)

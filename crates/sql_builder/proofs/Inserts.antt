@@ -19,10 +19,12 @@ use Rattle.sql_builder.specs.Parts.{Parts, parts_at, before_outer, with_front}
 use Rattle.sql_builder.specs.Phrases.{comma_list}
 use Rattle.sql_builder.specs.Reading.{Clause, is_union, own_placed, read, without_semicolon}
 use Rattle.sql_builder.specs.Shape.{HasShape, as_fragments, pieces_tokens}
-use Rattle.sql_builder.specs.Statement.{text_unless_refused, unless_refused}
+use Rattle.sql_builder.specs.Statement.{refusal_at, text_unless_refused, unless_refused}
+use Rattle.sql_builder.specs.StatementLaws.{made_by}
 use Rattle.sql_builder.specs.Text.{Pieces, fixed_piece, pieces_text, raw_piece}
 use Rattle.sql_builder.proofs.Balance.{even_closes, even_text, has_outer-append, is_even-append}
 use Rattle.sql_builder.proofs.CalmClauses.{CalmParts, calm-append, calm-list, calm-target, clauses-calm, raw-calm}
+use Rattle.sql_builder.proofs.ClauseShapes.{printed-shaped}
 use Rattle.sql_builder.proofs.Joining.{placed-then}
 use Rattle.sql_builder.proofs.Layouts.{sql_shape, query_shape}
 use Rattle.sql_builder.specs.Filters.{until}
@@ -30,10 +32,11 @@ use Rattle.sql_builder.proofs.Nesting.{query-balanced}
 use Rattle.sql_builder.proofs.OwnLayouts.{query-opens}
 use Rattle.sql_builder.proofs.OwnSections.{Calm, Front, any_union, before-append, calm-front, front-append, lead_on, opening_clauses, own-outer, section-clauses, starts-lead, union-marks, with_last, sections-front, until-behind}
 use Rattle.sql_builder.proofs.OwnWords.{are_fit-is, are_fit_from, fit-balanced, fit-marks, fragments_closed, marks, same-parts, shape-even}
+use Rattle.sql_builder.proofs.PassingTexts.{passes-append}
 use Rattle.sql_builder.proofs.Placing.{at_end-closes}
-use Rattle.sql_builder.proofs.ReadBack.{printed-tokens, refused, printed}
 use Rattle.sql_builder.proofs.ReadTokens.{semicolon-none, semicolon-one}
 use Rattle.sql_builder.proofs.Shapes.{pieces_tokens-append}
+use Rattle.sql_builder.proofs.StatementLaws.{of_pieces}
 
 -- ---- the parts of lists that are joined
 
@@ -167,12 +170,9 @@ abbrev insert_with : Clauses Pieces → List Token → List Clause → List Clau
 insert_with r lead found =
     (Word (codes "INSERT"), Word (codes "INTO") ∷ (pieces_tokens (insert_target fixed_piece r) ++ lead)) ∷ (found ++ returning_clauses r.returning)
 
-balanced-append : (a b : Pieces) → has_balanced_fragments a ≡ true → has_balanced_fragments b ≡ true → has_balanced_fragments (a ++ b) ≡ true
-balanced-append a b one other = list_all-append is_balanced_piece a b ∙ and_from _ _ one other
-
 returned-balanced : (given : Option Pieces) → is_fit_returning given ≡ true → has_balanced_fragments (concat_sections fixed_piece (optional_section (codes " RETURNING ") given)) ≡ true
 returned-balanced None fit = refl
-returned-balanced (Some body) fit = balanced-append body [] (fit-balanced (pos 0) body (sym (are_fit-is body) ∙ fit)) refl
+returned-balanced (Some body) fit = passes-append balanced body [] (fit-balanced (pos 0) body (sym (are_fit-is body) ∙ fit)) refl
 
 insert-front : Front (tokens (codes "INSERT INTO "))
 insert-front = record { laid = refl; even = refl; no_union = refl }
@@ -237,9 +237,9 @@ module _ (r : Clauses Pieces) (query : List ℕ) (calm : CalmParts r) (is_one : 
 
   insert-balanced : has_balanced_fragments insert_pieces ≡ true
   insert-balanced =
-      balanced-append (opened ++ concat_sections fixed_piece (returning_sections r)) (fixed_piece (codes ";"))
-      (balanced-append opened (concat_sections fixed_piece (returning_sections r))
-      (balanced-append (insert_target fixed_piece r) (fixed_piece (codes " ") ++ raw_piece query) target-balanced (and_from _ _ (and_parts (balanced query) _ is_one).0 refl))
+      passes-append balanced (opened ++ concat_sections fixed_piece (returning_sections r)) (fixed_piece (codes ";"))
+      (passes-append balanced opened (concat_sections fixed_piece (returning_sections r))
+      (passes-append balanced (insert_target fixed_piece r) (fixed_piece (codes " ") ++ raw_piece query) target-balanced (and_from _ _ (and_parts (balanced query) _ is_one).0 refl))
       (returned-balanced r.returning (and_parts (are_fit (insert_target fixed_piece r)) (is_fit_returning r.returning) fit).1))
       refl
 
@@ -276,7 +276,7 @@ abbrev inserted : Option Pieces → Clauses Pieces → Pieces
 inserted given r = concat_sections fixed_piece (insert_sections fixed_piece given r) ++ fixed_piece (codes ";")
 
 pub inserts_read_back : InsertsReadBack
-inserts_read_back table calls query given is_one fit = by (refused (call.InsertInto table) calls Sql)
+inserts_read_back table calls query given is_one fit = by (refusal_at Sql (made_by (call.InsertInto table) calls))
   where
     by : (refusal : Option SqlBuilderError)
         → IfOk (text_unless_refused (unless_refused refusal (inserted (query_of calls) (clauses (call.InsertInto table) calls))))
@@ -285,7 +285,7 @@ inserts_read_back table calls query given is_one fit = by (refused (call.InsertI
         let r = clauses (call.InsertInto table) calls in
         let text = pieces_text (inserted (query_of calls) r) in
         insert-reads r query (clauses-calm (call.InsertInto table) calls) is_one fit text
-        (subst (λ q. HasShape (inserted q r) text) given (printed-tokens (call.InsertInto table) calls Sql text refl))
+        (subst (λ q. HasShape (inserted q r) text) given (printed-shaped (call.InsertInto table) calls Sql).shape_is)
     by (Some refusal) = tt
 
 -- ---- a builder
@@ -301,13 +301,10 @@ builders_of_inserts_read_back r query kind given is_one fit =
 -- ---- queries without unions
 
 pub queries_are_one : QueriesAreOne
-queries_are_one start calls none fit = by (refused start calls Query) fit
-  where
-    by : (refusal : Option SqlBuilderError) → IfOk (printed start calls Query refusal) (λ ps. IsTrue (has_fit_fragments ps))
-        → IfOk (text_unless_refused (printed start calls Query refusal)) (λ text. IsTrue (is_one_query text))
-    by None fit = let text = pieces_text (query fixed_piece (clauses start calls)) in
-        one-query (clauses start calls) (clauses-calm start calls) none fit text (printed-tokens start calls Query text refl)
-    by (Some refusal) fit = tt
+queries_are_one start calls none =
+    let said = clauses start calls in
+    of_pieces start calls Query (λ printed. IsTrue (has_fit_fragments printed)) (λ printed text. IsTrue (is_one_query text))
+    (λ fit. one-query said (clauses-calm start calls) none fit (pieces_text (query fixed_piece said)) (printed-shaped start calls Query).shape_is)
 
 pub builders_of_queries_are_one : BuildersOfQueriesAreOne
 builders_of_queries_are_one r none fit =

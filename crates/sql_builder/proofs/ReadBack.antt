@@ -1,31 +1,26 @@
 -- What is printed reads back, and its WHERE is true as the conditions make it.
-use Rattle.std.proofs.Common.{◌≡◌, refl, ◌∙◌, ap, true, List, ℕ, Option, None, Some, Result, Ok, Err, IfOk, String, string_bytes, codes, map, sym}
+use Rattle.std.proofs.Common.{◌≡◌, refl, ◌∙◌, ap, true, List, ℕ, codes, map, sym}
 use Rattle.std.proofs.lemmas.Bool.{false≢true}
-use Rattle.sql_parts.specs.declared.error.SqlBuilderError.{SqlBuilderError}
 use Rattle.sql_builder.specs.Builder.{ClauseTexts}
-use Rattle.sql_builder.specs.Calls.{CallText, FinishText, StartText, Sql, Query, QueryValues, Subquery, SubqueryAs, clauses, kind_of}
-use Rattle.sql_builder.specs.Clauses.{Clauses, map_clauses}
+use Rattle.sql_builder.specs.Calls.{FinishText, Sql, Query, QueryValues, Subquery, SubqueryAs}
+use Rattle.sql_builder.specs.Clauses.{Clauses}
 use Rattle.sql_builder.specs.Layout.{byte_atoms, query, query_values, sql, subquery, subquery_as}
-use Rattle.sql_builder.specs.Shape.{HasShape, as_fragments}
-use Rattle.sql_builder.specs.Statement.{layout_at, refusal_at, statement, unless_refused, text_unless_refused, text_at}
+use Rattle.sql_builder.specs.Shape.{as_fragments}
+use Rattle.sql_builder.specs.Statement.{layout_at, text_at}
 use Rattle.sql_builder.specs.Text.{Pieces, fixed_piece, pieces_text, raw_piece}
 use Rattle.sql_builder.specs.declared.clauses.Kind.{Kind}
 use Rattle.sql_builder.specs.declared.clauses.Kind.TheVariants.{SelectFrom, SelectValues, InsertInto, UpdateTable, DeleteFrom}
-use Rattle.sql_builder.proofs.ClauseShapes.{printed-shaped, clauses-parts}
 use Rattle.sql_builder.proofs.Layouts.{query_shape, subquery_as_shape, subquery_shape, fragments-printed, raw-inside-parts}
-use Rattle.sql_builder.proofs.CalmClauses.{clauses-calm, raw-calm, CalmParts}
+use Rattle.sql_builder.proofs.CalmClauses.{raw-calm, CalmParts}
 use Rattle.sql_builder.proofs.OwnLayouts.{calm-kept, bare_query-split, bare_values-split, kind_bodies, split-reads, split-wheres, sql-split, where_bodies}
-use Rattle.sql_builder.proofs.WhereGroups.{calls-true, texts-true}
-use Rattle.sql_builder.specs.Fitting.{has_fit_fragments, has_fit_conditions, has_balanced_fragments}
-use Rattle.sql_builder.specs.Meaning.{HasTruthOfGroups, is_unenclosed, prints_where, HasBalancedFragments, HasFitFragments, HasTruthOf, Nests, ReadsBack, condition_groups, is_nested}
-use Rattle.sql_builder.specs.Reading.{piece_clauses, read, stand_with, clause_list}
+use Rattle.sql_builder.proofs.WhereGroups.{texts-true}
+use Rattle.sql_builder.specs.Fitting.{has_fit_fragments}
+use Rattle.sql_builder.specs.Meaning.{HasTruthOfGroups, is_unenclosed, prints_where, Nests, ReadsBack}
+use Rattle.sql_builder.specs.Reading.{piece_clauses, read, stand_with}
 use Rattle.sql_builder.specs.Truths.{truth}
-use Rattle.std.specs.Result.{result_map_both}
-use Rattle.std.specs.Prelude.{IsTrue}
 use Rattle.sql_builder.proofs.Nesting.{nests}
 use Rattle.sql_parts.specs.Tokens.{tokens}
 use Rattle.sql_builder.proofs.OwnSections.{Calm}
-use Rattle.sql_builder.specs.Laws.{StatementsReadBack}
 use Rattle.sql_builder.proofs.Layouts as layouts
 
 -- the pieces that a finish prints
@@ -70,69 +65,8 @@ module _ (finish : FinishText) (r : Clauses Pieces) (parts : CalmParts r) (good 
   text-reads : is_unenclosed finish ≡ true → ReadsBack (layout finish r) text
   text-reads bare fit = ap read (ap tokens is) ∙ layout-reads finish r parts good bare fit
 
-  text-wheres : prints_where finish r.kind ≡ true → has_fit_fragments (layout finish r) ≡ true → stand_with (codes "WHERE") (read (tokens text)) ≡ where_bodies r.groups
+  pub text-wheres : prints_where finish r.kind ≡ true → has_fit_fragments (layout finish r) ≡ true → stand_with (codes "WHERE") (read (tokens text)) ≡ where_bodies r.groups
   text-wheres prints fit = ap (stand_with (codes "WHERE")) (text-reads (sql-bare finish r.kind prints) fit) ∙ layout-wheres finish r parts good prints
-
--- ---- a list of calls
-
-module _ (start : StartText) (calls : List CallText) (finish : FinishText) where
-  abbrev said : Clauses Pieces
-  said = clauses start calls
-
-  abbrev pub printed : Option SqlBuilderError → Result Pieces SqlBuilderError
-  printed refusal = unless_refused refusal (layout finish said)
-
-  abbrev pub refused : Option SqlBuilderError
-  refused = refusal_at finish (map_clauses pieces_text said)
-
-  pub text-is : (text : List ℕ) → text_unless_refused (Ok (layout finish said)) ≡ Ok text → text ≡ pieces_text (layout finish said)
-  text-is text is = let same : pieces_text (layout finish said) ≡ text = cc is in sym same
-
-  pub printed-tokens : (text : List ℕ) → text_unless_refused (Ok (layout finish said)) ≡ Ok text → HasShape (layout finish said) text
-  printed-tokens text is = let same : pieces_text (layout finish said) ≡ text = cc is in λ all. ap tokens (sym same) ∙ (printed-shaped start calls finish).shape_is all
-
-  any-reads : (refusal : Option SqlBuilderError) (text : List ℕ) → text_unless_refused (printed refusal) ≡ Ok text
-      → is_unenclosed finish ≡ true → IfOk (printed refusal) (λ ps. IsTrue (has_fit_fragments ps))
-      → result_map_both piece_clauses (λ e. e) (printed refusal) ≡ Ok (read (tokens text))
-  any-reads None text is bare fit = ap Ok (sym (text-reads finish said (clauses-calm start calls) (clauses-parts start calls) text (text-is text is) bare fit))
-  any-reads (Some refusal) text is bare fit = cc is
-
-  any-true : (refusal : Option SqlBuilderError) (text : List ℕ) → text_unless_refused (printed refusal) ≡ Ok text
-      → prints_where finish (kind_of start) ≡ true → IfOk (printed refusal) (λ ps. IsTrue (has_fit_fragments ps)) → has_fit_conditions calls ≡ true
-      → HasTruthOf (condition_groups calls) text
-  any-true None text is prints fit fit_conditions = λ facts.
-      ap (map (truth facts)) (text-wheres finish said (clauses-calm start calls) (clauses-parts start calls) text (text-is text is) prints fit) ∙ calls-true facts calls fit_conditions
-  any-true (Some refusal) text is prints fit fit_conditions = λ facts. cc is
-
-  any-nests : (refusal : Option SqlBuilderError) (text : List ℕ) → text_unless_refused (printed refusal) ≡ Ok text
-      → IfOk (printed refusal) (λ ps. IsTrue (has_balanced_fragments ps)) → IsTrue (is_nested finish text)
-  any-nests None text is all = nests said (clauses-calm start calls) finish text (printed-tokens text is) all
-  any-nests (Some refusal) text is all = cc is
-
-module _ {Z : Type 0} (start : StartText) (calls : List CallText) (finish : FinishText) where
-  pub statement_clauses : (result : Result (String Z) SqlBuilderError) → IfOk result (λ s. statement start calls finish ≡ Ok (string_bytes s))
-      → IsTrue (is_unenclosed finish) → HasFitFragments start calls finish → IfOk result (λ s. clause_list start calls finish ≡ Ok (read (tokens (string_bytes s))))
-  statement_clauses (Err e) is bare fit = tt
-  statement_clauses (Ok s) is bare fit = any-reads start calls finish (refused start calls finish) (string_bytes s) is bare fit
-
-  pub statement_truth : (result : Result (String Z) SqlBuilderError) → IfOk result (λ s. statement start calls finish ≡ Ok (string_bytes s))
-      → IsTrue (prints_where finish (kind_of start)) → HasFitFragments start calls finish → IsTrue (has_fit_conditions calls)
-      → IfOk result (λ s. HasTruthOf (condition_groups calls) (string_bytes s))
-  statement_truth (Err e) is prints fit fit_conditions = tt
-  statement_truth (Ok s) is prints fit fit_conditions = any-true start calls finish (refused start calls finish) (string_bytes s) is prints fit fit_conditions
-
-  pub statement_nests : (result : Result (String Z) SqlBuilderError) → IfOk result (λ s. statement start calls finish ≡ Ok (string_bytes s))
-      → HasBalancedFragments start calls finish → IfOk result (λ s. IsTrue (is_nested finish (string_bytes s)))
-  statement_nests (Err e) is all = tt
-  statement_nests (Ok s) is all = any-nests start calls finish (refused start calls finish) (string_bytes s) is all
-
-pub statements_read_back : StatementsReadBack
-statements_read_back start calls finish bare fit = by (refused start calls finish) fit
-  where
-    by : (refusal : Option SqlBuilderError) → IfOk (printed start calls finish refusal) (λ ps. IsTrue (has_fit_fragments ps))
-        → IfOk (text_unless_refused (printed start calls finish refusal)) (λ text. result_map_both piece_clauses (λ e. e) (printed start calls finish refusal) ≡ Ok (read (tokens text)))
-    by None fit = any-reads start calls finish None (pieces_text (layout finish (clauses start calls))) refl bare fit
-    by (Some refusal) fit = tt
 
 -- ---- a builder
 

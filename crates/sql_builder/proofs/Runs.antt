@@ -3,7 +3,7 @@ use Rattle.std.proofs.Common.{◌≡◌, ℕ, ◌+◌, ◌<◌, List, [], ◌∷
 use Rattle.std.proofs.lemmas.List.{take_more, map-append, append-nil}
 use Rattle.std.specs.Prelude.{IfSome, IsNone, ◌⊎◌}
 use Rattle.sql_builder.specs.Views.{call_view}
-use Rattle.sql_builder.specs.Builder.{ClauseTexts, extend_last, join_last, started}
+use Rattle.sql_builder.specs.Builder.{extend_last, join_last, started}
 use Rattle.sql_builder.specs.Steps.{with_call}
 use Rattle.sql_builder.specs.Calls as call
 use Rattle.sql_builder.specs.Calls.{StartText, CallText, FinishText, clauses}
@@ -12,6 +12,7 @@ use Rattle.sql_builder.specs.Condition.{ConditionText, condition_bytes, conditio
 use Rattle.sql_builder.specs.Layout.{byte_atoms}
 use Rattle.sql_builder.specs.Phrases.{row}
 use Rattle.sql_builder.specs.Statement.{layout_at, pieces_at, refusal_at, text_at, text_unless_refused, unless_refused}
+use Rattle.sql_builder.specs.StatementLaws.{made_by}
 use Rattle.sql_builder.specs.Text.{Pieces, fixed_piece, pieces_text, raw_piece}
 use Rattle.sql_builder.specs.declared.calls.Call.{Call}
 use Rattle.sql_builder.specs.declared.condition.Family.TheVariants.{And, Or}
@@ -98,11 +99,7 @@ clauses_printed (call.Cond Or condition) r =
     ap (λ (groups : List (List ℕ)). record (map_clauses pieces_text r) { groups = groups })
     (alternative_texts condition r.groups)
 
--- the texts of the clauses that a start and calls make
-abbrev told_by : StartText → List CallText → ClauseTexts
-told_by start calls = map_clauses pieces_text (clauses start calls)
-
-pub clauses-start : (start : StartText) → told_by start [] ≡ started start
+pub clauses-start : (start : StartText) → made_by start [] ≡ started start
 clauses-start (call.SelectFrom table) = simp append-nil
 clauses-start (call.SelectValues values) = simp (append-nil, texts_of_raw)
 clauses-start (call.InsertInto table) = simp append-nil
@@ -110,14 +107,14 @@ clauses-start (call.UpdateTable table) = simp append-nil
 clauses-start (call.DeleteFrom table) = simp append-nil
 
 pub clauses-snoc : (start : StartText) (calls : List CallText) (c : CallText)
-    → told_by start (calls ++ c ∷ []) ≡ with_call c (told_by start calls)
+    → made_by start (calls ++ c ∷ []) ≡ with_call c (made_by start calls)
 clauses-snoc start calls c =
     ap (map_clauses pieces_text) (one_more_clauses start calls c) ∙ clauses_printed c (clauses start calls)
 
 pub one_more_call : (start : StartText) (calls : List Call) (i : ℕ) (c : Call) → i < length calls
     → c ≡ get_or calls i c
-    → told_by start (map call_view (take (i + 1) calls))
-    ≡ with_call (call_view c) (told_by start (map call_view (take i calls)))
+    → made_by start (map call_view (take (i + 1) calls))
+    ≡ with_call (call_view c) (made_by start (map call_view (take i calls)))
 one_more_call start calls i c l e =
     rw (take_more calls i c l) (rw (sym e) (rw (map-append call_view (take i calls) (c ∷ []))
     (clauses-snoc start (map call_view (take i calls)) (call_view c))))

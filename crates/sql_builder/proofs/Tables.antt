@@ -20,12 +20,14 @@ use Rattle.sql_builder.specs.Text.{Pieces, fixed_piece, pieces_text, raw_piece}
 use Rattle.sql_builder.specs.WhereTokens as where_tokens
 use Rattle.sql_builder.proofs.Balance.{has_outer-append, is_even-brackets, no_clause-brackets}
 use Rattle.sql_builder.proofs.CalmClauses.{CalmParts, clauses-calm, raw-calm}
+use Rattle.sql_builder.proofs.ClauseShapes.{printed-shaped}
 use Rattle.sql_builder.proofs.Layouts.{subquery_as_shape}
 use Rattle.sql_builder.proofs.Nesting.{inner-balanced, nests}
 use Rattle.sql_builder.proofs.OwnLayouts.{query-even}
 use Rattle.sql_builder.proofs.OwnWords.{fragments_closed, shape-even}
-use Rattle.sql_builder.proofs.ReadBack.{layout, printed, printed-tokens, refused}
+use Rattle.sql_builder.proofs.ReadBack.{layout}
 use Rattle.sql_builder.proofs.Shapes.{pieces_tokens-append}
+use Rattle.sql_builder.proofs.StatementLaws.{of_pieces}
 use Rattle.sql_builder.proofs.WhereTokens.{has_clause}
 
 module _ (r : Clauses Pieces) (parts : CalmParts r) where
@@ -62,24 +64,11 @@ module _ (r : Clauses Pieces) (parts : CalmParts r) where
 
 -- ---- a list of calls
 
-module _ (start : StartText) (calls : List CallText) (finish : FinishText) (makes : makes_table finish ≡ true) where
-  any-table : (refusal : Option SqlBuilderError) (text : List ℕ) → text_unless_refused (printed start calls finish refusal) ≡ Ok text
-      → IfOk (printed start calls finish refusal) (λ ps. IsTrue (has_balanced_fragments ps)) → IsTrue (is_fit (Bare text))
-  any-table None text is all = table (clauses start calls) (clauses-calm start calls) finish text (printed-tokens start calls finish text is) makes all
-  any-table (Some refusal) text is all = cc is
-
-  pub statement_table : {Z : Type 0} (result : Result (String Z) SqlBuilderError) → IfOk result (λ s. statement start calls finish ≡ Ok (string_bytes s))
-      → HasBalancedFragments start calls finish → IfOk result (λ s. IsTrue (is_fit (Bare (string_bytes s))))
-  statement_table (Err e) is all = tt
-  statement_table (Ok s) is all = any-table (refused start calls finish) (string_bytes s) is all
-
 pub subqueries_nest : SubqueriesNestAsTables
-subqueries_nest start calls finish makes all = by (refused start calls finish) all
-  where
-    by : (refusal : Option SqlBuilderError) → IfOk (printed start calls finish refusal) (λ ps. IsTrue (has_balanced_fragments ps))
-        → IfOk (text_unless_refused (printed start calls finish refusal)) (λ text. IsTrue (is_fit (Bare text)))
-    by None all = any-table start calls finish makes None (pieces_text (layout finish (clauses start calls))) refl all
-    by (Some refusal) all = tt
+subqueries_nest start calls finish makes =
+    let said = clauses start calls in
+    of_pieces start calls finish (λ printed. IsTrue (has_balanced_fragments printed)) (λ printed text. IsTrue (is_fit (Bare text)))
+    (table said (clauses-calm start calls) finish (pieces_text (layout finish said)) (printed-shaped start calls finish).shape_is makes)
 
 -- ---- a builder
 

@@ -7,6 +7,7 @@ pub mod Condition
 pub mod Filters
 pub mod Fitting
 pub mod Handed
+pub mod HandedTexts
 pub mod Inserts
 pub mod Laws
 pub mod Layout
@@ -17,6 +18,7 @@ pub mod Printed
 pub mod Reading
 pub mod Shape
 pub mod Statement
+pub mod StatementLaws
 pub mod Steps
 pub mod Tables
 pub mod Text

@@ -2,11 +2,13 @@
 //! nothing.
 ghost use Rattle.std.specs.Prelude.{IfOk, IsTrue, List, codes};
 ghost use Rattle.sql_builder.specs.Calls.{CallText, Sql, StartText, having_in, limit_in, offset_in, returning_in};
+ghost use Rattle.sql_builder.specs.HandedTexts.{ClosedTextsMakeClosedFragments, FitTextsMakeClosedFragments, PlainTextsEndInOneSemicolon, PlainTextsMakePlainFragments, SelectsNeedGroupBy, TextsAreFitCallByCall, TextsPassCallByCall};
 ghost use Rattle.sql_builder.specs.Inserts.{BuildersOfInsertsReadBack, BuildersOfQueriesAreOne, FitTextsMakeFitTargets, InsertsReadBack, QueriesAreOne};
 ghost use Rattle.sql_builder.specs.Laws.{BuildersEndInOneSemicolon, ConditionsAreAtoms, ConditionsKeepTokens, BracketsMakeOperands, CountsKeepTokens, EquationsKeepTokens, FieldsJoin, FitTextsMakeBalancedFragments, FitTextsMakeFitConditions, FitTextsMakeFitFragments, IsValued, OnlyLastCounts, QuotedEquationsKeepTokens, StatementsReadBack, TruthOfAnd, TruthOfBrackets, TruthOfNot, TruthOfOr, TruthOfWhere, a_without_c, brackets_and_not, range_and_case};
 ghost use Rattle.sql_builder.specs.Truths.{False, True, Unknown};
 ghost use Rattle.sql_builder.specs.Shape.{EndsInOneSemicolon, has_closed_fragments, has_no_semicolons};
 ghost use Rattle.sql_builder.specs.Statement.{pieces};
+ghost use Rattle.sql_builder.specs.StatementLaws.{BuildersFollowCalls, BuildersPrintStatements, StatementsAreClosed, StatementsHaveTruth, StatementsKeepTokens, StatementsNest};
 ghost use Rattle.sql_builder.specs.Tables.{SubqueriesNestAsTables};
 ghost use Rattle.sql_builder.specs.Text.{pieces_text};
 ghost use Rattle.sql_parts.specs.Tokens.{tokens};
@@ -69,9 +71,43 @@ pub fn only_the_end_is_a_semicolon()
 /// What `sql`, `query` and `query_values` print of a list of calls reads back as the clauses that
 /// the list says, where its fragments before the first UNION are fit.
 /// `has_clause_word("a FROM b")` → `true`
-#[tactic(auto, using(crate::proofs::ReadBack::statements_read_back))]
+#[tactic(auto, using(crate::proofs::StatementLaws::statements_read_back))]
 pub fn statements_read_back()
     ensures { StatementsReadBack }
+{}
+
+/// Where each fragment that is printed is closed, a statement has the tokens of its pieces, where a
+/// text that was quoted is one token that parses back as that text, and is closed.
+/// `update_table("t").set_str("a", "b; c")` → `UPDATE t SET a = 'b; c';`
+#[tactic(auto, using(crate::proofs::StatementLaws::statements_keep_tokens, crate::proofs::StatementLaws::statements_are_closed))]
+pub fn statements_keep_tokens()
+    ensures shape { StatementsKeepTokens }
+    ensures closed { StatementsAreClosed }
+{}
+
+/// Where the fragments of a statement and of each of its conditions are fit, its WHERE is the AND of
+/// its groups, each the OR of its conditions, in SQL's three-valued logic.
+/// `.and_where("a").or_where("b").and_where("c")` → `SELECT * FROM t WHERE (a OR b) AND (c);`
+#[tactic(auto, using(crate::proofs::StatementLaws::statements_have_truth))]
+pub fn statements_have_truth()
+    ensures { StatementsHaveTruth }
+{}
+
+/// Where each fragment is balanced, what `query` and `subquery_as` print is balanced, and what
+/// `subquery` prints is an operand without a top-level clause keyword.
+/// `begin(&Start::SelectFrom("t")).subquery()` → `(SELECT * FROM t)`
+#[tactic(auto, using(crate::proofs::StatementLaws::statements_nest))]
+pub fn statements_nest()
+    ensures { StatementsNest }
+{}
+
+/// The builder that `begin` makes of a start, and `make` of one call after another, prints the
+/// statement of that start and these calls, or fails with its error.
+/// `print(&begin(&Start::SelectFrom("t")), &Finish::Query)` → `SELECT * FROM t`
+#[tactic(auto, using(crate::proofs::StatementLaws::builders_follow_calls, crate::proofs::StatementLaws::builders_print_statements))]
+pub fn builders_print_statements()
+    ensures calls { BuildersFollowCalls }
+    ensures printed { BuildersPrintStatements }
 {}
 
 /// Where each text that a list of calls hands in is balanced, and has no outer clause word (which
@@ -84,6 +120,35 @@ pub fn fit_texts_make_fit_fragments()
     ensures fragments { FitTextsMakeFitFragments }
     ensures conditions { FitTextsMakeFitConditions }
     ensures nesting { FitTextsMakeBalancedFragments }
+{}
+
+/// Where each text that a list of calls hands in is closed, or each is fit, so is each fragment that
+/// is printed closed. Where no text has a `;`, no fragment has one, and the statement that `sql`
+/// prints of closed fragments ends in its only `;`.
+/// `.and_where("a = ';'")` → `SELECT * FROM t WHERE a = ';';`
+#[tactic(auto, using(crate::proofs::HandedTexts::closed_texts, crate::proofs::HandedTexts::fit_texts_are_closed, crate::proofs::HandedTexts::plain_texts, crate::proofs::HandedTexts::plain_texts_end))]
+pub fn closed_texts_make_closed_fragments()
+    ensures closed { ClosedTextsMakeClosedFragments }
+    ensures of_fit { FitTextsMakeClosedFragments }
+    ensures plain { PlainTextsMakePlainFragments }
+    ensures semicolon { PlainTextsEndInOneSemicolon }
+{}
+
+/// The texts of a longer list pass a test, or are fit, exactly where those of the list do and those
+/// of each further call. So it takes one fact for each call, however many of them are optional.
+/// `is_closed("a = 'b")` → `false`
+#[tactic(auto, using(crate::proofs::HandedTexts::texts_pass_call_by_call, crate::proofs::HandedTexts::texts_are_fit_call_by_call))]
+pub fn texts_pass_call_by_call()
+    ensures passing { TextsPassCallByCall }
+    ensures fit { TextsAreFitCallByCall }
+{}
+
+/// `sql` of a SELECT from a table that has a name fails exactly where a list of calls has a `having`
+/// and no `group_by`, and then with `NoGroupBy`; but for memory.
+/// `.having("a > 1")` → `SqlBuilderError::NoGroupBy`
+#[tactic(auto, using(crate::proofs::HandedTexts::selects_need_group_by))]
+pub fn selects_need_group_by()
+    ensures { SelectsNeedGroupBy }
 {}
 
 /// The truth of a condition by how it is made: of an OR whose left side is balanced the greater;

@@ -1,10 +1,9 @@
 use Rattle.std.proofs.Common.{map}
 use Rattle.sql_builder.specs.Views.{call_view, finish_view, start_view}
 use Rattle.sql_builder.specs.Calls.{clauses}
-use Rattle.sql_builder.proofs.ClauseShapes.{statement_closed, statement_shape}
-use Rattle.sql_builder.proofs.ReadBack.{statement_clauses, statement_nests, statement_truth}
 use Rattle.sql_builder.proofs.Runs.{statement_printed, statement_refused}
-use Rattle.sql_builder.proofs.Tables.{statement_table}
+use Rattle.sql_builder.proofs.StatementLaws.{of_statement, statements_are_closed, statements_have_truth, statements_keep_tokens, statements_nest, statements_read_back}
+use Rattle.sql_builder.proofs.Tables.{subqueries_nest}
 use Rattle.sql_builder.proofs.calls.run.Goals as goal
 
 pub returns-clause-text : goal.returns-clause-text
@@ -19,26 +18,45 @@ returns-clause-refused c =
     statement_refused (finish_view c.args.finish.now) (clauses (start_view c.args.start.now) (map call_view c.args.calls.now)) c.print.result
     (rw made at c.print.ensures.refused) (rw made at c.print.ensures.memory)
 
+-- the other clauses are laws of the statement
 pub returns-clause-shape : goal.returns-clause-shape
-returns-clause-shape c =
-    statement_shape (start_view c.args.start.now) (map call_view c.args.calls.now) (finish_view c.args.finish.now) c.print.result (returns-clause-text c)
+returns-clause-shape c = λ all.
+    let start = start_view c.args.start.now in
+    let calls = map call_view c.args.calls.now in
+    let finish = finish_view c.args.finish.now in
+    of_statement start calls finish _ c.print.result (returns-clause-text c) (statements_keep_tokens start calls finish all)
 
 pub returns-clause-closed : goal.returns-clause-closed
-returns-clause-closed c =
-    statement_closed (start_view c.args.start.now) (map call_view c.args.calls.now) (finish_view c.args.finish.now) c.print.result (returns-clause-text c)
+returns-clause-closed c = λ all.
+    let start = start_view c.args.start.now in
+    let calls = map call_view c.args.calls.now in
+    let finish = finish_view c.args.finish.now in
+    of_statement start calls finish _ c.print.result (returns-clause-text c) (statements_are_closed start calls finish all)
 
 pub returns-clause-clauses : goal.returns-clause-clauses
-returns-clause-clauses c =
-    statement_clauses (start_view c.args.start.now) (map call_view c.args.calls.now) (finish_view c.args.finish.now) c.print.result (returns-clause-text c)
+returns-clause-clauses c = λ bare fit.
+    let start = start_view c.args.start.now in
+    let calls = map call_view c.args.calls.now in
+    let finish = finish_view c.args.finish.now in
+    of_statement start calls finish _ c.print.result (returns-clause-text c) (statements_read_back start calls finish bare fit)
 
 pub returns-clause-truth : goal.returns-clause-truth
-returns-clause-truth c =
-    statement_truth (start_view c.args.start.now) (map call_view c.args.calls.now) (finish_view c.args.finish.now) c.print.result (returns-clause-text c)
+returns-clause-truth c = λ prints fit fit_conditions.
+    let start = start_view c.args.start.now in
+    let calls = map call_view c.args.calls.now in
+    let finish = finish_view c.args.finish.now in
+    of_statement start calls finish _ c.print.result (returns-clause-text c) (statements_have_truth start calls finish prints fit fit_conditions)
 
 pub returns-clause-nests : goal.returns-clause-nests
-returns-clause-nests c =
-    statement_nests (start_view c.args.start.now) (map call_view c.args.calls.now) (finish_view c.args.finish.now) c.print.result (returns-clause-text c)
+returns-clause-nests c = λ all.
+    let start = start_view c.args.start.now in
+    let calls = map call_view c.args.calls.now in
+    let finish = finish_view c.args.finish.now in
+    of_statement start calls finish _ c.print.result (returns-clause-text c) (statements_nest start calls finish all)
 
 pub returns-clause-nests_as_table : goal.returns-clause-nests_as_table
-returns-clause-nests_as_table c = λ makes.
-    statement_table (start_view c.args.start.now) (map call_view c.args.calls.now) (finish_view c.args.finish.now) makes c.print.result (returns-clause-text c)
+returns-clause-nests_as_table c = λ makes all.
+    let start = start_view c.args.start.now in
+    let calls = map call_view c.args.calls.now in
+    let finish = finish_view c.args.finish.now in
+    of_statement start calls finish _ c.print.result (returns-clause-text c) (subqueries_nest start calls finish makes all)
