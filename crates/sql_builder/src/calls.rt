@@ -313,6 +313,8 @@ fn build(alloc: Global, start: &Start, calls: &[Call]) -> Result<SqlBuilder, Sql
 }
 
 /// Prints a builder. It fails as the printing call that is meant does, or because memory runs out.
+/// What `begin` and `make` have made prints the statement of its start and calls, which is what `run`
+/// gives (`laws::builders_print_statements`); the laws of statements say the rest of it.
 /// `print(&begin(&Start::SelectFrom("t")), &Finish::Query)` → `SELECT * FROM t`
 pub fn print(builder: &SqlBuilder, finish: &Finish) -> Result<String, SqlBuilderError>
     ensures text { IfOk result (λ s. string_bytes s

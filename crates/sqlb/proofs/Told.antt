@@ -9,7 +9,8 @@ use Rattle.sql_builder.specs.SqlBuilderError.{SqlBuilderError}
 use Rattle.sql_builder.specs.Statement.{layout_at, refusal_at, pieces_at, text_at, text_unless_refused, unless_refused}
 use Rattle.sql_builder.specs.Steps.{with_call}
 use Rattle.sql_builder.specs.Text.{Pieces, fixed_piece, pieces_text, raw_piece}
-use Rattle.sql_builder.proofs.Runs.{clauses-snoc, text_of_layout}
+use Rattle.sql_builder.proofs.Runs.{clauses-snoc}
+use Rattle.sql_builder.proofs.StatementLaws.{builders_print_statements}
 use Rattle.sqlb.specs.Lines.{CommandResult, Starts, Calls, Finishes}
 use Rattle.sqlb.specs.Output.{OpenStatement, answer, finish_answer}
 use Rattle.sqlb.specs.Script.{Runs, Tells, printed, told, told_after, told_answer}
@@ -17,15 +18,6 @@ use Rattle.sql_builder.specs.declared.condition.Family.{Family}
 use Rattle.sqlb.specs.declared.fault.LineError.{LineError}
 use Rattle.sqlb.specs.declared.fault.LineError.TheVariants.{Memory, Refused}
 use Rattle.sqlb.specs.declared.fault.Reason.TheVariants.{WrongArguments}
-
-printed-pieces : (finish : FinishText) (r : Clauses Pieces)
-    → text_unless_refused (pieces_at finish r) ≡ printed finish (map_clauses pieces_text r)
-printed-pieces finish r = by (refusal_at finish (map_clauses pieces_text r))
-  where
-    by : (o : Option SqlBuilderError) → text_unless_refused (unless_refused o (layout_at fixed_piece raw_piece finish r))
-        ≡ unless_refused o (text_at finish (map_clauses pieces_text r))
-    by None = ap Ok (text_of_layout finish r)
-    by (Some refusal) = refl
 
 -- the statement that is open after a line, by what was open before it
 abbrev pub open_after : Option OpenStatement → CommandResult → Option OpenStatement
@@ -43,7 +35,7 @@ told-answer (Some inside) (Ok (Starts start)) = refl
 told-answer None (Ok (Calls call)) = refl
 told-answer (Some inside) (Ok (Calls call)) = refl
 told-answer None (Ok (Finishes finish)) = refl
-told-answer (Some inside) (Ok (Finishes finish)) = ap finish_answer (printed-pieces finish (clauses inside.start inside.calls))
+told-answer (Some inside) (Ok (Finishes finish)) = ap finish_answer (sym (builders_print_statements inside.start inside.calls finish))
 
 pub told-after : (o : Option OpenStatement) (s : CommandResult) → option_map told (open_after o s) ≡ told_after (option_map told o) s
 told-after o (Err reason) = refl
