@@ -2,6 +2,7 @@
 
 use callers::chains::{cheapest_first, dearer, limit, repriced, titles, titles_printed};
 use callers::lists::{books_where, of_books, titled_above};
+use callers::searches::{Search, search_printed};
 use callers::strangers::{filled, sought_printed, titled, titled_bound};
 use callers::values::{Cents, Column, above, between, of_title, sold_in, title};
 use sql_builder::SqlBuilderError;
@@ -76,6 +77,32 @@ fn seeks_strangers_texts(rt: HostRuntime) -> Result<(), Fail> {
     assert_eq!(rt;
         sought_printed(alloc, "it's", Some("') OR (1 = 1"))?.as_str(),
         "SELECT * FROM books WHERE (title = 'it''s') AND (author = ''') OR (1 = 1');"
+    );
+    Ok(())
+}
+
+#[test]
+fn searches_by_the_filters_that_are_given(rt: HostRuntime) -> Result<(), Fail> {
+    let alloc = rt.alloc();
+    let all = Search {
+        title: None,
+        author: None,
+        least_price: None,
+        in_stock: false,
+    };
+    assert_eq!(rt;
+        search_printed(alloc, &all)?.as_str(),
+        "SELECT title FROM books;"
+    );
+    let narrow = Search {
+        title: Some("it's"),
+        author: Some("') OR (1 = 1; --"),
+        least_price: Some(5),
+        in_stock: true,
+    };
+    assert_eq!(rt;
+        search_printed(alloc, &narrow)?.as_str(),
+        "SELECT title FROM books WHERE (title LIKE '%it''s%') AND (author = ''') OR (1 = 1; --') AND (price >= 5) AND (stock > 0);"
     );
     Ok(())
 }

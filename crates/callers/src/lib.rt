@@ -4,5 +4,6 @@
 
 pub mod chains;
 pub mod lists;
+pub mod searches;
 pub mod strangers;
 pub mod values;

@@ -9,6 +9,7 @@ use Rattle.sql_builder.specs.Calls.{CallText, FinishText, StartText, clauses}
 use Rattle.sql_builder.specs.Clauses.{map_clauses}
 use Rattle.sql_builder.specs.Shape.{EndsInOneSemicolon, HasClosedFragments, shape}
 use Rattle.sql_builder.specs.Statement.{layout_at, refusal_at, statement, text_at}
+use Rattle.sql_builder.specs.StatementLaws.{made_by}
 use Rattle.sql_builder.specs.Steps.{with_call}
 use Rattle.sql_builder.specs.Text.{fixed_piece, pieces_text, raw_piece}
 use Rattle.sql_builder.proofs.Runs.{clauses-snoc, clauses-start, statement_printed, text_of_layout}
@@ -54,15 +55,21 @@ chain_text finish (Err e) told printed is = tt
 chain_text {start = start} {calls = calls} finish (Ok s) told printed is =
     printed ∙ ap (text_at finish) (told.is ∙ with_calls-read start calls) ∙ sym (text_of_layout finish (clauses start calls)) ∙ is
 
--- it is the statement of the calls
+-- what is printed of a builder that a start and calls make is their statement
+pub made_statement : {Z : Type 0} (start : StartText) (calls : List CallText) {r : ClauseTexts} (finish : FinishText) (result : Result (String Z) SqlBuilderError)
+    → r ≡ made_by start calls → IfOk result (λ s. string_bytes s ≡ text_at finish r) → IfSome (refusal_at finish r) (λ e. result ≡ Err e)
+    → IfOk result (λ s. statement start calls finish ≡ Ok (string_bytes s))
+made_statement start calls finish result made printed refused =
+    statement_printed finish (clauses start calls) result
+    (subst (λ (q : ClauseTexts). IfOk result (λ s. string_bytes s ≡ text_at finish q)) made printed)
+    (subst (λ (q : ClauseTexts). IfSome (refusal_at finish q) (λ e. result ≡ Err e)) made refused)
+
+-- and so is what a chain of these calls prints
 pub chain_statement : {Z : Type 0} {start : StartText} {calls : List CallText} {r : ClauseTexts} (finish : FinishText) (result : Result (String Z) SqlBuilderError) → Told start calls r
     → IfOk result (λ s. string_bytes s ≡ text_at finish r) → IfSome (refusal_at finish r) (λ e. result ≡ Err e)
     → IfOk result (λ s. statement start calls finish ≡ Ok (string_bytes s))
 chain_statement {start = start} {calls = calls} finish result told printed refused =
-    let read = told.is ∙ with_calls-read start calls in
-    statement_printed finish (clauses start calls) result
-    (subst (λ (q : ClauseTexts). IfOk result (λ s. string_bytes s ≡ text_at finish q)) read printed)
-    (subst (λ (q : ClauseTexts). IfSome (refusal_at finish q) (λ e. result ≡ Err e)) read refused)
+    made_statement start calls finish result (told.is ∙ with_calls-read start calls) printed refused
 
 -- the tokens of what is printed, where each fragment is closed
 pub chain_tokens : {Z : Type 0} {start : StartText} {calls : List CallText} {r : ClauseTexts} {ts : List Token} (finish : FinishText) (result : Result (String Z) SqlBuilderError) → Told start calls r
