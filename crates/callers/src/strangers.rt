@@ -1,11 +1,12 @@
 //! Strangers' values in statements.
-ghost use Rattle.std.specs.Prelude.{◌≡◌, ◌∷◌, ◌++◌, codes, length, map, option_map, string_bytes, IfOk, IfSome, IsTrue, Some};
+ghost use Rattle.std.specs.Prelude.{◌≡◌, [], ◌∷◌, ◌++◌, codes, length, map, option_map, string_bytes, IfOk, IfSome, IsTrue, Some};
 ghost use Rattle.sql_builder.specs.Apart.{bound_tokens};
 ghost use Rattle.sql_builder.specs.Builder.{started, with_condition};
 ghost use Rattle.sql_builder.specs.Calls.{SelectFrom};
 ghost use Rattle.sql_builder.specs.Condition.{Compare};
 ghost use Rattle.sql_builder.specs.Error.{FailsOnlyByMemory};
 ghost use Rattle.sql_builder.specs.Layout.{byte_atoms, sql};
+ghost use Rattle.sql_builder.specs.Meaning.{HasTruthOf};
 ghost use Rattle.sql_builder.specs.Quoting.{quoted};
 ghost use Rattle.sql_builder.specs.Shape.{EndsInOneSemicolon};
 ghost use Rattle.sql_builder.specs.Templates as templates;
@@ -16,19 +17,23 @@ ghost use Rattle.sql_builder.specs.declared.condition.Relation.TheVariants.{Eq};
 ghost use Rattle.callers.specs.Columns.{by_author};
 
 use sql_builder::SqlBuilderError;
-use sql_builder::laws::literals_are_operands;
+use sql_builder::laws::{fit_texts_make_fit_fragments, literals_are_operands};
 use sql_builder::lex::stands_apart;
 use sql_builder::prelude::*;
 use std::alloc::Global;
 
-/// The books with this title, whatever text it is.
+/// The books with this title, whatever text it is: the WHERE is true where the title is this one.
 pub fn titled(alloc: Global, title: &str) -> Result<String, SqlBuilderError>
     ensures tokens { IfOk result (λ s. tokens (string_bytes s)
         ≡ tokens (codes "SELECT * FROM books WHERE title =") ++ (Str title.now ∷ tokens (codes ";"))) }
     ensures closed { IfOk result (λ s. IsTrue (closed (string_bytes s))) }
     ensures semicolon { IfOk result (λ s. EndsInOneSemicolon (tokens (string_bytes s))) }
+    ensures truth { IfOk result (λ s. HasTruthOf
+        (((tokens (codes "title =") ++ Str title.now ∷ []) ∷ []) ∷ []) (string_bytes s)) }
     ensures memory { FailsOnlyByMemory result }
 {
+    fit_texts_make_fit_fragments();
+    literals_are_operands();
     let title = quote(alloc, title)?;
     SqlBuilder::select_from(alloc, "books")?
         .and_where_eq("title", title)?

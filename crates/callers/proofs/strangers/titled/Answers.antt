@@ -1,9 +1,14 @@
-use Rattle.std.proofs.Common.{codes, string_bytes, refl}
+use Rattle.std.proofs.Common.{[], ◌∷◌, ◌++◌, codes, string_bytes, IfOk, refl, subst, sym}
+use Rattle.std.proofs.lemmas.Bool.{and_from}
 use Rattle.sql_builder.specs.Calls.{Cond, SelectFrom, Sql}
 use Rattle.sql_builder.specs.Condition.{Compare}
+use Rattle.sql_builder.specs.Meaning.{HasTruthOf}
 use Rattle.sql_builder.specs.declared.condition.Family.TheVariants.{And}
 use Rattle.sql_builder.specs.declared.condition.Relation.TheVariants.{Eq}
-use Rattle.sql_builder.proofs.Callers.{and_call, begun, chain_closed, chain_tokens, one_semicolon}
+use Rattle.sql_builder.proofs.Callers.{and_call, begun, chain_closed, chain_statement, chain_tokens, one_semicolon}
+use Rattle.sql_builder.proofs.ReadBack.{statement_truth}
+use Rattle.sql_parts.specs.Operands.{ServesAsOperand}
+use Rattle.sql_parts.specs.Tokens.{tokens}
 use Rattle.callers.proofs.strangers.titled.Goals as goal
 
 pub returns-clause-tokens : goal.returns-clause-tokens
@@ -18,3 +23,14 @@ returns-clause-closed c =
 
 pub returns-clause-semicolon : goal.returns-clause-semicolon
 returns-clause-semicolon c = one_semicolon c.sql.result (returns-clause-tokens c) refl refl
+
+pub returns-clause-truth : goal.returns-clause-truth
+returns-clause-truth c =
+    let start = SelectFrom (codes "books") in
+    let calls = Cond And (Compare Eq (codes "title") (string_bytes c.in_ok-title.title)) ∷ [] in
+    let told = and_call (Cond And (Compare Eq (codes "title") (string_bytes c.in_ok-title.title))) c.in_ok-and_where_eq.ensures.changed.1.0.0 (begun start c.in_ok-select_from.ensures.made) in
+    let operand = subst ServesAsOperand (sym c.in_ok-title.ensures.text) (c.literals_are_operands.ensures.quote c.args.title.now) in
+    let fits = and_from _ _ (and_from _ _ (and_from _ _ (and_from _ _ operand.is_balanced operand.no_clause_word) refl) refl) refl in
+    let law = c.fit_texts_make_fit_fragments.ensures in
+    subst (λ ts. IfOk c.sql.result (λ s. HasTruthOf (((tokens (codes "title =") ++ (ts ++ [])) ∷ []) ∷ []) (string_bytes s))) c.in_ok-title.ensures.token
+    (statement_truth start calls Sql c.sql.result (chain_statement Sql c.sql.result told c.sql.ensures.text c.sql.ensures.refused) refl (law.fragments start calls Sql refl fits) (law.conditions start calls Sql fits))
