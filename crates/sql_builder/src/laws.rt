@@ -85,8 +85,9 @@ pub fn statements_keep_tokens()
     ensures closed { StatementsAreClosed }
 {}
 
-/// Where the fragments of a statement and of each of its conditions are fit, its WHERE is the AND of
-/// its groups, each the OR of its conditions, in SQL's three-valued logic.
+/// Where its fragments before the first UNION and those of each condition are fit, the WHERE of a
+/// query, and of what `sql` prints of a SELECT from a table, an UPDATE or a DELETE, is the AND of its
+/// groups, each the OR of its conditions, in SQL's three-valued logic.
 /// `.and_where("a").or_where("b").and_where("c")` → `SELECT * FROM t WHERE (a OR b) AND (c);`
 #[tactic(auto, using(crate::proofs::StatementLaws::statements_have_truth))]
 pub fn statements_have_truth()
