@@ -1,7 +1,7 @@
 //! A statement that is the same whatever the user's texts are.
 ghost use Rattle.std.specs.Prelude.{◌≡◌, codes, string_bytes, IfOk};
+ghost use Rattle.sql_builder.specs.Blanks.{outline};
 ghost use Rattle.sql_builder.specs.Error.{FailsOnlyByMemory};
-ghost use Rattle.sql_builder.specs.Interference.{outline};
 ghost use Rattle.sql_builder.specs.Tokens.{tokens};
 
 use sql_builder::SqlBuilderError;

@@ -43,7 +43,8 @@ after-blank l t = λ i. cond (test-blank raises (λ text. refl) t i) (suc_ℤ l)
 placed_from-blank : (l : ℤ) (ts : List Token) → placed_from l (blank ts) ≡ map blank_placed (placed_from l ts)
 placed_from-blank l [] = refl
 placed_from-blank l (t ∷ ts) =
-    (λ i. as_placed-blank (is_zero l) t i ∷ placed_from (after-blank l t i) (blank ts)) ∙ ap (λ more. blank_placed (as_placed (is_zero l) t) ∷ more) (placed_from-blank (after l t) ts)
+    (λ i. as_placed-blank (is_zero l) t i ∷ placed_from (after-blank l t i) (blank ts))
+    ∙ ap (λ more. blank_placed (as_placed (is_zero l) t) ∷ more) (placed_from-blank (after l t) ts)
 
 placed-blank : (ts : List Token) → fragments.placed (blank ts) ≡ map blank_placed (fragments.placed ts)
 placed-blank ts = placed-is (blank ts) ∙ placed_from-blank (pos 0) ts ∙ ap (map blank_placed) (sym (placed-is ts))
@@ -59,7 +60,8 @@ before-blank test same [] = refl
 before-blank test same (found ∷ ms) =
     (λ i. if outer-blank test same found i then [] else blank_placed found ∷ before-blank test same ms i) ∙ by (is_outer test found)
   where
-    by : (is : Bool) → (if is then [] else blank_placed found ∷ map blank_placed (before_outer test ms)) ≡ map blank_placed (if is then [] else found ∷ before_outer test ms)
+    by : (is : Bool)
+        → (if is then [] else blank_placed found ∷ map blank_placed (before_outer test ms)) ≡ map blank_placed (if is then [] else found ∷ before_outer test ms)
     by true = refl
     by false = refl
 
@@ -82,7 +84,8 @@ divider-blank : (found : Placed) → is_outer is_clause_word found ≡ true → 
 divider-blank (Outer token) is = word-blank token is
 divider-blank (Inner token) is = cc is
 
-front-blank : (is : Bool) (t : Token) (parts : Parts) → (is ≡ true → blank_token t ≡ t) → with_front is (blank_token t) (blank_parts parts) ≡ blank_parts (with_front is t parts)
+front-blank : (is : Bool) (t : Token) (parts : Parts) → (is ≡ true → blank_token t ≡ t)
+    → with_front is (blank_token t) (blank_parts parts) ≡ blank_parts (with_front is t parts)
 front-blank true t parts kept = λ i. record { lead = []; rest = (kept refl i, blank parts.lead) ∷ map blank_clause parts.rest }
 front-blank false t parts kept = refl
 

@@ -1,11 +1,11 @@
 -- Worked rows of texts that are quoted in place of others, and of what has to hold for them not to interfere.
 use Prim.Native.Char.{code}
 use Rattle.std.specs.Prelude.{◌≡◌, ℕ, Bool, List, [], ◌∷◌, Ok, codes, false, map, refl, true}
-use Rattle.sql_parts.specs.Blanks.{length_in_tokens, semicolon_count}
+use Rattle.sql_parts.specs.Blanks.{length_in_tokens, outline, semicolon_count}
 use Rattle.sql_parts.specs.Tokens.{Word, Str, Symbol}
 use Rattle.sql_builder.specs.Calls.{CallText, Cond, SelectFrom, SetStr, Sql, UpdateTable, clauses}
 use Rattle.sql_builder.specs.Condition.{InQuoted, Like, Raw}
-use Rattle.sql_builder.specs.Interference.{DifferInQuotedTexts, answer_of, blank_call, outline, quoted_places, tokens_but}
+use Rattle.sql_builder.specs.Interference.{DifferInQuotedTexts, answer_of, quoted_places, tokens_but}
 use Rattle.sql_builder.specs.Layout.{sql}
 use Rattle.sql_builder.specs.Shape.{has_closed_fragments}
 use Rattle.sql_builder.specs.Text.{fixed_piece}
@@ -37,8 +37,12 @@ hostile_texts : answer_of (tokens_but places) (UpdateTable (codes "t")) (quoting
 hostile_texts = refl
 
 -- the string that the caller wrote is compared with its text
-own_string : answer_of (tokens_but (quoted_places (SelectFrom (codes "t")) (Cond And (Raw (codes "d = 'e'")) ∷ []) Sql)) (SelectFrom (codes "t")) (Cond And (Raw (codes "d = 'e'")) ∷ []) Sql
-    ≡ Ok (Word (codes "SELECT") ∷ Symbol (code "*") ∷ Word (codes "FROM") ∷ Word (codes "t") ∷ Word (codes "WHERE") ∷ Word (codes "d") ∷ Symbol (code "=") ∷ Str (codes "e") ∷ Symbol (code ";") ∷ [])
+abbrev with_string : List CallText
+with_string = Cond And (Raw (codes "d = 'e'")) ∷ []
+
+own_string : answer_of (tokens_but (quoted_places (SelectFrom (codes "t")) with_string Sql)) (SelectFrom (codes "t")) with_string Sql
+    ≡ Ok (Word (codes "SELECT") ∷ Symbol (code "*") ∷ Word (codes "FROM") ∷ Word (codes "t") ∷ Word (codes "WHERE") ∷ Word (codes "d") ∷ Symbol (code "=")
+    ∷ Str (codes "e") ∷ Symbol (code ";") ∷ [])
 own_string = refl
 
 -- behind a fragment that isn't closed a quoted text becomes SQL

@@ -46,9 +46,11 @@ blanks printed = map blank_piece printed
 -- the tokens of pieces, blanked at the places of quoted texts
 pub tokens-blank : (printed : Pieces) → blank_at (places_in printed) (pieces_tokens printed) ≡ pieces_tokens (blanks printed)
 tokens-blank [] = refl
-tokens-blank (text.Fixed words ∷ printed) = nowhere-first (tokens words) (places_in printed) (pieces_tokens printed) ∙ ap (λ more. tokens words ++ more) (tokens-blank printed)
+tokens-blank (text.Fixed words ∷ printed) =
+    nowhere-first (tokens words) (places_in printed) (pieces_tokens printed) ∙ ap (λ more. tokens words ++ more) (tokens-blank printed)
 tokens-blank (text.Quoted quoted ∷ printed) = ap (λ more. Str [] ∷ more) (tokens-blank printed)
-tokens-blank (text.Raw raw ∷ printed) = nowhere-first (tokens raw) (places_in printed) (pieces_tokens printed) ∙ ap (λ more. tokens raw ++ more) (tokens-blank printed)
+tokens-blank (text.Raw raw ∷ printed) =
+    nowhere-first (tokens raw) (places_in printed) (pieces_tokens printed) ∙ ap (λ more. tokens raw ++ more) (tokens-blank printed)
 
 -- their places, and whether their fragments are closed, rest on no quoted text
 places-blank : (printed : Pieces) → places_in (blanks printed) ≡ places_in printed
@@ -100,7 +102,8 @@ module _ {X : Type 0} (f : X → X) (twice : (x : X) → f (f x) ≡ f x) where
 
   added : (xs ys : List X) → map f (add xs ys) ≡ map f (add (map f xs) ys)
   added xs ys =
-      ap (map f) (add_is xs ys) ∙ map-append f xs ys ∙ ap (λ more. more ++ map f ys) (sym (map-twice xs)) ∙ sym (map-append f (map f xs) ys) ∙ ap (map f) (sym (add_is (map f xs) ys))
+      ap (map f) (add_is xs ys) ∙ map-append f xs ys ∙ ap (λ more. more ++ map f ys) (sym (map-twice xs)) ∙ sym (map-append f (map f xs) ys)
+      ∙ ap (map f) (sym (add_is (map f xs) ys))
 
   added_or_set : (set : Bool) (xs ys : List X) → map f (if set then ys else add xs ys) ≡ map f (if set then ys else add (map f xs) ys)
   added_or_set true xs ys = refl
@@ -111,7 +114,8 @@ module _ {X : Type 0} (f : X → X) (twice : (x : X) → f (f x) ≡ f x) where
   chosen None (Some x) = ap Some (sym (twice x))
   chosen (Some x) old = refl
 
-  chosen_or_set : (set : Bool) (new old : Option X) → option_map f (if set then new else option_or new old) ≡ option_map f (if set then new else option_or new (option_map f old))
+  chosen_or_set : (set : Bool) (new old : Option X)
+      → option_map f (if set then new else option_or new old) ≡ option_map f (if set then new else option_or new (option_map f old))
   chosen_or_set true new old = refl
   chosen_or_set false new old = chosen new old
 
@@ -155,7 +159,8 @@ grouped Or condition (g ∷ gs) = extended (or_pieces ++ condition_pieces condit
 groups-blank : (o : Option (Family × ConditionText)) (gs : List Pieces) → map blanks (with_condition_in o gs) ≡ map blanks (with_condition_in o (map blanks gs))
 groups-blank None gs = sym (map-twice blanks blanks-twice gs)
 groups-blank (Some (family, condition)) gs =
-    grouped family condition gs ∙ ap (after_blank family (blanks (condition_pieces condition))) (sym (map-twice blanks blanks-twice gs)) ∙ sym (grouped family condition (map blanks gs))
+    grouped family condition gs ∙ ap (after_blank family (blanks (condition_pieces condition))) (sym (map-twice blanks blanks-twice gs))
+    ∙ sym (grouped family condition (map blanks gs))
 
 -- clauses whose pieces are blanked
 abbrev pub blanked : Clauses Pieces → Clauses Pieces
@@ -190,7 +195,9 @@ call-blank (call.SetStr field value) r =
     (map-append blanks r.sets (call.sets_in (call.SetStr field value)) ∙ sym (map-append blanks r.sets (call.sets_in (call.SetStr field []))))
 call-blank (call.Cond family condition) r =
     ap (λ (gs : List Pieces). record (blanked (clauses_after (call.Cond family condition) r)) { groups = gs })
-    (grouped family condition r.groups ∙ ap (λ (printed : Pieces). after_blank family printed (map blanks r.groups)) (condition-blank condition) ∙ sym (grouped family (blank_condition condition) r.groups))
+    (grouped family condition r.groups
+    ∙ ap (λ (printed : Pieces). after_blank family printed (map blanks r.groups)) (condition-blank condition)
+    ∙ sym (grouped family (blank_condition condition) r.groups))
 call-blank c r = refl
 
 -- ---- all calls
@@ -226,12 +233,14 @@ no_items e [] = refl
 no_items e (item ∷ items) = refl
 
 no_rows : (query : Option Pieces) (rows : List Pieces)
-    → refuse_no_rows (option_map pieces_text (option_map blanks query)) (map pieces_text (map blanks rows)) ≡ refuse_no_rows (option_map pieces_text query) (map pieces_text rows)
+    → refuse_no_rows (option_map pieces_text (option_map blanks query)) (map pieces_text (map blanks rows))
+    ≡ refuse_no_rows (option_map pieces_text query) (map pieces_text rows)
 no_rows None rows = no_items _ rows
 no_rows (Some query) rows = refl
 
 no_group_by : (having : Option Pieces) (fields : List Pieces)
-    → refuse_no_group_by (option_map pieces_text (option_map blanks having)) (map pieces_text (map blanks fields)) ≡ refuse_no_group_by (option_map pieces_text having) (map pieces_text fields)
+    → refuse_no_group_by (option_map pieces_text (option_map blanks having)) (map pieces_text (map blanks fields))
+    ≡ refuse_no_group_by (option_map pieces_text having) (map pieces_text fields)
 no_group_by None fields = refl
 no_group_by (Some having) fields = no_items _ fields
 
@@ -254,7 +263,8 @@ refusal-blank (call.SubqueryAs name) r = no_group_by r.having r.group_fields
 
 -- ---- statements
 
-layout-blank : (finish : FinishText) (r : Clauses Pieces) → blanks (layout_at fixed_piece raw_piece finish r) ≡ layout_at fixed_piece raw_piece finish (blanked r)
+layout-blank : (finish : FinishText) (r : Clauses Pieces)
+    → blanks (layout_at fixed_piece raw_piece finish r) ≡ layout_at fixed_piece raw_piece finish (blanked r)
 layout-blank finish r = layout_in_form fixed_piece fixed_piece blanks refl (map-append blank_piece) (λ w. refl) raw_piece raw_piece (λ t. refl) finish r
 
 -- of two layouts that are equal when blanked, one of which has closed fragments
@@ -265,19 +275,22 @@ module _ (one other : Pieces) (same : blanks one ≡ blanks other) where
   pub same_closed : has_closed_fragments one ≡ true → has_closed_fragments other ≡ true
   same_closed is = sym (closed-blank other) ∙ ap has_closed_fragments (sym same) ∙ closed-blank one ∙ is
 
-  pub same_tokens : Shaped one → Shaped other → has_closed_fragments one ≡ true → tokens_but (places_in one) (pieces_text one) ≡ tokens_but (places_in one) (pieces_text other)
+  pub same_tokens : Shaped one → Shaped other → has_closed_fragments one ≡ true
+      → tokens_but (places_in one) (pieces_text one) ≡ tokens_but (places_in one) (pieces_text other)
   same_tokens shaped also is =
       ap (blank_at (places_in one)) (shaped.shape_is is) ∙ tokens-blank one ∙ ap pieces_tokens same ∙ sym (tokens-blank other)
       ∙ (λ i. blank_at (sym same_places i) (sym (also.shape_is (same_closed is)) i))
 
-unless-places : (refused : Option SqlBuilderError) (one other : Pieces) → blanks one ≡ blanks other → places_unless_refused (unless_refused refused one) ≡ places_unless_refused (unless_refused refused other)
+unless-places : (refused : Option SqlBuilderError) (one other : Pieces) → blanks one ≡ blanks other
+    → places_unless_refused (unless_refused refused one) ≡ places_unless_refused (unless_refused refused other)
 unless-places None one other same = same_places one other same
 unless-places (Some refusal) one other same = refl
 
 unless-tokens : (refused : Option SqlBuilderError) (one other : Pieces) → blanks one ≡ blanks other → Shaped one → Shaped other
     → IfOk (unless_refused refused one) (λ printed. IsTrue (has_closed_fragments printed))
     → let but = tokens_but (places_unless_refused (unless_refused refused one)) in
-    result_map_both but (λ e. e) (text_unless_refused (unless_refused refused one)) ≡ result_map_both but (λ e. e) (text_unless_refused (unless_refused refused other))
+    result_map_both but (λ e. e) (text_unless_refused (unless_refused refused one))
+    ≡ result_map_both but (λ e. e) (text_unless_refused (unless_refused refused other))
 unless-tokens None one other same shaped also is = ap Ok (same_tokens one other same shaped also is)
 unless-tokens (Some refusal) one other same shaped also is = refl
 
@@ -290,11 +303,13 @@ module _ (start : StartText) (one other : List CallText) (finish : FinishText) (
 
   same_layouts : blanks (laid one) ≡ blanks (laid other)
   same_layouts =
-      layout-blank finish (clauses start one) ∙ ap (layout_at fixed_piece raw_piece finish) (clauses-blank start one other differ) ∙ sym (layout-blank finish (clauses start other))
+      layout-blank finish (clauses start one) ∙ ap (layout_at fixed_piece raw_piece finish) (clauses-blank start one other differ)
+      ∙ sym (layout-blank finish (clauses start other))
 
   same_refusals : refused one ≡ refused other
   same_refusals =
-      sym (refusal-blank finish (clauses start one)) ∙ ap (λ r. refusal_at finish (printed_texts r)) (clauses-blank start one other differ) ∙ refusal-blank finish (clauses start other)
+      sym (refusal-blank finish (clauses start one)) ∙ ap (λ r. refusal_at finish (printed_texts r)) (clauses-blank start one other differ)
+      ∙ refusal-blank finish (clauses start other)
 
   pub quoted_places-kept : quoted_places start one finish ≡ quoted_places start other finish
   quoted_places-kept =
@@ -304,7 +319,8 @@ module _ (start : StartText) (one other : List CallText) (finish : FinishText) (
       → answer_of (tokens_but (quoted_places start one finish)) start one finish ≡ answer_of (tokens_but (quoted_places start one finish)) start other finish
   quoted_texts-apart is =
       unless-tokens (refused one) (laid one) (laid other) same_layouts (printed-shaped start one finish) (printed-shaped start other finish) is
-      ∙ ap (λ e. result_map_both (tokens_but (quoted_places start one finish)) (λ refusal. refusal) (text_unless_refused (unless_refused e (laid other)))) same_refusals
+      ∙ ap (λ e. result_map_both (tokens_but (quoted_places start one finish)) (λ refusal. refusal)
+      (text_unless_refused (unless_refused e (laid other)))) same_refusals
 
 -- at each of the places is a string token
 piece-strings : (printed : Pieces) → are_strings (places_in printed) (pieces_tokens printed) ≡ true
@@ -313,14 +329,17 @@ piece-strings (text.Fixed words ∷ printed) = strings-first (tokens words) (pla
 piece-strings (text.Quoted quoted ∷ printed) = piece-strings printed
 piece-strings (text.Raw raw ∷ printed) = strings-first (tokens raw) (places_in printed) (pieces_tokens printed) ∙ piece-strings printed
 
-unless-strings : (refused : Option SqlBuilderError) (printed : Pieces) → Shaped printed → IfOk (unless_refused refused printed) (λ printed. IsTrue (has_closed_fragments printed))
-    → IfOk (text_unless_refused (unless_refused refused printed)) (λ text. IsTrue (are_strings (places_unless_refused (unless_refused refused printed)) (tokens text)))
+unless-strings : (refused : Option SqlBuilderError) (printed : Pieces) → Shaped printed
+    → IfOk (unless_refused refused printed) (λ printed. IsTrue (has_closed_fragments printed))
+    → IfOk (text_unless_refused (unless_refused refused printed))
+    (λ text. IsTrue (are_strings (places_unless_refused (unless_refused refused printed)) (tokens text)))
 unless-strings None printed shaped is = ap (are_strings (places_in printed)) (shaped.shape_is is) ∙ piece-strings printed
 unless-strings (Some refusal) printed shaped is = tt
 
 pub quoted_texts-strings : QuotedTextsAreStrings
 quoted_texts-strings start calls finish is =
-    unless-strings (refusal_at finish (printed_texts (clauses start calls))) (layout_at fixed_piece raw_piece finish (clauses start calls)) (printed-shaped start calls finish) is
+    unless-strings (refusal_at finish (printed_texts (clauses start calls))) (layout_at fixed_piece raw_piece finish (clauses start calls))
+    (printed-shaped start calls finish) is
 
 -- what string tokens don't change, quoted texts don't change
 unchanged : {X : Type 0} (answer : List Token → X) → IgnoresStrings answer → (places : List Bool) (one other : Result (List ℕ) SqlBuilderError)
@@ -335,4 +354,5 @@ unchanged answer kept places (Err refusal) (Err reason) same = let inner : refus
 
 pub quoted_texts-ignored : {X : Type 0} (answer : List Token → X) → IgnoresStrings answer → IgnoresQuotedTexts (λ text. answer (tokens text))
 quoted_texts-ignored answer kept start one other finish differ is =
-    unchanged answer kept (quoted_places start one finish) (statement start one finish) (statement start other finish) (quoted_texts-apart start one other finish differ is)
+    unchanged answer kept (quoted_places start one finish) (statement start one finish) (statement start other finish)
+    (quoted_texts-apart start one other finish differ is)

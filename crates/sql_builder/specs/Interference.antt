@@ -2,7 +2,7 @@
 use Rattle.std.specs.Prelude.{◌≡◌, ℕ, List, [], ◌∷◌, Bool, true, IfOk, IsTrue, Result, Ok, Err, flat_map, map}
 use Rattle.std.specs.Result.{result_map_both}
 use Rattle.sql_parts.specs.declared.error.SqlBuilderError.{SqlBuilderError}
-use Rattle.sql_parts.specs.Blanks.{are_strings, blank, blank_at, nowhere}
+use Rattle.sql_parts.specs.Blanks.{are_strings, blank, blank_at, nowhere, outline}
 use Rattle.sql_parts.specs.Tokens.{Token, closed, tokens}
 use Rattle.sql_parts.specs.Quoting.{quoted}
 use Rattle.sql_builder.specs.Builder.{ClauseTexts}
@@ -12,7 +12,7 @@ use Rattle.sql_builder.specs.Condition.{ConditionText, InQuoted, Like, condition
 use Rattle.sql_builder.specs.Layout.{byte_atoms}
 use Rattle.sql_builder.specs.Phrases.{equation}
 use Rattle.sql_builder.specs.Reading.{Clause, read}
-use Rattle.sql_builder.specs.Shape.{HasClosedFragments, as_fragments, has_closed_fragments}
+use Rattle.sql_builder.specs.Shape.{HasClosedFragments, as_fragments, has_closed_fragments, piece_tokens}
 use Rattle.sql_builder.specs.Statement.{layout_at, pieces, statement, text_at}
 use Rattle.sql_builder.specs.Text.{Piece, Pieces, Fixed, Quoted, Raw, fixed_piece, raw_piece}
 
@@ -101,11 +101,22 @@ blank_clauses ts = map blank_clause (read ts)
 abbrev pub clauses_but : List ℕ → List Clause
 clauses_but text = blank_clauses (tokens text)
 
--- ---- builders
+-- ---- texts that are quoted or bound inside of fragments
 
--- the tokens of a text, with no text in any string token
-abbrev pub outline : List ℕ → List Token
-outline text = blank (tokens text)
+-- the tokens of a piece, with no text in any string token
+abbrev pub piece_outline : Piece → List Token
+piece_outline piece = blank (piece_tokens piece)
+
+-- the same of each piece that is printed, or the refusal
+abbrev pub outlines : StartText → List CallText → FinishText → Result (List (List Token)) SqlBuilderError
+outlines start calls finish = result_map_both (map piece_outline) (λ refusal. refusal) (pieces start calls finish)
+
+-- where each fragment is closed, starts and calls whose pieces have the same outlines make statements that have the same outline,
+-- or are refused alike
+abbrev pub FragmentsDoNotInterfere : Type 0
+FragmentsDoNotInterfere = (start other_start : StartText) (one other : List CallText) (finish : FinishText)
+    → outlines start one finish ≡ outlines other_start other finish → HasClosedFragments start one finish
+    → answer_of outline start one finish ≡ answer_of outline other_start other finish
 
 -- where each text of a builder is closed, builders whose texts have the same outlines print texts that have the same outline
 abbrev pub OutlinesDecideOutlines : Type 0

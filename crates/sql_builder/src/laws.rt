@@ -3,7 +3,7 @@
 ghost use Rattle.std.specs.Prelude.{IfOk, IsTrue, List, codes};
 ghost use Rattle.sql_builder.specs.Calls.{CallText, Sql, StartText, having_in, limit_in, offset_in, returning_in};
 ghost use Rattle.sql_builder.specs.Inserts.{BuildersOfInsertsReadBack, BuildersOfQueriesAreOne, FitTextsMakeFitTargets, InsertsReadBack, QueriesAreOne};
-ghost use Rattle.sql_builder.specs.Interference.{ConditionsKeepTheirOutline, EquationsKeepTheirOutline, IgnoresQuotedTexts, OutlinesDecideOutlines, QuotedTextsAreStrings, QuotedTextsDoNotInterfere, QuotedTextsKeepTheirPlaces, QuotesKeepTheirOutline, blank_clauses, clauses_but, outline};
+ghost use Rattle.sql_builder.specs.Interference.{ConditionsKeepTheirOutline, EquationsKeepTheirOutline, FragmentsDoNotInterfere, IgnoresQuotedTexts, OutlinesDecideOutlines, QuotedTextsAreStrings, QuotedTextsDoNotInterfere, QuotedTextsKeepTheirPlaces, QuotesKeepTheirOutline, blank_clauses, clauses_but};
 ghost use Rattle.sql_builder.specs.Laws.{BuildersEndInOneSemicolon, ConditionsAreAtoms, ConditionsKeepTokens, BracketsMakeOperands, CountsKeepTokens, EquationsKeepTokens, FieldsJoin, FitTextsMakeBalancedFragments, FitTextsMakeFitConditions, FitTextsMakeFitFragments, IsValued, OnlyLastCounts, QuotedEquationsKeepTokens, StatementsReadBack, TruthOfAnd, TruthOfBrackets, TruthOfNot, TruthOfOr, TruthOfWhere, a_without_c, brackets_and_not, range_and_case};
 ghost use Rattle.sql_builder.specs.Truths.{False, True, Unknown};
 ghost use Rattle.sql_builder.specs.Shape.{EndsInOneSemicolon, has_closed_fragments, has_no_semicolons};
@@ -11,7 +11,7 @@ ghost use Rattle.sql_builder.specs.Statement.{pieces};
 ghost use Rattle.sql_builder.specs.Tables.{SubqueriesNestAsTables};
 ghost use Rattle.sql_builder.specs.Text.{pieces_text};
 ghost use Rattle.sql_parts.specs.Fragments.{balanced, dangling, has_clause_word, operand};
-ghost use Rattle.sql_parts.specs.Blanks.{IgnoresBoundTexts, IgnoresStrings, length_in_tokens, semicolon_count};
+ghost use Rattle.sql_parts.specs.Blanks.{IgnoresBoundTexts, IgnoresStrings, length_in_tokens, outline, semicolon_count};
 ghost use Rattle.sql_parts.specs.Tokens.{tokens};
 
 pub use sql_parts::laws::{
@@ -72,11 +72,13 @@ pub fn quoted_texts_do_not_interfere()
 {}
 
 /// Untrusted texts in raw fragments don't interfere either, where `quote` or a binding call put them
-/// there: where a builder prints closed texts, another whose texts have the same tokens, but for the
-/// texts of string tokens, prints the same tokens, but for the texts of string tokens. What `quote`
-/// gives and what a call that quotes adds differ so for different texts.
+/// there: where the pieces of two lists of calls, or the texts of two builders, have the same tokens,
+/// but for the texts of string tokens, and those of the first are closed, what is printed has the
+/// same tokens, but for the texts of string tokens. What `quote` gives and what a call that quotes
+/// adds differ so for different texts.
 /// `values(&[quote(alloc, "b), (")?])` → `VALUES ('b), (')`
 pub fn quoted_fragments_do_not_interfere()
+    ensures lists { FragmentsDoNotInterfere }
     ensures builders { OutlinesDecideOutlines }
     ensures conditions { ConditionsKeepTheirOutline }
     ensures equations { EquationsKeepTheirOutline }

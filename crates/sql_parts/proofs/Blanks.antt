@@ -47,7 +47,8 @@ module _ (test : Token → Bool) (same : Ignores test) where
   pub count-blank : (ts : List Token) → count_by test (blank ts) ≡ count_by test ts
   count-blank [] = refl
   count-blank (t ∷ ts) =
-      sum_by-cons (weight test) (blank_token t) (blank ts) ∙ (λ i. (if test-blank test same t i then 1 else 0) + count-blank ts i) ∙ sym (sum_by-cons (weight test) t ts)
+      sum_by-cons (weight test) (blank_token t) (blank ts) ∙ (λ i. (if test-blank test same t i then 1 else 0) + count-blank ts i)
+      ∙ sym (sum_by-cons (weight test) t ts)
 
   at-blank : (ts : List Token) (place : ℕ) → is_at test (blank ts) place ≡ is_at test ts place
   at-blank [] place = refl
@@ -108,7 +109,8 @@ ands-blank ts =
     nat_lt between and
     && int_eq (level-blank ts i and) (level-blank ts i between)
     && list_all (λ place. not (is_between between and place) || int_le (level-blank ts i between) (level-blank ts i place)) (every ts i)
-    && not (list_any (λ place. is_between between and place && int_eq (level-blank ts i place) (level-blank ts i between)) (places-blank is_joining (λ text. refl) ts i)))
+    && not (list_any (λ place. is_between between and place && int_eq (level-blank ts i place) (level-blank ts i between))
+    (places-blank is_joining (λ text. refl) ts i)))
     (places-blank (is_word (codes "AND")) (λ text. refl) ts i))
     (places-blank (is_word (codes "BETWEEN")) (λ text. refl) ts i)
 

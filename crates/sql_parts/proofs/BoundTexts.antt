@@ -64,7 +64,8 @@ blanked literals value = blank_literal (literals value)
 same_blanks : (one other : Value → LiteralValue) → DifferInTexts one other → blanked one ≡ blanked other
 same_blanks one other differ = λ i value. blank_is (one value) (other value) (differ value) i
 
-resolved_places-blank : (literals : Value → LiteralValue) (resolved : Resolved) → resolved_places (blanked literals) resolved ≡ resolved_places literals resolved
+resolved_places-blank : (literals : Value → LiteralValue) (resolved : Resolved)
+    → resolved_places (blanked literals) resolved ≡ resolved_places literals resolved
 resolved_places-blank literals resolved =
     λ i. nowhere (tokens resolved.0) ++ flat_map (λ (part : Value × List ℕ). places-blank (literals part.0) i ++ nowhere (tokens part.1)) resolved.1
 
@@ -74,20 +75,24 @@ part_places literals parts = flat_map (λ (part : Value × List ℕ). literal_pl
 abbrev part_tokens : (Value → LiteralValue) → Parts → List Token
 part_tokens literals parts = flat_map (λ (part : Value × List ℕ). literal_tokens (literals part.0) ++ tokens part.1) parts
 
-parts-blank : (literals : Value → LiteralValue) (parts : Parts) → blank_at (part_places literals parts) (part_tokens literals parts) ≡ part_tokens (blanked literals) parts
+parts-blank : (literals : Value → LiteralValue) (parts : Parts)
+    → blank_at (part_places literals parts) (part_tokens literals parts) ≡ part_tokens (blanked literals) parts
 parts-blank literals [] = refl
 parts-blank literals (part ∷ parts) =
     let literal = literals part.0 in
     let segment = tokens part.1 in
-    (λ i. blank_at (append_assoc (literal_places literal) (nowhere segment) (part_places literals parts) i) (append_assoc (literal_tokens literal) segment (part_tokens literals parts) i))
+    (λ i. blank_at (append_assoc (literal_places literal) (nowhere segment) (part_places literals parts) i)
+    (append_assoc (literal_tokens literal) segment (part_tokens literals parts) i))
     ∙ tokens-blank literal (nowhere segment ++ part_places literals parts) (segment ++ part_tokens literals parts)
     ∙ ap (λ more. literal_tokens (blank_literal literal) ++ more)
     (nowhere-first segment (part_places literals parts) (part_tokens literals parts) ∙ ap (λ more. segment ++ more) (parts-blank literals parts))
     ∙ sym (append_assoc (literal_tokens (blank_literal literal)) segment (part_tokens (blanked literals) parts))
 
-resolved-blank : (literals : Value → LiteralValue) (resolved : Resolved) → blank_at (resolved_places literals resolved) (bound_tokens literals resolved) ≡ bound_tokens (blanked literals) resolved
+resolved-blank : (literals : Value → LiteralValue) (resolved : Resolved)
+    → blank_at (resolved_places literals resolved) (bound_tokens literals resolved) ≡ bound_tokens (blanked literals) resolved
 resolved-blank literals resolved =
-    nowhere-first (tokens resolved.0) (part_places literals resolved.1) (part_tokens literals resolved.1) ∙ ap (λ more. tokens resolved.0 ++ more) (parts-blank literals resolved.1)
+    nowhere-first (tokens resolved.0) (part_places literals resolved.1) (part_tokens literals resolved.1)
+    ∙ ap (λ more. tokens resolved.0 ++ more) (parts-blank literals resolved.1)
 
 abbrev places_in : (Value → LiteralValue) → Option Resolved → List Bool
 places_in literals resolved = unwrap_or (option_map (resolved_places literals) resolved) []
@@ -95,7 +100,8 @@ places_in literals resolved = unwrap_or (option_map (resolved_places literals) r
 places-kept : (one other : Value → LiteralValue) → DifferInTexts one other → (resolved : Option Resolved) → places_in one resolved ≡ places_in other resolved
 places-kept one other differ None = refl
 places-kept one other differ (Some resolved) =
-    sym (resolved_places-blank one resolved) ∙ ap (λ literals. resolved_places literals resolved) (same_blanks one other differ) ∙ resolved_places-blank other resolved
+    sym (resolved_places-blank one resolved) ∙ ap (λ literals. resolved_places literals resolved) (same_blanks one other differ)
+    ∙ resolved_places-blank other resolved
 
 found-blank : (literals : Value → LiteralValue) (resolved : Option Resolved)
     → option_map (blank_at (places_in literals resolved)) (option_map (bound_tokens literals) resolved) ≡ option_map (bound_tokens (blanked literals)) resolved
@@ -128,7 +134,8 @@ bound_texts-apart template marks one other is differ =
 
 -- ---- at each of the places is a string token
 
-literal-strings : (literal : LiteralValue) (places : List Bool) (more : List Token) → are_strings (literal_places literal ++ places) (literal_tokens literal ++ more) ≡ are_strings places more
+literal-strings : (literal : LiteralValue) (places : List Bool) (more : List Token)
+    → are_strings (literal_places literal ++ places) (literal_tokens literal ++ more) ≡ are_strings places more
 literal-strings null places more = refl
 literal-strings (truth value) places more = refl
 literal-strings (whole number) places more = strings-first (literal_tokens (whole number)) places more
@@ -139,12 +146,14 @@ part-strings literals [] = refl
 part-strings literals (part ∷ parts) =
     let literal = literals part.0 in
     let segment = tokens part.1 in
-    (λ i. are_strings (append_assoc (literal_places literal) (nowhere segment) (part_places literals parts) i) (append_assoc (literal_tokens literal) segment (part_tokens literals parts) i))
+    (λ i. are_strings (append_assoc (literal_places literal) (nowhere segment) (part_places literals parts) i)
+    (append_assoc (literal_tokens literal) segment (part_tokens literals parts) i))
     ∙ literal-strings literal (nowhere segment ++ part_places literals parts) (segment ++ part_tokens literals parts)
     ∙ strings-first segment (part_places literals parts) (part_tokens literals parts)
     ∙ part-strings literals parts
 
-found-strings : (literals : Value → LiteralValue) (text : Option (List ℕ)) (resolved : Option Resolved) → option_map tokens text ≡ option_map (bound_tokens literals) resolved
+found-strings : (literals : Value → LiteralValue) (text : Option (List ℕ)) (resolved : Option Resolved)
+    → option_map tokens text ≡ option_map (bound_tokens literals) resolved
     → IfSome text (λ bytes. IsTrue (are_strings (places_in literals resolved) (tokens bytes)))
 found-strings literals None resolved same = tt
 found-strings literals (Some text) None same = cc same
@@ -154,7 +163,8 @@ found-strings literals (Some text) (Some resolved) same =
     ∙ strings-first (tokens resolved.0) (part_places literals resolved.1) (part_tokens literals resolved.1) ∙ part-strings literals resolved.1
 
 pub bound_texts-strings : BoundTextsAreStrings
-bound_texts-strings template marks literals is = found-strings literals (bound template marks literals) (resolve template marks) (bound-is template marks literals is)
+bound_texts-strings template marks literals is =
+    found-strings literals (bound template marks literals) (resolve template marks) (bound-is template marks literals is)
 
 -- what string tokens don't change, bound texts don't change
 unchanged : {X : Type 0} (answer : List Token → X) → IgnoresStrings answer → (places : List Bool) (one other : Option (List ℕ))
@@ -168,7 +178,8 @@ unchanged answer kept places (Some one) (Some other) same =
 
 pub bound_texts-ignored : {X : Type 0} (answer : List Token → X) → IgnoresStrings answer → IgnoresBoundTexts (λ text. answer (tokens text))
 bound_texts-ignored answer kept template marks one other is differ =
-    unchanged answer kept (bound_places template marks one) (bound template marks one) (bound template marks other) (bound_texts-apart template marks one other is differ)
+    unchanged answer kept (bound_places template marks one) (bound template marks one) (bound template marks other)
+    (bound_texts-apart template marks one other is differ)
 
 -- ---- lists of literals
 
@@ -185,7 +196,8 @@ pub arguments-differ : ArgumentsDifferInTexts
 arguments-differ one other same (Argument at) = differ _ _ (listed-differ one other same at)
 arguments-differ one other same (Named name) = refl
 
-named-differ : (one other : Option LiteralValue) → option_map blank_literal one ≡ option_map blank_literal other → DifferInText (unwrap_or one null) (unwrap_or other null)
+named-differ : (one other : Option LiteralValue) → option_map blank_literal one ≡ option_map blank_literal other
+    → DifferInText (unwrap_or one null) (unwrap_or other null)
 named-differ None None same = refl
 named-differ None (Some other) same = cc same
 named-differ (Some one) None same = cc same

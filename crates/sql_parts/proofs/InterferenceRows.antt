@@ -40,5 +40,6 @@ text_for_text = refl
 number_for_text : option_map length_in_tokens (bound (codes "a = ?") First (alone (whole (negsuc 0)))) ≡ Some 4
 number_for_text = refl
 
-null_for_text : tokens_but (false ∷ false ∷ true ∷ []) (bound (codes "a = ?") First (alone null)) ≡ Some (Word (codes "a") ∷ Symbol (code "=") ∷ Word (codes "NULL") ∷ [])
+null_for_text : tokens_but (false ∷ false ∷ true ∷ []) (bound (codes "a = ?") First (alone null))
+    ≡ Some (Word (codes "a") ∷ Symbol (code "=") ∷ Word (codes "NULL") ∷ [])
 null_for_text = refl

@@ -16,6 +16,10 @@ blank_token token = token
 abbrev pub blank : List Token → List Token
 blank ts = map blank_token ts
 
+-- the tokens of a text, with no text in any string token
+abbrev pub outline : List ℕ → List Token
+outline text = blank (tokens text)
+
 -- the tokens, with no text in the string tokens at some places: a truth value for each token says whether it is at one
 abbrev pub blank_at : List Bool → List Token → List Token
 blank_at (true ∷ places) (token ∷ ts) = blank_token token ∷ blank_at places ts

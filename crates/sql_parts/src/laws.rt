@@ -3,7 +3,7 @@ ghost use Rattle.std.specs.Prelude.{◌≡◌, ◌++◌, Bool, IsTrue, List, len
 ghost use Rattle.std.specs.List.{count_by};
 ghost use Rattle.sql_parts.specs.Apart.{apart};
 ghost use Rattle.sql_parts.specs.Fragments.{balanced, dangling, has_clause_word, has_outer, is_balanced, is_clause_word, is_dangling, is_operand, operand};
-ghost use Rattle.sql_parts.specs.Blanks.{ArgumentsDifferInTexts, BlankSomewhere, BoundTextsAreStrings, BoundTextsDoNotInterfere, BoundTextsKeepTheirPlaces, IgnoresBoundTexts, IgnoresStrings, NamesDifferInTexts, semicolon_count};
+ghost use Rattle.sql_parts.specs.Blanks.{ArgumentsDifferInTexts, BlankSomewhere, BoundTextsAreStrings, BoundTextsDoNotInterfere, BoundTextsKeepTheirPlaces, IgnoresBoundTexts, IgnoresStrings, NamesDifferInTexts, outline, semicolon_count};
 ghost use Rattle.sql_parts.specs.Laws.{DifferInTexts, LeavesWithout, UndoesDoubling, WritesApart, colon, dollar, question_mark, token_count};
 ghost use Rattle.sql_parts.specs.Quoting.{baquoted, brquoted, dquoted, escaped, quoted};
 ghost use Rattle.sql_parts.specs.Literal.{LiteralValue, literal_text};
@@ -74,6 +74,7 @@ pub fn bound_texts_do_not_interfere()
     ensures tokens { BoundTextsDoNotInterfere }
     ensures places { BoundTextsKeepTheirPlaces }
     ensures strings { BoundTextsAreStrings }
+    ensures outline { IgnoresBoundTexts outline }
     ensures semicolons { IgnoresBoundTexts semicolon_count }
     ensures balanced { IgnoresBoundTexts balanced }
     ensures operand { IgnoresBoundTexts operand }

@@ -1,7 +1,7 @@
 use Rattle.std.proofs.Common.{◌∙◌, [], ◌∷◌, List, ℕ, codes, false, refl}
 use Rattle.sql_builder.specs.Calls.{CallText, Cond, SetStr, Sql, UpdateTable}
 use Rattle.sql_builder.specs.Condition.{Like}
-use Rattle.sql_builder.specs.Interference.{outline}
+use Rattle.sql_parts.specs.Blanks.{outline}
 use Rattle.sql_builder.specs.declared.condition.Family.TheVariants.{And}
 use Rattle.sql_builder.specs.declared.condition.Percent.TheVariants.{Any}
 use Rattle.sql_builder.proofs.Callers.{and_call, begun}
