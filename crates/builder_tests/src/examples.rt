@@ -1,6 +1,7 @@
 //! Each example of the crate `callers` runs.
 
 use callers::chains::{cheapest_first, dearer, limit, repriced, titles, titles_printed};
+use callers::interference::remarked;
 use callers::lists::{books_where, of_books, titled_above};
 use callers::searches::{Search, search_printed};
 use callers::strangers::{filled, sought_printed, titled, titled_bound};
@@ -103,6 +104,20 @@ fn searches_by_the_filters_that_are_given(rt: HostRuntime) -> Result<(), Fail> {
     assert_eq!(rt;
         search_printed(alloc, &narrow)?.as_str(),
         "SELECT title FROM books WHERE (title LIKE '%it''s%') AND (author = ''') OR (1 = 1; --') AND (price >= 5) AND (stock > 0);"
+    );
+    Ok(())
+}
+
+#[test]
+fn says_the_same_of_other_texts(rt: HostRuntime) -> Result<(), Fail> {
+    let alloc = rt.alloc();
+    assert_eq!(rt;
+        remarked(alloc, "sea", "out of print")?.as_str(),
+        "UPDATE books SET remark = 'out of print' WHERE title LIKE '%sea%';"
+    );
+    assert_eq!(rt;
+        remarked(alloc, "' OR 1 = 1; --", "', price = '0")?.as_str(),
+        "UPDATE books SET remark = ''', price = ''0' WHERE title LIKE '%'' OR 1 = 1; --%';"
     );
     Ok(())
 }

@@ -12,6 +12,11 @@ fn states_its_laws() {
     laws::bound_texts_keep_the_count();
     laws::literals_are_operands();
     laws::quoted_names_are_operands();
+    laws::bound_texts_do_not_interfere();
+    laws::string_texts_decide_nothing();
+    laws::string_texts_begin_no_clause();
+    laws::quoted_texts_do_not_interfere();
+    laws::quoted_fragments_do_not_interfere();
     laws::fields_join();
     laws::only_last_counts();
     laws::only_the_end_is_a_semicolon();

@@ -9,6 +9,7 @@ pub mod Fitting
 pub mod Handed
 pub mod HandedTexts
 pub mod Inserts
+pub mod Interference
 pub mod Laws
 pub mod Layout
 pub mod Meaning
@@ -28,6 +29,7 @@ pub mod Views
 pub mod WhereTokens
 -- what the contracts here cite of the library below, for callers that list this one alone
 pub use Rattle.sql_parts.specs.Apart
+pub use Rattle.sql_parts.specs.Blanks
 pub use Rattle.sql_parts.specs.Error
 pub use Rattle.sql_parts.specs.Fragments
 pub use Rattle.sql_parts.specs.Lending

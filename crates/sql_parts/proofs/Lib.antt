@@ -1,10 +1,13 @@
 pub mod Betweens
+pub mod Blanks
+pub mod BoundTexts
 pub mod Callers
 pub mod ChainCalls
 pub mod Confined
 pub mod Decimal
 pub mod Doubled
 pub mod FragmentRows
+pub mod InterferenceRows
 pub mod JoinedTokens
 pub mod Kept
 pub mod Keywords

@@ -6,7 +6,7 @@ use Rattle.sql_builder.specs.Meaning.{HasTruthOf}
 use Rattle.sql_builder.specs.declared.condition.Family.TheVariants.{And}
 use Rattle.sql_builder.specs.declared.condition.Relation.TheVariants.{Eq}
 use Rattle.sql_builder.proofs.Callers.{and_call, begun, chain_closed, chain_statement, chain_tokens, one_semicolon}
-use Rattle.sql_builder.proofs.ReadBack.{statement_truth}
+use Rattle.sql_builder.proofs.StatementLaws.{of_statement, statements_have_truth}
 use Rattle.sql_parts.specs.Operands.{ServesAsOperand}
 use Rattle.sql_parts.specs.Tokens.{tokens}
 use Rattle.callers.proofs.strangers.titled.Goals as goal
@@ -33,4 +33,5 @@ returns-clause-truth c =
     let fits = and_from _ _ (and_from _ _ (and_from _ _ (and_from _ _ operand.is_balanced operand.no_clause_word) refl) refl) refl in
     let law = c.fit_texts_make_fit_fragments.ensures in
     subst (λ ts. IfOk c.sql.result (λ s. HasTruthOf (((tokens (codes "title =") ++ (ts ++ [])) ∷ []) ∷ []) (string_bytes s))) c.in_ok-title.ensures.token
-    (statement_truth start calls Sql c.sql.result (chain_statement Sql c.sql.result told c.sql.ensures.text c.sql.ensures.refused) refl (law.fragments start calls Sql refl fits) (law.conditions start calls Sql fits))
+    (of_statement start calls Sql _ c.sql.result (chain_statement Sql c.sql.result told c.sql.ensures.text c.sql.ensures.refused)
+    (statements_have_truth start calls Sql refl (law.fragments start calls Sql refl fits) (law.conditions start calls Sql fits)))
