@@ -2,7 +2,7 @@ use Rattle.std.proofs.Common.{[], ◌∷◌, ◌++◌, codes, string_bytes, IfOk
 use Rattle.std.proofs.lemmas.Bool.{and_from}
 use Rattle.sql_builder.specs.Calls.{Cond, SelectFrom, Sql}
 use Rattle.sql_builder.specs.Condition.{Compare}
-use Rattle.sql_builder.specs.Meaning.{HasTruthOf}
+use Rattle.sql_builder.specs.Meaning.{HasTruthOf, condition_groups}
 use Rattle.sql_builder.specs.declared.condition.Family.TheVariants.{And}
 use Rattle.sql_builder.specs.declared.condition.Relation.TheVariants.{Eq}
 use Rattle.sql_builder.proofs.Callers.{and_call, begun, chain_closed, chain_statement, chain_tokens, one_semicolon}
@@ -33,5 +33,5 @@ returns-clause-truth c =
     let fits = and_from _ _ (and_from _ _ (and_from _ _ (and_from _ _ operand.is_balanced operand.no_clause_word) refl) refl) refl in
     let law = c.fit_texts_make_fit_fragments.ensures in
     subst (λ ts. IfOk c.sql.result (λ s. HasTruthOf (((tokens (codes "title =") ++ (ts ++ [])) ∷ []) ∷ []) (string_bytes s))) c.in_ok-title.ensures.token
-    (of_statement start calls Sql _ c.sql.result (chain_statement Sql c.sql.result told c.sql.ensures.text c.sql.ensures.refused)
+    (of_statement start calls Sql (HasTruthOf (condition_groups calls)) c.sql.result (chain_statement Sql c.sql.result told c.sql.ensures.text c.sql.ensures.refused)
     (statements_have_truth start calls Sql refl (law.fragments start calls Sql refl fits) (law.conditions start calls Sql fits)))
