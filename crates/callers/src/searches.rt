@@ -14,6 +14,7 @@ use sql_builder::prelude::*;
 use std::alloc::Global;
 
 /// What books are looked for: each filter that is given narrows the search.
+#[derive(Clone, Copy)]
 pub struct Search<'a> {
     /// What stands in the title.
     pub title: Option<&'a str>,
