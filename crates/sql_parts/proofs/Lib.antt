@@ -1,3 +1,5 @@
+pub mod BackslashRows
+pub mod Backslashes
 pub mod Betweens
 pub mod Callers
 pub mod ChainCalls

@@ -1,9 +1,9 @@
 //! Facts about the definitions that the contracts of this crate speak of.
 ghost use Rattle.std.specs.Prelude.{◌≡◌, ◌++◌, Bool, IsTrue, List, ℕ, ℤ};
 ghost use Rattle.sql_parts.specs.Apart.{apart};
-ghost use Rattle.sql_parts.specs.Laws.{DifferInTexts, LeavesWithout, UndoesDoubling, WritesApart, colon, dollar, question_mark, token_count};
+ghost use Rattle.sql_parts.specs.Laws.{DifferInTexts, EndsAsWritten, HasOneReading, LeavesWithout, UndoesDoubling, WritesApart, colon, dollar, question_mark, token_count};
 ghost use Rattle.sql_parts.specs.Quoting.{baquoted, brquoted, dquoted, escaped, quoted};
-ghost use Rattle.sql_parts.specs.Literal.{LiteralValue, literal_text};
+ghost use Rattle.sql_parts.specs.Literal.{LiteralValue, literal_text, words};
 ghost use Rattle.sql_parts.specs.Name.{Name, safe_text};
 ghost use Rattle.sql_parts.specs.Operands.{NamesAreOperands, ServesAsOperand, has_operand_parts, is_operand_alias};
 ghost use Rattle.sql_parts.specs.Text.{bool_text, number_text};
@@ -83,4 +83,15 @@ pub fn quoted_names_are_operands()
     ensures dquoted { NamesAreOperands dquoted }
     ensures safe { (name : Name) → IsTrue (has_operand_parts name)
         → IsTrue (is_operand_alias name.alias) → ServesAsOperand (safe_text name) }
+{}
+
+/// Where a backslash escapes, as in MySQL and MariaDB by default, the literal that `quote` or binding
+/// writes of a text without a backslash ends at its last byte and stands for the text, whatever
+/// follows it but a quote; and where a statement has no backslash, each of its literals is the same
+/// as where none escapes. It does nothing when it runs.
+/// `has_backslash("it's")` → `false`
+pub fn literals_without_backslashes_read_alike()
+    ensures quote { EndsAsWritten quoted }
+    ensures bound { EndsAsWritten (λ text. literal_text (words text)) }
+    ensures statements { HasOneReading }
 {}
