@@ -6,6 +6,7 @@ pub mod ChainCalls
 pub mod Confined
 pub mod Decimal
 pub mod Doubled
+pub mod Escaping
 pub mod FragmentRows
 pub mod JoinedTokens
 pub mod Kept
@@ -13,10 +14,12 @@ pub mod Keywords
 pub mod LastPairs
 pub mod LevelCounts
 pub mod Lexing
+pub mod LikeRows
 pub mod Loans
 pub mod MarkerLemmas
 pub mod NameRows
 pub mod NameTokens
+pub mod Masks
 pub mod Names
 pub mod OperandRows
 pub mod Operands

@@ -1,7 +1,9 @@
 //! Facts about the definitions that the contracts of this crate speak of.
-ghost use Rattle.std.specs.Prelude.{◌≡◌, ◌++◌, Bool, IsTrue, List, ℕ, ℤ};
+ghost use Rattle.std.specs.Prelude.{◌≡◌, ◌++◌, Bool, IsTrue, List, codes, nat_eq, ℕ, ℤ};
+ghost use Rattle.std.specs.List.{ends_with, starts_with};
+ghost use Rattle.std.specs.Str.Iter.{HasSubslice};
 ghost use Rattle.sql_parts.specs.Apart.{apart};
-ghost use Rattle.sql_parts.specs.Laws.{DifferInTexts, EndsAsWritten, HasOneReading, LeavesWithout, UndoesDoubling, WritesApart, colon, dollar, question_mark, token_count};
+ghost use Rattle.sql_parts.specs.Laws.{DifferInTexts, EndsAsWritten, HasOneReading, LeavesWithout, MasksMatch, UndoesDoubling, WritesApart, colon, dollar, question_mark, token_count};
 ghost use Rattle.sql_parts.specs.Quoting.{baquoted, brquoted, dquoted, escaped, quoted};
 ghost use Rattle.sql_parts.specs.Literal.{LiteralValue, literal_text, words};
 ghost use Rattle.sql_parts.specs.Name.{Name, safe_text};
@@ -94,4 +96,15 @@ pub fn literals_without_backslashes_read_alike()
     ensures quote { EndsAsWritten quoted }
     ensures bound { EndsAsWritten (λ text. literal_text (words text)) }
     ensures statements { HasOneReading }
+{}
+
+/// A mask of LIKE that `escape_like` makes of a text matches that text alone; with `%` behind, what
+/// begins with the text; with `%` in front, what ends with it; with `%` on both sides, what contains
+/// it. Letters are compared as they are. It does nothing when it runs.
+/// `escape_like("50%", LikeEscape::Exclamation)` → `50!%`
+pub fn escaped_masks_match_their_text()
+    ensures exact { MasksMatch (λ mask. mask) (λ other text. other ≡ text) }
+    ensures begins { MasksMatch (λ mask. mask ++ codes "%") (λ other text. IsTrue (starts_with nat_eq other text)) }
+    ensures ends { MasksMatch (λ mask. codes "%" ++ mask) (λ other text. IsTrue (ends_with nat_eq other text)) }
+    ensures contains { MasksMatch (λ mask. codes "%" ++ mask ++ codes "%") (λ other text. HasSubslice other text) }
 {}
