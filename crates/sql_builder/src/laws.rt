@@ -12,8 +12,9 @@ ghost use Rattle.sql_builder.specs.Text.{pieces_text};
 ghost use Rattle.sql_parts.specs.Tokens.{tokens};
 
 pub use sql_parts::laws::{
-    bound_texts_keep_the_count, doubling_is_undone, literals_are_operands,
-    quoted_names_are_operands, quoting_is_injective, tokens_join_at_edges, unmarked_is_unchanged,
+    bound_texts_keep_the_count, doubling_is_undone, escaped_masks_match_their_text,
+    literals_are_operands, literals_without_backslashes_read_alike, quoted_names_are_operands,
+    quoting_is_injective, tokens_join_at_edges, unmarked_is_unchanged,
 };
 
 /// `fields` of a list and then of another is `fields` of the two joined.
