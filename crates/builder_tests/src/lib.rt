@@ -16,3 +16,5 @@ mod growths;
 mod kept_buffers;
 #[cfg(test)]
 mod stated_laws;
+#[cfg(test)]
+mod untrusted_texts;
