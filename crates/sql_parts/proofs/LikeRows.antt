@@ -1,6 +1,7 @@
 -- Worked rows of masks: what the definition gives, by computing.
 use Prim.Native.Char.{code}
-use Rattle.std.specs.Prelude.{◌≡◌, ◌∷◌, ◌++◌, [], true, false, codes, refl}
+use Rattle.std.specs.Prelude.{◌≡◌, ◌∷◌, ◌++◌, [], true, false, codes, nat_eq, refl}
+use Rattle.std.specs.List.{ends_with}
 use Rattle.std.specs.Str.{chars}
 use Rattle.sql_parts.specs.Like.{like_escaped, matches}
 
@@ -65,3 +66,11 @@ matches-case = refl
 percent-escape : matches (code "%") (like_escaped (code "%") (codes "a") ++ codes "%") (codes "ab") ≡ false
 unfolding chars
 percent-escape = refl
+
+-- Nor are they true of bytes that are no text: these have no character, so that with `%` in front they match every text.
+no_text : matches (code "!") (codes "%" ++ like_escaped (code "!") (169 ∷ [])) (codes "a") ≡ true
+unfolding chars
+no_text = refl
+
+no_text-ends : ends_with nat_eq (codes "a") (169 ∷ []) ≡ false
+no_text-ends = refl
