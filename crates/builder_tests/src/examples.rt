@@ -1,6 +1,7 @@
 //! Each example of the crate `callers` runs.
 
 use callers::chains::{cheapest_first, dearer, limit, repriced, titles, titles_printed};
+use callers::interference::remarked;
 use callers::lists::{books_where, of_books, titled_above};
 use callers::strangers::{filled, sought_printed, titled, titled_bound};
 use callers::values::{Cents, Column, above, between, of_title, sold_in, title};
@@ -76,6 +77,20 @@ fn seeks_strangers_texts(rt: HostRuntime) -> Result<(), Fail> {
     assert_eq!(rt;
         sought_printed(alloc, "it's", Some("') OR (1 = 1"))?.as_str(),
         "SELECT * FROM books WHERE (title = 'it''s') AND (author = ''') OR (1 = 1');"
+    );
+    Ok(())
+}
+
+#[test]
+fn says_the_same_of_other_texts(rt: HostRuntime) -> Result<(), Fail> {
+    let alloc = rt.alloc();
+    assert_eq!(rt;
+        remarked(alloc, "sea", "out of print")?.as_str(),
+        "UPDATE books SET remark = 'out of print' WHERE title LIKE '%sea%';"
+    );
+    assert_eq!(rt;
+        remarked(alloc, "' OR 1 = 1; --", "', price = '0")?.as_str(),
+        "UPDATE books SET remark = ''', price = ''0' WHERE title LIKE '%'' OR 1 = 1; --%';"
     );
     Ok(())
 }

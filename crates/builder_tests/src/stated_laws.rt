@@ -14,6 +14,11 @@ fn states_its_laws() {
     laws::quoted_names_are_operands();
     laws::literals_without_backslashes_read_alike();
     laws::escaped_masks_match_their_text();
+    laws::bound_texts_do_not_interfere();
+    laws::string_texts_decide_nothing();
+    laws::string_texts_begin_no_clause();
+    laws::quoted_texts_do_not_interfere();
+    laws::quoted_fragments_do_not_interfere();
     laws::fields_join();
     laws::only_last_counts();
     laws::only_the_end_is_a_semicolon();

@@ -21,7 +21,7 @@ Renews given apart = (c : CallText) → is_some (given c) ≡ true → (r : Clau
     → (apart (clauses_after c r) ≡ apart r) × (clauses_after c r ≡ clauses_after c (apart r))
 
 module _ (start : StartText) (apart : Clauses Pieces → Clauses Pieces) (alike : Apart apart) where
-  more_calls : (xs ys : List CallText) → apart (clauses start xs) ≡ apart (clauses start ys)
+  pub more_calls : (xs ys : List CallText) → apart (clauses start xs) ≡ apart (clauses start ys)
       → (more : List CallText)
       → apart (clauses start (xs ++ more)) ≡ apart (clauses start (ys ++ more))
   more_calls xs ys h [] = rw (append-nil xs, append-nil ys) h

@@ -232,7 +232,7 @@ pub fragments-printed : (finish : FinishText) (r : Clauses (List ℕ)) → piece
 fragments-printed finish r = text_of_layout finish (as_fragments r) ∙ ap (text_at finish) (fragment-texts r)
 
 -- what a builder prints
-builder-shape : (finish : FinishText) (r : Clauses (List ℕ)) (text : List ℕ) → text ≡ text_at finish r
+pub builder-shape : (finish : FinishText) (r : Clauses (List ℕ)) (text : List ℕ) → text ≡ text_at finish r
     → HasShape (layout_at fixed_piece raw_piece finish (as_fragments r)) text
 builder-shape finish r text is = λ all.
     ap tokens (is ∙ sym (fragments-printed finish r)) ∙ (layout-shaped finish (as_fragments r) (raw-inside-parts r)).shape_is all

@@ -24,7 +24,7 @@ abbrev pub or_pieces : Pieces
 or_pieces = fixed_piece (codes " OR ")
 
 -- the groups after one more call
-abbrev with_condition_in : Option (Family × ConditionText) → List Pieces → List Pieces
+abbrev pub with_condition_in : Option (Family × ConditionText) → List Pieces → List Pieces
 with_condition_in None groups = groups
 with_condition_in (Some (And, condition)) groups = groups ++ condition_pieces condition ∷ []
 with_condition_in (Some (Or, condition)) groups = join_last or_pieces (condition_pieces condition) groups

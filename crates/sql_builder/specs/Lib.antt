@@ -8,6 +8,7 @@ pub mod Filters
 pub mod Fitting
 pub mod Handed
 pub mod Inserts
+pub mod Interference
 pub mod Laws
 pub mod Layout
 pub mod Meaning
@@ -27,6 +28,7 @@ pub mod WhereTokens
 -- what the contracts here cite of the library below, for callers that list this one alone
 pub use Rattle.sql_parts.specs.Apart
 pub use Rattle.sql_parts.specs.Backslash
+pub use Rattle.sql_parts.specs.Blanks
 pub use Rattle.sql_parts.specs.Error
 pub use Rattle.sql_parts.specs.Fragments
 pub use Rattle.sql_parts.specs.Lending

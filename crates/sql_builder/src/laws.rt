@@ -3,18 +3,22 @@
 ghost use Rattle.std.specs.Prelude.{IfOk, IsTrue, List, codes};
 ghost use Rattle.sql_builder.specs.Calls.{CallText, Sql, StartText, having_in, limit_in, offset_in, returning_in};
 ghost use Rattle.sql_builder.specs.Inserts.{BuildersOfInsertsReadBack, BuildersOfQueriesAreOne, FitTextsMakeFitTargets, InsertsReadBack, QueriesAreOne};
+ghost use Rattle.sql_builder.specs.Interference.{ConditionsKeepTheirOutline, EquationsKeepTheirOutline, FragmentsDoNotInterfere, IgnoresQuotedTexts, OutlinesDecideOutlines, QuotedTextsAreStrings, QuotedTextsDoNotInterfere, QuotedTextsKeepTheirPlaces, QuotesKeepTheirOutline, blank_clauses, clauses_but};
 ghost use Rattle.sql_builder.specs.Laws.{BuildersEndInOneSemicolon, ConditionsAreAtoms, ConditionsKeepTokens, BracketsMakeOperands, CountsKeepTokens, EquationsKeepTokens, FieldsJoin, FitTextsMakeBalancedFragments, FitTextsMakeFitConditions, FitTextsMakeFitFragments, IsValued, OnlyLastCounts, QuotedEquationsKeepTokens, StatementsReadBack, TruthOfAnd, TruthOfBrackets, TruthOfNot, TruthOfOr, TruthOfWhere, a_without_c, brackets_and_not, range_and_case};
 ghost use Rattle.sql_builder.specs.Truths.{False, True, Unknown};
 ghost use Rattle.sql_builder.specs.Shape.{EndsInOneSemicolon, has_closed_fragments, has_no_semicolons};
 ghost use Rattle.sql_builder.specs.Statement.{pieces};
 ghost use Rattle.sql_builder.specs.Tables.{SubqueriesNestAsTables};
 ghost use Rattle.sql_builder.specs.Text.{pieces_text};
+ghost use Rattle.sql_parts.specs.Fragments.{balanced, dangling, has_clause_word, operand};
+ghost use Rattle.sql_parts.specs.Blanks.{IgnoresBoundTexts, IgnoresStrings, length_in_tokens, outline, semicolon_count};
 ghost use Rattle.sql_parts.specs.Tokens.{tokens};
 
 pub use sql_parts::laws::{
-    bound_texts_keep_the_count, doubling_is_undone, escaped_masks_match_their_text,
-    literals_are_operands, literals_without_backslashes_read_alike, quoted_names_are_operands,
-    quoting_is_injective, tokens_join_at_edges, unmarked_is_unchanged,
+    bound_texts_do_not_interfere, bound_texts_keep_the_count, doubling_is_undone,
+    escaped_masks_match_their_text, literals_are_operands, literals_without_backslashes_read_alike,
+    quoted_names_are_operands, quoting_is_injective, string_texts_decide_nothing,
+    tokens_join_at_edges, unmarked_is_unchanged,
 };
 
 /// `fields` of a list and then of another is `fields` of the two joined.
@@ -45,6 +49,50 @@ pub fn added_texts_keep_tokens()
     ensures equations { EquationsKeepTokens }
     ensures quoted_equations { QuotedEquationsKeepTokens }
     ensures counts { CountsKeepTokens }
+{}
+
+/// Untrusted texts don't interfere. Of two lists of calls that differ only in texts that `set_str`,
+/// the LIKE calls and the `_in_quoted` calls quote, and whose raw fragments are closed, `run` prints
+/// the same tokens, but for the texts of the string tokens at these places, or returns the same
+/// error, since it answers the statement of which this is said; so does a builder that these calls
+/// made. Neither the number of tokens nor that of `;`, nor the clauses that are parsed back, nor a
+/// test of fragments depends on texts that calls quote.
+/// `update_table("t").set_str("a", "x', b = 'y")` → `UPDATE t SET a = 'x'', b = ''y';`
+pub fn quoted_texts_do_not_interfere()
+    ensures tokens { QuotedTextsDoNotInterfere }
+    ensures places { QuotedTextsKeepTheirPlaces }
+    ensures strings { QuotedTextsAreStrings }
+    ensures outline { IgnoresQuotedTexts outline }
+    ensures count { IgnoresQuotedTexts length_in_tokens }
+    ensures semicolons { IgnoresQuotedTexts semicolon_count }
+    ensures clauses { IgnoresQuotedTexts clauses_but }
+    ensures balanced { IgnoresQuotedTexts balanced }
+    ensures operand { IgnoresQuotedTexts operand }
+    ensures clause_word { IgnoresQuotedTexts has_clause_word }
+    ensures dangling { IgnoresQuotedTexts dangling }
+{}
+
+/// Untrusted texts in raw fragments don't interfere either, where `quote` or a binding call put them
+/// there: where the pieces of two lists of calls, or the texts of two builders, have the same tokens,
+/// but for the texts of string tokens, and those of the first are closed, what is printed has the
+/// same tokens, but for the texts of string tokens. What `quote` gives and what a call that quotes
+/// adds differ so for different texts.
+/// `values(&[quote(alloc, "b), (")?])` → `VALUES ('b), (')`
+pub fn quoted_fragments_do_not_interfere()
+    ensures lists { FragmentsDoNotInterfere }
+    ensures builders { OutlinesDecideOutlines }
+    ensures conditions { ConditionsKeepTheirOutline }
+    ensures equations { EquationsKeepTheirOutline }
+    ensures quotes { QuotesKeepTheirOutline }
+{}
+
+/// No text of a string token begins a clause: tokens that are equal but for these texts are parsed
+/// back as clauses that are equal but for these texts. So are the statements that are bound to
+/// different texts, where the values of the template stand apart.
+/// `"SELECT a FROM b WHERE c = ?".bind(&"d FROM e")` → `SELECT a FROM b WHERE c = 'd FROM e'`
+pub fn string_texts_begin_no_clause()
+    ensures tokens { IgnoresStrings blank_clauses }
+    ensures bound { IgnoresBoundTexts clauses_but }
 {}
 
 /// A condition whose texts are operands, but one that is handed in as it stands, is an atom: its

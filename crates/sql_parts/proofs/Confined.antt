@@ -1,12 +1,11 @@
 -- Values that stand apart are tokens of their own.
-use Rattle.std.proofs.Common.{◌≡◌, ℕ, ◌+◌, Bool, true, false, not, ◌||◌, ◌⊎◌, List, [], ◌∷◌, ◌++◌, length, Option, Some, None, option_map, refl, sym, ap, ◌∙◌, subst, inl, inr, append_assoc, append-nil, length-append}
+use Rattle.std.proofs.Common.{◌≡◌, ℕ, Bool, true, false, not, ◌||◌, ◌⊎◌, List, [], ◌∷◌, ◌++◌, Option, Some, None, option_map, refl, sym, ap, ◌∙◌, subst, inl, inr, append_assoc, append-nil}
 use Rattle.std.specs.Prelude.{◌&&◌, ◌==◌, codes, flat_map}
 use Rattle.std.specs.List.{list_any}
 use Rattle.std.proofs.lemmas.Bool.{and_parts, false≢true, or_cases, or_from, or_left, or_right}
 use Rattle.std.proofs.lemmas.List.Folds.{list_any-append}
 use Rattle.sql_parts.specs.Apart.{HasBoundTokens, IsClosedIfApart, IsSupplied, apart, bound_tokens, literal_tokens, piece_apart, pieces_apart, resolved_apart}
-use Rattle.sql_parts.specs.Laws.{DifferInText, DifferInTexts, token_count}
-use Rattle.sql_parts.specs.Literal.{LiteralValue, null, truth, whole, words, literal_text}
+use Rattle.sql_parts.specs.Literal.{LiteralValue, literal_text}
 use Rattle.sql_parts.specs.Templates.{Marks, Resolved, Value, bound, resolve, resolved_from, written}
 use Rattle.sql_parts.specs.Tokens.{Token, begins_with, clean, closed, ends_with, is_edge, is_empty, is_open, is_separator, tokens}
 use Rattle.sql_parts.proofs.TokenLaws.{closed-shut, seam}
@@ -125,41 +124,6 @@ resolved-closed literals text (Some resolved) is written_is =
 -- a bound text is closed
 pub bound-closed : (template text : List ℕ) (marks : Marks) (literals : Value → LiteralValue) → apart template marks ≡ true → bound template marks literals ≡ Some text → closed text ≡ true
 bound-closed template text marks literals is bound_is = resolved-closed literals text (resolve template marks) is bound_is
-
--- texts in place of other texts are as many tokens
-literal-count : (one other : LiteralValue) → DifferInText one other → length (literal_tokens one) ≡ length (literal_tokens other)
-literal-count null other same = ap (λ literal. length (literal_tokens literal)) same
-literal-count (truth value) other same = ap (λ literal. length (literal_tokens literal)) same
-literal-count (whole number) other same = ap (λ literal. length (literal_tokens literal)) same
-literal-count (words text) null same = ap (λ literal. length (literal_tokens literal)) same
-literal-count (words text) (truth value) same = ap (λ literal. length (literal_tokens literal)) same
-literal-count (words text) (whole number) same = ap (λ literal. length (literal_tokens literal)) same
-literal-count (words text) (words other) same = refl
-
-part-count : (one other : Value → LiteralValue) → DifferInTexts one other → (parts : Parts) → length (part_tokens one parts) ≡ length (part_tokens other parts)
-part-count one other differ [] = refl
-part-count one other differ (part ∷ parts) =
-    let sum : (literals : Value → LiteralValue) → length (part_tokens literals (part ∷ parts)) ≡ (length (literal_tokens (literals part.0)) + length (tokens part.1)) + length (part_tokens literals parts) =
-    λ literals. length-append (literal_tokens (literals part.0) ++ tokens part.1) (part_tokens literals parts) ∙ ap (λ n. n + length (part_tokens literals parts)) (length-append (literal_tokens (literals part.0)) (tokens part.1)) in
-    sum one ∙ (λ i. (literal-count (one part.0) (other part.0) (differ part.0) i + length (tokens part.1)) + part-count one other differ parts i) ∙ sym (sum other)
-
-resolved-count : (one other : Value → LiteralValue) → DifferInTexts one other → (resolved : Option Resolved)
-    → option_map length (option_map (bound_tokens one) resolved) ≡ option_map length (option_map (bound_tokens other) resolved)
-resolved-count one other differ None = refl
-resolved-count one other differ (Some resolved) =
-    ap Some (length-append (tokens resolved.0) (part_tokens one resolved.1) ∙ ap (λ n. length (tokens resolved.0) + n) (part-count one other differ resolved.1)
-    ∙ sym (length-append (tokens resolved.0) (part_tokens other resolved.1)))
-
-count : (text : Option (List ℕ)) → token_count text ≡ option_map length (option_map tokens text)
-count None = refl
-count (Some text) = refl
-
-pub bound-count : (template : List ℕ) (marks : Marks) (one other : Value → LiteralValue) → apart template marks ≡ true → DifferInTexts one other
-    → token_count (bound template marks one) ≡ token_count (bound template marks other)
-bound-count template marks one other is differ =
-    count (bound template marks one) ∙ ap (option_map length) (bound-is template marks one is)
-    ∙ resolved-count one other differ (resolve template marks)
-    ∙ sym (ap (option_map length) (bound-is template marks other is)) ∙ sym (count (bound template marks other))
 
 -- what is known of a text that is a resolved template with literals in it
 is-bound : (template text : List ℕ) (marks : Marks) (literals : Value → LiteralValue) → text ≡ written literals (resolved_from marks 0 0 template) → IsSupplied template marks

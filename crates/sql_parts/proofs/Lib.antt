@@ -1,6 +1,8 @@
 pub mod BackslashRows
 pub mod Backslashes
 pub mod Betweens
+pub mod Blanks
+pub mod BoundTexts
 pub mod Callers
 pub mod ChainCalls
 pub mod Confined
@@ -8,6 +10,7 @@ pub mod Decimal
 pub mod Doubled
 pub mod Escaping
 pub mod FragmentRows
+pub mod InterferenceRows
 pub mod JoinedTokens
 pub mod Kept
 pub mod Keywords

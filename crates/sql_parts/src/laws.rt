@@ -1,8 +1,10 @@
 //! Facts about the definitions that the contracts of this crate speak of.
-ghost use Rattle.std.specs.Prelude.{◌≡◌, ◌++◌, Bool, IsTrue, List, codes, nat_eq, ℕ, ℤ};
-ghost use Rattle.std.specs.List.{ends_with, starts_with};
+ghost use Rattle.std.specs.Prelude.{◌≡◌, ◌++◌, Bool, IsTrue, List, codes, length, nat_eq, ℕ, ℤ};
+ghost use Rattle.std.specs.List.{count_by, ends_with, starts_with};
 ghost use Rattle.std.specs.Str.Iter.{HasSubslice};
 ghost use Rattle.sql_parts.specs.Apart.{apart};
+ghost use Rattle.sql_parts.specs.Fragments.{balanced, dangling, has_clause_word, has_outer, is_balanced, is_clause_word, is_dangling, is_operand, operand};
+ghost use Rattle.sql_parts.specs.Blanks.{ArgumentsDifferInTexts, BlankSomewhere, BoundTextsAreStrings, BoundTextsDoNotInterfere, BoundTextsKeepTheirPlaces, IgnoresBoundTexts, IgnoresStrings, NamesDifferInTexts, outline, semicolon_count};
 ghost use Rattle.sql_parts.specs.Laws.{DifferInTexts, EndsAsWritten, HasOneReading, LeavesWithout, MasksMatch, UndoesDoubling, WritesApart, colon, dollar, question_mark, token_count};
 ghost use Rattle.sql_parts.specs.Quoting.{baquoted, brquoted, dquoted, escaped, quoted};
 ghost use Rattle.sql_parts.specs.Literal.{LiteralValue, literal_text, words};
@@ -10,7 +12,7 @@ ghost use Rattle.sql_parts.specs.Name.{Name, safe_text};
 ghost use Rattle.sql_parts.specs.Operands.{NamesAreOperands, ServesAsOperand, has_operand_parts, is_operand_alias};
 ghost use Rattle.sql_parts.specs.Text.{bool_text, number_text};
 ghost use Rattle.sql_parts.specs.Templates.{Cycle, First, Marks, Names, Nums, Value, bound};
-ghost use Rattle.sql_parts.specs.Tokens.{clean, closed, tokens};
+ghost use Rattle.sql_parts.specs.Tokens.{clean, closed, is_semicolon, tokens};
 
 /// Two texts whose quoted texts are equal are equal, in each of the five forms of quoting.
 /// It does nothing when it runs.
@@ -48,6 +50,39 @@ pub fn tokens_join_at_edges()
         → tokens (one ++ other) ≡ tokens one ++ tokens other }
     ensures closed { (one other : List ℕ) → IsTrue (closed one) → IsTrue (closed other)
         → IsTrue (clean one other) → IsTrue (closed (one ++ other)) }
+{}
+
+/// The texts of string tokens decide nothing: tokens that are equal but for these texts, or but for
+/// some of them, are as many, as many of them are a `;`, and each test of fragments gives the same
+/// answer for both. It does nothing when it runs.
+/// `is_balanced("a = ')'")` → `true`
+pub fn string_texts_decide_nothing()
+    ensures somewhere { BlankSomewhere }
+    ensures count { IgnoresStrings length }
+    ensures semicolons { IgnoresStrings (count_by is_semicolon) }
+    ensures balanced { IgnoresStrings is_balanced }
+    ensures operand { IgnoresStrings is_operand }
+    ensures clause_word { IgnoresStrings (has_outer is_clause_word) }
+    ensures dangling { IgnoresStrings is_dangling }
+{}
+
+/// Untrusted texts that are bound don't interfere. Where the values of a template stand apart, and
+/// the literals bound to it are of the same kinds in the same places, the bound texts have the same
+/// tokens, but for the texts of the string tokens at these places. So neither the number of `;` nor
+/// a test of fragments depends on texts that are bound. It does nothing when it runs.
+/// `"a = ?".bind(&"x' OR 1=1; --")` → `a = 'x'' OR 1=1; --'`
+pub fn bound_texts_do_not_interfere()
+    ensures tokens { BoundTextsDoNotInterfere }
+    ensures places { BoundTextsKeepTheirPlaces }
+    ensures strings { BoundTextsAreStrings }
+    ensures outline { IgnoresBoundTexts outline }
+    ensures semicolons { IgnoresBoundTexts semicolon_count }
+    ensures balanced { IgnoresBoundTexts balanced }
+    ensures operand { IgnoresBoundTexts operand }
+    ensures clause_word { IgnoresBoundTexts has_clause_word }
+    ensures dangling { IgnoresBoundTexts dangling }
+    ensures arguments { ArgumentsDifferInTexts }
+    ensures names { NamesDifferInTexts }
 {}
 
 /// Where the values of a template stand apart, texts in place of other texts leave the number of

@@ -1,5 +1,9 @@
-use Rattle.sql_parts.proofs.Confined.{bound-count}
+use Rattle.std.proofs.Common.{length}
+use Rattle.std.proofs.lemmas.List.{length-map}
+use Rattle.sql_parts.specs.Blanks.{blank_token}
+use Rattle.sql_parts.proofs.Blanks.{ignores}
+use Rattle.sql_parts.proofs.BoundTexts.{bound_texts-ignored}
 use Rattle.sql_parts.proofs.laws.bound_texts_keep_the_count.Goals as goal
 
 pub returns : goal.returns
-returns c = record { count = bound-count }
+returns c = record { count = bound_texts-ignored length (ignores length (λ ts. length-map ts blank_token)) }

@@ -1,0 +1,15 @@
+use Rattle.std.proofs.Common.{sym, ◌∙◌, ap}
+use Rattle.sql_parts.specs.Blanks.{blank}
+use Rattle.sql_parts.specs.declared.quotes.Quotes.TheVariants.{Single}
+use Rattle.sql_parts.proofs.TokenLaws.{between-tokens}
+use Rattle.sql_builder.proofs.Outlines.{condition-outline, equation-outline, fragments-apart, outlines-decide}
+use Rattle.sql_builder.proofs.laws.quoted_fragments_do_not_interfere.Goals as goal
+
+pub returns : goal.returns
+returns c = record {
+  lists = fragments-apart;
+  builders = outlines-decide;
+  conditions = condition-outline;
+  equations = equation-outline;
+  quotes = λ one other. ap blank (between-tokens Single one) ∙ sym (ap blank (between-tokens Single other));
+}

@@ -1,0 +1,26 @@
+use Rattle.std.specs.List.{count_by}
+use Rattle.std.proofs.Common.{length, refl}
+use Rattle.std.proofs.lemmas.List.{length-map}
+use Rattle.sql_parts.specs.Fragments.{has_outer, is_balanced, is_clause_word, is_dangling, is_operand}
+use Rattle.sql_parts.specs.Blanks.{blank, blank_token}
+use Rattle.sql_parts.specs.Tokens.{is_semicolon}
+use Rattle.sql_parts.proofs.Blanks.{count-blank, has_outer-blank, ignores, is_balanced-blank, is_dangling-blank, is_operand-blank}
+use Rattle.sql_builder.specs.Interference.{blank_clauses}
+use Rattle.sql_builder.proofs.BlankClauses.{blank_clauses-ignore}
+use Rattle.sql_builder.proofs.QuotedTexts.{quoted_places-kept, quoted_texts-apart, quoted_texts-ignored, quoted_texts-strings}
+use Rattle.sql_builder.proofs.laws.quoted_texts_do_not_interfere.Goals as goal
+
+pub returns : goal.returns
+returns c = record {
+  tokens = λ start one other finish differ is. quoted_texts-apart start one other finish differ is;
+  places = λ start one other finish differ. quoted_places-kept start one other finish differ;
+  strings = quoted_texts-strings;
+  outline = quoted_texts-ignored blank (λ one other same. same);
+  count = quoted_texts-ignored length (ignores length (λ ts. length-map ts blank_token));
+  semicolons = quoted_texts-ignored (count_by is_semicolon) (ignores (count_by is_semicolon) (count-blank is_semicolon (λ text. refl)));
+  clauses = quoted_texts-ignored blank_clauses blank_clauses-ignore;
+  balanced = quoted_texts-ignored is_balanced (ignores is_balanced is_balanced-blank);
+  operand = quoted_texts-ignored is_operand (ignores is_operand is_operand-blank);
+  clause_word = quoted_texts-ignored (has_outer is_clause_word) (ignores (has_outer is_clause_word) (has_outer-blank is_clause_word (λ text. refl)));
+  dangling = quoted_texts-ignored is_dangling (ignores is_dangling is_dangling-blank);
+}
