@@ -4,7 +4,7 @@ use sql_builder::calls::{
     BinaryClause, BorrowedCondition, Family, UnaryClause, VariadicClause, make_binary,
     make_condition, make_order, make_unary, make_variadic,
 };
-use sql_builder::text::Items;
+use sql_builder::text::{Items, Texts};
 use sql_builder::{SqlBuilder, SqlBuilderError};
 use sql_parts::{escaped, push_quoted};
 use std::alloc::Global;
@@ -33,6 +33,21 @@ fn makes_calls_of_borrowed_texts(rt: HostRuntime) -> Result<(), Fail> {
         builder.sql()?.as_str(),
         "SELECT a, COUNT(b) AS n, c, d FROM t WHERE a IN (1, 2) ORDER BY a DESC;"
     );
+    Ok(())
+}
+
+/// Whether the next text of a list is this.
+fn is_next(alloc: Global, mut items: Items<'_, &str>, wanted: &str) -> bool {
+    match items.next_text(alloc) {
+        Ok(Some(text)) => text.as_str() == wanted,
+        _ => false,
+    }
+}
+
+#[test]
+fn takes_texts_one_by_one(rt: HostRuntime) -> Result<(), Fail> {
+    let items = Items { items: &["a", "b"] };
+    assert!(rt; is_next(rt.alloc(), items, "a"));
     Ok(())
 }
 

@@ -7,6 +7,14 @@ use std::test::Fail;
 /// What a builder prints, or why it prints nothing.
 pub(crate) type Made = Result<String, SqlBuilderError>;
 
+/// Whether this was printed.
+pub(crate) fn is_made(made: Made, wanted: &str) -> bool {
+    match made {
+        Ok(text) => text.as_str() == wanted,
+        Err(_) => false,
+    }
+}
+
 /// The call that begins a builder.
 pub(crate) type Start = fn(Global) -> Result<SqlBuilder, SqlBuilderError>;
 

@@ -3,9 +3,13 @@
 #![tactic(auto)]
 
 #[cfg(test)]
+mod binding;
+#[cfg(test)]
 mod borrowed_texts;
 #[cfg(test)]
 mod clones;
+#[cfg(test)]
+mod conditions;
 #[cfg(test)]
 mod every_call;
 #[cfg(test)]
@@ -15,4 +19,12 @@ mod growths;
 #[cfg(test)]
 mod kept_buffers;
 #[cfg(test)]
+mod lists_of_calls;
+#[cfg(test)]
+mod names;
+#[cfg(test)]
+mod quoting;
+#[cfg(test)]
 mod stated_laws;
+#[cfg(test)]
+mod untrusted_texts;

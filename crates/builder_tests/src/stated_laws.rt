@@ -12,6 +12,8 @@ fn states_its_laws() {
     laws::bound_texts_keep_the_count();
     laws::literals_are_operands();
     laws::quoted_names_are_operands();
+    laws::literals_without_backslashes_read_alike();
+    laws::escaped_masks_match_their_text();
     laws::bound_texts_do_not_interfere();
     laws::string_texts_decide_nothing();
     laws::string_texts_begin_no_clause();

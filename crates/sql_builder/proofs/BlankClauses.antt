@@ -2,9 +2,9 @@
 use Rattle.std.proofs.Common.{◌≡◌, refl, sym, ◌∙◌, ap, ℕ, ℤ, Bool, true, false, cond, List, [], ◌∷◌, map, pos}
 use Rattle.std.specs.Prelude.{if◌then◌else◌}
 use Rattle.std.proofs.Math.IntN.{suc_ℤ, pred_ℤ}
+use Rattle.sql_parts.specs.Blanks.{IgnoresStrings, blank, blank_token}
 use Rattle.sql_parts.specs.Fragments as fragments
 use Rattle.sql_parts.specs.Fragments.{Inner, Outer, Placed, as_placed, is_clause_word, is_outer, lowers, raises, token_of}
-use Rattle.sql_parts.specs.Blanks.{IgnoresStrings, blank, blank_token}
 use Rattle.sql_parts.specs.Tokens.{Token, Word, Str, Name, Symbol, Open, ends_with, is_semicolon}
 use Rattle.sql_parts.proofs.Blanks.{Ignores, ends-blank, ignores, test-blank, token-twice}
 use Rattle.sql_parts.proofs.Walks.{after, is_zero, placed_from, placed-is}

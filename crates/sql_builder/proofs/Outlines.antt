@@ -1,32 +1,32 @@
 -- The outline of what a builder prints, by those of its texts.
-use Rattle.std.proofs.Common.{◌≡◌, refl, sym, ◌∙◌, ap, ℕ, Bool, true, false, not, Result, Ok, Err, List, [], ◌∷◌, ◌++◌, Option, None, Some, map, append-nil}
-use Rattle.std.specs.Prelude.{IfOk, IsTrue, flat_map, option_map}
+use Rattle.std.proofs.Common.{◌≡◌, refl, sym, ◌∙◌, ap, ℕ, Bool, true, false, not, Ok, Err, List, [], ◌∷◌, ◌++◌, Option, None, Some, map, append-nil}
 use Rattle.std.specs.List.{list_all, list_any}
-use Rattle.std.proofs.lemmas.List.{map-append}
+use Rattle.std.specs.Prelude.{IfOk, IsTrue, flat_map, option_map}
+use Rattle.std.specs.Result.{result_map_both}
+use Rattle.std.proofs.lemmas.Bool.{and_from, or_parts}
 use Rattle.std.proofs.lemmas.List.Folds.{list_all-map, list_any-append}
+use Rattle.std.proofs.lemmas.List.{map-append}
 use Rattle.std.proofs.lemmas.Simd.{map-map}
 use Rattle.sql_parts.specs.Blanks.{blank, blank_token, outline}
-use Rattle.sql_parts.specs.Tokens.{Token, closed, is_open, tokens}
+use Rattle.sql_parts.specs.Tokens.{Token, is_open, tokens}
+use Rattle.sql_parts.specs.declared.error.SqlBuilderError.{SqlBuilderError}
 use Rattle.sql_parts.proofs.Blanks.{any-blank, somewhere}
 use Rattle.sql_builder.specs.Builder.{ClauseTexts}
-use Rattle.sql_parts.specs.declared.error.SqlBuilderError.{SqlBuilderError}
-use Rattle.std.specs.Result.{result_map_both}
-use Rattle.sql_builder.specs.Calls.{FinishText, StartText, CallText, clauses}
+use Rattle.sql_builder.specs.Calls.{FinishText, clauses}
 use Rattle.sql_builder.specs.Clauses.{Clauses, map_clauses}
+use Rattle.sql_builder.specs.Condition.{condition_pieces}
 use Rattle.sql_builder.specs.Interference.{ConditionsKeepTheirOutline, EquationsKeepTheirOutline, FragmentsDoNotInterfere, OutlinesDecideOutlines, piece_outline, places_in, tokens_but}
+use Rattle.sql_builder.specs.Phrases.{equation}
 use Rattle.sql_builder.specs.Shape.{as_fragments, has_closed_fragments, is_closed_piece, piece_tokens, pieces_tokens}
 use Rattle.sql_builder.specs.Statement.{layout_at, refusal_at, text_at, text_unless_refused, unless_refused}
 use Rattle.sql_builder.specs.Text as text
 use Rattle.sql_builder.specs.Text.{Pieces, fixed_piece, pieces_text, quoted_piece, raw_piece}
-use Rattle.sql_builder.specs.Condition.{condition_pieces}
-use Rattle.sql_builder.specs.Phrases.{equation}
 use Rattle.sql_builder.proofs.ClauseShapes.{printed-shaped, quoted_equation_keeps}
 use Rattle.sql_builder.proofs.ConditionPieces.{condition-inside, condition_printed}
-use Rattle.sql_builder.proofs.QuotedTexts.{blanks, condition-blank, same_tokens}
 use Rattle.sql_builder.proofs.Forms.{layout_in_form}
 use Rattle.sql_builder.proofs.Layouts.{builder-shape}
+use Rattle.sql_builder.proofs.QuotedTexts.{blanks, condition-blank, same_tokens}
 use Rattle.sql_builder.proofs.Shapes.{Shaped, pieces_tokens-append, shaped}
-use Rattle.std.proofs.lemmas.Bool.{and_from, or_parts}
 
 -- ---- clauses in one form after another
 

@@ -1,30 +1,30 @@
 -- Texts that are quoted in place of others leave all other tokens of a statement as they are.
-use Rattle.std.proofs.Common.{◌≡◌, refl, sym, ◌∙◌, ap, subst, ℕ, Bool, true, false, List, [], ◌∷◌, ◌++◌, Option, None, Some, Result, Ok, Err, map, codes}
-use Rattle.std.specs.Prelude.{◌&&◌, IfOk, IsTrue, flat_map, if◌then◌else◌, option_map}
+use Rattle.std.proofs.Common.{◌≡◌, refl, sym, ◌∙◌, ap, ℕ, Bool, true, false, List, [], ◌∷◌, ◌++◌, Option, None, Some, Result, Ok, Err, map, codes}
 use Rattle.std.specs.Option.{option_or}
+use Rattle.std.specs.Prelude.{◌&&◌, IfOk, IsTrue, if◌then◌else◌, option_map}
 use Rattle.std.specs.Result.{result_map_both}
 use Rattle.std.proofs.lemmas.List.{append_assoc, map-append}
-use Rattle.sql_parts.specs.declared.error.SqlBuilderError.{SqlBuilderError}
 use Rattle.sql_parts.specs.Blanks.{IgnoresStrings, are_strings, blank_at, nowhere}
 use Rattle.sql_parts.specs.Tokens.{Token, Str, tokens}
+use Rattle.sql_parts.specs.declared.error.SqlBuilderError.{SqlBuilderError}
 use Rattle.sql_parts.proofs.Blanks.{nowhere-first, somewhere, strings-first}
 use Rattle.sql_builder.specs.Builder.{extend_last, join_last}
 use Rattle.sql_builder.specs.Calls as call
 use Rattle.sql_builder.specs.Calls.{CallText, FinishText, StartText, clauses}
 use Rattle.sql_builder.specs.Clauses.{Clauses, map_clauses}
-use Rattle.sql_builder.specs.Condition.{ConditionText, Raw, Compare, Like, IsNull, IsNotNull, InList, InQuoted, InQuery, Between, condition_pieces, not_text}
+use Rattle.sql_builder.specs.Condition.{ConditionText, Like, InQuoted, condition_pieces, not_text}
 use Rattle.sql_builder.specs.Interference.{DifferInQuotedTexts, IgnoresQuotedTexts, QuotedTextsAreStrings, blank_call, blank_condition, answer_of, places_in, places_unless_refused, quoted_places, tokens_but}
-use Rattle.sql_builder.specs.Layout.{query_refusal, refusal, refusal_of, refuse_empty, refuse_no_group_by, refuse_no_rows, refuse_no_table}
+use Rattle.sql_builder.specs.Layout.{refusal, refusal_of, refuse_empty, refuse_no_group_by, refuse_no_rows, refuse_no_table}
 use Rattle.sql_builder.specs.Phrases.{comma_list, join}
 use Rattle.sql_builder.specs.Shape.{has_closed_fragments, is_closed_piece, pieces_tokens}
 use Rattle.sql_builder.specs.Statement.{layout_at, pieces, refusal_at, statement, text_unless_refused, unless_refused}
 use Rattle.sql_builder.specs.Text as text
 use Rattle.sql_builder.specs.Text.{Piece, Pieces, fixed_piece, pieces_text, quoted_piece, raw_piece}
 use Rattle.sql_builder.specs.declared.clauses.JoinOperator.{JoinOperator}
-use Rattle.sql_builder.specs.declared.clauses.Kind.{Kind}
 use Rattle.sql_builder.specs.declared.clauses.Kind.TheVariants as kind
-use Rattle.sql_builder.specs.declared.condition.Family.{Family}
+use Rattle.sql_builder.specs.declared.clauses.Kind.{Kind}
 use Rattle.sql_builder.specs.declared.condition.Family.TheVariants.{And, Or}
+use Rattle.sql_builder.specs.declared.condition.Family.{Family}
 use Rattle.sql_builder.proofs.ClauseShapes.{printed-shaped}
 use Rattle.sql_builder.proofs.Forms.{joined_in_form, layout_in_form}
 use Rattle.sql_builder.proofs.Joins.{joins_after}

@@ -1,10 +1,10 @@
 -- No interference: statements that are the same but for the texts that calls quote.
 use Rattle.std.specs.Prelude.{◌≡◌, ℕ, List, [], ◌∷◌, Bool, true, IfOk, IsTrue, Result, Ok, Err, flat_map, map}
 use Rattle.std.specs.Result.{result_map_both}
-use Rattle.sql_parts.specs.declared.error.SqlBuilderError.{SqlBuilderError}
 use Rattle.sql_parts.specs.Blanks.{are_strings, blank, blank_at, nowhere, outline}
-use Rattle.sql_parts.specs.Tokens.{Token, closed, tokens}
 use Rattle.sql_parts.specs.Quoting.{quoted}
+use Rattle.sql_parts.specs.Tokens.{Token, closed, tokens}
+use Rattle.sql_parts.specs.declared.error.SqlBuilderError.{SqlBuilderError}
 use Rattle.sql_builder.specs.Builder.{ClauseTexts}
 use Rattle.sql_builder.specs.Calls.{CallText, FinishText, StartText, Cond, SetStr}
 use Rattle.sql_builder.specs.Clauses.{map_clauses}

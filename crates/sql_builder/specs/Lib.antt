@@ -29,10 +29,12 @@ pub mod Views
 pub mod WhereTokens
 -- what the contracts here cite of the library below, for callers that list this one alone
 pub use Rattle.sql_parts.specs.Apart
+pub use Rattle.sql_parts.specs.Backslash
 pub use Rattle.sql_parts.specs.Blanks
 pub use Rattle.sql_parts.specs.Error
 pub use Rattle.sql_parts.specs.Fragments
 pub use Rattle.sql_parts.specs.Lending
+pub use Rattle.sql_parts.specs.Like
 pub use Rattle.sql_parts.specs.Literal
 pub use Rattle.sql_parts.specs.Name
 pub use Rattle.sql_parts.specs.Operands
@@ -45,3 +47,4 @@ pub use Rattle.sql_parts.specs.Chaining as NameChaining
 pub use Rattle.sql_parts.specs.Laws as PartLaws
 pub use Rattle.sql_parts.specs.Text as Texts
 pub use Rattle.sql_parts.specs.declared.error.SqlBuilderError
+pub use Rattle.sql_parts.specs.declared.like.LikeEscape

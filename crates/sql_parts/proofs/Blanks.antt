@@ -1,12 +1,12 @@
 -- No test of tokens looks at the text of a string token.
 use Rattle.std.proofs.Common.{◌≡◌, refl, sym, ◌∙◌, ap, ℕ, zero, suc, ◌+◌, Bool, true, false, not, ◌&&◌, ◌||◌, List, [], ◌∷◌, ◌++◌, map, take, pos, ◌-ℤ◌, codes}
-use Rattle.std.specs.Prelude.{int_le, nat_lt, if◌then◌else◌}
 use Rattle.std.specs.List.{count_by, list_all, list_any}
 use Rattle.std.specs.Ordering.{int_eq}
-use Rattle.std.proofs.lemmas.List.{length-map, take-map}
+use Rattle.std.specs.Prelude.{int_le, nat_lt, if◌then◌else◌}
 use Rattle.std.proofs.lemmas.List.Sums.{sum_by-cons}
-use Rattle.sql_parts.specs.Fragments.{any_token, has_ands, has_left_sides, has_outer, has_right_sides, is_at, is_balanced, is_before, is_between, is_closing, is_dangling, is_joining, is_level, is_opening, is_operand, is_whole, is_word, level, lowers, needs_left, needs_right, places, raises, weight}
+use Rattle.std.proofs.lemmas.List.{length-map, take-map}
 use Rattle.sql_parts.specs.Blanks.{BlankSomewhere, IgnoresStrings, are_strings, blank, blank_at, blank_token, nowhere}
+use Rattle.sql_parts.specs.Fragments.{any_token, has_ands, has_left_sides, has_outer, has_right_sides, is_at, is_balanced, is_before, is_between, is_closing, is_dangling, is_joining, is_level, is_opening, is_operand, is_whole, is_word, level, lowers, needs_left, needs_right, places, raises, weight}
 use Rattle.sql_parts.specs.Tokens.{Token, Word, Str, Name, Symbol, Open, begins_with, ends_with, is_empty}
 
 -- a test that says the same of a string token whatever its text is

@@ -1,3 +1,5 @@
+pub mod BackslashRows
+pub mod Backslashes
 pub mod Betweens
 pub mod Blanks
 pub mod BoundTexts
@@ -6,6 +8,7 @@ pub mod ChainCalls
 pub mod Confined
 pub mod Decimal
 pub mod Doubled
+pub mod Escaping
 pub mod FragmentRows
 pub mod InterferenceRows
 pub mod JoinedTokens
@@ -14,10 +17,12 @@ pub mod Keywords
 pub mod LastPairs
 pub mod LevelCounts
 pub mod Lexing
+pub mod LikeRows
 pub mod Loans
 pub mod MarkerLemmas
 pub mod NameRows
 pub mod NameTokens
+pub mod Masks
 pub mod Names
 pub mod OperandRows
 pub mod Operands

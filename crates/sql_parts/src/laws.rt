@@ -1,12 +1,13 @@
 //! Facts about the definitions that the contracts of this crate speak of.
-ghost use Rattle.std.specs.Prelude.{◌≡◌, ◌++◌, Bool, IsTrue, List, length, ℕ, ℤ};
-ghost use Rattle.std.specs.List.{count_by};
+ghost use Rattle.std.specs.Prelude.{◌≡◌, ◌++◌, Bool, IsTrue, List, codes, length, nat_eq, ℕ, ℤ};
+ghost use Rattle.std.specs.List.{count_by, ends_with, starts_with};
+ghost use Rattle.std.specs.Str.Iter.{HasSubslice};
 ghost use Rattle.sql_parts.specs.Apart.{apart};
 ghost use Rattle.sql_parts.specs.Fragments.{balanced, dangling, has_clause_word, has_outer, is_balanced, is_clause_word, is_dangling, is_operand, operand};
 ghost use Rattle.sql_parts.specs.Blanks.{ArgumentsDifferInTexts, BlankSomewhere, BoundTextsAreStrings, BoundTextsDoNotInterfere, BoundTextsKeepTheirPlaces, IgnoresBoundTexts, IgnoresStrings, NamesDifferInTexts, outline, semicolon_count};
-ghost use Rattle.sql_parts.specs.Laws.{DifferInTexts, LeavesWithout, UndoesDoubling, WritesApart, colon, dollar, question_mark, token_count};
+ghost use Rattle.sql_parts.specs.Laws.{DifferInTexts, EndsAsWritten, HasOneReading, LeavesWithout, MasksMatch, UndoesDoubling, WritesApart, colon, dollar, question_mark, token_count};
 ghost use Rattle.sql_parts.specs.Quoting.{baquoted, brquoted, dquoted, escaped, quoted};
-ghost use Rattle.sql_parts.specs.Literal.{LiteralValue, literal_text};
+ghost use Rattle.sql_parts.specs.Literal.{LiteralValue, literal_text, words};
 ghost use Rattle.sql_parts.specs.Name.{Name, safe_text};
 ghost use Rattle.sql_parts.specs.Operands.{NamesAreOperands, ServesAsOperand, has_operand_parts, is_operand_alias};
 ghost use Rattle.sql_parts.specs.Text.{bool_text, number_text};
@@ -119,4 +120,26 @@ pub fn quoted_names_are_operands()
     ensures dquoted { NamesAreOperands dquoted }
     ensures safe { (name : Name) → IsTrue (has_operand_parts name)
         → IsTrue (is_operand_alias name.alias) → ServesAsOperand (safe_text name) }
+{}
+
+/// Where a backslash escapes, as in MySQL and MariaDB by default, the literal that `quote` or binding
+/// writes of a text without a backslash ends at its last byte and stands for the text, whatever
+/// follows it but a quote; and where a statement has no backslash, each of its literals is the same
+/// as where none escapes. It does nothing when it runs.
+/// `has_backslash("it's")` → `false`
+pub fn literals_without_backslashes_read_alike()
+    ensures quote { EndsAsWritten quoted }
+    ensures bound { EndsAsWritten (λ text. literal_text (words text)) }
+    ensures statements { HasOneReading }
+{}
+
+/// A mask of LIKE that `escape_like` makes of a text matches that text alone; with `%` behind, what
+/// begins with the text; with `%` in front, what ends with it; with `%` on both sides, what contains
+/// it. Letters are compared as they are. It does nothing when it runs.
+/// `escape_like("50%", LikeEscape::Exclamation)` → `50!%`
+pub fn escaped_masks_match_their_text()
+    ensures exact { MasksMatch (λ mask. mask) (λ other text. other ≡ text) }
+    ensures begins { MasksMatch (λ mask. mask ++ codes "%") (λ other text. IsTrue (starts_with nat_eq other text)) }
+    ensures ends { MasksMatch (λ mask. codes "%" ++ mask) (λ other text. IsTrue (ends_with nat_eq other text)) }
+    ensures contains { MasksMatch (λ mask. codes "%" ++ mask ++ codes "%") (λ other text. HasSubslice other text) }
 {}

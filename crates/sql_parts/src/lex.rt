@@ -1,6 +1,7 @@
 //! Tests of fragments, which read a text as the tokens of SQL.
 ghost use Rattle.std.specs.Prelude.{◌≡◌, ◌&&◌, IfErr, IfOk, codes, not};
 ghost use Rattle.sql_parts.specs.Apart.{apart};
+ghost use Rattle.sql_parts.specs.Backslash.{has_backslash};
 ghost use Rattle.sql_parts.specs.Error.{FailsOnlyByMemory};
 ghost use Rattle.sql_parts.specs.Fragments.{RefusesLevels, balanced, dangling, has_clause_word, has_outer, is_balanced, is_joining, is_word, operand};
 ghost use Rattle.sql_parts.specs.Places.{marks_of};
@@ -17,6 +18,7 @@ pub use crate::lexer::is_closed;
 use crate::lexer::{Token, first_token};
 use crate::marks::Marks;
 use crate::roles::{Role, first_role};
+use crate::scan::split_at_first;
 use std::alloc::Global;
 
 /// Whether a `;` is among the tokens of the text. It can't be refused.
@@ -149,4 +151,13 @@ pub fn stands_apart(
         Marks::Cycle(count) if lacks_arguments(template, *count) => Ok(false),
         _ => pieces_apart(alloc, template, *marks),
     }
+}
+
+/// Whether the text has a backslash, which some databases take to escape the character behind it in
+/// a literal, as MySQL and MariaDB do by default. It can't fail.
+/// `has_backslash("a\\b")` → `true`
+pub fn has_backslash(text: &str) -> bool
+    ensures { result ≡ has_backslash text.now }
+{
+    split_at_first(text, "\\").is_some()
 }

@@ -17,6 +17,7 @@ pub mod lending;
 mod levels;
 pub mod lex;
 mod lexer;
+mod like;
 mod marks;
 pub mod name;
 mod places;

@@ -4,9 +4,12 @@ ghost use Rattle.std.specs.Prelude.{◌≡◌, [], ◌∷◌, ℕ, List, MatchOp
 ghost use Rattle.std.specs.Char.{encode_utf8};
 ghost use Rattle.std.specs.Cow.{cow_str_bytes};
 ghost use Rattle.sql_parts.specs.Error.{FailsOnlyByMemory};
+ghost use Rattle.sql_parts.specs.Like.{escape_character, like_escaped};
 ghost use Rattle.sql_parts.specs.Text.{bool_text, decimal_text, number_text, optional_text, texts};
 
 use crate::error::SqlBuilderError;
+pub use crate::like::LikeEscape;
+use crate::like::push_like_escaped;
 pub use crate::quotes::Quotes;
 use std::alloc::{AllocError, Global};
 use std::borrow::CowStr;
@@ -91,6 +94,31 @@ pub fn copy(alloc: Global, text: &Option<String>) -> Result<Option<String>, SqlB
         Some(text) => Ok(Some(text.to_text(alloc)?)),
         None => Ok(None),
     }
+}
+
+// Room for so many characters that are escaped is taken at once, and for wildcards behind them.
+const SOME_ESCAPES: usize = 8;
+
+/// The text with the escape character before each `%`, each `_` and each escape character in it: a
+/// mask of LIKE that matches this text alone, where ESCAPE names the character. With `%` behind it
+/// the mask matches what begins with the text, with `%` in front what ends with it, with `%` on both
+/// sides what contains it. A quote is left as it is, for the call that quotes or binds the mask. It
+/// fails only if memory runs out.
+/// `escape_like("50%", LikeEscape::Exclamation)` → `50!%`
+pub fn escape_like<S: ToText>(
+    alloc: Global,
+    text: S,
+    escape: LikeEscape,
+) -> Result<String, SqlBuilderError>
+    ensures text { IfOk result (λ s. string_bytes s
+        ≡ like_escaped (escape_character escape) (S.text text)) }
+    ensures memory { FailsOnlyByMemory result }
+{
+    let text = text.as_text(alloc)?;
+    let text = text.as_str();
+    let mut out = String::with_capacity(alloc, text.len().saturating_add(SOME_ESCAPES))?;
+    push_like_escaped(&mut out, text, escape)?;
+    Ok(out)
 }
 
 impl ToText for &str {

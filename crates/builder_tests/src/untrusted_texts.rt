@@ -1,0 +1,32 @@
+//! What untrusted text needs beside quotes: a test for backslashes, and masks of LIKE.
+
+use sql_builder::SqlBuilderError;
+use sql_builder::lex::has_backslash;
+use sql_builder::prelude::*;
+use sql_builder::text::{LikeEscape, escape_like};
+use std::alloc::Global;
+use std::test::Fail;
+
+#[test]
+fn finds_a_backslash(rt: HostRuntime) -> Result<(), Fail> {
+    assert!(rt; has_backslash("\\'; DROP TABLE t; --"));
+    assert!(rt; !has_backslash("'; DROP TABLE t; --"));
+    Ok(())
+}
+
+fn begins_with(alloc: Global, text: &str, escape: LikeEscape) -> Result<String, SqlBuilderError> {
+    let mut mask = escape_like(alloc, text, escape)?;
+    mask.push('%')?;
+    "title LIKE ? ESCAPE '!'".bind(alloc, &mask)
+}
+
+#[test]
+fn escapes_wildcards(rt: HostRuntime) -> Result<(), Fail> {
+    let escape = LikeEscape::Exclamation;
+    assert_eq!(rt; escape.character(), '!');
+    assert_eq!(rt;
+        begins_with(rt.alloc(), "50% of_a!", escape)?.as_str(),
+        "title LIKE '50!% of!_a!!%' ESCAPE '!'"
+    );
+    Ok(())
+}

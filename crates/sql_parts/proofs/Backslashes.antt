@@ -1,0 +1,75 @@
+-- Literals without a backslash read alike whether a backslash escapes or not.
+use Prim.Native.Char.{code}
+use Rattle.std.proofs.Common.{◌≡◌, ℕ, suc, ◌<◌, true, false, List, [], ◌∷◌, ◌++◌, length, Option, Some, None, refl, sym, ap, ◌∙◌, cond, inl, inr}
+use Rattle.std.proofs.Common.{append_assoc, arith, length-append}
+use Rattle.std.specs.Prelude.{◌==◌, codes, option_map, MatchOption}
+use Rattle.std.specs.Borrow.{Bor}
+use Rattle.std.specs.Option.{is_some}
+use Rattle.std.specs.Str.Pattern.{LacksTextAt}
+use Rattle.std.proofs.lemmas.Bool.{cases_Bool, eqb-true, or_parts, or_right}
+use Rattle.std.proofs.lemmas.List.Folds.{list_any-append}
+use Rattle.sql_parts.specs.Backslash.{has_backslash, inside, literal}
+use Rattle.sql_parts.specs.Quoting.{doubled, quoted}
+use Rattle.sql_parts.specs.Tokens as tokens
+use Rattle.sql_parts.specs.Tokens.{begins_with}
+
+-- a byte that is neither a backslash nor a quote is part of the literal
+inside-plain : (byte : ℕ) (behind : List ℕ) → (byte == code "\\") ≡ false → (byte == code "'") ≡ false
+    → inside (byte ∷ behind) ≡ option_map (λ found. (byte ∷ found.0, suc found.1)) (inside behind)
+inside-plain byte [] no_backslash no_quote = rw no_quote
+inside-plain byte (next ∷ behind) no_backslash no_quote = rw (no_backslash, no_quote)
+
+inside-end : (behind : List ℕ) → begins_with (λ byte. byte == code "'") behind ≡ false → inside (code "'" ∷ behind) ≡ Some ([], 1)
+inside-end [] none = refl
+inside-end (next ∷ behind) none = rw none
+
+inside-doubled : (text behind : List ℕ) → has_backslash text ≡ false → begins_with (λ byte. byte == code "'") behind ≡ false
+    → inside (doubled (code "'") text ++ (code "'" ∷ behind)) ≡ Some (text, suc (length (doubled (code "'") text)))
+inside-doubled [] behind plain none = inside-end behind none
+inside-doubled (byte ∷ text) behind plain none =
+    let both = or_parts (byte == code "\\") (has_backslash text) plain in
+    let rest = doubled (code "'") text ++ (code "'" ∷ behind) in
+    let later = inside-doubled text behind both.1 none in
+    elim (cases_Bool (byte == code "'")) [
+      | inl is ↦ rw is (ap (option_map (λ found. (code "'" ∷ found.0, suc (suc found.1)))) later ∙ rw (eqb-true byte (code "'") is) refl)
+      | inr isnt ↦ rw isnt (inside-plain byte rest both.0 isnt ∙ ap (option_map (λ found. (byte ∷ found.0, suc found.1))) later)
+    ]
+
+-- a quoted text without a backslash ends at its last byte, and stands for the text
+pub literal-quoted : (text behind : List ℕ) → has_backslash text ≡ false → begins_with (λ byte. byte == code "'") behind ≡ false
+    → literal (quoted text ++ behind) ≡ Some (text, length (quoted text))
+literal-quoted text behind plain none =
+    let written = doubled (code "'") text in
+    let long : suc (length written) ≡ length (written ++ code "'" ∷ []) = omega (arith, length-append written (code "'" ∷ [])) in
+    ap (option_map (λ found. (found.0, suc found.1))) (ap inside (append_assoc written (code "'" ∷ []) behind) ∙ inside-doubled text behind plain none)
+    ∙ ap (λ n. Some (text, suc n)) long
+
+-- without a backslash both readers find the same end
+pub inside-same : (text : List ℕ) → has_backslash text ≡ false → inside text ≡ tokens.inside (code "'") text
+inside-same [] plain = refl
+inside-same (byte ∷ []) plain = refl
+inside-same (byte ∷ next ∷ text) plain =
+    let here = or_parts (byte == code "\\") (has_backslash (next ∷ text)) plain in
+    let later = or_parts (next == code "\\") (has_backslash text) here.1 in
+    let twice : Option (List ℕ × ℕ) → Option (List ℕ × ℕ) = option_map (λ found. (code "'" ∷ found.0, suc (suc found.1))) in
+    elim (cases_Bool (byte == code "'")) [
+      | inl is ↦ rw (here.0, is) (ap (λ found. cond (next == code "'") (twice found) (Some ([], 1))) (inside-same text later.1))
+      | inr isnt ↦ rw (here.0, isnt) (ap (option_map (λ found. (byte ∷ found.0, suc found.1))) (inside-same (next ∷ text) here.1))
+    ]
+
+lacks-none : (text : List ℕ) → ((k : ℕ) → LacksTextAt (codes "\\") text k) → false ≡ has_backslash text
+lacks-none [] lacks = refl
+lacks-none (byte ∷ text) lacks =
+    elim (cases_Bool (byte == code "\\")) [
+      | inl is ↦ absurd (lacks 0 text (ap (λ b. b ∷ text) (eqb-true byte (code "\\") is)))
+      | inr isnt ↦ rw isnt (lacks-none text (λ k. lacks (suc k)))
+    ]
+
+-- a text is split at its first backslash, if it has one
+pub found-backslash : (text : List ℕ) (parts : Option (Bor (List ℕ) × Bor (List ℕ)))
+    → MatchOption parts ((k : ℕ) → LacksTextAt (codes "\\") text k)
+    (λ p. (text ≡ p.0.now ++ (codes "\\" ++ p.1.now)) × ((k : ℕ) → k < length p.0.now → LacksTextAt (codes "\\") text k))
+    → is_some parts ≡ has_backslash text
+found-backslash text None lacks = lacks-none text lacks
+found-backslash text (Some p) found =
+    sym (ap has_backslash found.0 ∙ list_any-append (λ byte. byte == code "\\") p.0.now (codes "\\" ++ p.1.now) ∙ or_right (has_backslash p.0.now) true refl)
