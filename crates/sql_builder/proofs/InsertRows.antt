@@ -47,7 +47,8 @@ lead-row : lead_of (tokens (codes "WITH x AS (SELECT 1) SELECT a FROM x")) ≡ t
 lead-row = refl
 
 lead-read : read (tokens (codes "INSERT INTO t (a) WITH x AS (SELECT 1) SELECT a FROM x;"))
-    ≡ (Word (codes "INSERT"), tokens (codes "INTO t (a) WITH x AS (SELECT 1)")) ∷ (Word (codes "SELECT"), tokens (codes "a")) ∷ (Word (codes "FROM"), tokens (codes "x")) ∷ []
+    ≡ (Word (codes "INSERT"), tokens (codes "INTO t (a) WITH x AS (SELECT 1)")) ∷ (Word (codes "SELECT"), tokens (codes "a"))
+    ∷ (Word (codes "FROM"), tokens (codes "x")) ∷ []
 unfolding read
 lead-read = refl
 

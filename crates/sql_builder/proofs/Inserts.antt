@@ -1,5 +1,6 @@
 -- An INSERT of a query reads back as its own clause, those of the query, and RETURNING.
-use Rattle.std.proofs.Common.{◌≡◌, refl, sym, ◌∙◌, ap, subst, ℕ, Bool, true, false, List, [], ◌∷◌, ◌++◌, Option, None, Some, pos, codes, append-nil, append_assoc, map, ◌&&◌, ◌||◌}
+use Rattle.std.proofs.Common.{◌≡◌, refl, sym, ◌∙◌, ap, subst, ℕ, Bool, true, false, List, [], ◌∷◌, ◌++◌, Option, None, Some, pos, codes, append-nil}
+use Rattle.std.proofs.Common.{append_assoc, map, ◌&&◌, ◌||◌}
 use Rattle.std.specs.Prelude.{IfSome, IfOk, flat_map, option_map, IsTrue, if◌then◌else◌}
 use Rattle.std.specs.List.{list_all, list_any}
 use Rattle.std.proofs.lemmas.Bool.{and_from, and_parts, or_from, not_from_false, false≢true}
@@ -13,8 +14,10 @@ use Rattle.sql_builder.specs.Calls as call
 use Rattle.sql_builder.specs.Calls.{CallText, Sql, clauses, query_of, Query}
 use Rattle.sql_builder.specs.Clauses.{Clauses}
 use Rattle.sql_builder.specs.Fitting.{are_fit, has_balanced_fragments, is_balanced_piece, own, begins_union, has_fit_fragments}
-use Rattle.sql_builder.specs.Inserts.{BuildersOfInsertsReadBack, InsertsReadBack, has_fit_target, insert_clauses, is_fit_returning, lead_of, is_one_query, returning_clauses, BuildersOfQueriesAreOne, QueriesAreOne, returning_behind}
-use Rattle.sql_builder.specs.Layout.{byte_atoms, insert_sections, concat_sections, insert_target, optional_section, returning_sections, section, sql, statement_sections, query, query_sections}
+use Rattle.sql_builder.specs.Inserts.{BuildersOfInsertsReadBack, InsertsReadBack, has_fit_target, insert_clauses, is_fit_returning, lead_of, is_one_query}
+use Rattle.sql_builder.specs.Inserts.{returning_clauses, BuildersOfQueriesAreOne, QueriesAreOne, returning_behind}
+use Rattle.sql_builder.specs.Layout.{byte_atoms, insert_sections, concat_sections, insert_target, optional_section, returning_sections, section, sql}
+use Rattle.sql_builder.specs.Layout.{statement_sections, query, query_sections}
 use Rattle.sql_builder.specs.Parts.{Parts, parts_at, before_outer, with_front}
 use Rattle.sql_builder.specs.Phrases.{comma_list}
 use Rattle.sql_builder.specs.Reading.{Clause, is_union, own_placed, read, without_semicolon}
@@ -28,7 +31,8 @@ use Rattle.sql_builder.proofs.Layouts.{sql_shape, query_shape}
 use Rattle.sql_builder.specs.Filters.{until}
 use Rattle.sql_builder.proofs.Nesting.{query-balanced}
 use Rattle.sql_builder.proofs.OwnLayouts.{query-opens}
-use Rattle.sql_builder.proofs.OwnSections.{Calm, Front, any_union, before-append, calm-front, front-append, lead_on, opening_clauses, own-outer, section-clauses, starts-lead, union-marks, with_last, sections-front, until-behind, union-mark}
+use Rattle.sql_builder.proofs.OwnSections.{Calm, Front, any_union, before-append, calm-front, front-append, lead_on, opening_clauses, own-outer}
+use Rattle.sql_builder.proofs.OwnSections.{section-clauses, starts-lead, union-marks, with_last, sections-front, until-behind, union-mark}
 use Rattle.sql_builder.proofs.OwnWords.{are_fit-is, are_fit_from, fit-balanced, fit-marks, fragments_closed, marks, same-parts, shape-even}
 use Rattle.sql_builder.proofs.Placing.{at_end-closes}
 use Rattle.sql_builder.proofs.ReadBack.{printed-tokens, refused, printed}
@@ -70,7 +74,8 @@ abbrev parts : List Token → Parts
 parts ts = parts_at is_clause_word (placed ts)
 
 parts-append : (a b : List Token) → One a → parts (a ++ b) ≡ joined (parts a) (parts b)
-parts-append a b one = ap (parts_at is_clause_word) (placed-then a b (at_end-closes (pos 0) a (even_closes a one.even))) ∙ parts-joined is_clause_word (placed a) (placed b)
+parts-append a b one = ap (parts_at is_clause_word) (placed-then a b (at_end-closes (pos 0) a (even_closes a one.even)))
+    ∙ parts-joined is_clause_word (placed a) (placed b)
 
 before-none : (test : Token → Bool) (ms : List Placed) → list_any (is_outer test) ms ≡ false → before_outer test ms ≡ ms
 before-none test ms none = ap (before_outer test) (sym (append-nil ms)) ∙ before-append test ms [] none ∙ append-nil ms
@@ -91,8 +96,10 @@ lead-cut (m ∷ ms) =
     ap (λ (found : Bool). (parts_at is_clause_word (if found then [] else (m ∷ before_outer is_union ms))).lead) (union-mark m)
     ∙ by (is_outer is_clause_word m) (is_union (fragments.token_of m)) refl (lead-cut ms)
   where
-    by : (clause union : Bool) → is_outer is_clause_word m ≡ clause → (parts_at is_clause_word (before_outer is_union ms)).lead ≡ (parts_at is_clause_word ms).lead
-        → (parts_at is_clause_word (if clause && union then [] else (m ∷ before_outer is_union ms))).lead ≡ (with_front clause (fragments.token_of m) (parts_at is_clause_word ms)).lead
+    by : (clause union : Bool) → is_outer is_clause_word m ≡ clause
+        → (parts_at is_clause_word (before_outer is_union ms)).lead ≡ (parts_at is_clause_word ms).lead
+        → (parts_at is_clause_word (if clause && union then [] else (m ∷ before_outer is_union ms))).lead
+        ≡ (with_front clause (fragments.token_of m) (parts_at is_clause_word ms)).lead
     by true true is rest = refl
     by true false is rest = ap (λ (clause : Bool). (with_front clause (fragments.token_of m) (parts_at is_clause_word (before_outer is_union ms))).lead) is
     by false union is rest =
@@ -110,12 +117,14 @@ read-cut ts us is =
 pieces-one : (ps : Pieces) → Front (own ps) → are_fit_from (pos 0) ps ≡ true → One (pieces_tokens ps)
 pieces-one ps front fits = record {
   even = shape-even ps (fit-balanced (pos 0) ps fits) front.even;
-  no_union = union-marks (placed (pieces_tokens ps)) ∙ ap any_union (fit-marks (pos 0) ps refl fits front.laid) ∙ sym (union-marks (flat_map own_placed ps)) ∙ own-outer is_union ps ∙ front.no_union;
+  no_union = union-marks (placed (pieces_tokens ps)) ∙ ap any_union (fit-marks (pos 0) ps refl fits front.laid) ∙ sym (union-marks (flat_map own_placed ps))
+      ∙ own-outer is_union ps ∙ front.no_union;
 }
 
 -- ---- a section of the builder's own
 
-module _ (words : List ℕ) (body : Pieces) (front : Front (tokens words)) (starts : begins_with is_clause_word (tokens words) ≡ true) (calm : Calm body) (fit : are_fit body ≡ true) where
+module _ (words : List ℕ) (body : Pieces) (front : Front (tokens words)) (starts : begins_with is_clause_word (tokens words) ≡ true) (calm : Calm body)
+    (fit : are_fit body ≡ true) where
   abbrev here : Pieces
   here = fixed_piece words ++ body
 
@@ -123,7 +132,8 @@ module _ (words : List ℕ) (body : Pieces) (front : Front (tokens words)) (star
   is-front = front-append (tokens words) (own body) front (calm-front body calm)
 
   fits : are_fit_from (pos 0) here ≡ true
-  fits = subst (λ l. are_fit_from l body ≡ true) (sym (at_end-closes (pos 0) (tokens words) (even_closes (tokens words) front.even))) (sym (are_fit-is body) ∙ fit)
+  fits = subst (λ l. are_fit_from l body ≡ true) (sym (at_end-closes (pos 0) (tokens words) (even_closes (tokens words) front.even)))
+      (sym (are_fit-is body) ∙ fit)
 
   same : marks (placed (pieces_tokens here)) ≡ marks (flat_map own_placed here)
   same = fit-marks (pos 0) here refl fits is-front.laid
@@ -167,7 +177,8 @@ returned-tail (Some body) calm fit =
 -- ---- the whole
 
 -- behind a lead that other parts have
-joined-tail : (ts us : List Token) (found : List Clause) → One ts → Tail us found → parts (ts ++ us) ≡ record { lead = (parts ts).lead; rest = (parts ts).rest ++ found }
+joined-tail : (ts us : List Token) (found : List Clause) → One ts → Tail us found
+    → parts (ts ++ us) ≡ record { lead = (parts ts).lead; rest = (parts ts).rest ++ found }
 joined-tail ts us found one tail =
     parts-append ts us one
     ∙ (λ i. joined (parts ts) (record { lead = tail.lead i; rest = tail.rest i }))
@@ -182,13 +193,15 @@ joined-tail ts us found one tail =
     on lead [] = append-nil lead
     on lead (c ∷ cs) = refl
 
-    kept : (lead : List Token) (rest : List Clause) → joined (record { lead = lead; rest = rest }) (record { lead = []; rest = found }) ≡ record { lead = lead; rest = rest ++ found }
+    kept : (lead : List Token) (rest : List Clause)
+        → joined (record { lead = lead; rest = rest }) (record { lead = []; rest = found }) ≡ record { lead = lead; rest = rest ++ found }
     kept lead rest = λ i. record { lead = on lead rest i; rest = last rest i ++ found }
 
 balanced-append : (a b : Pieces) → has_balanced_fragments a ≡ true → has_balanced_fragments b ≡ true → has_balanced_fragments (a ++ b) ≡ true
 balanced-append a b one other = list_all-append is_balanced_piece a b ∙ and_from _ _ one other
 
-returned-balanced : (given : Option Pieces) → is_fit_returning given ≡ true → has_balanced_fragments (concat_sections fixed_piece (optional_section (codes " RETURNING ") given)) ≡ true
+returned-balanced : (given : Option Pieces) → is_fit_returning given ≡ true
+    → has_balanced_fragments (concat_sections fixed_piece (optional_section (codes " RETURNING ") given)) ≡ true
 returned-balanced None fit = refl
 returned-balanced (Some body) fit = balanced-append body [] (fit-balanced (pos 0) body (sym (are_fit-is body) ∙ fit)) refl
 
@@ -223,7 +236,8 @@ module _ (r : Clauses Pieces) (query : List ℕ) (calm : CalmParts r) (is : bala
   abbrev behind : List Placed
   behind = before_outer is_union (placed (tokens query ++ returned r.returning))
 
-  behind-is : parts_at is_clause_word behind ≡ record { lead = lead_of (tokens query); rest = read (tokens query) ++ returning_behind (tokens query) r.returning }
+  behind-is : parts_at is_clause_word behind
+      ≡ record { lead = lead_of (tokens query); rest = read (tokens query) ++ returning_behind (tokens query) r.returning }
   behind-is = by (has_outer is_union (tokens query)) refl
     where
       lead-is : (parts (tokens query)).lead ≡ lead_of (tokens query)
@@ -234,7 +248,8 @@ module _ (r : Clauses Pieces) (query : List ℕ) (calm : CalmParts r) (is : bala
       by true found =
           let cut = before-cut is_union (placed (tokens query)) (placed (returned r.returning)) found in
           let kept : parts_at is_clause_word behind ≡ parts_at is_clause_word (before_outer is_union (placed (tokens query))) =
-          ap (λ ms. parts_at is_clause_word (before_outer is_union ms)) (placed-then (tokens query) (returned r.returning) (at_end-closes (pos 0) (tokens query) (even_closes (tokens query) query-even)))
+          ap (λ ms. parts_at is_clause_word (before_outer is_union ms))
+          (placed-then (tokens query) (returned r.returning) (at_end-closes (pos 0) (tokens query) (even_closes (tokens query) query-even)))
           ∙ ap (parts_at is_clause_word) cut in
           let none : returning_behind (tokens query) r.returning ≡ [] =
           ap (λ (union : Bool). if union then [] else returning_clauses r.returning) (has_outer-is is_union (tokens query) ∙ found) in
@@ -249,14 +264,17 @@ module _ (r : Clauses Pieces) (query : List ℕ) (calm : CalmParts r) (is : bala
           ap (λ (union : Bool). if union then [] else returning_clauses r.returning) (has_outer-is is_union (tokens query) ∙ found) in
           let whole : (parts (tokens query)).rest ≡ read (tokens query) =
           ap (λ ms. (parts_at is_clause_word ms).rest) (sym (before-none is_union (placed (tokens query)) found)) ∙ sym query-read in
-          ap (parts_at is_clause_word) (before-none is_union (placed (tokens query ++ returned r.returning)) (one-append (tokens query) (returned r.returning) one tail.one).no_union)
+          ap (parts_at is_clause_word)
+          (before-none is_union (placed (tokens query ++ returned r.returning)) (one-append (tokens query) (returned r.returning) one tail.one).no_union)
           ∙ joined-tail (tokens query) (returned r.returning) (returning_clauses r.returning) one tail
           ∙ (λ i. record { lead = lead-is i; rest = whole i ++ sym some i })
 
   -- the clauses that the whole has
-  whole-clauses : (parts_at is_clause_word (before_outer is_union (placed (front ++ (tokens query ++ returned r.returning))))).rest ≡ insert_clauses r (tokens query)
+  whole-clauses : (parts_at is_clause_word (before_outer is_union (placed (front ++ (tokens query ++ returned r.returning))))).rest
+      ≡ insert_clauses r (tokens query)
   whole-clauses =
-      ap (λ ms. (parts_at is_clause_word (before_outer is_union ms)).rest) (placed-then front (tokens query ++ returned r.returning) (at_end-closes (pos 0) front (even_closes front front-one.even)))
+      ap (λ ms. (parts_at is_clause_word (before_outer is_union ms)).rest)
+      (placed-then front (tokens query ++ returned r.returning) (at_end-closes (pos 0) front (even_closes front front-one.even)))
       ∙ ap (λ ms. (parts_at is_clause_word ms).rest) (before-append is_union (placed front) (placed (tokens query ++ returned r.returning)) front-one.no_union)
       ∙ ap (λ (ps : Parts). ps.rest) (parts-joined is_clause_word (placed front) behind)
       ∙ ap (λ (ps : Parts). with_last ps.lead (parts front).rest ++ ps.rest) behind-is
@@ -265,7 +283,9 @@ module _ (r : Clauses Pieces) (query : List ℕ) (calm : CalmParts r) (is : bala
 
   -- the tokens that are printed
   abbrev insert_pieces : Pieces
-  insert_pieces = concat_sections fixed_piece (section (codes "INSERT INTO ") (insert_target fixed_piece r ++ (fixed_piece (codes " ") ++ raw_piece query)) ∷ returning_sections r) ++ fixed_piece (codes ";")
+  insert_pieces = concat_sections fixed_piece
+      (section (codes "INSERT INTO ") (insert_target fixed_piece r ++ (fixed_piece (codes " ") ++ raw_piece query)) ∷ returning_sections r)
+      ++ fixed_piece (codes ";")
 
   abbrev opened : Pieces
   opened = fixed_piece (codes "INSERT INTO ") ++ (insert_target fixed_piece r ++ (fixed_piece (codes " ") ++ raw_piece query))
@@ -276,7 +296,8 @@ module _ (r : Clauses Pieces) (query : List ℕ) (calm : CalmParts r) (is : bala
       ∙ ap (λ ts. ts ++ Symbol 59 ∷ [])
       (pieces_tokens-append opened (concat_sections fixed_piece (returning_sections r))
       ∙ ap (λ ts. ts ++ returned r.returning)
-      (pieces_tokens-append (fixed_piece (codes "INSERT INTO ") ++ insert_target fixed_piece r) (fixed_piece (codes " ") ++ raw_piece query) ∙ ap (λ ts. front ++ ts) (append-nil (tokens query)))
+      (pieces_tokens-append (fixed_piece (codes "INSERT INTO ") ++ insert_target fixed_piece r) (fixed_piece (codes " ") ++ raw_piece query)
+      ∙ ap (λ ts. front ++ ts) (append-nil (tokens query)))
       ∙ append_assoc front (tokens query) (returned r.returning))
 
   -- each fragment is balanced
@@ -294,7 +315,8 @@ module _ (r : Clauses Pieces) (query : List ℕ) (calm : CalmParts r) (is : bala
   pub insert-reads : (text : List ℕ) → HasShape insert_pieces text → read (tokens text) ≡ insert_clauses r (tokens query)
   insert-reads text shaped =
       ap read (shaped (fragments_closed insert_pieces insert-balanced) ∙ insert-tokens)
-      ∙ read-cut ((front ++ (tokens query ++ returned r.returning)) ++ Symbol 59 ∷ []) (front ++ (tokens query ++ returned r.returning)) (semicolon-one (front ++ (tokens query ++ returned r.returning)))
+      ∙ read-cut ((front ++ (tokens query ++ returned r.returning)) ++ Symbol 59 ∷ []) (front ++ (tokens query ++ returned r.returning))
+      (semicolon-one (front ++ (tokens query ++ returned r.returning)))
       ∙ whole-clauses
 
 -- ---- a query without unions
@@ -315,7 +337,8 @@ module _ (r : Clauses Pieces) (calm : CalmParts r) (none : r.unions ≡ []) (fit
       let all = fit-balanced (pos 0) (query fixed_piece r) query-fits in
       let same = shaped (fragments_closed (query fixed_piece r) all) in
       and_from _ _ (is_balanced-is (tokens text) ∙ ap is_balanced same ∙ query-balanced r calm all)
-      (not_from_false _ (has_outer-is is_union (tokens text) ∙ ap (has_outer is_union) same ∙ (pieces-one (query fixed_piece r) query-front query-fits).no_union))
+      (not_from_false _ (has_outer-is is_union (tokens text) ∙ ap (has_outer is_union) same
+      ∙ (pieces-one (query fixed_piece r) query-front query-fits).no_union))
 
 -- ---- a list of calls
 
@@ -359,4 +382,5 @@ queries_are_one start calls none fit = by (refused start calls Query) fit
 
 pub builders_of_queries_are_one : BuildersOfQueriesAreOne
 builders_of_queries_are_one r none fit =
-    one-query (as_fragments r) (raw-calm r) (ap (map (λ (union : Bool × List ℕ). (union.0, raw_piece union.1))) none) fit (query byte_atoms r) (query_shape r (query byte_atoms r) refl)
+    one-query (as_fragments r) (raw-calm r) (ap (map (λ (union : Bool × List ℕ). (union.0, raw_piece union.1))) none) fit (query byte_atoms r)
+    (query_shape r (query byte_atoms r) refl)
