@@ -1,5 +1,6 @@
 -- Worked rows of an INSERT of a query as it reads back: what the definitions give, by computing.
 use Rattle.std.specs.Prelude.{◌≡◌, ℕ, List, [], ◌∷◌, Ok, Some, codes, false, refl, true}
+use Rattle.sql_parts.specs.Fragments.{balanced}
 use Rattle.sql_parts.specs.Tokens.{Word, tokens}
 use Rattle.sql_builder.specs.Calls as call
 use Rattle.sql_builder.specs.Calls.{CallText, clauses, query_of}
@@ -46,7 +47,8 @@ lead-row : lead_of (tokens (codes "WITH x AS (SELECT 1) SELECT a FROM x")) ≡ t
 lead-row = refl
 
 lead-read : read (tokens (codes "INSERT INTO t (a) WITH x AS (SELECT 1) SELECT a FROM x;"))
-    ≡ (Word (codes "INSERT"), tokens (codes "INTO t (a) WITH x AS (SELECT 1)")) ∷ (Word (codes "SELECT"), tokens (codes "a")) ∷ (Word (codes "FROM"), tokens (codes "x")) ∷ []
+    ≡ (Word (codes "INSERT"), tokens (codes "INTO t (a) WITH x AS (SELECT 1)")) ∷ (Word (codes "SELECT"), tokens (codes "a"))
+    ∷ (Word (codes "FROM"), tokens (codes "x")) ∷ []
 unfolding read
 lead-read = refl
 
@@ -63,8 +65,7 @@ unfolding read
 united-read = refl
 
 united-clauses : insert_clauses (clauses (call.InsertInto (codes "t")) (call.Field (codes "a") ∷ call.Select united ∷ call.ReturningId ∷ [])) (tokens united)
-    ≡ (Word (codes "INSERT"), tokens (codes "INTO t (a)")) ∷ (Word (codes "SELECT"), tokens (codes "c")) ∷ (Word (codes "FROM"), tokens (codes "u"))
-    ∷ (Word (codes "RETURNING"), tokens (codes "id")) ∷ []
+    ≡ (Word (codes "INSERT"), tokens (codes "INTO t (a)")) ∷ (Word (codes "SELECT"), tokens (codes "c")) ∷ (Word (codes "FROM"), tokens (codes "u")) ∷ []
 unfolding read
 united-clauses = refl
 
@@ -72,10 +73,24 @@ united-clauses = refl
 inner_union-asked : is_one_query (codes "SELECT c FROM (SELECT d UNION SELECT e) AS s") ≡ true
 inner_union-asked = refl
 
--- a query that isn't balanced is none, and a table with a clause word is not fit
-broken-asked : is_one_query (codes "SELECT (c") ≡ false
-broken-asked = refl
+-- a query that isn't balanced draws RETURNING in
+abbrev broken : List ℕ
+broken = codes "SELECT (c"
 
+broken-unbalanced : balanced broken ≡ false
+broken-unbalanced = refl
+
+broken-read : read (tokens (codes "INSERT INTO t (a) SELECT (c RETURNING id;"))
+    ≡ (Word (codes "INSERT"), tokens (codes "INTO t (a)")) ∷ (Word (codes "SELECT"), tokens (codes "(c RETURNING id")) ∷ []
+unfolding read
+broken-read = refl
+
+broken-clauses : insert_clauses (clauses (call.InsertInto (codes "t")) (call.Field (codes "a") ∷ call.Select broken ∷ call.ReturningId ∷ [])) (tokens broken)
+    ≡ (Word (codes "INSERT"), tokens (codes "INTO t (a)")) ∷ (Word (codes "SELECT"), tokens (codes "(c")) ∷ (Word (codes "RETURNING"), tokens (codes "id")) ∷ []
+unfolding read
+broken-clauses = refl
+
+-- a table with a clause word is not fit, nor is such a text behind RETURNING
 table-unfit : has_fit_target (clauses (call.InsertInto (codes "t WHERE b")) (of chosen)) ≡ false
 table-unfit = refl
 

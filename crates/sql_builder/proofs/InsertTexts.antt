@@ -52,11 +52,13 @@ returning-blank (call.Select query) = refl
 returning-blank _ = refl
 
 -- and so do the calls
-flat-blank : {A : Type 0} (f : CallText → List A) → ((c : CallText) → f (blank c) ≡ f c) → (calls : List CallText) → flat_map f (map blank calls) ≡ flat_map f calls
+flat-blank : {A : Type 0} (f : CallText → List A) → ((c : CallText) → f (blank c) ≡ f c) → (calls : List CallText)
+    → flat_map f (map blank calls) ≡ flat_map f calls
 flat-blank f same [] = refl
 flat-blank f same (c ∷ calls) = let rest = flat-blank f same calls in λ i. same c i ++ rest i
 
-said-blank : {A : Type 0} (f : CallText → Option A) → ((c : CallText) → f (blank c) ≡ f c) → (calls : List CallText) → filter_map f (map blank calls) ≡ filter_map f calls
+said-blank : {A : Type 0} (f : CallText → Option A) → ((c : CallText) → f (blank c) ≡ f c) → (calls : List CallText)
+    → filter_map f (map blank calls) ≡ filter_map f calls
 said-blank f same [] = refl
 said-blank f same (c ∷ calls) = let rest = said-blank f same calls in λ i. cons_option (same c i) (rest i)
 
@@ -90,8 +92,10 @@ fit_targets table calls all =
     let fields : fields_of start (map blank calls) ≡ fields_of start calls =
     ap (flat_map fields_in) (since-blank drops_fields drops-blank told) ∙ flat-blank fields_in fields-blank (since drops_fields told) in
     let target_is : insert_target fixed_piece (clauses start (map blank calls)) ≡ insert_target fixed_piece (clauses start calls) =
-    λ i. (call.start_table start ++ flat-blank table_in table-blank calls i) ++ (fixed_piece (codes " (") ++ (comma_list fixed_piece (fields i) ++ fixed_piece (codes ")"))) in
-    let returned : last_said returning_in (map blank calls) ≡ last_said returning_in calls = ap (last_or None) (said-blank returning_in returning-blank calls) in
+    λ i. (call.start_table start ++ flat-blank table_in table-blank calls i)
+    ++ (fixed_piece (codes " (") ++ (comma_list fixed_piece (fields i) ++ fixed_piece (codes ")"))) in
+    let returned : last_said returning_in (map blank calls) ≡ last_said returning_in calls =
+    ap (last_or None) (said-blank returning_in returning-blank calls) in
     and_from _ _
     (ap are_fit (sym target_is) ∙ are_fit-is (insert_target fixed_piece (clauses start (map blank calls))) ∙ fits.fits 0)
     (ap is_fit_returning (sym returned) ∙ returning-fits (last_said returning_in (map blank calls)) parts.returning)

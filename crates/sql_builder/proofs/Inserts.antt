@@ -1,20 +1,23 @@
 -- An INSERT of a query reads back as its own clause, those of the query, and RETURNING.
-use Rattle.std.proofs.Common.{◌≡◌, refl, sym, ◌∙◌, ap, subst, ℕ, Bool, true, false, List, [], ◌∷◌, ◌++◌, Option, None, Some, pos, codes, append-nil, append_assoc, map}
-use Rattle.std.specs.Prelude.{IfSome, IfOk, flat_map, option_map, IsTrue}
+use Rattle.std.proofs.Common.{◌≡◌, refl, sym, ◌∙◌, ap, subst, ℕ, Bool, true, false, List, [], ◌∷◌, ◌++◌, Option, None, Some, pos, codes, append-nil}
+use Rattle.std.proofs.Common.{append_assoc, map, ◌&&◌, ◌||◌}
+use Rattle.std.specs.Prelude.{IfSome, IfOk, flat_map, option_map, IsTrue, if◌then◌else◌}
 use Rattle.std.specs.List.{list_all, list_any}
-use Rattle.std.proofs.lemmas.Bool.{and_from, and_parts, not-true, or_from, not_from_false}
+use Rattle.std.proofs.lemmas.Bool.{and_from, and_parts, or_from, not_from_false, false≢true}
 use Rattle.std.proofs.lemmas.List.Folds.{list_all-append}
 use Rattle.sql_parts.specs.Fragments as fragments
 use Rattle.sql_parts.specs.Fragments.{Placed, balanced, is_clause_word, is_outer, is_whole}
-use Rattle.sql_parts.specs.Tokens.{Token, Word, Symbol, begins_with, tokens}
+use Rattle.sql_parts.specs.Tokens.{Token, Symbol, begins_with, tokens}
 use Rattle.sql_parts.proofs.Walks.{has_outer, has_outer-is, is_even, placed, placed-is, is_balanced, is_balanced-is}
 use Rattle.sql_parts.specs.declared.error.SqlBuilderError.{SqlBuilderError}
 use Rattle.sql_builder.specs.Calls as call
 use Rattle.sql_builder.specs.Calls.{CallText, Sql, clauses, query_of, Query}
 use Rattle.sql_builder.specs.Clauses.{Clauses}
 use Rattle.sql_builder.specs.Fitting.{are_fit, has_balanced_fragments, is_balanced_piece, own, begins_union, has_fit_fragments}
-use Rattle.sql_builder.specs.Inserts.{BuildersOfInsertsReadBack, InsertsReadBack, has_fit_target, insert_clauses, is_fit_returning, is_one_query, returning_clauses, BuildersOfQueriesAreOne, QueriesAreOne}
-use Rattle.sql_builder.specs.Layout.{byte_atoms, insert_sections, concat_sections, insert_target, optional_section, returning_sections, section, sql, statement_sections, query, query_sections}
+use Rattle.sql_builder.specs.Inserts.{BuildersOfInsertsReadBack, InsertsReadBack, has_fit_target, insert_clauses, is_fit_returning, lead_of, is_one_query}
+use Rattle.sql_builder.specs.Inserts.{returning_clauses, BuildersOfQueriesAreOne, QueriesAreOne, returning_behind}
+use Rattle.sql_builder.specs.Layout.{byte_atoms, insert_sections, concat_sections, insert_target, optional_section, returning_sections, section, sql}
+use Rattle.sql_builder.specs.Layout.{statement_sections, query, query_sections}
 use Rattle.sql_builder.specs.Parts.{Parts, parts_at, before_outer, with_front}
 use Rattle.sql_builder.specs.Phrases.{comma_list}
 use Rattle.sql_builder.specs.Reading.{Clause, is_union, own_placed, read, without_semicolon}
@@ -30,7 +33,8 @@ use Rattle.sql_builder.proofs.Layouts.{sql_shape, query_shape}
 use Rattle.sql_builder.specs.Filters.{until}
 use Rattle.sql_builder.proofs.Nesting.{query-balanced}
 use Rattle.sql_builder.proofs.OwnLayouts.{query-opens}
-use Rattle.sql_builder.proofs.OwnSections.{Calm, Front, any_union, before-append, calm-front, front-append, lead_on, opening_clauses, own-outer, section-clauses, starts-lead, union-marks, with_last, sections-front, until-behind}
+use Rattle.sql_builder.proofs.OwnSections.{Calm, Front, any_union, before-append, calm-front, front-append, lead_on, opening_clauses, own-outer}
+use Rattle.sql_builder.proofs.OwnSections.{section-clauses, starts-lead, union-marks, with_last, sections-front, until-behind, union-mark}
 use Rattle.sql_builder.proofs.OwnWords.{are_fit-is, are_fit_from, fit-balanced, fit-marks, fragments_closed, marks, same-parts, shape-even}
 use Rattle.sql_builder.proofs.PassingTexts.{passes-append}
 use Rattle.sql_builder.proofs.Placing.{at_end-closes}
@@ -73,29 +77,57 @@ abbrev parts : List Token → Parts
 parts ts = parts_at is_clause_word (placed ts)
 
 parts-append : (a b : List Token) → One a → parts (a ++ b) ≡ joined (parts a) (parts b)
-parts-append a b one = ap (parts_at is_clause_word) (placed-then a b (at_end-closes (pos 0) a (even_closes a one.even))) ∙ parts-joined is_clause_word (placed a) (placed b)
+parts-append a b one = ap (parts_at is_clause_word) (placed-then a b (at_end-closes (pos 0) a (even_closes a one.even)))
+    ∙ parts-joined is_clause_word (placed a) (placed b)
 
 before-none : (test : Token → Bool) (ms : List Placed) → list_any (is_outer test) ms ≡ false → before_outer test ms ≡ ms
 before-none test ms none = ap (before_outer test) (sym (append-nil ms)) ∙ before-append test ms [] none ∙ append-nil ms
 
--- such tokens are read to their end
-read-parts : (ts us : List Token) → without_semicolon ts ≡ us → One us → read ts ≡ (parts us).rest
+before-cut : (test : Token → Bool) (a b : List Placed) → list_any (is_outer test) a ≡ true → before_outer test (a ++ b) ≡ before_outer test a
+before-cut test [] b some = absurd (false≢true some)
+before-cut test (m ∷ a) b some = by (is_outer test m) some (before-cut test a b)
+  where
+    by : (found : Bool) → (found || list_any (is_outer test) a) ≡ true → (list_any (is_outer test) a ≡ true → before_outer test (a ++ b) ≡ before_outer test a)
+        → (if found then [] else (m ∷ before_outer test (a ++ b))) ≡ (if found then [] else (m ∷ before_outer test a))
+    by true some rest = refl
+    by false some rest = ap (λ (ms : List Placed). m ∷ ms) (rest some)
+
+-- UNION is a clause word, so the first clause word is not behind it
+lead-cut : (ms : List Placed) → (parts_at is_clause_word (before_outer is_union ms)).lead ≡ (parts_at is_clause_word ms).lead
+lead-cut [] = refl
+lead-cut (m ∷ ms) =
+    ap (λ (found : Bool). (parts_at is_clause_word (if found then [] else (m ∷ before_outer is_union ms))).lead) (union-mark m)
+    ∙ by (is_outer is_clause_word m) (is_union (fragments.token_of m)) refl (lead-cut ms)
+  where
+    by : (clause union : Bool) → is_outer is_clause_word m ≡ clause
+        → (parts_at is_clause_word (before_outer is_union ms)).lead ≡ (parts_at is_clause_word ms).lead
+        → (parts_at is_clause_word (if clause && union then [] else (m ∷ before_outer is_union ms))).lead
+        ≡ (with_front clause (fragments.token_of m) (parts_at is_clause_word ms)).lead
+    by true true is rest = refl
+    by true false is rest = ap (λ (clause : Bool). (with_front clause (fragments.token_of m) (parts_at is_clause_word (before_outer is_union ms))).lead) is
+    by false union is rest =
+        ap (λ (clause : Bool). (with_front clause (fragments.token_of m) (parts_at is_clause_word (before_outer is_union ms))).lead) is
+        ∙ ap (λ ts. fragments.token_of m ∷ ts) rest
+
+-- tokens are read up to their first outer UNION
+read-cut : (ts us : List Token) → without_semicolon ts ≡ us → read ts ≡ (parts_at is_clause_word (before_outer is_union (placed us))).rest
 unfolding read
-read-parts ts us is one =
+read-cut ts us is =
     ap (λ vs. (parts_at is_clause_word (before_outer is_union (fragments.placed vs))).rest) is
     ∙ ap (λ ms. (parts_at is_clause_word (before_outer is_union ms)).rest) (placed-is us)
-    ∙ ap (λ ms. (parts_at is_clause_word ms).rest) (before-none is_union (placed us) one.no_union)
 
 -- pieces whose own words are laid as those of a statement
 pieces-one : (ps : Pieces) → Front (own ps) → are_fit_from (pos 0) ps ≡ true → One (pieces_tokens ps)
 pieces-one ps front fits = record {
   even = shape-even ps (fit-balanced (pos 0) ps fits) front.even;
-  no_union = union-marks (placed (pieces_tokens ps)) ∙ ap any_union (fit-marks (pos 0) ps refl fits front.laid) ∙ sym (union-marks (flat_map own_placed ps)) ∙ own-outer is_union ps ∙ front.no_union;
+  no_union = union-marks (placed (pieces_tokens ps)) ∙ ap any_union (fit-marks (pos 0) ps refl fits front.laid) ∙ sym (union-marks (flat_map own_placed ps))
+      ∙ own-outer is_union ps ∙ front.no_union;
 }
 
 -- ---- a section of the builder's own
 
-module _ (words : List ℕ) (body : Pieces) (front : Front (tokens words)) (starts : begins_with is_clause_word (tokens words) ≡ true) (calm : Calm body) (fit : are_fit body ≡ true) where
+module _ (words : List ℕ) (body : Pieces) (front : Front (tokens words)) (starts : begins_with is_clause_word (tokens words) ≡ true) (calm : Calm body)
+    (fit : are_fit body ≡ true) where
   abbrev here : Pieces
   here = fixed_piece words ++ body
 
@@ -103,7 +135,8 @@ module _ (words : List ℕ) (body : Pieces) (front : Front (tokens words)) (star
   is-front = front-append (tokens words) (own body) front (calm-front body calm)
 
   fits : are_fit_from (pos 0) here ≡ true
-  fits = subst (λ l. are_fit_from l body ≡ true) (sym (at_end-closes (pos 0) (tokens words) (even_closes (tokens words) front.even))) (sym (are_fit-is body) ∙ fit)
+  fits = subst (λ l. are_fit_from l body ≡ true) (sym (at_end-closes (pos 0) (tokens words) (even_closes (tokens words) front.even)))
+      (sym (are_fit-is body) ∙ fit)
 
   same : marks (placed (pieces_tokens here)) ≡ marks (flat_map own_placed here)
   same = fit-marks (pos 0) here refl fits is-front.laid
@@ -147,7 +180,8 @@ returned-tail (Some body) calm fit =
 -- ---- the whole
 
 -- behind a lead that other parts have
-joined-tail : (ts us : List Token) (found : List Clause) → One ts → Tail us found → parts (ts ++ us) ≡ record { lead = (parts ts).lead; rest = (parts ts).rest ++ found }
+joined-tail : (ts us : List Token) (found : List Clause) → One ts → Tail us found
+    → parts (ts ++ us) ≡ record { lead = (parts ts).lead; rest = (parts ts).rest ++ found }
 joined-tail ts us found one tail =
     parts-append ts us one
     ∙ (λ i. joined (parts ts) (record { lead = tail.lead i; rest = tail.rest i }))
@@ -162,22 +196,19 @@ joined-tail ts us found one tail =
     on lead [] = append-nil lead
     on lead (c ∷ cs) = refl
 
-    kept : (lead : List Token) (rest : List Clause) → joined (record { lead = lead; rest = rest }) (record { lead = []; rest = found }) ≡ record { lead = lead; rest = rest ++ found }
+    kept : (lead : List Token) (rest : List Clause)
+        → joined (record { lead = lead; rest = rest }) (record { lead = []; rest = found }) ≡ record { lead = lead; rest = rest ++ found }
     kept lead rest = λ i. record { lead = on lead rest i; rest = last rest i ++ found }
 
--- the clauses by the query's lead and by its own
-abbrev insert_with : Clauses Pieces → List Token → List Clause → List Clause
-insert_with r lead found =
-    (Word (codes "INSERT"), Word (codes "INTO") ∷ (pieces_tokens (insert_target fixed_piece r) ++ lead)) ∷ (found ++ returning_clauses r.returning)
-
-returned-balanced : (given : Option Pieces) → is_fit_returning given ≡ true → has_balanced_fragments (concat_sections fixed_piece (optional_section (codes " RETURNING ") given)) ≡ true
+returned-balanced : (given : Option Pieces) → is_fit_returning given ≡ true
+    → has_balanced_fragments (concat_sections fixed_piece (optional_section (codes " RETURNING ") given)) ≡ true
 returned-balanced None fit = refl
 returned-balanced (Some body) fit = passes-append balanced body [] (fit-balanced (pos 0) body (sym (are_fit-is body) ∙ fit)) refl
 
 insert-front : Front (tokens (codes "INSERT INTO "))
 insert-front = record { laid = refl; even = refl; no_union = refl }
 
-module _ (r : Clauses Pieces) (query : List ℕ) (calm : CalmParts r) (is_one : is_one_query query ≡ true) (fit : has_fit_target r ≡ true) where
+module _ (r : Clauses Pieces) (query : List ℕ) (calm : CalmParts r) (is : balanced query ≡ true) (fit : has_fit_target r ≡ true) where
   target-calm : Calm (insert_target fixed_piece r)
   target-calm =
       calm-append r.table (fixed_piece (codes " (") ++ (comma_list fixed_piece r.fields ++ fixed_piece (codes ")"))) calm.table
@@ -186,13 +217,11 @@ module _ (r : Clauses Pieces) (query : List ℕ) (calm : CalmParts r) (is_one : 
   target-fit : are_fit (insert_target fixed_piece r) ≡ true
   target-fit = (and_parts (are_fit (insert_target fixed_piece r)) (is_fit_returning r.returning) fit).0
 
-  query-one : One (tokens query)
-  query-one =
-      let both = and_parts (balanced query) _ is_one in
-      record { even = even_text query both.0; no_union = sym (has_outer-is is_union (tokens query)) ∙ not-true _ both.1 }
+  query-even : is_even (tokens query) ≡ true
+  query-even = even_text query is
 
-  query-read : read (tokens query) ≡ (parts (tokens query)).rest
-  query-read = read-parts (tokens query) (tokens query) (semicolon-none (tokens query) (and_parts (list_all is_whole (tokens query)) _ query-one.even).0) query-one
+  query-read : read (tokens query) ≡ (parts_at is_clause_word (before_outer is_union (placed (tokens query)))).rest
+  query-read = read-cut (tokens query) (tokens query) (semicolon-none (tokens query) (and_parts (list_all is_whole (tokens query)) _ query-even).0)
 
   tail : Tail (returned r.returning) (returning_clauses r.returning)
   tail = returned-tail r.returning calm.returning (and_parts (are_fit (insert_target fixed_piece r)) (is_fit_returning r.returning) fit).1
@@ -203,21 +232,60 @@ module _ (r : Clauses Pieces) (query : List ℕ) (calm : CalmParts r) (is_one : 
   front-one : One front
   front-one = section-one (codes "INSERT INTO ") (insert_target fixed_piece r) insert-front refl target-calm target-fit
 
-  whole-one : One (front ++ (tokens query ++ returned r.returning))
-  whole-one = one-append front (tokens query ++ returned r.returning) front-one (one-append (tokens query) (returned r.returning) query-one tail.one)
+  -- what is read behind the target
+  abbrev behind : List Placed
+  behind = before_outer is_union (placed (tokens query ++ returned r.returning))
+
+  behind-is : parts_at is_clause_word behind
+      ≡ record { lead = lead_of (tokens query); rest = read (tokens query) ++ returning_behind (tokens query) r.returning }
+  behind-is = by (has_outer is_union (tokens query)) refl
+    where
+      lead-is : (parts (tokens query)).lead ≡ lead_of (tokens query)
+      lead-is = ap (λ ms. (parts_at is_clause_word ms).lead) (sym (placed-is (tokens query)))
+
+      by : (union : Bool) → has_outer is_union (tokens query) ≡ union
+          → parts_at is_clause_word behind ≡ record { lead = lead_of (tokens query); rest = read (tokens query) ++ returning_behind (tokens query) r.returning }
+      by true found =
+          let cut = before-cut is_union (placed (tokens query)) (placed (returned r.returning)) found in
+          let kept : parts_at is_clause_word behind ≡ parts_at is_clause_word (before_outer is_union (placed (tokens query))) =
+          ap (λ ms. parts_at is_clause_word (before_outer is_union ms))
+          (placed-then (tokens query) (returned r.returning) (at_end-closes (pos 0) (tokens query) (even_closes (tokens query) query-even)))
+          ∙ ap (parts_at is_clause_word) cut in
+          let none : returning_behind (tokens query) r.returning ≡ [] =
+          ap (λ (union : Bool). if union then [] else returning_clauses r.returning) (has_outer-is is_union (tokens query) ∙ found) in
+          kept
+          ∙ (λ i. record {
+            lead = (lead-cut (placed (tokens query)) ∙ lead-is) i;
+            rest = (sym (append-nil (parts_at is_clause_word (before_outer is_union (placed (tokens query)))).rest) ∙ (λ j. sym query-read j ++ sym none j)) i;
+          })
+      by false found =
+          let one : One (tokens query) = record { even = query-even; no_union = found } in
+          let some : returning_behind (tokens query) r.returning ≡ returning_clauses r.returning =
+          ap (λ (union : Bool). if union then [] else returning_clauses r.returning) (has_outer-is is_union (tokens query) ∙ found) in
+          let whole : (parts (tokens query)).rest ≡ read (tokens query) =
+          ap (λ ms. (parts_at is_clause_word ms).rest) (sym (before-none is_union (placed (tokens query)) found)) ∙ sym query-read in
+          ap (parts_at is_clause_word)
+          (before-none is_union (placed (tokens query ++ returned r.returning)) (one-append (tokens query) (returned r.returning) one tail.one).no_union)
+          ∙ joined-tail (tokens query) (returned r.returning) (returning_clauses r.returning) one tail
+          ∙ (λ i. record { lead = lead-is i; rest = whole i ++ sym some i })
 
   -- the clauses that the whole has
-  whole-clauses : (parts (front ++ (tokens query ++ returned r.returning))).rest ≡ insert_clauses r (tokens query)
+  whole-clauses : (parts_at is_clause_word (before_outer is_union (placed (front ++ (tokens query ++ returned r.returning))))).rest
+      ≡ insert_clauses r (tokens query)
   whole-clauses =
-      ap (λ (ps : Parts). ps.rest) (parts-append front (tokens query ++ returned r.returning) front-one)
-      ∙ ap (λ (ps : Parts). with_last ps.lead (parts front).rest ++ ps.rest) (joined-tail (tokens query) (returned r.returning) (returning_clauses r.returning) query-one tail)
-      ∙ ap (λ (cs : List Clause). with_last (parts (tokens query)).lead cs ++ ((parts (tokens query)).rest ++ returning_clauses r.returning))
+      ap (λ ms. (parts_at is_clause_word (before_outer is_union ms)).rest)
+      (placed-then front (tokens query ++ returned r.returning) (at_end-closes (pos 0) front (even_closes front front-one.even)))
+      ∙ ap (λ ms. (parts_at is_clause_word ms).rest) (before-append is_union (placed front) (placed (tokens query ++ returned r.returning)) front-one.no_union)
+      ∙ ap (λ (ps : Parts). ps.rest) (parts-joined is_clause_word (placed front) behind)
+      ∙ ap (λ (ps : Parts). with_last ps.lead (parts front).rest ++ ps.rest) behind-is
+      ∙ ap (λ (cs : List Clause). with_last (lead_of (tokens query)) cs ++ (read (tokens query) ++ returning_behind (tokens query) r.returning))
       (section-rest (codes "INSERT INTO ") (insert_target fixed_piece r) insert-front refl target-calm target-fit)
-      ∙ (λ i. insert_with r (ap (λ ms. (parts_at is_clause_word ms).lead) (sym (placed-is (tokens query))) i) (sym query-read i))
 
   -- the tokens that are printed
   abbrev insert_pieces : Pieces
-  insert_pieces = concat_sections fixed_piece (section (codes "INSERT INTO ") (insert_target fixed_piece r ++ (fixed_piece (codes " ") ++ raw_piece query)) ∷ returning_sections r) ++ fixed_piece (codes ";")
+  insert_pieces = concat_sections fixed_piece
+      (section (codes "INSERT INTO ") (insert_target fixed_piece r ++ (fixed_piece (codes " ") ++ raw_piece query)) ∷ returning_sections r)
+      ++ fixed_piece (codes ";")
 
   abbrev opened : Pieces
   opened = fixed_piece (codes "INSERT INTO ") ++ (insert_target fixed_piece r ++ (fixed_piece (codes " ") ++ raw_piece query))
@@ -228,7 +296,8 @@ module _ (r : Clauses Pieces) (query : List ℕ) (calm : CalmParts r) (is_one : 
       ∙ ap (λ ts. ts ++ Symbol 59 ∷ [])
       (pieces_tokens-append opened (concat_sections fixed_piece (returning_sections r))
       ∙ ap (λ ts. ts ++ returned r.returning)
-      (pieces_tokens-append (fixed_piece (codes "INSERT INTO ") ++ insert_target fixed_piece r) (fixed_piece (codes " ") ++ raw_piece query) ∙ ap (λ ts. front ++ ts) (append-nil (tokens query)))
+      (pieces_tokens-append (fixed_piece (codes "INSERT INTO ") ++ insert_target fixed_piece r) (fixed_piece (codes " ") ++ raw_piece query)
+      ∙ ap (λ ts. front ++ ts) (append-nil (tokens query)))
       ∙ append_assoc front (tokens query) (returned r.returning))
 
   -- each fragment is balanced
@@ -239,14 +308,15 @@ module _ (r : Clauses Pieces) (query : List ℕ) (calm : CalmParts r) (is_one : 
   insert-balanced =
       passes-append balanced (opened ++ concat_sections fixed_piece (returning_sections r)) (fixed_piece (codes ";"))
       (passes-append balanced opened (concat_sections fixed_piece (returning_sections r))
-      (passes-append balanced (insert_target fixed_piece r) (fixed_piece (codes " ") ++ raw_piece query) target-balanced (and_from _ _ (and_parts (balanced query) _ is_one).0 refl))
+      (passes-append balanced (insert_target fixed_piece r) (fixed_piece (codes " ") ++ raw_piece query) target-balanced (and_from _ _ is refl))
       (returned-balanced r.returning (and_parts (are_fit (insert_target fixed_piece r)) (is_fit_returning r.returning) fit).1))
       refl
 
   pub insert-reads : (text : List ℕ) → HasShape insert_pieces text → read (tokens text) ≡ insert_clauses r (tokens query)
   insert-reads text shaped =
       ap read (shaped (fragments_closed insert_pieces insert-balanced) ∙ insert-tokens)
-      ∙ read-parts ((front ++ (tokens query ++ returned r.returning)) ++ Symbol 59 ∷ []) (front ++ (tokens query ++ returned r.returning)) (semicolon-one (front ++ (tokens query ++ returned r.returning))) whole-one
+      ∙ read-cut ((front ++ (tokens query ++ returned r.returning)) ++ Symbol 59 ∷ []) (front ++ (tokens query ++ returned r.returning))
+      (semicolon-one (front ++ (tokens query ++ returned r.returning)))
       ∙ whole-clauses
 
 -- ---- a query without unions
@@ -267,7 +337,8 @@ module _ (r : Clauses Pieces) (calm : CalmParts r) (none : r.unions ≡ []) (fit
       let all = fit-balanced (pos 0) (query fixed_piece r) query-fits in
       let same = shaped (fragments_closed (query fixed_piece r) all) in
       and_from _ _ (is_balanced-is (tokens text) ∙ ap is_balanced same ∙ query-balanced r calm all)
-      (not_from_false _ (has_outer-is is_union (tokens text) ∙ ap (has_outer is_union) same ∙ (pieces-one (query fixed_piece r) query-front query-fits).no_union))
+      (not_from_false _ (has_outer-is is_union (tokens text) ∙ ap (has_outer is_union) same
+      ∙ (pieces-one (query fixed_piece r) query-front query-fits).no_union))
 
 -- ---- a list of calls
 
@@ -276,7 +347,7 @@ abbrev inserted : Option Pieces → Clauses Pieces → Pieces
 inserted given r = concat_sections fixed_piece (insert_sections fixed_piece given r) ++ fixed_piece (codes ";")
 
 pub inserts_read_back : InsertsReadBack
-inserts_read_back table calls query given is_one fit = by (refusal_at Sql (made_by (call.InsertInto table) calls))
+inserts_read_back table calls query given is fit = by (refusal_at Sql (made_by (call.InsertInto table) calls))
   where
     by : (refusal : Option SqlBuilderError)
         → IfOk (text_unless_refused (unless_refused refusal (inserted (query_of calls) (clauses (call.InsertInto table) calls))))
@@ -284,19 +355,19 @@ inserts_read_back table calls query given is_one fit = by (refusal_at Sql (made_
     by None =
         let r = clauses (call.InsertInto table) calls in
         let text = pieces_text (inserted (query_of calls) r) in
-        insert-reads r query (clauses-calm (call.InsertInto table) calls) is_one fit text
+        insert-reads r query (clauses-calm (call.InsertInto table) calls) is fit text
         (subst (λ q. HasShape (inserted q r) text) given (printed-shaped (call.InsertInto table) calls Sql).shape_is)
     by (Some refusal) = tt
 
 -- ---- a builder
 
 pub builders_of_inserts_read_back : BuildersOfInsertsReadBack
-builders_of_inserts_read_back r query kind given is_one fit =
+builders_of_inserts_read_back r query kind given is fit =
     let text = sql byte_atoms r in
     let same : sql fixed_piece (as_fragments r) ≡ inserted (Some (raw_piece query)) (as_fragments r) =
     ap (λ k. concat_sections fixed_piece (statement_sections fixed_piece k (as_fragments r)) ++ fixed_piece (codes ";")) kind
     ∙ ap (λ q. inserted (option_map raw_piece q) (as_fragments r)) given in
-    insert-reads (as_fragments r) query (raw-calm r) is_one fit text (subst (λ ps. HasShape ps text) same (sql_shape r text refl))
+    insert-reads (as_fragments r) query (raw-calm r) is fit text (subst (λ ps. HasShape ps text) same (sql_shape r text refl))
 
 -- ---- queries without unions
 
@@ -308,4 +379,5 @@ queries_are_one start calls none =
 
 pub builders_of_queries_are_one : BuildersOfQueriesAreOne
 builders_of_queries_are_one r none fit =
-    one-query (as_fragments r) (raw-calm r) (ap (map (λ (union : Bool × List ℕ). (union.0, raw_piece union.1))) none) fit (query byte_atoms r) (query_shape r (query byte_atoms r) refl)
+    one-query (as_fragments r) (raw-calm r) (ap (map (λ (union : Bool × List ℕ). (union.0, raw_piece union.1))) none) fit (query byte_atoms r)
+    (query_shape r (query byte_atoms r) refl)

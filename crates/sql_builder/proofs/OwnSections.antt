@@ -99,7 +99,7 @@ narrow : (clause union : Bool) → (clause ≡ false → union ≡ false) → un
 narrow true union h = refl
 narrow false union h = h refl
 
-union-mark : (m : Placed) → is_outer is_union m ≡ (is_outer is_clause_word m && is_union (token_of m))
+pub union-mark : (m : Placed) → is_outer is_union m ≡ (is_outer is_clause_word m && is_union (token_of m))
 union-mark (Outer t) = narrow (is_clause_word t) (is_union t) (not_union t)
 union-mark (Inner t) = refl
 

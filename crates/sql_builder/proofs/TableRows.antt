@@ -7,7 +7,8 @@ use Rattle.sql_builder.specs.Handed.{Bare, is_fit}
 use Rattle.sql_builder.specs.Statement.{statement}
 use Rattle.sql_builder.specs.Tables.{makes_table}
 
-named : statement (SelectFrom (codes "t")) (Union (codes "SELECT a FROM b") ∷ []) (SubqueryAs (codes "s")) ≡ Ok (codes "(SELECT * FROM t UNION SELECT a FROM b) AS s")
+named : statement (SelectFrom (codes "t")) (Union (codes "SELECT a FROM b") ∷ []) (SubqueryAs (codes "s"))
+    ≡ Ok (codes "(SELECT * FROM t UNION SELECT a FROM b) AS s")
 named = refl
 
 named-makes : makes_table (SubqueryAs (codes "s")) ≡ true

@@ -1,5 +1,6 @@
 -- A query between brackets serves as a table, with a name behind it too.
-use Rattle.std.proofs.Common.{◌≡◌, refl, sym, ◌∙◌, ap, false, true, not, List, [], ◌∷◌, ◌++◌, ℕ, Option, None, Some, Result, Ok, Err, String, string_bytes, codes, append-nil, append_assoc, IfOk}
+use Rattle.std.proofs.Common.{◌≡◌, refl, sym, ◌∙◌, ap, false, true, not, List, [], ◌∷◌, ◌++◌, ℕ, Option, None, Some, Result, Ok, Err, String, string_bytes}
+use Rattle.std.proofs.Common.{codes, append-nil, append_assoc, IfOk}
 use Rattle.std.specs.Prelude.{IsTrue}
 use Rattle.std.proofs.lemmas.Bool.{and_parts, and_from, false≢true, not-true, not_from_false, or_from}
 use Rattle.sql_parts.specs.Fragments.{balanced, has_clause_word, is_clause_word}
@@ -32,7 +33,9 @@ use Rattle.sql_builder.proofs.WhereTokens.{has_clause}
 
 module _ (r : Clauses Pieces) (parts : CalmParts r) where
   -- the query in brackets, AS and the name
-  named-tokens : (name : List ℕ) → pieces_tokens (subquery_as fixed_piece (raw_piece name) r) ≡ where_tokens.in_brackets (pieces_tokens (query fixed_piece r)) ++ Word (codes "AS") ∷ tokens name
+  named-tokens : (name : List ℕ)
+      → pieces_tokens (subquery_as fixed_piece (raw_piece name) r)
+      ≡ where_tokens.in_brackets (pieces_tokens (query fixed_piece r)) ++ Word (codes "AS") ∷ tokens name
   unfolding where_tokens.in_brackets
   named-tokens name =
       ap (λ ts. Symbol 40 ∷ ts)
@@ -49,7 +52,8 @@ module _ (r : Clauses Pieces) (parts : CalmParts r) where
       ∙ has_outer-append is_clause_word (where_tokens.in_brackets inner) (Word (codes "AS") ∷ tokens name) (is_even-brackets inner even)
       ∙ or_from _ _ (no_clause-brackets inner even) none
 
-  pub table : (finish : FinishText) (text : List ℕ) → HasShape (layout_at fixed_piece raw_piece finish r) text → NestsAsTable finish (layout_at fixed_piece raw_piece finish r) text
+  pub table : (finish : FinishText) (text : List ℕ) → HasShape (layout_at fixed_piece raw_piece finish r) text
+      → NestsAsTable finish (layout_at fixed_piece raw_piece finish r) text
   table Sql text shaped = λ makes all. absurd (false≢true makes)
   table Query text shaped = λ makes all. absurd (false≢true makes)
   table QueryValues text shaped = λ makes all. absurd (false≢true makes)
@@ -72,5 +76,6 @@ subqueries_nest start calls finish makes =
 
 -- ---- a builder
 
-pub subquery_as_table : (r : ClauseTexts) (text name : List ℕ) → text ≡ subquery_as byte_atoms name r → NestsAsTable (SubqueryAs name) (subquery_as fixed_piece (raw_piece name) (as_fragments r)) text
+pub subquery_as_table : (r : ClauseTexts) (text name : List ℕ) → text ≡ subquery_as byte_atoms name r
+    → NestsAsTable (SubqueryAs name) (subquery_as fixed_piece (raw_piece name) (as_fragments r)) text
 subquery_as_table r text name is = table (as_fragments r) (raw-calm r) (SubqueryAs name) text (subquery_as_shape r text name is)

@@ -1,5 +1,5 @@
 -- The clauses of an INSERT of a query, as its tokens read back.
-use Rattle.std.specs.Prelude.{◌≡◌, ℕ, Bool, true, not, ◌&&◌, ◌||◌, IfOk, IsTrue, List, [], ◌∷◌, ◌++◌, Option, None, Some, codes, flat_map}
+use Rattle.std.specs.Prelude.{◌≡◌, ℕ, Bool, true, not, ◌&&◌, ◌||◌, IfOk, IsTrue, List, [], ◌∷◌, ◌++◌, Option, None, Some, codes, flat_map, if◌then◌else◌}
 use Rattle.std.specs.List.{list_all}
 use Rattle.sql_parts.specs.Fragments.{balanced, has_outer, is_clause_word, placed}
 use Rattle.sql_parts.specs.Tokens.{Token, Word, tokens}
@@ -18,10 +18,6 @@ use Rattle.sql_builder.specs.Statement.{statement}
 use Rattle.sql_builder.specs.Text.{Pieces, fixed_piece, raw_piece}
 use Rattle.sql_builder.specs.declared.clauses.Kind.TheVariants.{InsertInto}
 
--- a query that is balanced, and has no outer UNION
-abbrev pub is_one_query : List ℕ → Bool
-is_one_query query = balanced query && not (has_outer is_union (tokens query))
-
 -- the tokens before the first outer clause word: none of a query that begins with SELECT
 abbrev pub lead_of : List Token → List Token
 lead_of ts = (parts_at is_clause_word (placed ts)).lead
@@ -31,11 +27,15 @@ abbrev pub returning_clauses : Option Pieces → List Clause
 returning_clauses None = []
 returning_clauses (Some returned) = (Word (codes "RETURNING"), pieces_tokens returned) ∷ []
 
+-- those that are read behind a query: none behind an outer UNION, where a reader ends
+abbrev pub returning_behind : List Token → Option Pieces → List Clause
+returning_behind query returned = if has_outer is_union query then [] else returning_clauses returned
+
 -- the clauses of an INSERT of a query: its own, with the table and the fields, then those of the query, and RETURNING
 abbrev pub insert_clauses : Clauses Pieces → List Token → List Clause
 insert_clauses r query =
     (Word (codes "INSERT"), Word (codes "INTO") ∷ (pieces_tokens (insert_target fixed_piece r) ++ lead_of query))
-    ∷ (read query ++ returning_clauses r.returning)
+    ∷ (read query ++ returning_behind query r.returning)
 
 -- what is returned is fit, where something is
 abbrev pub is_fit_returning : Option Pieces → Bool
@@ -46,17 +46,21 @@ is_fit_returning (Some returned) = are_fit returned
 abbrev pub has_fit_target : Clauses Pieces → Bool
 has_fit_target r = are_fit (insert_target fixed_piece r) && is_fit_returning r.returning
 
--- what `sql` prints of an INSERT of a query reads back as its clauses with those of the query
+-- what `sql` prints of an INSERT of a balanced query reads back as its clauses with those of the query
 abbrev pub InsertsReadBack : Type 0
 InsertsReadBack = (table : List ℕ) (calls : List CallText) (query : List ℕ)
-    → query_of calls ≡ Some (raw_piece query) → IsTrue (is_one_query query) → IsTrue (has_fit_target (clauses (call.InsertInto table) calls))
+    → query_of calls ≡ Some (raw_piece query) → IsTrue (balanced query) → IsTrue (has_fit_target (clauses (call.InsertInto table) calls))
     → IfOk (statement (call.InsertInto table) calls Sql) (λ text. read (tokens text) ≡ insert_clauses (clauses (call.InsertInto table) calls) (tokens query))
 
 -- the same of a builder
 abbrev pub BuildersOfInsertsReadBack : Type 0
 BuildersOfInsertsReadBack = (r : ClauseTexts) (query : List ℕ)
-    → r.kind ≡ InsertInto → r.query ≡ Some query → IsTrue (is_one_query query) → IsTrue (has_fit_target (as_fragments r))
+    → r.kind ≡ InsertInto → r.query ≡ Some query → IsTrue (balanced query) → IsTrue (has_fit_target (as_fragments r))
     → read (tokens (sql byte_atoms r)) ≡ insert_clauses (as_fragments r) (tokens query)
+
+-- a query that is balanced, and has no outer UNION: RETURNING is read behind it
+abbrev pub is_one_query : List ℕ → Bool
+is_one_query query = balanced query && not (has_outer is_union (tokens query))
 
 -- what `query` prints without a union is one query, where its fragments are fit
 abbrev pub QueriesAreOne : Type 0

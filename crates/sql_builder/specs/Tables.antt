@@ -1,4 +1,4 @@
--- Queries between brackets as the texts of tables.
+-- Queries in brackets as the texts of tables.
 use Rattle.std.specs.Prelude.{ℕ, Bool, true, false, not, IfOk, IsTrue, List}
 use Rattle.sql_parts.specs.Fragments.{has_clause_word}
 use Rattle.sql_builder.specs.Calls.{CallText, FinishText, StartText, Subquery, SubqueryAs}
@@ -8,7 +8,7 @@ use Rattle.sql_builder.specs.Meaning.{HasBalancedFragments}
 use Rattle.sql_builder.specs.Statement.{statement}
 use Rattle.sql_builder.specs.Text.{Pieces}
 
--- a finish that prints a query between brackets, with a name behind them that has no outer clause word, if with one
+-- a finish that prints a query in brackets: alone, or with a name that has no outer clause word
 abbrev pub makes_table : FinishText → Bool
 makes_table Subquery = true
 makes_table (SubqueryAs name) = not (has_clause_word name)

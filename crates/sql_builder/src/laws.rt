@@ -261,10 +261,10 @@ pub fn subqueries_nest_as_tables()
     ensures { SubqueriesNestAsTables }
 {}
 
-/// What `sql` prints of an INSERT of a query that is balanced and has no outer UNION reads back as
-/// its own clause, then what the query's tokens read back as, and RETURNING, where its other
-/// fragments are fit, which they are where its texts are; the same of a builder. What `query`
-/// prints is such a query, where it has no union and its fragments are fit.
+/// What `sql` prints of an INSERT of a balanced query reads back as its own clause, then what the
+/// query's tokens read back as, and RETURNING, where its other fragments are fit, which they are
+/// where its texts are; the same of a builder. Behind an outer UNION no RETURNING is read. What
+/// `query` prints has none, where it has no union and its fragments are fit.
 /// `insert_into("t").field("a").select("SELECT b FROM c")` → `INSERT INTO t (a) SELECT b FROM c;`
 #[tactic(auto, using(crate::proofs::Inserts::inserts_read_back, crate::proofs::Inserts::builders_of_inserts_read_back, crate::proofs::Inserts::queries_are_one, crate::proofs::Inserts::builders_of_queries_are_one, crate::proofs::InsertTexts::fit_targets))]
 pub fn inserts_read_back()

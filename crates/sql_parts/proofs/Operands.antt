@@ -1,5 +1,6 @@
 -- Tokens that no test of fragments tells from a text between quotes make an operand: those of literals, and of names between quotes.
-use Rattle.std.proofs.Common.{◌≡◌, ◌<◌, ℕ, suc, zero, ◌+◌, ◌/◌, ◌%◌, Bool, true, false, not, cond, ◌||◌, List, [], ◌∷◌, ◌++◌, Option, Some, None, map, pos, negsuc, ℤ, refl, sym, ap, ◌∙◌, subst, arith, inl, inr, codes}
+use Rattle.std.proofs.Common.{◌≡◌, ◌<◌, ℕ, suc, zero, ◌+◌, ◌/◌, ◌%◌, Bool, true, false, not, cond, ◌||◌, List, [], ◌∷◌, ◌++◌, Option, Some, None, map, pos}
+use Rattle.std.proofs.Common.{negsuc, ℤ, refl, sym, ap, ◌∙◌, subst, arith, inl, inr, codes}
 use Rattle.std.specs.Prelude.{flat_map, if◌then◌else◌}
 use Rattle.std.specs.Char.{to_ascii_lowercase}
 use Rattle.std.specs.Int.Digits.{AllBelowBase, digits_of}
@@ -11,7 +12,8 @@ use Rattle.std.proofs.lemmas.Int.Digits.{all_below_base_digits_of, digits_of_ste
 use Rattle.sql_parts.specs.Apart.{literal_tokens}
 use Rattle.sql_parts.specs.Fragments.{as_placed, is_clause_word, is_joining, is_outer, is_whole, is_word, lowers, operand, raises}
 use Rattle.sql_parts.specs.Literal.{LiteralValue, null, truth, whole, words, literal_text}
-use Rattle.sql_parts.specs.Name.{Name, alias_tokens, fits_form, is_plain, name_parts, name_text, name_tokens, safe_form, safe_text, tokens_in, word_tokens, written_in}
+use Rattle.sql_parts.specs.Name.{Name, alias_tokens, fits_form, is_plain, name_parts, name_text, name_tokens, safe_form, safe_text, tokens_in, word_tokens}
+use Rattle.sql_parts.specs.Name.{written_in}
 use Rattle.sql_parts.specs.Operands.{ServesAsOperand, has_operand_parts, is_bare_operand, is_operand_alias}
 use Rattle.sql_parts.specs.Quoting.{between}
 use Rattle.sql_parts.specs.Roles.{HasRole}
@@ -25,7 +27,8 @@ use Rattle.sql_parts.specs.declared.roles.Role.TheVariants as role
 use Rattle.sql_parts.proofs.Keywords.{answers, has-role, other-plain}
 use Rattle.sql_parts.proofs.NameTokens.{name_closed, name_is, plain-tokens, safe_fits}
 use Rattle.sql_parts.proofs.TokenLaws.{between-tokens, between_closed}
-use Rattle.sql_parts.proofs.Walks.{after, closes_from, has_outer, has_outer-is, is_at_least_0, is_balanced, is_balanced-is, is_operand, is_operand-is, is_zero, placed_from}
+use Rattle.sql_parts.proofs.Walks.{after, closes_from, has_outer, has_outer-is, is_at_least_0, is_balanced, is_balanced-is, is_operand, is_operand-is, is_zero}
+use Rattle.sql_parts.proofs.Walks.{placed_from}
 use Rattle.sql_parts.proofs.WordTokens.{decimal-glyphs, literal-closed, literal-is}
 
 -- a token that is no bracket, no `;` and no word that joins, negates or begins a clause, nor a quote or a comment without an end
@@ -79,7 +82,8 @@ inert-balanced ts some all = and_from _ _ some (and_from _ _ (inert-whole ts all
 inert-operand : (ts : List Token) → not (is_empty ts) ≡ true → AllInert ts → is_operand ts ≡ true
 inert-operand ts some all =
     and_from _ _ (inert-balanced ts some all)
-    (and_from _ _ (not_from_false _ (none-outer is_joining (pos 0) ts (inert-none is_joining (λ t inert. inert.joining) ts all))) (not_from_false _ (no_not ts all)))
+    (and_from _ _ (not_from_false _ (none-outer is_joining (pos 0) ts (inert-none is_joining (λ t inert. inert.joining) ts all)))
+    (not_from_false _ (no_not ts all)))
 
 pub serves : (text : List ℕ) (ts : List Token) → tokens text ≡ ts → not (is_empty ts) ≡ true → AllInert ts → closed text ≡ true → ServesAsOperand text
 serves text ts are some all shut = record {
@@ -95,7 +99,14 @@ serves text ts are some all shut = record {
 
 -- what no test of fragments tells from a text between quotes
 plain-inert : (t : Token) → HasRole role.Plain t → Inert t
-plain-inert t plain = record { raising = plain.raising; lowering = plain.lowering; joining = plain.joining; negating = plain.not; clause = plain.clause; whole = plain.whole }
+plain-inert t plain = record {
+  raising = plain.raising;
+  lowering = plain.lowering;
+  joining = plain.joining;
+  negating = plain.not;
+  clause = plain.clause;
+  whole = plain.whole;
+}
 
 inert : (t : Token) → answers t ≡ answers (Str []) → Inert t
 inert t same = plain-inert t (has-role role.Plain t same)
@@ -106,9 +117,10 @@ digit-inert byte text small =
     let low : to_ascii_lowercase byte ≡ byte = grind (arith, nat_tests, small) in
     plain-inert (Word (byte ∷ text))
     (other-plain byte byte (byte ∷ text) refl low
-    (λ e. omega (arith, small, e)) (λ e. omega (arith, small, e)) (λ e. omega (arith, small, e)) (λ e. omega (arith, small, e)) (λ e. omega (arith, small, e)) (λ e. omega (arith, small, e))
-    (λ e. omega (arith, small, e)) (λ e. omega (arith, small, e)) (λ e. omega (arith, small, e)) (λ e. omega (arith, small, e)) (λ e. omega (arith, small, e)) (λ e. omega (arith, small, e))
-    (λ e. omega (arith, small, e)) (λ e. omega (arith, small, e)) (λ e. omega (arith, small, e)) (λ e. omega (arith, small, e)) (λ e. omega (arith, small, e)) (λ e. omega (arith, small, e)))
+    (λ e. omega (arith, small, e)) (λ e. omega (arith, small, e)) (λ e. omega (arith, small, e)) (λ e. omega (arith, small, e)) (λ e. omega (arith, small, e))
+    (λ e. omega (arith, small, e)) (λ e. omega (arith, small, e)) (λ e. omega (arith, small, e)) (λ e. omega (arith, small, e)) (λ e. omega (arith, small, e))
+    (λ e. omega (arith, small, e)) (λ e. omega (arith, small, e)) (λ e. omega (arith, small, e)) (λ e. omega (arith, small, e)) (λ e. omega (arith, small, e))
+    (λ e. omega (arith, small, e)) (λ e. omega (arith, small, e)) (λ e. omega (arith, small, e)))
 
 -- a decimal text does
 abbrev BeginsLow : List ℕ → Type 0
@@ -127,7 +139,8 @@ decimal-low n =
     let front = digits_of 10 (suc n / 10) in
     let last = suc n % 10 in
     let digits : digits_of 10 (suc n) ≡ front ++ last ∷ [] = digits_of_step 10 (suc n) (omega arith) (omega arith) in
-    let found = glyphs-low (digits_of 10 (suc n)) (all_below_base_digits_of 10 (suc n) (omega arith)) (ap (λ ds. not (is_empty ds)) digits ∙ some-behind front last) in
+    let found = glyphs-low (digits_of 10 (suc n)) (all_below_base_digits_of 10 (suc n) (omega arith))
+    (ap (λ ds. not (is_empty ds)) digits ∙ some-behind front last) in
     (found.0, found.1, decimal-glyphs n ∙ found.2, found.3)
 
 low-inert : (text : List ℕ) → BeginsLow text → Inert (Word text)
@@ -154,7 +167,8 @@ literal-some (words text) = refl
 
 -- the text of a literal
 pub literal-serves : (literal : LiteralValue) → ServesAsOperand (literal_text literal)
-literal-serves literal = serves (literal_text literal) (literal_tokens literal) (literal-is literal) (literal-some literal) (literal-inert literal) (literal-closed literal)
+literal-serves literal = serves (literal_text literal) (literal_tokens literal) (literal-is literal) (literal-some literal) (literal-inert literal)
+    (literal-closed literal)
 
 -- a truth value as `ToText` writes it
 pub bool-serves : (value : Bool) → ServesAsOperand (bool_text value)
@@ -180,7 +194,8 @@ quoted-inert Double text = inert _ refl
 -- a text between quotes
 pub between-serves : (quotes : Quotes) (text : List ℕ) → ServesAsOperand (between quotes text)
 between-serves quotes text =
-    serves (between quotes text) (quoted_token quotes text ∷ []) (between-tokens quotes text) refl (quoted-inert quotes text, tt) (between_closed quotes text _ refl)
+    serves (between quotes text) (quoted_token quotes text ∷ []) (between-tokens quotes text) refl (quoted-inert quotes text, tt)
+    (between_closed quotes text _ refl)
 
 parts-between : (quotes : Quotes) (parts : List (List ℕ)) → AllByRecursion AllInert (map (tokens_in (Between quotes)) parts)
 parts-between quotes [] = tt
@@ -221,7 +236,8 @@ bare-inert (byte ∷ text) plain bare =
       refl,
     )
 
-parts-bare : (parts : List (List ℕ)) → list_all is_plain parts ≡ true → list_all is_bare_operand parts ≡ true → AllByRecursion AllInert (map (tokens_in Bare) parts)
+parts-bare : (parts : List (List ℕ)) → list_all is_plain parts ≡ true → list_all is_bare_operand parts ≡ true
+    → AllByRecursion AllInert (map (tokens_in Bare) parts)
 parts-bare [] plain bare = tt
 parts-bare (part ∷ parts) plain bare =
     let are = and_parts (is_plain part) (list_all is_plain parts) plain in
@@ -251,13 +267,15 @@ some-front : (a b : List Token) → not (is_empty a) ≡ true → not (is_empty 
 some-front [] b some = absurd (false≢true some)
 some-front (t ∷ a) b some = refl
 
-name-serves : (form : Form) (name : Name) → fits_form form (name_parts name) ≡ true → Parts form name → is_operand_alias name.alias ≡ true → ServesAsOperand (name_text (written_in form) name)
+name-serves : (form : Form) (name : Name) → fits_form form (name_parts name) ≡ true → Parts form name → is_operand_alias name.alias ≡ true
+    → ServesAsOperand (name_text (written_in form) name)
 name-serves form name fits parts alias =
     let first = tokens_in form name.first in
     let rest = flat_map (λ item. Symbol 46 ∷ item) (map (tokens_in form) name.rest) in
     serves (name_text (written_in form) name) (name_tokens (tokens_in form) name) (name_is form name _ refl fits)
     (some-front (first ++ rest) (alias_tokens name.alias) (some-front first rest parts.some))
-    (append-inert (first ++ rest) (alias_tokens name.alias) (append-inert first rest parts.inert_parts.0 (dotted-inert (map (tokens_in form) name.rest) parts.inert_parts.1)) (alias-inert name.alias alias))
+    (append-inert (first ++ rest) (alias_tokens name.alias)
+    (append-inert first rest parts.inert_parts.0 (dotted-inert (map (tokens_in form) name.rest) parts.inert_parts.1)) (alias-inert name.alias alias))
     (name_closed form name _ refl fits)
 
 -- a name whose parts are between quotes
@@ -274,7 +292,8 @@ bare-parts name plain bare = record {
   inert_parts = parts-bare (name_parts name) plain bare;
 }
 
-safe-parts : (plain : Bool) (name : Name) → list_all is_plain (name_parts name) ≡ plain → (not plain || list_all is_bare_operand (name_parts name)) ≡ true → Parts (if plain then Bare else Between Back) name
+safe-parts : (plain : Bool) (name : Name) → list_all is_plain (name_parts name) ≡ plain → (not plain || list_all is_bare_operand (name_parts name)) ≡ true
+    → Parts (if plain then Bare else Between Back) name
 safe-parts true name plain bare = bare-parts name plain bare
 safe-parts false name isnt bare = between-parts Back name
 

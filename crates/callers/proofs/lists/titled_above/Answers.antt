@@ -21,7 +21,8 @@ asked title price = Cond And (Compare Eq (codes "title") title) ∷ Cond And (Co
 fit : (text : List ℕ) → ServesAsOperand text → is_fit (Bare text) ≡ true
 fit text serves = and_from _ _ serves.is_balanced serves.no_clause_word
 
-texts_fit : (title price : List ℕ) → is_fit (Bare title) ≡ true → is_fit (Bare price) ≡ true → has_fit_texts (SelectFrom (codes "books")) (asked title price) Sql ≡ true
+texts_fit : (title price : List ℕ) → is_fit (Bare title) ≡ true → is_fit (Bare price) ≡ true
+    → has_fit_texts (SelectFrom (codes "books")) (asked title price) Sql ≡ true
 texts_fit title price h k = and_from _ _ (and_from _ _ (and_from _ _ h refl) (and_from _ _ (and_from _ _ k refl) refl)) refl
 
 groups_are : (title written price : List ℕ) → tokens written ≡ Str title ∷ []
@@ -34,12 +35,15 @@ returns-clause-truth c =
     let title = string_bytes c.in_ok-quote.field-0 in
     let price = decimal_text c.args.price in
     let calls : map call_view c.deref.result.now ≡ asked title price =
-    rw (c.deref.ensures.value, c.in_ok-push-2.ensures.items, c.in_ok-push.ensures.items, c.new-calls.ensures.items, c.in_ok-field.ensures.ok, c.in_ok-field-2.ensures.ok, c.in_ok-to_text.ensures.text) refl in
+    rw (c.deref.ensures.value, c.in_ok-push-2.ensures.items, c.in_ok-push.ensures.items, c.new-calls.ensures.items)
+    (rw (c.in_ok-field.ensures.ok, c.in_ok-field-2.ensures.ok, c.in_ok-to_text.ensures.text) refl) in
     let law = c.literals_are_operands.ensures in
     let quoted = fit title (subst ServesAsOperand (sym c.in_ok-quote.ensures.text) (law.quote c.args.title.now)) in
-    let fits = (λ i. has_fit_texts (SelectFrom (c.in_ok-from_str.ensures.ok i)) (calls i) Sql) ∙ texts_fit title price quoted (fit price (law.numbers (pos c.args.price))) in
+    let fits = (λ i. has_fit_texts (SelectFrom (c.in_ok-from_str.ensures.ok i)) (calls i) Sql)
+    ∙ texts_fit title price quoted (fit price (law.numbers (pos c.args.price))) in
     let start = SelectFrom (string_bytes c.in_ok-from_str.field-0) in
     let told = map call_view c.deref.result.now in
     let texts = c.fit_texts_make_fit_fragments.ensures in
-    subst (λ groups. IfOk c.run.result (λ s. HasTruthOf groups (string_bytes s))) (ap condition_groups calls ∙ groups_are c.args.title.now title price c.in_ok-quote.ensures.token)
+    subst (λ groups. IfOk c.run.result (λ s. HasTruthOf groups (string_bytes s)))
+    (ap condition_groups calls ∙ groups_are c.args.title.now title price c.in_ok-quote.ensures.token)
     (c.run.ensures.truth refl (texts.fragments start told Sql refl fits) (texts.conditions start told Sql fits))

@@ -28,7 +28,8 @@ pub returns-clause-truth : goal.returns-clause-truth
 returns-clause-truth c =
     let start = SelectFrom (codes "books") in
     let calls = Cond And (Compare Eq (codes "title") (string_bytes c.in_ok-title.title)) ∷ [] in
-    let told = and_call (Cond And (Compare Eq (codes "title") (string_bytes c.in_ok-title.title))) c.in_ok-and_where_eq.ensures.changed.1.0.0 (begun start c.in_ok-select_from.ensures.made) in
+    let told = and_call (Cond And (Compare Eq (codes "title") (string_bytes c.in_ok-title.title))) c.in_ok-and_where_eq.ensures.changed.1.0.0
+    (begun start c.in_ok-select_from.ensures.made) in
     let operand = subst ServesAsOperand (sym c.in_ok-title.ensures.text) (c.literals_are_operands.ensures.quote c.args.title.now) in
     let fits = and_from _ _ (and_from _ _ (and_from _ _ (and_from _ _ operand.is_balanced operand.no_clause_word) refl) refl) refl in
     let law = c.fit_texts_make_fit_fragments.ensures in

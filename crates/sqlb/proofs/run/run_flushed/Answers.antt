@@ -1,5 +1,5 @@
-use Rattle.std.proofs.Common.{◌≡◌, [], ap, sym, ◌∙◌}
-use Rattle.std.specs.Io.Buffered.{writer_buffer, writer_inner}
+use Rattle.std.proofs.Common.{◌≡◌, [], sym, ◌∙◌}
+use Rattle.std.specs.Io.Buffered.{writer_buffer}
 use Rattle.std.proofs.KnownBytes.{Appends-kept}
 use Rattle.sqlb.specs.Output.{output}
 use Rattle.sqlb.proofs.Flushed.{appends-lost, loses_none, ran-begins, unless_err, unless_write_fails}
