@@ -39,10 +39,13 @@ def fills(ground):
     return " ".join(f"{what} {{ fill: {pair[ground]} }}" for what, pair in FILLS.items())
 
 
+def fonts():
+    return '-apple-system, BlinkMacSystemFont, "Segoe UI", "Noto Sans", Helvetica, Arial, sans-serif'
+
+
 def style():
-    fonts = '-apple-system, BlinkMacSystemFont, "Segoe UI", "Noto Sans", Helvetica, Arial, sans-serif'
     return f"""<style>
-text {{ font: 11px {fonts} }}
+text {{ font: 11px {fonts()} }}
 .heading, .title {{ font-size: 14px; font-weight: 600 }}
 .name {{ text-anchor: end }}
 .tick {{ text-anchor: middle; font-size: 10px }}

@@ -68,6 +68,16 @@ def cells(row):
     return [it.strip().replace("\\|", "|") for it in re.split(r"(?<!\\)\|", row.strip())[1:-1]]
 
 
+def marked(text, test, wanted=True):
+    """The text with only what is in sections that are marked as run by this test, or in the others; the lines of the rest are empty.
+    A line `<!-- TEST -->` marks what follows, to the next heading of the second level."""
+    found, is_marked = [], False
+    for line in text.split("\n"):
+        is_marked = line == f"<!-- {test} -->" or is_marked and not line.startswith("## ")
+        found.append(line if is_marked == wanted else "")
+    return "\n".join(found)
+
+
 class Page:
     """The blocks and the tables of a page, in their order."""
 

@@ -1,5 +1,5 @@
 //! Tests of `sql_builder` that aren't rows. Rows of statements are lines, in `tests/rows` and `tests/conditions`, and rows of
-//! calls stand in `tests/calls.md` and `docs/CALLS.md`.
+//! calls stand in `tests/calls.md` and `tests/every_call.md`.
 #![tactic(auto)]
 
 #[cfg(test)]

@@ -79,7 +79,7 @@ pub fn quoted_texts_do_not_interfere()
 /// but for the texts of string tokens, and those of the first are closed, what is printed has the
 /// same tokens, but for the texts of string tokens. What `quote` gives and what a call that quotes
 /// adds differ so for different texts.
-/// `values(&[quote(alloc, "b), (")?])` → `VALUES ('b), (')`
+/// `.and_where_eq("a", quote("b), ("))` → `SELECT * FROM t WHERE a = 'b), (';`
 pub fn quoted_fragments_do_not_interfere()
     ensures lists { FragmentsDoNotInterfere }
     ensures builders { OutlinesDecideOutlines }
