@@ -1,5 +1,5 @@
 //! A search for a text in another one, at sixteen places together.
-ghost use Rattle.std.specs.Prelude.{◌≡◌, ◌+◌, ◌<◌, ◌≤◌, ◌++◌, ℕ, MatchOption, drop, false, if◌then◌else◌, length, nat_eq, true};
+ghost use Rattle.std.specs.Prelude.{◌≡◌, ◌≢◌, ◌+◌, ◌<◌, ◌≤◌, ◌++◌, ℕ, MatchOption, drop, false, if◌then◌else◌, length, nat_eq, slice_index, true};
 ghost use Rattle.std.specs.Int.{bit_at};
 ghost use Rattle.std.specs.List.{starts_with};
 ghost use Rattle.std.specs.Str.Pattern.{LacksTextAt};
@@ -60,6 +60,17 @@ fn next_place(bytes: &[u8], from: usize, sought: &[u8]) -> Option<usize>
         at += 1;
     }
     None
+}
+
+/// The first place of a byte.
+#[inline(always)]
+pub(crate) fn find_byte(bytes: &[u8], byte: u8) -> Option<usize>
+    ensures { MatchOption result
+        ((k : ℕ) → k < length bytes.now → slice_index bytes.now k ≢ byte)
+        (λ place. (place < length bytes.now) × (slice_index bytes.now place ≡ byte)
+        × ((k : ℕ) → k < place → slice_index bytes.now k ≢ byte)) }
+{
+    next_place(bytes, 0, &[byte])
 }
 
 // Whether the text stands at a place with its first two bytes.
