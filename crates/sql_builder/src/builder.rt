@@ -148,6 +148,10 @@ impl SqlBuilder {
         }
     }
 
+    // A part of each caller, it made more copies of a builder there.
+    #[inline(never)]
+    // As a part of each caller it copied a builder more often.
+    #[inline(never)]
     fn starting_from<S: ToText>(
         alloc: Global,
         kind: Kind,
