@@ -56,7 +56,7 @@ pub fn esc<S: ToText>(alloc: Global, text: S) -> Result<String, SqlBuilderError>
 }
 
 /// The text before the first `'` and the text after it, if there is one.
-/// `split_at_quote("it's")` → `Some((it, s))`
+/// `split_at_quote("it's").unwrap_or(("", "")).1` → `s`
 pub fn split_at_quote(text: &str) -> Option<(&str, &str)>
     ensures cut { IfSome result (λ parts. text.now ≡ parts.0.now ++ (codes "'" ++ parts.1.now)) }
     ensures doubled { MatchOption result (escaped text.now ≡ text.now)
