@@ -211,11 +211,11 @@ impl SqlBuilder {
         Ok(())
     }
 
+    // The four starts are functions of their own, since as parts of their callers they copied a builder
+    // more often.
     /// A SELECT from this table, told nothing else. It is refused only for want of memory, as is
     /// each of the four starts below.
     /// `select_from("t")` → `SELECT * FROM t;`
-    // The four starts are functions of their own, since as parts of their callers they copied a builder
-    // more often.
     #[inline(never)]
     pub fn select_from<S: ToText>(alloc: Global, table: S) -> Result<SqlBuilder, SqlBuilderError>
         ensures made { IfOk result (λ b. b ≡ started (SelectFrom (S.text table))) }
