@@ -7,7 +7,7 @@ use Rattle.std.proofs.lemmas.Grind.{flat_map-append}
 use Rattle.sql_builder.specs.Builder.{ClauseTexts}
 use Rattle.sql_builder.specs.Layout.{byte_atoms, concat_sections, fields_or_star, group_by_sections, insert_sections, optional_section, order_by_sections, query, select_opening, union_opening, union_sections, where_sections}
 use Rattle.sql_builder.specs.Phrases.{comma_list, in_brackets}
-use Rattle.sql_builder.specs.Printed.{delete_bytes, group_by_bytes, insert_bytes, inserted_bytes, join_bytes, optional_bytes, order_by_bytes, update_bytes, where_bytes}
+use Rattle.sql_builder.specs.Printed.{delete_bytes, group_by_bytes, insert_bytes, inserted_bytes, join_bytes, optional_bytes, query_end, query_start, update_bytes, where_bytes}
 use Rattle.sql_parts.specs.Text.{join_with}
 
 -- one more element of a loop over xs, of which each adds h of its value
@@ -68,10 +68,7 @@ unions_are (union ∷ unions) = ap (◌++◌ (union_opening union.0 ++ union.1))
 
 -- each statement, step by step
 module _ (r : ClauseTexts) where
-  pub query_is : query byte_atoms r
-      ≡ (select_opening r.distinct ++ fields_or_star byte_atoms r.fields) ++ ((codes " FROM " ++ r.table) ++ (join_bytes r.joins ++ (where_bytes r.groups
-      ++ (group_by_bytes r.group_fields r.having ++ (flat_map (λ union. union_opening union.0 ++ union.1) r.unions
-      ++ (order_by_bytes r.unions r.order_fields ++ (optional_bytes (codes " LIMIT ") r.limit ++ optional_bytes (codes " OFFSET ") r.offset)))))))
+  pub query_is : query byte_atoms r ≡ query_start r ++ (where_bytes r.groups ++ query_end r)
   query_is = simp (flat_map-append, append_assoc, unions_are)
 
   pub insert_is : insert_bytes r

@@ -2,7 +2,7 @@
 use Rattle.std.specs.Prelude.{ℕ, List, [], Option, None, Some, Bool, true, false, codes, if◌then◌else◌, flat_map, ◌++◌}
 use Rattle.sql_builder.specs.Builder.{ClauseTexts}
 use Rattle.sql_builder.specs.Phrases.{comma_list}
-use Rattle.sql_builder.specs.Layout.{byte_atoms, concat_sections, group_by_sections, insert_sections, optional_section, order_by_sections, statement_sections, update_sections, delete_sections, where_sections}
+use Rattle.sql_builder.specs.Layout.{byte_atoms, concat_sections, fields_or_star, group_by_sections, insert_sections, optional_section, order_by_sections, select_opening, statement_sections, union_opening, update_sections, delete_sections, where_sections}
 
 -- a text behind its words, where there is one
 abbrev pub optional_bytes : List ℕ → Option (List ℕ) → List ℕ
@@ -40,6 +40,17 @@ group_by_bytes fields having = concat_sections byte_atoms (group_by_sections byt
 -- ORDER BY
 abbrev pub order_by_bytes : List (Bool × List ℕ) → List (List ℕ) → List ℕ
 order_by_bytes unions fields = concat_sections byte_atoms (order_by_sections byte_atoms unions fields)
+
+-- what precedes the conditions of a query
+abbrev pub query_start : ClauseTexts → List ℕ
+query_start r = (select_opening r.distinct ++ fields_or_star byte_atoms r.fields) ++ ((codes " FROM " ++ r.table) ++ join_bytes r.joins)
+
+-- what follows them
+abbrev pub query_end : ClauseTexts → List ℕ
+query_end r = group_by_bytes r.group_fields r.having
+    ++ (flat_map (λ union. union_opening union.0 ++ union.1) r.unions
+    ++ (order_by_bytes r.unions r.order_fields
+    ++ (optional_bytes (codes " LIMIT ") r.limit ++ optional_bytes (codes " OFFSET ") r.offset)))
 
 -- what an INSERT inserts, its query or its rows, behind the bracket that closes its fields
 abbrev pub inserted_bytes : Option (List ℕ) → List (List ℕ) → List ℕ

@@ -211,9 +211,12 @@ impl SqlBuilder {
         Ok(())
     }
 
+    // The four starts are functions of their own, since as parts of their callers they copied a builder
+    // more often.
     /// A SELECT from this table, told nothing else. It is refused only for want of memory, as is
     /// each of the four starts below.
     /// `select_from("t")` → `SELECT * FROM t;`
+    #[inline(never)]
     pub fn select_from<S: ToText>(alloc: Global, table: S) -> Result<SqlBuilder, SqlBuilderError>
         ensures made { IfOk result (λ b. b ≡ started (SelectFrom (S.text table))) }
         ensures memory { FailsOnlyByMemory result }
@@ -237,6 +240,7 @@ impl SqlBuilder {
 
     /// An INSERT into this table, told nothing else.
     /// `insert_into("t").field("a").values([1])` → `INSERT INTO t (a) VALUES (1);`
+    #[inline(never)]
     pub fn insert_into<S: ToText>(alloc: Global, table: S) -> Result<SqlBuilder, SqlBuilderError>
         ensures made { IfOk result (λ b. b ≡ started (InsertInto (S.text table))) }
         ensures memory { FailsOnlyByMemory result }
@@ -246,6 +250,7 @@ impl SqlBuilder {
 
     /// An UPDATE of this table, told nothing else.
     /// `update_table("t").set("a", 1)` → `UPDATE t SET a = 1;`
+    #[inline(never)]
     pub fn update_table<S: ToText>(alloc: Global, table: S) -> Result<SqlBuilder, SqlBuilderError>
         ensures made { IfOk result (λ b. b ≡ started (UpdateTable (S.text table))) }
         ensures memory { FailsOnlyByMemory result }
@@ -255,6 +260,7 @@ impl SqlBuilder {
 
     /// A DELETE from this table, told nothing else.
     /// `delete_from("t")` → `DELETE FROM t;`
+    #[inline(never)]
     pub fn delete_from<S: ToText>(alloc: Global, table: S) -> Result<SqlBuilder, SqlBuilderError>
         ensures made { IfOk result (λ b. b ≡ started (DeleteFrom (S.text table))) }
         ensures memory { FailsOnlyByMemory result }

@@ -10,7 +10,7 @@ ghost use Rattle.sql_builder.specs.Concat.{HasRoom, Writes};
 ghost use Rattle.sql_builder.specs.Layout.{byte_atoms, fields_or_star, query, query_refusal, query_values, refusal, select_opening, sql, subquery, subquery_as};
 ghost use Rattle.sql_builder.specs.Meaning.{HasTruthOfGroups, Nests, ReadsBack};
 ghost use Rattle.sql_builder.specs.Phrases.{comma_list};
-ghost use Rattle.sql_builder.specs.Printed.{delete_bytes, further_bytes, further_condition, group_by_bytes, insert_bytes, inserted_bytes, join_bytes, optional_bytes, order_by_bytes, statement_bytes, update_bytes, where_bytes, where_end, where_opening};
+ghost use Rattle.sql_builder.specs.Printed.{delete_bytes, further_bytes, further_condition, group_by_bytes, insert_bytes, inserted_bytes, join_bytes, optional_bytes, order_by_bytes, query_end, query_start, statement_bytes, update_bytes, where_bytes, where_end, where_opening};
 ghost use Rattle.sql_builder.specs.Shape.{HasShape, IsClosedAs, as_fragments};
 ghost use Rattle.sql_builder.specs.Statement.{refusal_at, text_at, unless_refused};
 ghost use Rattle.sql_builder.specs.Tables.{NestsAsTable};
@@ -175,14 +175,31 @@ fn push_order_by(out: &mut String, unions: &UnionList, fields: &TextList)
 }
 
 impl SqlBuilder {
+    #[tactic(auto, using(crate::proofs::Printed::query_is))]
     fn push_query(&self, out: &mut String)
         requires room { HasRoom out.old (query byte_atoms self.now) }
         ensures { Writes out.old out.new (query byte_atoms self.now) }
     {
+        self.push_query_start(out);
+        push_where(out, &self.conditions);
+        self.push_query_end(out);
+    }
+
+    // What precedes the conditions of a query.
+    fn push_query_start(&self, out: &mut String)
+        requires room { HasRoom out.old (query_start self.now) }
+        ensures { Writes out.old out.new (query_start self.now) }
+    {
         push_select(out, self.distinct, &self.fields);
         push_behind(out, " FROM ", self.table.as_str());
         push_joins(out, &self.joins);
-        push_where(out, &self.conditions);
+    }
+
+    // What follows the conditions of a query.
+    fn push_query_end(&self, out: &mut String)
+        requires room { HasRoom out.old (query_end self.now) }
+        ensures { Writes out.old out.new (query_end self.now) }
+    {
         push_group_by(out, &self.group_fields, &self.having);
         push_text(out, self.unions.as_str());
         push_order_by(out, &self.unions, &self.order_fields);

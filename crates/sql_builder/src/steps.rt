@@ -2,6 +2,7 @@
 //! meant, and one that adds a condition. Those that borrow their texts are public in `calls`.
 ghost use Rattle.std.specs.Prelude.{◌≡◌, [], ◌∷◌, ◌++◌, map, codes, string_bytes, IfErr, OnOk, OnErr};
 ghost use Rattle.sql_parts.specs.Error.{FailsOnlyByMemory};
+ghost use Rattle.sql_parts.specs.Quoting.{escaped};
 ghost use Rattle.sql_builder.specs.Builder.{with_condition, with_condition_bytes, with_order, with_returning};
 ghost use Rattle.sql_builder.specs.Concat.{concat_bytes};
 ghost use Rattle.sql_builder.specs.Condition.{borrowed_view};
@@ -13,7 +14,7 @@ use crate::concat::{Part, append};
 use crate::condition::{BorrowedCondition, Family};
 use sql_parts::lending::Held;
 use sql_parts::text::{Items, Texts};
-use sql_parts::{SqlBuilderError, ToText, escaped};
+use sql_parts::{SqlBuilderError, ToText, escaped, split_at_quote};
 use std::mem::swap;
 
 // How many bytes are asked for at first for a join, so that one with a short constraint takes one
@@ -138,17 +139,46 @@ impl SqlBuilder {
         Ok(self.sets.push(parts)?)
     }
 
-    // A function of its own has less to clear where it is called.
+    // A text without a quote. A function of its own has less to clear where it is called, as has the next.
     #[inline(never)]
-    fn push_quoted_set<'a>(
+    fn push_plain_set<'a>(&mut self, field: &'a str, text: &'a str) -> Result<(), SqlBuilderError>
+        ensures { Tells result self.old self.new (with_set
+            (field.now ++ (codes " = '" ++ (text.now ++ codes "'")))) }
+    {
+        self.push_set(&[Part(field), Part(" = '"), Part(text), Part("'")])
+    }
+
+    // What is before the first quote of a text and, with its quotes doubled, what is after it.
+    #[inline(never)]
+    fn push_doubled_set<'a>(
         &mut self,
         field: &'a str,
-        escaped: &'a str,
+        before: &'a str,
+        after: &'a str,
     ) -> Result<(), SqlBuilderError>
-        ensures { Tells result self.old self.new (with_set
-            (field.now ++ (codes " = '" ++ (escaped.now ++ codes "'")))) }
+        ensures { Tells result self.old self.new (with_set (field.now
+            ++ (codes " = '" ++ (before.now ++ (codes "''" ++ (after.now ++ codes "'")))))) }
     {
-        self.push_set(&[Part(field), Part(" = '"), Part(escaped), Part("'")])
+        self.push_set(&[
+            Part(field),
+            Part(" = '"),
+            Part(before),
+            Part("''"),
+            Part(after),
+            Part("'"),
+        ])
+    }
+
+    #[tactic(auto, using(std::proofs::lemmas::List::append_assoc))]
+    fn push_quoted_set(&mut self, field: &str, text: &str) -> Result<(), SqlBuilderError>
+        ensures { Tells result self.old self.new (with_set
+            (field.now ++ (codes " = '" ++ (escaped text.now ++ codes "'")))) }
+    {
+        let Some((before, after)) = split_at_quote(text) else {
+            return self.push_plain_set(field, text);
+        };
+        let after = escaped(self.alloc, after)?;
+        self.push_doubled_set(field, before, after.as_str())
     }
 
     fn put_query(&mut self, query: &str) -> Result<(), SqlBuilderError>
@@ -271,10 +301,7 @@ pub fn make_binary<'a>(
             Part(second),
         ]),
         BinaryClause::SetTo => builder.push_set(&[Part(first), Part(" = "), Part(second)]),
-        BinaryClause::SetStr => {
-            let text = escaped(builder.alloc, second)?;
-            builder.push_quoted_set(first, text.as_str())
-        }
+        BinaryClause::SetStr => builder.push_quoted_set(first, second),
     }
 }
 

@@ -1,13 +1,11 @@
 -- What doubling makes of a text that is cut at its first mark, and that doubled texts are told apart.
-use Rattle.std.proofs.Common.{◌≡◌, ◌≢◌, ℕ, zero, suc, ◌+◌, ◌<◌, ◌≤◌, List, [], ◌∷◌, ◌++◌, length, get_or, take, drop, Option, Some, None, refl, subst, arith}
-use Rattle.std.specs.Borrow.{Bor}
+use Rattle.std.proofs.Common.{◌≡◌, ◌≢◌, ℕ, zero, suc, ◌+◌, ◌<◌, ◌≤◌, List, [], ◌∷◌, ◌++◌, length, get_or, take, drop, refl, subst, sym, ap, ◌∙◌, length-take, arith}
 use Rattle.std.specs.Str.{IsCharBoundary, IsUtf8}
-use Rattle.std.specs.Prelude.{MatchOption, if◌then◌else◌, ◌==◌}
+use Rattle.std.specs.Prelude.{if◌then◌else◌, ◌==◌}
 use Rattle.std.proofs.lemmas.Grind.{flat_map-append}
 use Rattle.std.proofs.lemmas.Bool.Decides.{nat_tests}
-use Rattle.std.proofs.lemmas.List.{append_cancel_right}
+use Rattle.std.proofs.lemmas.List.{append_cancel_right, drop_more, get_or-take, take-append-drop}
 use Rattle.std.proofs.lemmas.Str.{IsCharBoundary-after_ascii, IsCharBoundary-start}
-use Rattle.std.proofs.lemmas.Str.Pattern.{IsSplitOnceResult, split_parts}
 use Rattle.sql_parts.specs.Quoting.{doubled, enclosed}
 
 -- a text without the mark stays as it is
@@ -60,13 +58,18 @@ doubled-cut mark text before after cut unmarked =
     let here : doubled mark (mark ∷ after) ≡ mark ∷ mark ∷ doubled mark after = grind (arith, nat_tests) in
     rw (cut, doubled-append mark before (mark ∷ after), doubled-unmarked mark before unmarked, here) refl
 
--- a text that is split at its first mark, if it has one
-pub doubled-split : (mark : ℕ) (text : List ℕ) (parts : Option (Bor (List ℕ) × Bor (List ℕ))) → IsSplitOnceResult mark text parts → mark < 128
-    → MatchOption parts (doubled mark text ≡ text) (λ x. doubled mark text ≡ x.0.now ++ (mark ∷ mark ∷ doubled mark x.1.now))
-doubled-split mark text None split low = doubled-unmarked mark text (split_parts mark text None split low)
-doubled-split mark text (Some x) split low =
-    let cut = split_parts mark text (Some x) split low in
-    doubled-cut mark text x.0.now x.1.now cut.0 cut.1
+-- a text that is cut at a mark
+pub cut-at : (mark : ℕ) (text : List ℕ) (place : ℕ) → place < length text → get_or text place 0 ≡ mark → text ≡ take place text ++ (mark ∷ drop (place + 1) text)
+cut-at mark text place within here =
+    sym (take-append-drop place text) ∙ ap (λ l. take place text ++ l) (drop_more text place 0 within ∙ ap (λ m. m ∷ drop (place + 1) text) here)
+
+-- and at its first mark
+pub doubled-at : (mark : ℕ) (text : List ℕ) (place : ℕ) → place < length text → get_or text place 0 ≡ mark → ((i : ℕ) → i < place → get_or text i 0 ≢ mark)
+    → doubled mark text ≡ take place text ++ (mark ∷ mark ∷ doubled mark (drop (place + 1) text))
+doubled-at mark text place within here unmarked =
+    let size = length-take place text in
+    doubled-cut mark text (take place text) (drop (place + 1) text) (cut-at mark text place within here)
+    (λ i below. let before : i < place = omega (arith, size, below) in subst (λ byte. byte ≢ mark) (sym (get_or-take place text i 0 before)) (unmarked i before))
 
 -- texts that are doubled alike are the same text
 pub doubled-injective : (mark : ℕ) (one other : List ℕ) → doubled mark one ≡ doubled mark other → one ≡ other

@@ -1,6 +1,6 @@
 -- How numbers and truth values are written as texts, and how texts are joined.
-use Rattle.std.specs.Prelude.{ℕ, suc, ℤ, pos, negsuc, ◌+◌, List, [], ◌∷◌, ◌++◌, Bool, ◌==◌, if◌then◌else◌, Option, option_map, flat_map, map, codes}
-use Rattle.std.specs.Prelude.{String, string_bytes}
+use Rattle.std.specs.Prelude.{ℕ, suc, ℤ, pos, negsuc, ◌+◌, List, [], ◌∷◌, ◌++◌, Bool, ◌==◌, if◌then◌else◌, Option, Some, None, option_map, flat_map, map, codes}
+use Rattle.std.specs.Prelude.{String, Vec, string_bytes}
 use Rattle.std.specs.Int.Digits.{digits_of}
 
 -- a natural number of any size in decimal, without leading zeros
@@ -19,6 +19,11 @@ bool_text value = if value then codes "true" else codes "false"
 -- the bytes of each text
 abbrev pub texts : {Z : Type 0} → List (String Z) → List (List ℕ)
 texts strings = map (λ s. string_bytes s) strings
+
+-- the bytes of a text and of those behind it, where there is one
+abbrev pub optional_texts : {Z : Type 0} → Option (String Z × Vec (String Z) Z) → List (List ℕ)
+optional_texts None = []
+optional_texts (Some strings) = string_bytes strings.0 ∷ texts strings.1.items
 
 -- the bytes of a text, where there is one
 abbrev pub optional_text : {Z : Type 0} → Option (String Z) → Option (List ℕ)

@@ -12,7 +12,7 @@ use crate::bind_names::BindNames;
 use crate::error::SqlBuilderError;
 use crate::marks::Marks;
 use crate::places::{Place, Value, first_place, opening};
-use std::alloc::Global;
+use std::alloc::{AllocError, Global};
 use std::collections::HashMap;
 
 /// What the values of a template stand for.
@@ -164,7 +164,19 @@ pub(crate) fn lacks_arguments(template: &str, count: usize) -> bool
     count == 0 && template.contains("?")
 }
 
-// Appends the template with literals in place of its markers.
+// Appends the text before a place. Between markers that touch there is none.
+#[inline(always)]
+fn push_piece(out: &mut String, piece: &str) -> Result<(), AllocError>
+    ensures { OnOk result (string_bytes out.new ≡ string_bytes out.old ++ piece.now) }
+{
+    if !piece.is_empty() {
+        out.push_str(piece)?;
+    }
+    Ok(())
+}
+
+// Appends the template with literals in place of its markers. Each kind of place appends its piece, so
+// that what a place is need not be kept till then.
 #[inline(always)]
 fn push_bound<L: Literals>(
     alloc: Global,
@@ -183,13 +195,17 @@ fn push_bound<L: Literals>(
     let mut rest = template;
     let mut seen = 0;
     while let Some(found) = first_place(marks, opening, seen, rest) {
-        if !found.piece.is_empty() {
-            out.push_str(found.piece)?;
-        }
         match found.place {
-            Place::Opening => out.push_str(opening)?,
-            Place::Writes(text) => out.push_str(text)?,
+            Place::Opening => {
+                push_piece(out, found.piece)?;
+                out.push_str(opening)?;
+            }
+            Place::Writes(text) => {
+                push_piece(out, found.piece)?;
+                out.push_str(text)?;
+            }
             Place::Holds(value) => {
+                push_piece(out, found.piece)?;
                 literals.push_literal(alloc, &value, out)?;
                 seen += 1;
             }

@@ -31,5 +31,5 @@ pub use arg::{Literal, SqlArg};
 pub use bind::{Bind, BindNames, Marks};
 pub use error::SqlBuilderError;
 pub use name::SqlName;
-pub use quoting::{baquote, brquote, dquote, esc, escaped, push_quoted, quote};
+pub use quoting::{baquote, brquote, dquote, esc, escaped, push_quoted, quote, split_at_quote};
 pub use text::ToText;

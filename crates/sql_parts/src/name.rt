@@ -1,11 +1,11 @@
 //! Names of tables and columns, as parts with dots between them and perhaps an alias.
-ghost use Rattle.std.specs.Prelude.{◌≡◌, ◌++◌, Some, codes, flat_map, map, string_bytes, IfOk, IsTrue, OnOk};
+ghost use Rattle.std.specs.Prelude.{◌≡◌, ◌++◌, Some, codes, flat_map, map, string_bytes, IfOk, IsTrue, OnErr, OnOk};
 ghost use Rattle.std.specs.List.{list_all};
 ghost use Rattle.sql_parts.specs.Error.{FailsOnlyByMemory};
 ghost use Rattle.sql_parts.specs.Name.{alias_text, fits_form, is_plain, name_of, name_parts, name_text, name_token, name_tokens, safe_form, safe_text, safe_tokens};
 ghost use Rattle.sql_parts.specs.Name.{str_token, tokens_in, with_alias, with_part, with_told, written_in};
 ghost use Rattle.sql_parts.specs.Quoting.{baquoted, brquoted, dquoted, quoted};
-ghost use Rattle.sql_parts.specs.Text.{texts};
+ghost use Rattle.sql_parts.specs.Text.{optional_texts, texts};
 ghost use Rattle.sql_parts.specs.Tokens.{closed, tokens};
 
 use crate::error::SqlBuilderError;
@@ -22,20 +22,21 @@ use std::marker::Model;
 pub struct SqlName {
     alloc: Global,
     first: String,
-    rest: Vec<String>,
+    // The second part and those behind it, so that a name of two parts takes no list.
+    rest: Option<(String, Vec<String>)>,
     alias: Option<String>,
 }
 
 impl Model for SqlName {
     ghost use Rattle.std.specs.Prelude.{string_bytes};
     ghost use Rattle.sql_parts.specs.Name.{Name};
-    ghost use Rattle.sql_parts.specs.Text.{optional_text, texts};
+    ghost use Rattle.sql_parts.specs.Text.{optional_text, optional_texts};
 
     ghost Value = { Name };
 
     ghost view = { λ name. record {
       first = string_bytes name.first;
-      rest = texts name.rest.items;
+      rest = optional_texts name.rest;
       alias = optional_text name.alias;
     } };
 }
@@ -58,8 +59,8 @@ impl Form {
         }
     }
 
-    // The parts behind the first, each with a dot before it.
-    fn push_rest(self, out: &mut String, parts: &[String]) -> Result<(), AllocError>
+    // Parts behind the first, each with a dot before it.
+    fn push_further(self, out: &mut String, parts: &[String]) -> Result<(), AllocError>
         ensures text { OnOk result (string_bytes out.new
             ≡ string_bytes out.old ++ flat_map (λ part. codes "." ++ part) (map (written_in self) (texts parts.now))) }
     {
@@ -105,9 +106,21 @@ impl SqlName {
         Ok(SqlName {
             alloc,
             first: part.to_text(alloc)?,
-            rest: Vec::new(alloc),
+            rest: None,
             alias: None,
         })
+    }
+
+    fn push_part(&mut self, part: String) -> Result<(), SqlBuilderError>
+        ensures added { OnOk result (self.new ≡ with_part (string_bytes part) self.old) }
+        ensures unchanged { OnErr result (self.new ≡ self.old) }
+        ensures memory { FailsOnlyByMemory result }
+    {
+        match &mut self.rest {
+            Some((_, further)) => further.push(part)?,
+            None => self.rest = Some((part, Vec::new(self.alloc))),
+        }
+        Ok(())
     }
 
     fn hold<S: ToText>(&mut self, told: Told, text: S) -> Result<Held<'_, SqlName>, SqlBuilderError>
@@ -117,7 +130,7 @@ impl SqlName {
     {
         let text = text.to_text(self.alloc)?;
         match told {
-            Told::Part => self.rest.push(text)?,
+            Told::Part => self.push_part(text)?,
             Told::Alias => self.alias = Some(text),
         }
         Ok(Held(self))
@@ -145,6 +158,19 @@ impl SqlName {
         release(self.hold(Told::Alias, alias))
     }
 
+    fn copy_rest(&self) -> Result<Option<(String, Vec<String>)>, SqlBuilderError>
+        ensures equal { IfOk result (λ rest. optional_texts rest ≡ self.now.rest) }
+        ensures memory { FailsOnlyByMemory result }
+    {
+        match &self.rest {
+            Some((second, further)) => Ok(Some((
+                second.to_text(self.alloc)?,
+                copies(self.alloc, further)?,
+            ))),
+            None => Ok(None),
+        }
+    }
+
     /// A name with the same parts and the same alias. It is refused only for want of memory.
     /// `SqlName::new("a").clone().safe()` → `a`
     pub fn clone(&self) -> Result<SqlName, SqlBuilderError>
@@ -154,7 +180,7 @@ impl SqlName {
         Ok(SqlName {
             alloc: self.alloc,
             first: self.first.to_text(self.alloc)?,
-            rest: copies(self.alloc, &self.rest)?,
+            rest: self.copy_rest()?,
             alias: copy(self.alloc, &self.alias)?,
         })
     }
@@ -223,11 +249,32 @@ impl SqlName {
     fn safe_form(&self) -> Form
         ensures { result ≡ safe_form self.now }
     {
-        if is_plain(self.first.as_str()) && are_plain(&self.rest) {
+        if is_plain(self.first.as_str()) && self.is_rest_plain() {
             Form::Bare
         } else {
             Form::Between(Quotes::Back)
         }
+    }
+
+    fn is_rest_plain(&self) -> bool
+        ensures { result ≡ list_all is_plain self.now.rest }
+    {
+        match &self.rest {
+            Some((second, further)) => is_plain(second.as_str()) && are_plain(further),
+            None => true,
+        }
+    }
+
+    fn push_rest(&self, out: &mut String, form: Form) -> Result<(), AllocError>
+        ensures text { OnOk result (string_bytes out.new ≡ string_bytes out.old
+            ++ flat_map (λ part. codes "." ++ part) (map (written_in form) self.now.rest)) }
+    {
+        if let Some((second, further)) = &self.rest {
+            out.push('.')?;
+            form.push_part(out, second.as_str())?;
+            form.push_further(out, further)?;
+        }
+        Ok(())
     }
 
     fn push_in(&self, out: &mut String, form: Form) -> Result<(), AllocError>
@@ -235,7 +282,7 @@ impl SqlName {
             ≡ string_bytes out.old ++ name_text (written_in form) self.now) }
     {
         form.push_part(out, self.first.as_str())?;
-        form.push_rest(out, &self.rest)?;
+        self.push_rest(out, form)?;
         match &self.alias {
             Some(alias) => push_alias(out, alias.as_str()),
             None => Ok(()),
@@ -245,8 +292,13 @@ impl SqlName {
     // Room for the name, as long as no part has a mark to double.
     fn room(&self) -> usize {
         let mut room = self.first.len().saturating_add("``".len());
-        for part in &self.rest {
-            room = room.saturating_add(part.len()).saturating_add(".``".len());
+        if let Some((second, further)) = &self.rest {
+            room = room
+                .saturating_add(second.len())
+                .saturating_add(".``".len());
+            for part in further {
+                room = room.saturating_add(part.len()).saturating_add(".``".len());
+            }
         }
         match &self.alias {
             Some(alias) => room

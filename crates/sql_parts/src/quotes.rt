@@ -3,6 +3,7 @@ ghost use Rattle.std.specs.Prelude.{◌≡◌, ◌<◌, ◌≤◌, [], ◌∷◌
 ghost use Rattle.std.specs.Io.{StartsWith};
 ghost use Rattle.sql_parts.specs.Quoting.{closing, doubled, opening};
 
+use crate::scan::find_byte;
 use std::alloc::AllocError;
 
 /// The marks that a text is put between.
@@ -54,9 +55,11 @@ pub(crate) fn split_at_mark(text: &str, mark: char) -> Option<(&str, &str)>
     ensures doubled { MatchOption result (doubled mark text.now ≡ text.now)
         (λ parts. doubled mark text.now
         ≡ parts.0.now ++ mark ∷ mark ∷ doubled mark parts.1.now) }
+    ensures cut { IfSome result (λ parts. text.now ≡ parts.0.now ++ mark ∷ parts.1.now) }
     ensures shorter { IfSome result (λ parts. length parts.1.now < length text.now) }
 {
-    text.split_once(mark)
+    let place = find_byte(text.as_bytes(), mark as u8)?;
+    Some((&text[..place], &text[place + 1..]))
 }
 
 // The marks at the front of a text, and the text behind them.

@@ -1,5 +1,5 @@
 //! Texts between quotes.
-ghost use Rattle.std.specs.Prelude.{◌≡◌, [], ◌∷◌, ◌++◌, codes, string_bytes, IfOk, IsTrue, OnErr, OnOk};
+ghost use Rattle.std.specs.Prelude.{◌≡◌, [], ◌∷◌, ◌++◌, codes, string_bytes, IfOk, IfSome, IsTrue, MatchOption, OnErr, OnOk};
 ghost use Rattle.std.specs.Cow.{cow_str_bytes};
 ghost use Rattle.std.specs.Io.{StartsWith};
 ghost use Rattle.sql_parts.specs.Error.{FailsOnlyByMemory};
@@ -55,6 +55,16 @@ pub fn esc<S: ToText>(alloc: Global, text: S) -> Result<String, SqlBuilderError>
     Ok(out)
 }
 
+/// The text before the first `'` and the text after it, if there is one.
+/// `split_at_quote("it's").unwrap_or(("", "")).1` → `s`
+pub fn split_at_quote(text: &str) -> Option<(&str, &str)>
+    ensures cut { IfSome result (λ parts. text.now ≡ parts.0.now ++ (codes "'" ++ parts.1.now)) }
+    ensures doubled { MatchOption result (escaped text.now ≡ text.now)
+        (λ parts. escaped text.now ≡ parts.0.now ++ (codes "''" ++ escaped parts.1.now)) }
+{
+    split_at_mark(text, '\'')
+}
+
 // Room for so many marks that are doubled is taken at once.
 const SOME_MARKS: usize = 8;
 
@@ -64,7 +74,7 @@ const SOME_MARKS: usize = 8;
 pub fn escaped(alloc: Global, text: &str) -> Result<CowStr<'_>, AllocError>
     ensures { IfOk result (λ s. cow_str_bytes s ≡ escaped text.now) }
 {
-    let Some((before, after)) = split_at_mark(text, '\'') else {
+    let Some((before, after)) = split_at_quote(text) else {
         return Ok(CowStr::Borrowed(text));
     };
     let mut out = String::with_capacity(alloc, text.len().saturating_add(SOME_MARKS))?;

@@ -1,5 +1,5 @@
 //! A search for a text in another one, at sixteen places together.
-ghost use Rattle.std.specs.Prelude.{◌≡◌, ◌+◌, ◌<◌, ◌≤◌, ◌++◌, ℕ, MatchOption, drop, false, if◌then◌else◌, length, nat_eq, true};
+ghost use Rattle.std.specs.Prelude.{◌≡◌, ◌≢◌, ◌+◌, ◌<◌, ◌≤◌, ◌++◌, ℕ, IsTrue, MatchOption, drop, false, if◌then◌else◌, length, nat_eq, slice_index, true};
 ghost use Rattle.std.specs.Int.{bit_at};
 ghost use Rattle.std.specs.List.{starts_with};
 ghost use Rattle.std.specs.Str.Pattern.{LacksTextAt};
@@ -8,6 +8,8 @@ ghost use Rattle.sql_parts.specs.Scan.{gap, has_front};
 use std::simd::prelude::*;
 
 const LANES: usize = 16;
+
+const WIDE: usize = 64;
 
 // How far the second byte of a text is behind the first one, or the only one behind itself.
 fn gap(sought: &[u8]) -> usize
@@ -60,6 +62,30 @@ fn next_place(bytes: &[u8], from: usize, sought: &[u8]) -> Option<usize>
         at += 1;
     }
     None
+}
+
+// Whether a byte is not one of sixty-four. Of an answer no nothing is said.
+#[inline(always)]
+fn lacks(bytes: &[u8], at: usize, byte: u8) -> bool
+    requires { at + WIDE ≤ length bytes.now }
+    ensures { IsTrue result → (k : ℕ) → at ≤ k → k < at + WIDE → slice_index bytes.now k ≢ byte }
+{
+    let found = u8x64::from_slice(&bytes[at..]).simd_eq(u8x64::splat(byte));
+    found.to_bitmask() == 0
+}
+
+/// The first place of a byte.
+pub(crate) fn find_byte(bytes: &[u8], byte: u8) -> Option<usize>
+    ensures { MatchOption result
+        ((k : ℕ) → k < length bytes.now → slice_index bytes.now k ≢ byte)
+        (λ place. (place < length bytes.now) × (slice_index bytes.now place ≡ byte)
+        × ((k : ℕ) → k < place → slice_index bytes.now k ≢ byte)) }
+{
+    let mut at = 0;
+    while WIDE <= bytes.len() - at && lacks(bytes, at, byte) {
+        at += WIDE;
+    }
+    next_place(bytes, at, &[byte])
 }
 
 // Whether the text stands at a place with its first two bytes.

@@ -2,7 +2,7 @@ use Rattle.std.proofs.Common.{◌≡◌, ◌++◌, map, take}
 use Rattle.std.specs.Prelude.{codes, flat_map, string_bytes}
 use Rattle.sql_parts.specs.Name.{written_in}
 use Rattle.sql_parts.specs.Text.{texts}
-use Rattle.sql_parts.proofs.name.Form.push_rest.Given as goal
+use Rattle.sql_parts.proofs.name.Form.push_further.Given as goal
 
 abbrev pub invariant-loop-part : goal.invariant-loop-part
 invariant-loop-part l =
