@@ -6,7 +6,7 @@ use sql_builder::calls::{
 };
 use sql_builder::text::{Items, Texts};
 use sql_builder::{SqlBuilder, SqlBuilderError};
-use sql_parts::{escaped, push_quoted};
+use sql_parts::{escaped, push_quoted, split_at_quote};
 use std::alloc::Global;
 use std::test::Fail;
 
@@ -63,4 +63,10 @@ fn quotes_borrowed_texts(rt: HostRuntime) -> Result<(), Fail> {
     assert_eq!(rt; equation(alloc)?.as_str(), "a = 'it''s'");
     assert_eq!(rt; escaped(alloc, "it's")?.as_str(), "it''s");
     Ok(())
+}
+
+#[test]
+fn splits_a_text_at_its_first_quote(rt: HostRuntime) {
+    assert_eq!(rt; split_at_quote("it's o'k"), Some(("it", "s o'k")));
+    assert_eq!(rt; split_at_quote("its").is_none(), true);
 }

@@ -78,14 +78,15 @@ returns-in-Err-Refused-clause-ran g c =
     let unread = c.lines.invariant.ahead.0 in
     let so_far = c.lines.invariant.ahead.2 in
     let refused = rw (← command_of-line _ _ next, c.in-Err-Refused.field-0-is) at c.in-Err-Refused.ensures.answer in
-    let ahead = ap (λ l. l ++ unread) next.first in (
+    let ahead = ap (λ l. l ++ unread) next.first in
+    let behind_refused : Unit {0} = tt in (
       joined_texts so_far.texts,
       so_far.written,
       (
         rw c.in-Err-Refused.field-0-is (refused-fault _ _ _ _ _ _ so_far next.line (lines c.next_line.new.self.behind ++ unread) ahead _ refused),
         refused-written _ _ _ _ _ _ so_far next.line (lines c.next_line.new.self.behind ++ unread) ahead _ refused,
       ),
-      tt,
+      behind_refused,
     )
 
 pub returns-in-Err-Refused-clause-no_memory : goal.returns-in-Err-Refused-clause-no_memory
@@ -115,11 +116,12 @@ returns-then-is_cut-clause-ran g c =
     let none = c.next_line.ensures.none c.lines-test.false in
     let unread = rw c.if-is_cut.true at c.lines.invariant.ahead.1 in
     let ahead = ap (λ (rest : List ℕ). lines rest ++ c.lines.invariant.ahead.0) none ∙ unread.2 in
-    let refused = ap (told_answer c.lines.script) (command_of-no_text unread.0 unread.3) in (
+    let refused = ap (told_answer c.lines.script) (command_of-no_text unread.0 unread.3) in
+    let behind_cut : Unit {0} = tt in (
       joined_texts so_far.texts,
       so_far.written,
       (refused-fault _ _ _ _ _ _ so_far unread.0 unread.1 ahead NotUtf8 refused, refused-written _ _ _ _ _ _ so_far unread.0 unread.1 ahead NotUtf8 refused),
-      tt,
+      behind_cut,
     )
 
 pub returns-then-is_open-clause-ran : goal.returns-then-is_open-clause-ran
