@@ -215,7 +215,7 @@ impl SqlBuilder {
     // more often.
     /// A SELECT from this table, told nothing else. It is refused only for want of memory, as is
     /// each of the four starts below.
-    /// `select_from("t")` → `SELECT * FROM t;`
+    /// `SqlBuilder::select_from(alloc, "t")?.sql()?` → `SELECT * FROM t;`
     #[inline(never)]
     pub fn select_from<S: ToText>(alloc: Global, table: S) -> Result<SqlBuilder, SqlBuilderError>
         ensures made { IfOk result (λ b. b ≡ started (SelectFrom (S.text table))) }
@@ -225,7 +225,7 @@ impl SqlBuilder {
     }
 
     /// A SELECT of these values, without a table.
-    /// `select_values([1, 2])` → `SELECT 1, 2;`
+    /// `SqlBuilder::select_values(alloc, &[1, 2])?.sql()?` → `SELECT 1, 2;`
     pub fn select_values<S: ToText>(
         alloc: Global,
         values: &[S],
@@ -239,7 +239,8 @@ impl SqlBuilder {
     }
 
     /// An INSERT into this table, told nothing else.
-    /// `insert_into("t").field("a").values([1])` → `INSERT INTO t (a) VALUES (1);`
+    /// `SqlBuilder::insert_into(alloc, "t")?.field("a")?.values(&[1])?.sql()?` →
+    /// `INSERT INTO t (a) VALUES (1);`
     #[inline(never)]
     pub fn insert_into<S: ToText>(alloc: Global, table: S) -> Result<SqlBuilder, SqlBuilderError>
         ensures made { IfOk result (λ b. b ≡ started (InsertInto (S.text table))) }
@@ -249,7 +250,7 @@ impl SqlBuilder {
     }
 
     /// An UPDATE of this table, told nothing else.
-    /// `update_table("t").set("a", 1)` → `UPDATE t SET a = 1;`
+    /// `SqlBuilder::update_table(alloc, "t")?.set("a", 1)?.sql()?` → `UPDATE t SET a = 1;`
     #[inline(never)]
     pub fn update_table<S: ToText>(alloc: Global, table: S) -> Result<SqlBuilder, SqlBuilderError>
         ensures made { IfOk result (λ b. b ≡ started (UpdateTable (S.text table))) }
@@ -259,7 +260,7 @@ impl SqlBuilder {
     }
 
     /// A DELETE from this table, told nothing else.
-    /// `delete_from("t")` → `DELETE FROM t;`
+    /// `SqlBuilder::delete_from(alloc, "t")?.sql()?` → `DELETE FROM t;`
     #[inline(never)]
     pub fn delete_from<S: ToText>(alloc: Global, table: S) -> Result<SqlBuilder, SqlBuilderError>
         ensures made { IfOk result (λ b. b ≡ started (DeleteFrom (S.text table))) }
@@ -327,7 +328,8 @@ impl SqlBuilder {
     }
 
     /// An equal builder. It is refused only for want of memory.
-    /// `.field("a").clone().field("b")` → `SELECT a, b FROM t;`
+    /// `SqlBuilder::select_from(alloc, "t")?.field("a")?.clone()?.field("b")?.sql()?` →
+    /// `SELECT a, b FROM t;`
     pub fn clone(&self) -> Result<SqlBuilder, SqlBuilderError>
         ensures equal { IfOk result (λ b. b ≡ self.now) }
         ensures memory { FailsOnlyByMemory result }

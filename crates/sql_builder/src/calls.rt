@@ -143,7 +143,7 @@ pub enum Finish {
 }
 
 /// The builder that a start makes. It fails only if memory runs out.
-/// `begin(&Start::SelectFrom("t")).sql()` → `SELECT * FROM t;`
+/// `begin(alloc, &Start::SelectFrom(String::from_str(alloc, "t")?))?.sql()?` → `SELECT * FROM t;`
 pub fn begin(alloc: Global, start: &Start) -> Result<SqlBuilder, SqlBuilderError>
     ensures made { IfOk result (λ b. b
         ≡ map_clauses pieces_text (clauses (start_view start.now) [])) }
@@ -160,8 +160,12 @@ pub fn begin(alloc: Global, start: &Start) -> Result<SqlBuilder, SqlBuilderError
 
 /// Makes a builder that of another start, and keeps its buffers. It fails only if memory runs out, and
 /// then leaves the builder as it was.
-/// `{ let mut b = select_from("t"); b.field("a"); restart(&mut b, &Start::DeleteFrom("u")); b.sql() }` →
-/// `DELETE FROM u;`
+/// ```
+/// let mut b = SqlBuilder::select_from(alloc, "t")?;
+/// b.field("a")?;
+/// restart(&mut b, &Start::DeleteFrom(String::from_str(alloc, "u")?))?;
+/// b.sql()?; // DELETE FROM u;
+/// ```
 pub fn restart(builder: &mut SqlBuilder, start: &Start) -> Result<(), SqlBuilderError>
     ensures restarted { OnOk result (builder.new
         ≡ map_clauses pieces_text (clauses (start_view start.now) [])) }
@@ -179,8 +183,11 @@ pub fn restart(builder: &mut SqlBuilder, start: &Start) -> Result<(), SqlBuilder
 
 /// Makes a builder that of a statement on this table, and keeps its buffers. It fails only if memory
 /// runs out, and then leaves the builder as it was.
-/// `{ let mut b = select_from("t"); restart_on(&mut b, TableStart::DeleteFrom, "u"); b.sql() }` →
-/// `DELETE FROM u;`
+/// ```
+/// let mut b = SqlBuilder::select_from(alloc, "t")?;
+/// restart_on(&mut b, TableStart::DeleteFrom, "u")?;
+/// b.sql()?; // DELETE FROM u;
+/// ```
 pub fn restart_on(
     builder: &mut SqlBuilder,
     start: TableStart,
@@ -202,8 +209,11 @@ pub fn restart_on(
 
 /// Makes a builder that of a SELECT of values that are taken one after another, without a table, and
 /// keeps its buffers. It fails only if memory runs out, and then leaves the builder as it was.
-/// `{ let mut b = select_from("t"); restart_values(&mut b, Items { items: [1, 2] }); b.sql() }` →
-/// `SELECT 1, 2;`
+/// ```
+/// let mut b = SqlBuilder::select_from(alloc, "t")?;
+/// restart_values(&mut b, Items { items: &[1, 2] })?;
+/// b.sql()?; // SELECT 1, 2;
+/// ```
 pub fn restart_values<'a, T: Texts<'a>>(
     builder: &mut SqlBuilder,
     values: T,
@@ -218,8 +228,11 @@ pub fn restart_values<'a, T: Texts<'a>>(
 
 /// Makes a call of a builder. It fails only if memory runs out, and then leaves the builder as it
 /// was; `natural`, `distinct`, the six operators, and `on` and `on_eq` without a join can't fail.
-/// `{ let mut b = begin(&Start::SelectFrom("t")); make(&mut b, &Call::Field("a")); b.sql() }` →
-/// `SELECT a FROM t;`
+/// ```
+/// let mut b = begin(alloc, &Start::SelectFrom(String::from_str(alloc, "t")?))?;
+/// make(&mut b, &Call::Field(String::from_str(alloc, "a")?))?;
+/// b.sql()?; // SELECT a FROM t;
+/// ```
 pub fn make(builder: &mut SqlBuilder, call: &Call) -> Result<(), SqlBuilderError>
     ensures made { OnOk result (builder.new ≡ with_call (call_view call.now) builder.old) }
     ensures refused { OnErr result (builder.new ≡ builder.old) }
@@ -315,7 +328,8 @@ fn build(alloc: Global, start: &Start, calls: &[Call]) -> Result<SqlBuilder, Sql
 /// Prints a builder. It fails as the printing call that is meant does, or because memory runs out.
 /// What `begin` and `make` have made prints the statement of its start and calls, which is what `run`
 /// gives (`laws::builders_print_statements`); the laws of statements say the rest of it.
-/// `print(&begin(&Start::SelectFrom("t")), &Finish::Query)` → `SELECT * FROM t`
+/// `print(&begin(alloc, &Start::SelectFrom(String::from_str(alloc, "t")?))?, &Finish::Query)?` →
+/// `SELECT * FROM t`
 pub fn print(builder: &SqlBuilder, finish: &Finish) -> Result<String, SqlBuilderError>
     ensures text { IfOk result (λ s. string_bytes s
         ≡ text_at (finish_view finish.now) builder.now) }
@@ -329,7 +343,8 @@ pub fn print(builder: &SqlBuilder, finish: &Finish) -> Result<String, SqlBuilder
 
 /// How many bytes `print` gives, or the greatest `usize` where there are more; also where `print`
 /// fails.
-/// `printed_length(&begin(&Start::SelectFrom("t")), &Finish::Query)` → `15`
+/// `printed_length(&begin(alloc, &Start::SelectFrom(String::from_str(alloc, "t")?))?, &Finish::Query)` →
+/// `15`
 pub fn printed_length(builder: &SqlBuilder, finish: &Finish) -> usize
     ensures { result ≡ min (length (text_at (finish_view finish.now) builder.now)) (2 ^ 64 - 1) }
 {
@@ -338,8 +353,11 @@ pub fn printed_length(builder: &SqlBuilder, finish: &Finish) -> usize
 
 /// Appends to a text what `print` gives. It fails where `print` does, and then the text is as it was.
 /// Where the text has room for `printed_length` more bytes, memory can't run out.
-/// `{ let mut s = "-- "; print_to(&begin(&Start::SelectFrom("t")), &Finish::Query, &mut s); s }` →
-/// `-- SELECT * FROM t`
+/// ```
+/// let mut s = String::from_str(alloc, "-- ")?;
+/// print_to(&begin(alloc, &Start::SelectFrom(String::from_str(alloc, "t")?))?, &Finish::Query, &mut s)?;
+/// s; // -- SELECT * FROM t
+/// ```
 pub fn print_to(
     builder: &SqlBuilder,
     finish: &Finish,
@@ -372,7 +390,8 @@ pub fn print_to(
 /// group's conditions. Where each fragment is balanced, those behind a UNION too, what `query` and
 /// `subquery_as` print is balanced, and what `subquery` prints is an operand without an outer word
 /// that begins a clause; nor has what `subquery_as` prints one, where its name has none.
-/// `run(&Start::SelectFrom("t"), &[Call::Field("a")], &Finish::Sql)` → `SELECT a FROM t;`
+/// `run(alloc, &Start::SelectFrom(String::from_str(alloc, "t")?), &[Call::Field(String::from_str(alloc, "a")?)], &Finish::Sql)?` →
+/// `SELECT a FROM t;`
 pub fn run(
     alloc: Global,
     start: &Start,

@@ -22,7 +22,7 @@ impl SqlBuilder {
     ghost use Rattle.sql_parts.specs.Lending.{IsChangedSoThat, IsChangedTo};
 
     /// Adds a table: appends `, ` and the table to the table text, also to an empty one.
-    /// `.and_table("u")` → `SELECT * FROM t, u;`
+    /// `SqlBuilder::select_from(alloc, "t")?.and_table("u")?.sql()?` → `SELECT * FROM t, u;`
     pub fn and_table<S: ToText>(&mut self, table: S) -> Result<&mut Self, SqlBuilderError>
         ensures* refused { sem 𝓛 (IsUnchangedIfErr self.entry result) }
         ensures changed { IsChangedTo self.entry (with_table (S.text table) self.old) result }
@@ -33,7 +33,7 @@ impl SqlBuilder {
 
     /// Adds a join with this table, with the operator in force, and NATURAL where `natural` waits
     /// for it; no later join is then NATURAL by that `natural`.
-    /// `.left().join("u")` → `SELECT * FROM t LEFT JOIN u;`
+    /// `SqlBuilder::select_from(alloc, "t")?.left().join("u")?.sql()?` → `SELECT * FROM t LEFT JOIN u;`
     pub fn join<S: ToText>(&mut self, table: S) -> Result<&mut Self, SqlBuilderError>
         ensures* refused { sem 𝓛 (IsUnchangedIfErr self.entry result) }
         ensures changed { IsChangedTo self.entry (with_join (S.text table) self.old) result }
@@ -43,7 +43,8 @@ impl SqlBuilder {
     }
 
     /// Adds a constraint to the last join. Without a join it does nothing, and can't be refused.
-    /// `.join("u").on("a = b")` → `SELECT * FROM t JOIN u ON a = b;`
+    /// `SqlBuilder::select_from(alloc, "t")?.join("u")?.on("a = b")?.sql()?` →
+    /// `SELECT * FROM t JOIN u ON a = b;`
     pub fn on<S: ToText>(&mut self, constraint: S) -> Result<&mut Self, SqlBuilderError>
         ensures* refused { sem 𝓛 (IsUnchangedIfErr self.entry result) }
         ensures changed { IsChangedTo self.entry (with_on (S.text constraint) self.old) result }
@@ -54,7 +55,8 @@ impl SqlBuilder {
 
     /// Adds the constraint `left = right` to the last join. Without a join it does nothing, and
     /// can't be refused.
-    /// `.join("u").on_eq("a", "b")` → `SELECT * FROM t JOIN u ON a = b;`
+    /// `SqlBuilder::select_from(alloc, "t")?.join("u")?.on_eq("a", "b")?.sql()?` →
+    /// `SELECT * FROM t JOIN u ON a = b;`
     pub fn on_eq<S: ToText, T: ToText>(
         &mut self,
         left: S,
@@ -70,7 +72,7 @@ impl SqlBuilder {
     }
 
     /// Appends fields.
-    /// `.fields(["a", "b"])` → `SELECT a, b FROM t;`
+    /// `SqlBuilder::select_from(alloc, "t")?.fields(&["a", "b"])?.sql()?` → `SELECT a, b FROM t;`
     pub fn fields<S: ToText>(&mut self, fields: &[S]) -> Result<&mut Self, SqlBuilderError>
         ensures* refused { sem 𝓛 (IsUnchangedIfErr self.entry result) }
         ensures changed { IsChangedTo self.entry
@@ -81,7 +83,8 @@ impl SqlBuilder {
     }
 
     /// Puts these fields in the place of all others.
-    /// `.field("a").set_fields(["b", "c"])` → `SELECT b, c FROM t;`
+    /// `SqlBuilder::select_from(alloc, "t")?.field("a")?.set_fields(&["b", "c"])?.sql()?` →
+    /// `SELECT b, c FROM t;`
     pub fn set_fields<S: ToText>(&mut self, fields: &[S]) -> Result<&mut Self, SqlBuilderError>
         ensures* refused { sem 𝓛 (IsUnchangedIfErr self.entry result) }
         ensures changed { IsChangedTo self.entry
@@ -92,7 +95,7 @@ impl SqlBuilder {
     }
 
     /// Appends a field.
-    /// `.field("a")` → `SELECT a FROM t;`
+    /// `SqlBuilder::select_from(alloc, "t")?.field("a")?.sql()?` → `SELECT a FROM t;`
     pub fn field<S: ToText>(&mut self, field: S) -> Result<&mut Self, SqlBuilderError>
         ensures* refused { sem 𝓛 (IsUnchangedIfErr self.entry result) }
         ensures changed { IsChangedTo self.entry
@@ -103,7 +106,7 @@ impl SqlBuilder {
     }
 
     /// Puts this field in the place of all others.
-    /// `.field("a").set_field("b")` → `SELECT b FROM t;`
+    /// `SqlBuilder::select_from(alloc, "t")?.field("a")?.set_field("b")?.sql()?` → `SELECT b FROM t;`
     pub fn set_field<S: ToText>(&mut self, field: S) -> Result<&mut Self, SqlBuilderError>
         ensures* refused { sem 𝓛 (IsUnchangedIfErr self.entry result) }
         ensures changed { IsChangedTo self.entry
@@ -114,7 +117,7 @@ impl SqlBuilder {
     }
 
     /// Appends the field `COUNT(field)`.
-    /// `.count("a")` → `SELECT COUNT(a) FROM t;`
+    /// `SqlBuilder::select_from(alloc, "t")?.count("a")?.sql()?` → `SELECT COUNT(a) FROM t;`
     pub fn count<S: ToText>(&mut self, field: S) -> Result<&mut Self, SqlBuilderError>
         ensures* refused { sem 𝓛 (IsUnchangedIfErr self.entry result) }
         ensures changed { IsChangedTo self.entry
@@ -125,7 +128,8 @@ impl SqlBuilder {
     }
 
     /// Appends the field `COUNT(field) AS name`.
-    /// `.count_as("a", "n")` → `SELECT COUNT(a) AS n FROM t;`
+    /// `SqlBuilder::select_from(alloc, "t")?.count_as("a", "n")?.sql()?` →
+    /// `SELECT COUNT(a) AS n FROM t;`
     pub fn count_as<S: ToText, T: ToText>(
         &mut self,
         field: S,
@@ -142,7 +146,7 @@ impl SqlBuilder {
     }
 
     /// Adds `field = value` to what UPDATE sets.
-    /// `update_table("t").set("a", "a + 1")` → `UPDATE t SET a = a + 1;`
+    /// `SqlBuilder::update_table(alloc, "t")?.set("a", "a + 1")?.sql()?` → `UPDATE t SET a = a + 1;`
     pub fn set<S: ToText, T: ToText>(
         &mut self,
         field: S,
@@ -159,7 +163,8 @@ impl SqlBuilder {
 
     /// Adds `field = 'value'` to what UPDATE sets, the value between single quotes as `quote`
     /// writes it.
-    /// `update_table("t").set_str("a", "it's")` → `UPDATE t SET a = 'it''s';`
+    /// `SqlBuilder::update_table(alloc, "t")?.set_str("a", "it's")?.sql()?` →
+    /// `UPDATE t SET a = 'it''s';`
     pub fn set_str<S: ToText, T: ToText>(
         &mut self,
         field: S,
@@ -176,7 +181,8 @@ impl SqlBuilder {
     }
 
     /// Adds a row to an INSERT, the values in brackets, and drops its query.
-    /// `insert_into("t").field("a").values([1]).values([2])` → `INSERT INTO t (a) VALUES (1), (2);`
+    /// `SqlBuilder::insert_into(alloc, "t")?.field("a")?.values(&[1])?.values(&[2])?.sql()?` →
+    /// `INSERT INTO t (a) VALUES (1), (2);`
     pub fn values<S: ToText>(&mut self, values: &[S]) -> Result<&mut Self, SqlBuilderError>
         ensures* refused { sem 𝓛 (IsUnchangedIfErr self.entry result) }
         ensures changed { IsChangedTo self.entry
@@ -187,7 +193,8 @@ impl SqlBuilder {
     }
 
     /// Gives an INSERT this query, and drops all rows.
-    /// `insert_into("t").field("a").select("SELECT 1")` → `INSERT INTO t (a) SELECT 1;`
+    /// `SqlBuilder::insert_into(alloc, "t")?.field("a")?.select("SELECT 1")?.sql()?` →
+    /// `INSERT INTO t (a) SELECT 1;`
     pub fn select<S: ToText>(&mut self, query: S) -> Result<&mut Self, SqlBuilderError>
         ensures* refused { sem 𝓛 (IsUnchangedIfErr self.entry result) }
         ensures changed { IsChangedTo self.entry (with_query (S.text query) self.old) result }
@@ -198,7 +205,7 @@ impl SqlBuilder {
 
     /// What RETURNING returns, in an INSERT, an UPDATE and a DELETE; the last call of `returning` or
     /// `returning_id` counts.
-    /// `delete_from("t").returning("a")` → `DELETE FROM t RETURNING a;`
+    /// `SqlBuilder::delete_from(alloc, "t")?.returning("a")?.sql()?` → `DELETE FROM t RETURNING a;`
     pub fn returning<S: ToText>(&mut self, fields: S) -> Result<&mut Self, SqlBuilderError>
         ensures* refused { sem 𝓛 (IsUnchangedIfErr self.entry result) }
         ensures changed { IsChangedTo self.entry
@@ -210,7 +217,7 @@ impl SqlBuilder {
 
     /// RETURNING id, in an INSERT, an UPDATE and a DELETE; the last call of `returning` or
     /// `returning_id` counts.
-    /// `delete_from("t").returning_id()` → `DELETE FROM t RETURNING id;`
+    /// `SqlBuilder::delete_from(alloc, "t")?.returning_id()?.sql()?` → `DELETE FROM t RETURNING id;`
     pub fn returning_id(&mut self) -> Result<&mut Self, SqlBuilderError>
         ensures* refused { sem 𝓛 (IsUnchangedIfErr self.entry result) }
         ensures changed { IsChangedTo self.entry (with_returning (codes "id") self.old) result }
@@ -220,7 +227,7 @@ impl SqlBuilder {
     }
 
     /// Appends a field to GROUP BY.
-    /// `.group_by("a")` → `SELECT * FROM t GROUP BY a;`
+    /// `SqlBuilder::select_from(alloc, "t")?.group_by("a")?.sql()?` → `SELECT * FROM t GROUP BY a;`
     pub fn group_by<S: ToText>(&mut self, field: S) -> Result<&mut Self, SqlBuilderError>
         ensures* refused { sem 𝓛 (IsUnchangedIfErr self.entry result) }
         ensures changed { IsChangedTo self.entry
@@ -232,7 +239,8 @@ impl SqlBuilder {
 
     /// The condition of HAVING, which stands behind GROUP BY; the last call counts. A query without
     /// a GROUP BY is then refused as `NoGroupBy` when it is printed.
-    /// `.group_by("a").having("b")` → `SELECT * FROM t GROUP BY a HAVING b;`
+    /// `SqlBuilder::select_from(alloc, "t")?.group_by("a")?.having("b")?.sql()?` →
+    /// `SELECT * FROM t GROUP BY a HAVING b;`
     pub fn having<S: ToText>(&mut self, condition: S) -> Result<&mut Self, SqlBuilderError>
         ensures* refused { sem 𝓛 (IsUnchangedIfErr self.entry result) }
         ensures changed { IsChangedTo self.entry
@@ -243,7 +251,8 @@ impl SqlBuilder {
     }
 
     /// Appends UNION and the query.
-    /// `.union("SELECT 1")` → `SELECT * FROM t UNION SELECT 1;`
+    /// `SqlBuilder::select_from(alloc, "t")?.union("SELECT 1")?.sql()?` →
+    /// `SELECT * FROM t UNION SELECT 1;`
     pub fn union<S: ToText>(&mut self, query: S) -> Result<&mut Self, SqlBuilderError>
         ensures* refused { sem 𝓛 (IsUnchangedIfErr self.entry result) }
         ensures changed { IsChangedTo self.entry
@@ -254,7 +263,8 @@ impl SqlBuilder {
     }
 
     /// Appends UNION ALL and the query.
-    /// `.union_all("SELECT 1")` → `SELECT * FROM t UNION ALL SELECT 1;`
+    /// `SqlBuilder::select_from(alloc, "t")?.union_all("SELECT 1")?.sql()?` →
+    /// `SELECT * FROM t UNION ALL SELECT 1;`
     pub fn union_all<S: ToText>(&mut self, query: S) -> Result<&mut Self, SqlBuilderError>
         ensures* refused { sem 𝓛 (IsUnchangedIfErr self.entry result) }
         ensures changed { IsChangedTo self.entry
@@ -266,7 +276,8 @@ impl SqlBuilder {
 
     /// Appends a field to ORDER BY, with DESC where it is descending. ORDER BY is left out beside
     /// a union.
-    /// `.order_by("a", true)` → `SELECT * FROM t ORDER BY a DESC;`
+    /// `SqlBuilder::select_from(alloc, "t")?.order_by("a", true)?.sql()?` →
+    /// `SELECT * FROM t ORDER BY a DESC;`
     pub fn order_by<S: ToText>(
         &mut self,
         field: S,
@@ -281,7 +292,7 @@ impl SqlBuilder {
     }
 
     /// Appends a field to ORDER BY, which is left out beside a union.
-    /// `.order_asc("a")` → `SELECT * FROM t ORDER BY a;`
+    /// `SqlBuilder::select_from(alloc, "t")?.order_asc("a")?.sql()?` → `SELECT * FROM t ORDER BY a;`
     pub fn order_asc<S: ToText>(&mut self, field: S) -> Result<&mut Self, SqlBuilderError>
         ensures* refused { sem 𝓛 (IsUnchangedIfErr self.entry result) }
         ensures changed { IsChangedTo self.entry
@@ -292,7 +303,8 @@ impl SqlBuilder {
     }
 
     /// Appends a field with DESC to ORDER BY, which is left out beside a union.
-    /// `.order_desc("a")` → `SELECT * FROM t ORDER BY a DESC;`
+    /// `SqlBuilder::select_from(alloc, "t")?.order_desc("a")?.sql()?` →
+    /// `SELECT * FROM t ORDER BY a DESC;`
     pub fn order_desc<S: ToText>(&mut self, field: S) -> Result<&mut Self, SqlBuilderError>
         ensures* refused { sem 𝓛 (IsUnchangedIfErr self.entry result) }
         ensures changed { IsChangedTo self.entry
@@ -303,7 +315,7 @@ impl SqlBuilder {
     }
 
     /// The text of a query's LIMIT; the last call counts.
-    /// `.limit(3)` → `SELECT * FROM t LIMIT 3;`
+    /// `SqlBuilder::select_from(alloc, "t")?.limit(3)?.sql()?` → `SELECT * FROM t LIMIT 3;`
     pub fn limit<S: ToText>(&mut self, limit: S) -> Result<&mut Self, SqlBuilderError>
         ensures* refused { sem 𝓛 (IsUnchangedIfErr self.entry result) }
         ensures changed { IsChangedTo self.entry (with_limit (S.text limit) self.old) result }
@@ -313,7 +325,8 @@ impl SqlBuilder {
     }
 
     /// The text of a query's OFFSET; the last call counts.
-    /// `.limit(3).offset(2)` → `SELECT * FROM t LIMIT 3 OFFSET 2;`
+    /// `SqlBuilder::select_from(alloc, "t")?.limit(3)?.offset(2)?.sql()?` →
+    /// `SELECT * FROM t LIMIT 3 OFFSET 2;`
     pub fn offset<S: ToText>(&mut self, offset: S) -> Result<&mut Self, SqlBuilderError>
         ensures* refused { sem 𝓛 (IsUnchangedIfErr self.entry result) }
         ensures changed { IsChangedTo self.entry (with_offset (S.text offset) self.old) result }
@@ -328,7 +341,8 @@ impl SqlBuilder {
     ghost use Rattle.sql_builder.specs.declared.clauses.JoinOperator.TheVariants.{Left, LeftOuter, Right, RightOuter, Inner, Cross};
 
     /// The next join is NATURAL. It can't be refused, and gives the builder back.
-    /// `.natural().join("u").join("v")` → `SELECT * FROM t NATURAL JOIN u JOIN v;`
+    /// `SqlBuilder::select_from(alloc, "t")?.natural().join("u")?.join("v")?.sql()?` →
+    /// `SELECT * FROM t NATURAL JOIN u JOIN v;`
     pub fn natural(&mut self) -> &mut Self
         ensures same { result.ghost_name ≡ self.entry.ghost_name }
         ensures changed { result.now ≡ with_natural self.old }
@@ -339,7 +353,8 @@ impl SqlBuilder {
 
     /// The joins to come are LEFT joins, until another operator is chosen. It can't be
     /// refused, and gives the builder back.
-    /// `.left().join("u").join("v")` → `SELECT * FROM t LEFT JOIN u LEFT JOIN v;`
+    /// `SqlBuilder::select_from(alloc, "t")?.left().join("u")?.join("v")?.sql()?` →
+    /// `SELECT * FROM t LEFT JOIN u LEFT JOIN v;`
     pub fn left(&mut self) -> &mut Self
         ensures same { result.ghost_name ≡ self.entry.ghost_name }
         ensures changed { result.now ≡ with_operator Left self.old }
@@ -350,7 +365,8 @@ impl SqlBuilder {
 
     /// The joins to come are LEFT OUTER joins, until another operator is chosen. It can't be
     /// refused, and gives the builder back.
-    /// `.left_outer().join("u")` → `SELECT * FROM t LEFT OUTER JOIN u;`
+    /// `SqlBuilder::select_from(alloc, "t")?.left_outer().join("u")?.sql()?` →
+    /// `SELECT * FROM t LEFT OUTER JOIN u;`
     pub fn left_outer(&mut self) -> &mut Self
         ensures same { result.ghost_name ≡ self.entry.ghost_name }
         ensures changed { result.now ≡ with_operator LeftOuter self.old }
@@ -361,7 +377,8 @@ impl SqlBuilder {
 
     /// The joins to come are RIGHT joins, until another operator is chosen. It can't be
     /// refused, and gives the builder back.
-    /// `.right().join("u")` → `SELECT * FROM t RIGHT JOIN u;`
+    /// `SqlBuilder::select_from(alloc, "t")?.right().join("u")?.sql()?` →
+    /// `SELECT * FROM t RIGHT JOIN u;`
     pub fn right(&mut self) -> &mut Self
         ensures same { result.ghost_name ≡ self.entry.ghost_name }
         ensures changed { result.now ≡ with_operator Right self.old }
@@ -372,7 +389,8 @@ impl SqlBuilder {
 
     /// The joins to come are RIGHT OUTER joins, until another operator is chosen. It can't be
     /// refused, and gives the builder back.
-    /// `.right_outer().join("u")` → `SELECT * FROM t RIGHT OUTER JOIN u;`
+    /// `SqlBuilder::select_from(alloc, "t")?.right_outer().join("u")?.sql()?` →
+    /// `SELECT * FROM t RIGHT OUTER JOIN u;`
     pub fn right_outer(&mut self) -> &mut Self
         ensures same { result.ghost_name ≡ self.entry.ghost_name }
         ensures changed { result.now ≡ with_operator RightOuter self.old }
@@ -383,7 +401,8 @@ impl SqlBuilder {
 
     /// The joins to come are INNER joins, until another operator is chosen. It can't be
     /// refused, and gives the builder back.
-    /// `.inner().join("u")` → `SELECT * FROM t INNER JOIN u;`
+    /// `SqlBuilder::select_from(alloc, "t")?.inner().join("u")?.sql()?` →
+    /// `SELECT * FROM t INNER JOIN u;`
     pub fn inner(&mut self) -> &mut Self
         ensures same { result.ghost_name ≡ self.entry.ghost_name }
         ensures changed { result.now ≡ with_operator Inner self.old }
@@ -394,7 +413,8 @@ impl SqlBuilder {
 
     /// The joins to come are CROSS joins, until another operator is chosen. It can't be
     /// refused, and gives the builder back.
-    /// `.cross().join("u")` → `SELECT * FROM t CROSS JOIN u;`
+    /// `SqlBuilder::select_from(alloc, "t")?.cross().join("u")?.sql()?` →
+    /// `SELECT * FROM t CROSS JOIN u;`
     pub fn cross(&mut self) -> &mut Self
         ensures same { result.ghost_name ≡ self.entry.ghost_name }
         ensures changed { result.now ≡ with_operator Cross self.old }
@@ -404,7 +424,8 @@ impl SqlBuilder {
     }
 
     /// Selects equal rows once. It can't be refused, and gives the builder back.
-    /// `.distinct().field("a")` → `SELECT DISTINCT a FROM t;`
+    /// `SqlBuilder::select_from(alloc, "t")?.distinct().field("a")?.sql()?` →
+    /// `SELECT DISTINCT a FROM t;`
     pub fn distinct(&mut self) -> &mut Self
         ensures same { result.ghost_name ≡ self.entry.ghost_name }
         ensures changed { result.now ≡ with_distinct self.old }

@@ -24,7 +24,8 @@ pub use sql_parts::laws::{
 };
 
 /// `fields` of a list and then of another is `fields` of the two joined.
-/// `.fields(["a"]).fields(["b"])` → `SELECT a, b FROM t;`
+/// `SqlBuilder::select_from(alloc, "t")?.fields(&["a"])?.fields(&["b"])?.sql()?` →
+/// `SELECT a, b FROM t;`
 #[tactic(auto, using(crate::proofs::LaterCalls::fields_join))]
 pub fn fields_join()
     ensures joined { FieldsJoin }
@@ -32,7 +33,7 @@ pub fn fields_join()
 
 /// Of the calls of `limit`, of `offset`, of `having` and of `returning`, only the last of each
 /// counts; `returning_id` is a `returning`.
-/// `.limit(1).limit(2)` → `SELECT * FROM t LIMIT 2;`
+/// `SqlBuilder::select_from(alloc, "t")?.limit(1)?.limit(2)?.sql()?` → `SELECT * FROM t LIMIT 2;`
 #[tactic(auto, using(crate::proofs::LaterCalls::limit_counts_last, crate::proofs::LaterCalls::offset_counts_last, crate::proofs::LaterCalls::having_counts_last, crate::proofs::LaterCalls::returning_counts_last))]
 pub fn only_last_counts()
     ensures limit { OnlyLastCounts limit_in }
@@ -44,7 +45,7 @@ pub fn only_last_counts()
 /// Where the texts handed in as they stand are closed, what a condition call, `on_eq`, `set`,
 /// `set_str` or `count_as` adds has the tokens of its parts, where a text that it quotes is one
 /// token, and is closed.
-/// `update_table("t").set_str("a", "b; c")` → `UPDATE t SET a = 'b; c';`
+/// `SqlBuilder::update_table(alloc, "t")?.set_str("a", "b; c")?.sql()?` → `UPDATE t SET a = 'b; c';`
 #[tactic(auto, using(crate::proofs::ClauseShapes::condition_keeps, crate::proofs::ClauseShapes::equation_keeps, crate::proofs::ClauseShapes::quoted_equation_keeps, crate::proofs::ClauseShapes::count_as_keeps))]
 pub fn added_texts_keep_tokens()
     ensures conditions { ConditionsKeepTokens }
@@ -59,7 +60,8 @@ pub fn added_texts_keep_tokens()
 /// error, since it answers the statement of which this is said; so does a builder that these calls
 /// made. Neither the number of tokens nor that of `;`, nor the clauses that are parsed back, nor a
 /// test of fragments depends on texts that calls quote.
-/// `update_table("t").set_str("a", "x', b = 'y")` → `UPDATE t SET a = 'x'', b = ''y';`
+/// `SqlBuilder::update_table(alloc, "t")?.set_str("a", "x', b = 'y")?.sql()?` →
+/// `UPDATE t SET a = 'x'', b = ''y';`
 pub fn quoted_texts_do_not_interfere()
     ensures tokens { QuotedTextsDoNotInterfere }
     ensures places { QuotedTextsKeepTheirPlaces }
@@ -79,7 +81,8 @@ pub fn quoted_texts_do_not_interfere()
 /// but for the texts of string tokens, and those of the first are closed, what is printed has the
 /// same tokens, but for the texts of string tokens. What `quote` gives and what a call that quotes
 /// adds differ so for different texts.
-/// `.and_where_eq("a", quote("b), ("))` → `SELECT * FROM t WHERE a = 'b), (';`
+/// `SqlBuilder::select_from(alloc, "t")?.and_where_eq("a", quote(alloc, "b), (")?)?.sql()?` →
+/// `SELECT * FROM t WHERE a = 'b), (';`
 pub fn quoted_fragments_do_not_interfere()
     ensures lists { FragmentsDoNotInterfere }
     ensures builders { OutlinesDecideOutlines }
@@ -91,7 +94,7 @@ pub fn quoted_fragments_do_not_interfere()
 /// No text of a string token begins a clause: tokens that are equal but for these texts are parsed
 /// back as clauses that are equal but for these texts. So are the statements that are bound to
 /// different texts, where the values of the template stand apart.
-/// `"SELECT a FROM b WHERE c = ?".bind(&"d FROM e")` → `SELECT a FROM b WHERE c = 'd FROM e'`
+/// `"SELECT a FROM b WHERE c = ?".bind(alloc, &"d FROM e")?` → `SELECT a FROM b WHERE c = 'd FROM e'`
 pub fn string_texts_begin_no_clause()
     ensures tokens { IgnoresStrings blank_clauses }
     ensures bound { IgnoresBoundTexts clauses_but }
@@ -108,7 +111,7 @@ pub fn conditions_are_atoms()
 
 /// Where each fragment that `sql` prints is closed and has no `;` among its tokens, the tokens of
 /// the statement have one `;`, and it is the last; the same of a builder and its texts.
-/// `.field("';'")` → `SELECT ';' FROM t;`
+/// `SqlBuilder::select_from(alloc, "t")?.field("';'")?.sql()?` → `SELECT ';' FROM t;`
 #[tactic(auto, using(crate::proofs::ClauseShapes::last_semicolon, crate::proofs::ClauseShapes::builder_semicolon))]
 pub fn only_the_end_is_a_semicolon()
     ensures last { (start : StartText) (calls : List CallText) → IfOk (pieces start calls Sql)
@@ -127,7 +130,7 @@ pub fn statements_read_back()
 
 /// Where each fragment that is printed is closed, a statement has the tokens of its pieces, where a
 /// text that was quoted is one token that parses back as that text, and is closed.
-/// `update_table("t").set_str("a", "b; c")` → `UPDATE t SET a = 'b; c';`
+/// `SqlBuilder::update_table(alloc, "t")?.set_str("a", "b; c")?.sql()?` → `UPDATE t SET a = 'b; c';`
 #[tactic(auto, using(crate::proofs::StatementLaws::statements_keep_tokens, crate::proofs::StatementLaws::statements_are_closed))]
 pub fn statements_keep_tokens()
     ensures shape { StatementsKeepTokens }
@@ -137,7 +140,8 @@ pub fn statements_keep_tokens()
 /// Where its fragments before the first UNION and those of each condition are fit, the WHERE of a
 /// query, and of what `sql` prints of a SELECT from a table, an UPDATE or a DELETE, is the AND of its
 /// groups, each the OR of its conditions, in SQL's three-valued logic.
-/// `.and_where("a").or_where("b").and_where("c")` → `SELECT * FROM t WHERE (a OR b) AND (c);`
+/// `SqlBuilder::select_from(alloc, "t")?.and_where("a")?.or_where("b")?.and_where("c")?.sql()?` →
+/// `SELECT * FROM t WHERE (a OR b) AND (c);`
 #[tactic(auto, using(crate::proofs::StatementLaws::statements_have_truth))]
 pub fn statements_have_truth()
     ensures { StatementsHaveTruth }
@@ -145,7 +149,7 @@ pub fn statements_have_truth()
 
 /// Where each fragment is balanced, what `query` and `subquery_as` print is balanced, and what
 /// `subquery` prints is an operand without a top-level clause keyword.
-/// `begin(&Start::SelectFrom("t")).subquery()` → `(SELECT * FROM t)`
+/// `begin(alloc, &Start::SelectFrom(String::from_str(alloc, "t")?))?.subquery()?` → `(SELECT * FROM t)`
 #[tactic(auto, using(crate::proofs::StatementLaws::statements_nest))]
 pub fn statements_nest()
     ensures { StatementsNest }
@@ -153,7 +157,8 @@ pub fn statements_nest()
 
 /// The builder that `begin` makes of a start, and `make` of one call after another, prints the
 /// statement of that start and these calls, or fails with its error.
-/// `print(&begin(&Start::SelectFrom("t")), &Finish::Query)` → `SELECT * FROM t`
+/// `print(&begin(alloc, &Start::SelectFrom(String::from_str(alloc, "t")?))?, &Finish::Query)?` →
+/// `SELECT * FROM t`
 #[tactic(auto, using(crate::proofs::StatementLaws::builders_follow_calls, crate::proofs::StatementLaws::builders_print_statements))]
 pub fn builders_print_statements()
     ensures calls { BuildersFollowCalls }
@@ -175,7 +180,8 @@ pub fn fit_texts_make_fit_fragments()
 /// Where each text that a list of calls hands in is closed, or each is fit, so is each fragment that
 /// is printed closed. Where no text has a `;`, no fragment has one, and the statement that `sql`
 /// prints of closed fragments ends in its only `;`.
-/// `.and_where("a = ';'")` → `SELECT * FROM t WHERE a = ';';`
+/// `SqlBuilder::select_from(alloc, "t")?.and_where("a = ';'")?.sql()?` →
+/// `SELECT * FROM t WHERE a = ';';`
 #[tactic(auto, using(crate::proofs::HandedTexts::closed_texts, crate::proofs::HandedTexts::fit_texts_are_closed, crate::proofs::HandedTexts::plain_texts, crate::proofs::HandedTexts::plain_texts_end))]
 pub fn closed_texts_make_closed_fragments()
     ensures closed { ClosedTextsMakeClosedFragments }
@@ -195,7 +201,7 @@ pub fn texts_pass_call_by_call()
 
 /// `sql` of a SELECT from a table that has a name fails exactly where a list of calls has a `having`
 /// and no `group_by`, and then with `NoGroupBy`; but for memory.
-/// `.having("a > 1")` → `SqlBuilderError::NoGroupBy`
+/// `SqlBuilder::select_from(alloc, "t")?.having("a > 1")?.sql()` fails with `NoGroupBy`
 #[tactic(auto, using(crate::proofs::HandedTexts::selects_need_group_by))]
 pub fn selects_need_group_by()
     ensures { SelectsNeedGroupBy }
@@ -206,7 +212,8 @@ pub fn selects_need_group_by()
 /// BETWEEN on the left owns the AND; of a NOT the exchange, where no outer OR, AND or BETWEEN is behind
 /// it; of brackets round what is balanced and has no outer clause word that of the inside; of a
 /// WHERE of such conditions the least over its groups of the greatest over a group's conditions.
-/// `.and_where("a").or_where("b").and_where("c")` → `SELECT * FROM t WHERE (a OR b) AND (c);`
+/// `SqlBuilder::select_from(alloc, "t")?.and_where("a")?.or_where("b")?.and_where("c")?.sql()?` →
+/// `SELECT * FROM t WHERE (a OR b) AND (c);`
 #[tactic(auto, using(crate::proofs::TruthLaws::of_or, crate::proofs::TruthLaws::of_and, crate::proofs::TruthLaws::of_not, crate::proofs::TruthLaws::of_brackets, crate::proofs::TruthLaws::of_where))]
 pub fn truth_follows_the_form()
     ensures of_or { TruthOfOr }
@@ -229,7 +236,8 @@ pub fn brackets_make_operands()
 /// and false where q is true. Of `(a) OR (b)` and `NOT c AND d`, where a is false, b and d are true
 /// and c is unknown: unknown. And groups need their brackets: where a is true and c false, so is
 /// `(a OR b) AND (c)`, but `a OR b AND c` is true.
-/// `.and_where("a OR b").and_where("c")` → `SELECT * FROM t WHERE (a OR b) AND (c);`
+/// `SqlBuilder::select_from(alloc, "t")?.and_where("a OR b")?.and_where("c")?.sql()?` →
+/// `SELECT * FROM t WHERE (a OR b) AND (c);`
 #[tactic(auto, using(crate::proofs::MeaningRows::unknown_or, crate::proofs::MeaningRows::unknown_not, crate::proofs::MeaningRows::unknown_group, crate::proofs::MeaningRows::true_group, crate::proofs::MeaningRows::unknown_whole, crate::proofs::MeaningRows::false_group, crate::proofs::MeaningRows::false_whole, crate::proofs::MeaningRows::own_brackets, crate::proofs::MeaningRows::own_not, crate::proofs::MeaningRows::own_whole, crate::proofs::MeaningRows::with_brackets, crate::proofs::MeaningRows::without_brackets))]
 pub fn worked_truths()
     ensures unknown_or { IsValued (range_and_case False) (codes "p OR q") Unknown }
@@ -255,7 +263,7 @@ pub fn worked_truths()
 /// Where each fragment of a query is balanced, those behind a UNION too, what `subquery` prints of
 /// it is fit to be handed in as a table: balanced, and without an outer word that begins a clause;
 /// and so is what `subquery_as` prints, where its name has no such word.
-/// `.subquery_as("s")` → `(SELECT * FROM t) AS s`
+/// `SqlBuilder::select_from(alloc, "t")?.subquery_as("s")?` → `(SELECT * FROM t) AS s`
 #[tactic(auto, using(crate::proofs::Tables::subqueries_nest))]
 pub fn subqueries_nest_as_tables()
     ensures { SubqueriesNestAsTables }
@@ -265,7 +273,8 @@ pub fn subqueries_nest_as_tables()
 /// query's tokens read back as, and RETURNING, where its other fragments are fit, which they are
 /// where its texts are; the same of a builder. Behind an outer UNION no RETURNING is read. What
 /// `query` prints has none, where it has no union and its fragments are fit.
-/// `insert_into("t").field("a").select("SELECT b FROM c")` → `INSERT INTO t (a) SELECT b FROM c;`
+/// `SqlBuilder::insert_into(alloc, "t")?.field("a")?.select("SELECT b FROM c")?.sql()?` →
+/// `INSERT INTO t (a) SELECT b FROM c;`
 #[tactic(auto, using(crate::proofs::Inserts::inserts_read_back, crate::proofs::Inserts::builders_of_inserts_read_back, crate::proofs::Inserts::queries_are_one, crate::proofs::Inserts::builders_of_queries_are_one, crate::proofs::InsertTexts::fit_targets))]
 pub fn inserts_read_back()
     ensures statements { InsertsReadBack }

@@ -1,8 +1,6 @@
 //! A builder of SQL statements, and lists of its calls as values.
 //!
-//! Behind an arrow in a doc comment stands what a call prints. These examples leave out the
-//! allocator, `?` and the `&` of a list. One that begins with a dot is told to `select_from("t")`,
-//! and where it leaves a builder, the arrow is that of `sql`.
+//! After an arrow in a doc comment is what the code before it prints; `alloc` is the allocator.
 #![tactic(auto)]
 
 mod builder;

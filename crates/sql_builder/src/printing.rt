@@ -397,8 +397,8 @@ impl SqlBuilder {
     /// Where the builder's texts before the first UNION are balanced and, but between brackets,
     /// without an outer word that begins a clause, it reads back as the builder's clauses, and the
     /// truth of a WHERE is the least over the builder's groups.
-    /// `.sql()` → `SELECT * FROM t;`
-    /// `select_from("").sql()` is refused as `NoTableName`
+    /// `SqlBuilder::select_from(alloc, "t")?.sql()?` → `SELECT * FROM t;`
+    /// `SqlBuilder::select_from(alloc, "")?.sql()` fails with `NoTableName`
     #[tactic(auto, using(crate::proofs::Layouts::sql_shape, crate::proofs::Layouts::sql_closed, crate::proofs::ReadBack::sql_clauses, crate::proofs::ReadBack::sql_truth))]
     pub fn sql(&self) -> Result<String, SqlBuilderError>
         ensures text { IfOk result (λ s. string_bytes s ≡ sql byte_atoms self.now) }
@@ -421,8 +421,8 @@ impl SqlBuilder {
     /// and no GROUP BY, whether there is memory or not, and else only for want of memory. It reads
     /// back, and has the truth of its groups, as what `sql` prints; where the builder's texts are
     /// balanced, also behind UNION, so is the query.
-    /// `.query()` → `SELECT * FROM t`
-    /// `.having("a").query()` is refused as `NoGroupBy`
+    /// `SqlBuilder::select_from(alloc, "t")?.query()?` → `SELECT * FROM t`
+    /// `SqlBuilder::select_from(alloc, "t")?.having("a")?.query()` fails with `NoGroupBy`
     #[tactic(auto, using(crate::proofs::Layouts::query_shape, crate::proofs::Layouts::query_closed, crate::proofs::ReadBack::query_clauses, crate::proofs::ReadBack::query_truth, crate::proofs::ReadBack::query_nests))]
     pub fn query(&self) -> Result<String, SqlBuilderError>
         ensures text { IfOk result (λ s. string_bytes s ≡ query byte_atoms self.now) }
@@ -445,7 +445,7 @@ impl SqlBuilder {
 
     /// `SELECT` and the fields, nothing else, on a builder of any kind. It is refused only for want
     /// of memory. It reads back as what `sql` prints.
-    /// `select_values([1, 2]).query_values()` → `SELECT 1, 2`
+    /// `SqlBuilder::select_values(alloc, &[1, 2])?.query_values()?` → `SELECT 1, 2`
     #[tactic(auto, using(crate::proofs::Layouts::query_values_shape, crate::proofs::Layouts::query_values_closed, crate::proofs::ReadBack::query_values_clauses))]
     pub fn query_values(&self) -> Result<String, SqlBuilderError>
         ensures text { IfOk result (λ s. string_bytes s ≡ query_values byte_atoms self.now) }
@@ -463,7 +463,7 @@ impl SqlBuilder {
 
     /// The query in brackets: an operand without an outer word that begins a clause, where the
     /// builder's texts are balanced. It is refused as `query` is.
-    /// `.subquery()` → `(SELECT * FROM t)`
+    /// `SqlBuilder::select_from(alloc, "t")?.subquery()?` → `(SELECT * FROM t)`
     #[tactic(auto, using(crate::proofs::Layouts::subquery_shape, crate::proofs::Layouts::subquery_closed, crate::proofs::ReadBack::subquery_nests))]
     pub fn subquery(&self) -> Result<String, SqlBuilderError>
         ensures text { IfOk result (λ s. string_bytes s ≡ subquery byte_atoms self.now) }
@@ -483,7 +483,7 @@ impl SqlBuilder {
     /// The query in brackets, `AS` and the name: balanced, where the builder's texts and the name
     /// are, and without an outer word that begins a clause, where the name has none; so it serves
     /// as a table. It is refused as `query` is.
-    /// `.subquery_as("s")` → `(SELECT * FROM t) AS s`
+    /// `SqlBuilder::select_from(alloc, "t")?.subquery_as("s")?` → `(SELECT * FROM t) AS s`
     #[tactic(auto, using(crate::proofs::Layouts::subquery_as_shape, crate::proofs::Layouts::subquery_as_closed, crate::proofs::ReadBack::subquery_as_nests, crate::proofs::Tables::subquery_as_table))]
     pub fn subquery_as<S: ToText>(&self, name: S) -> Result<String, SqlBuilderError>
         ensures text { IfOk result (λ s. string_bytes s

@@ -244,8 +244,11 @@ impl SqlBuilder {
 
 /// Makes a call with one text. It fails only if memory runs out, and then leaves the builder as it
 /// was; `on` without a join can't fail.
-/// `{ let mut b = select_from("t"); make_unary(&mut b, UnaryClause::Field, "a"); b.sql() }` →
-/// `SELECT a FROM t;`
+/// ```
+/// let mut b = SqlBuilder::select_from(alloc, "t")?;
+/// make_unary(&mut b, UnaryClause::Field, "a")?;
+/// b.sql()?; // SELECT a FROM t;
+/// ```
 pub fn make_unary(
     builder: &mut SqlBuilder,
     clause: UnaryClause,
@@ -278,8 +281,11 @@ pub fn make_unary(
 
 /// Makes a call with two texts. It fails only if memory runs out, and then leaves the builder as it
 /// was; `on_eq` without a join can't fail.
-/// `{ let mut b = update_table("t"); make_binary(&mut b, BinaryClause::SetTo, "a", "1"); b.sql() }` →
-/// `UPDATE t SET a = 1;`
+/// ```
+/// let mut b = SqlBuilder::update_table(alloc, "t")?;
+/// make_binary(&mut b, BinaryClause::SetTo, "a", "1")?;
+/// b.sql()?; // UPDATE t SET a = 1;
+/// ```
 pub fn make_binary<'a>(
     builder: &mut SqlBuilder,
     clause: BinaryClause,
@@ -307,8 +313,11 @@ pub fn make_binary<'a>(
 
 /// Makes a call with a list of texts. It fails only if memory runs out, and then leaves the builder
 /// as it was.
-/// `{ let mut b = select_from("t"); make_variadic(&mut b, VariadicClause::Fields, Items { items: ["a", "b"] }); b.sql() }` →
-/// `SELECT a, b FROM t;`
+/// ```
+/// let mut b = SqlBuilder::select_from(alloc, "t")?;
+/// make_variadic(&mut b, VariadicClause::Fields, Items { items: &["a", "b"] })?;
+/// b.sql()?; // SELECT a, b FROM t;
+/// ```
 pub fn make_variadic<'a, T: Texts<'a>>(
     builder: &mut SqlBuilder,
     clause: VariadicClause,
@@ -338,8 +347,11 @@ pub fn make_variadic<'a, T: Texts<'a>>(
 }
 
 /// Makes a call of ORDER BY. It fails only if memory runs out, and then leaves the builder as it was.
-/// `{ let mut b = select_from("t"); make_order(&mut b, "a", true); b.sql() }` →
-/// `SELECT * FROM t ORDER BY a DESC;`
+/// ```
+/// let mut b = SqlBuilder::select_from(alloc, "t")?;
+/// make_order(&mut b, "a", true)?;
+/// b.sql()?; // SELECT * FROM t ORDER BY a DESC;
+/// ```
 pub fn make_order(
     builder: &mut SqlBuilder,
     field: &str,
@@ -355,8 +367,11 @@ pub fn make_order(
 
 /// Makes the call of this family that adds this condition. It fails only if memory runs out, and then
 /// leaves the builder as it was.
-/// `{ let mut b = select_from("t"); make_condition(&mut b, Family::And, BorrowedCondition::InList(false, "a", Items { items: ["1", "2"] })); b.sql() }` →
-/// `SELECT * FROM t WHERE a IN (1, 2);`
+/// ```
+/// let mut b = SqlBuilder::select_from(alloc, "t")?;
+/// make_condition(&mut b, Family::And, BorrowedCondition::InList(false, "a", Items { items: &["1", "2"] }))?;
+/// b.sql()?; // SELECT * FROM t WHERE a IN (1, 2);
+/// ```
 pub fn make_condition<'a, T: Texts<'a>>(
     builder: &mut SqlBuilder,
     family: Family,

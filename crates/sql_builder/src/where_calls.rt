@@ -254,7 +254,8 @@ impl SqlBuilder {
     ghost use Rattle.sql_builder.specs.declared.condition.Relation.TheVariants.{Eq, Ne, Gt, Ge, Lt, Le};
 
     /// Adds the condition as it stands, in a group of its own.
-    /// `.and_where("a").and_where("b")` → `SELECT * FROM t WHERE (a) AND (b);`
+    /// `SqlBuilder::select_from(alloc, "t")?.and_where("a")?.and_where("b")?.sql()?` →
+    /// `SELECT * FROM t WHERE (a) AND (b);`
     pub fn and_where<S: ToText>(&mut self, condition: S) -> Result<&mut Self, SqlBuilderError>
         ensures* refused { sem 𝓛 (IsUnchangedIfErr self.entry result) }
         ensures changed { IsChangedSoThat self.entry
@@ -265,7 +266,8 @@ impl SqlBuilder {
     }
 
     /// Adds `field IS NULL`, in a group of its own.
-    /// `.and_where_is_null("a")` → `SELECT * FROM t WHERE a IS NULL;`
+    /// `SqlBuilder::select_from(alloc, "t")?.and_where_is_null("a")?.sql()?` →
+    /// `SELECT * FROM t WHERE a IS NULL;`
     pub fn and_where_is_null<S: ToText>(&mut self, field: S) -> Result<&mut Self, SqlBuilderError>
         ensures* refused { sem 𝓛 (IsUnchangedIfErr self.entry result) }
         ensures changed { IsChangedSoThat self.entry
@@ -276,7 +278,8 @@ impl SqlBuilder {
     }
 
     /// Adds `field IS NOT NULL`, in a group of its own.
-    /// `.and_where_is_not_null("a")` → `SELECT * FROM t WHERE a IS NOT NULL;`
+    /// `SqlBuilder::select_from(alloc, "t")?.and_where_is_not_null("a")?.sql()?` →
+    /// `SELECT * FROM t WHERE a IS NOT NULL;`
     pub fn and_where_is_not_null<S: ToText>(
         &mut self,
         field: S,
@@ -290,7 +293,8 @@ impl SqlBuilder {
     }
 
     /// Adds `field = value`, in a group of its own.
-    /// `.and_where_eq("a", 1)` → `SELECT * FROM t WHERE a = 1;`
+    /// `SqlBuilder::select_from(alloc, "t")?.and_where_eq("a", 1)?.sql()?` →
+    /// `SELECT * FROM t WHERE a = 1;`
     pub fn and_where_eq<S: ToText, T: ToText>(
         &mut self,
         field: S,
@@ -305,7 +309,8 @@ impl SqlBuilder {
     }
 
     /// Adds `field <> value`, in a group of its own.
-    /// `.and_where_ne("a", 1)` → `SELECT * FROM t WHERE a <> 1;`
+    /// `SqlBuilder::select_from(alloc, "t")?.and_where_ne("a", 1)?.sql()?` →
+    /// `SELECT * FROM t WHERE a <> 1;`
     pub fn and_where_ne<S: ToText, T: ToText>(
         &mut self,
         field: S,
@@ -320,7 +325,8 @@ impl SqlBuilder {
     }
 
     /// Adds `field > value`, in a group of its own.
-    /// `.and_where_gt("a", 1)` → `SELECT * FROM t WHERE a > 1;`
+    /// `SqlBuilder::select_from(alloc, "t")?.and_where_gt("a", 1)?.sql()?` →
+    /// `SELECT * FROM t WHERE a > 1;`
     pub fn and_where_gt<S: ToText, T: ToText>(
         &mut self,
         field: S,
@@ -335,7 +341,8 @@ impl SqlBuilder {
     }
 
     /// Adds `field >= value`, in a group of its own.
-    /// `.and_where_ge("a", 1)` → `SELECT * FROM t WHERE a >= 1;`
+    /// `SqlBuilder::select_from(alloc, "t")?.and_where_ge("a", 1)?.sql()?` →
+    /// `SELECT * FROM t WHERE a >= 1;`
     pub fn and_where_ge<S: ToText, T: ToText>(
         &mut self,
         field: S,
@@ -350,7 +357,8 @@ impl SqlBuilder {
     }
 
     /// Adds `field < value`, in a group of its own.
-    /// `.and_where_lt("a", 1)` → `SELECT * FROM t WHERE a < 1;`
+    /// `SqlBuilder::select_from(alloc, "t")?.and_where_lt("a", 1)?.sql()?` →
+    /// `SELECT * FROM t WHERE a < 1;`
     pub fn and_where_lt<S: ToText, T: ToText>(
         &mut self,
         field: S,
@@ -365,7 +373,8 @@ impl SqlBuilder {
     }
 
     /// Adds `field <= value`, in a group of its own.
-    /// `.and_where_le("a", 1)` → `SELECT * FROM t WHERE a <= 1;`
+    /// `SqlBuilder::select_from(alloc, "t")?.and_where_le("a", 1)?.sql()?` →
+    /// `SELECT * FROM t WHERE a <= 1;`
     pub fn and_where_le<S: ToText, T: ToText>(
         &mut self,
         field: S,
@@ -380,7 +389,8 @@ impl SqlBuilder {
     }
 
     /// Adds `field LIKE` the mask, as `quote` writes it, in a group of its own.
-    /// `.and_where_like("a", "it's")` → `SELECT * FROM t WHERE a LIKE 'it''s';`
+    /// `SqlBuilder::select_from(alloc, "t")?.and_where_like("a", "it's")?.sql()?` →
+    /// `SELECT * FROM t WHERE a LIKE 'it''s';`
     pub fn and_where_like<S: ToText, T: ToText>(
         &mut self,
         field: S,
@@ -396,7 +406,8 @@ impl SqlBuilder {
 
     /// Adds `field LIKE` `%` and the mask, which `quote` writes together, in a group of its
     /// own.
-    /// `.and_where_like_right("a", "it's")` → `SELECT * FROM t WHERE a LIKE '%it''s';`
+    /// `SqlBuilder::select_from(alloc, "t")?.and_where_like_right("a", "it's")?.sql()?` →
+    /// `SELECT * FROM t WHERE a LIKE '%it''s';`
     pub fn and_where_like_right<S: ToText, T: ToText>(
         &mut self,
         field: S,
@@ -412,7 +423,8 @@ impl SqlBuilder {
 
     /// Adds `field LIKE` the mask and `%`, which `quote` writes together, in a group of its
     /// own.
-    /// `.and_where_like_left("a", "it's")` → `SELECT * FROM t WHERE a LIKE 'it''s%';`
+    /// `SqlBuilder::select_from(alloc, "t")?.and_where_like_left("a", "it's")?.sql()?` →
+    /// `SELECT * FROM t WHERE a LIKE 'it''s%';`
     pub fn and_where_like_left<S: ToText, T: ToText>(
         &mut self,
         field: S,
@@ -428,7 +440,8 @@ impl SqlBuilder {
 
     /// Adds `field LIKE` `%`, the mask and `%`, which `quote` writes together, in a group of
     /// its own.
-    /// `.and_where_like_any("a", "it's")` → `SELECT * FROM t WHERE a LIKE '%it''s%';`
+    /// `SqlBuilder::select_from(alloc, "t")?.and_where_like_any("a", "it's")?.sql()?` →
+    /// `SELECT * FROM t WHERE a LIKE '%it''s%';`
     pub fn and_where_like_any<S: ToText, T: ToText>(
         &mut self,
         field: S,
@@ -443,7 +456,8 @@ impl SqlBuilder {
     }
 
     /// Adds `field NOT LIKE` the mask, as `quote` writes it, in a group of its own.
-    /// `.and_where_not_like("a", "it's")` → `SELECT * FROM t WHERE a NOT LIKE 'it''s';`
+    /// `SqlBuilder::select_from(alloc, "t")?.and_where_not_like("a", "it's")?.sql()?` →
+    /// `SELECT * FROM t WHERE a NOT LIKE 'it''s';`
     pub fn and_where_not_like<S: ToText, T: ToText>(
         &mut self,
         field: S,
@@ -459,7 +473,8 @@ impl SqlBuilder {
 
     /// Adds `field NOT LIKE` `%` and the mask, which `quote` writes together, in a group of its
     /// own.
-    /// `.and_where_not_like_right("a", "it's")` → `SELECT * FROM t WHERE a NOT LIKE '%it''s';`
+    /// `SqlBuilder::select_from(alloc, "t")?.and_where_not_like_right("a", "it's")?.sql()?` →
+    /// `SELECT * FROM t WHERE a NOT LIKE '%it''s';`
     pub fn and_where_not_like_right<S: ToText, T: ToText>(
         &mut self,
         field: S,
@@ -475,7 +490,8 @@ impl SqlBuilder {
 
     /// Adds `field NOT LIKE` the mask and `%`, which `quote` writes together, in a group of its
     /// own.
-    /// `.and_where_not_like_left("a", "it's")` → `SELECT * FROM t WHERE a NOT LIKE 'it''s%';`
+    /// `SqlBuilder::select_from(alloc, "t")?.and_where_not_like_left("a", "it's")?.sql()?` →
+    /// `SELECT * FROM t WHERE a NOT LIKE 'it''s%';`
     pub fn and_where_not_like_left<S: ToText, T: ToText>(
         &mut self,
         field: S,
@@ -491,7 +507,8 @@ impl SqlBuilder {
 
     /// Adds `field NOT LIKE` `%`, the mask and `%`, which `quote` writes together, in a group
     /// of its own.
-    /// `.and_where_not_like_any("a", "it's")` → `SELECT * FROM t WHERE a NOT LIKE '%it''s%';`
+    /// `SqlBuilder::select_from(alloc, "t")?.and_where_not_like_any("a", "it's")?.sql()?` →
+    /// `SELECT * FROM t WHERE a NOT LIKE '%it''s%';`
     pub fn and_where_not_like_any<S: ToText, T: ToText>(
         &mut self,
         field: S,
@@ -506,7 +523,8 @@ impl SqlBuilder {
     }
 
     /// Adds `field IN (..)` of these values, in a group of its own.
-    /// `.and_where_in("a", [1, 2])` → `SELECT * FROM t WHERE a IN (1, 2);`
+    /// `SqlBuilder::select_from(alloc, "t")?.and_where_in("a", &[1, 2])?.sql()?` →
+    /// `SELECT * FROM t WHERE a IN (1, 2);`
     pub fn and_where_in<S: ToText, T: ToText>(
         &mut self,
         field: S,
@@ -522,7 +540,8 @@ impl SqlBuilder {
     }
 
     /// Adds `field IN (..)` of these values, each as `quote` writes it, in a group of its own.
-    /// `.and_where_in_quoted("a", ["b", "it's"])` → `SELECT * FROM t WHERE a IN ('b', 'it''s');`
+    /// `SqlBuilder::select_from(alloc, "t")?.and_where_in_quoted("a", &["b", "it's"])?.sql()?` →
+    /// `SELECT * FROM t WHERE a IN ('b', 'it''s');`
     pub fn and_where_in_quoted<S: ToText, T: ToText>(
         &mut self,
         field: S,
@@ -538,7 +557,8 @@ impl SqlBuilder {
     }
 
     /// Adds `field IN (query)`, in a group of its own.
-    /// `.and_where_in_query("a", "SELECT 1")` → `SELECT * FROM t WHERE a IN (SELECT 1);`
+    /// `SqlBuilder::select_from(alloc, "t")?.and_where_in_query("a", "SELECT 1")?.sql()?` →
+    /// `SELECT * FROM t WHERE a IN (SELECT 1);`
     pub fn and_where_in_query<S: ToText, T: ToText>(
         &mut self,
         field: S,
@@ -553,7 +573,8 @@ impl SqlBuilder {
     }
 
     /// Adds `field BETWEEN least AND greatest`, in a group of its own.
-    /// `.and_where_between("a", 1, 2)` → `SELECT * FROM t WHERE a BETWEEN 1 AND 2;`
+    /// `SqlBuilder::select_from(alloc, "t")?.and_where_between("a", 1, 2)?.sql()?` →
+    /// `SELECT * FROM t WHERE a BETWEEN 1 AND 2;`
     pub fn and_where_between<S: ToText, T: ToText, U: ToText>(
         &mut self,
         field: S,
@@ -570,7 +591,8 @@ impl SqlBuilder {
     }
 
     /// Adds `field NOT IN (..)` of these values, in a group of its own.
-    /// `.and_where_not_in("a", [1, 2])` → `SELECT * FROM t WHERE a NOT IN (1, 2);`
+    /// `SqlBuilder::select_from(alloc, "t")?.and_where_not_in("a", &[1, 2])?.sql()?` →
+    /// `SELECT * FROM t WHERE a NOT IN (1, 2);`
     pub fn and_where_not_in<S: ToText, T: ToText>(
         &mut self,
         field: S,
@@ -587,7 +609,7 @@ impl SqlBuilder {
 
     /// Adds `field NOT IN (..)` of these values, each as `quote` writes it, in a group of its
     /// own.
-    /// `.and_where_not_in_quoted("a", ["b", "it's"])` →
+    /// `SqlBuilder::select_from(alloc, "t")?.and_where_not_in_quoted("a", &["b", "it's"])?.sql()?` →
     /// `SELECT * FROM t WHERE a NOT IN ('b', 'it''s');`
     pub fn and_where_not_in_quoted<S: ToText, T: ToText>(
         &mut self,
@@ -604,7 +626,8 @@ impl SqlBuilder {
     }
 
     /// Adds `field NOT IN (query)`, in a group of its own.
-    /// `.and_where_not_in_query("a", "SELECT 1")` → `SELECT * FROM t WHERE a NOT IN (SELECT 1);`
+    /// `SqlBuilder::select_from(alloc, "t")?.and_where_not_in_query("a", "SELECT 1")?.sql()?` →
+    /// `SELECT * FROM t WHERE a NOT IN (SELECT 1);`
     pub fn and_where_not_in_query<S: ToText, T: ToText>(
         &mut self,
         field: S,
@@ -619,7 +642,8 @@ impl SqlBuilder {
     }
 
     /// Adds `field NOT BETWEEN least AND greatest`, in a group of its own.
-    /// `.and_where_not_between("a", 1, 2)` → `SELECT * FROM t WHERE a NOT BETWEEN 1 AND 2;`
+    /// `SqlBuilder::select_from(alloc, "t")?.and_where_not_between("a", 1, 2)?.sql()?` →
+    /// `SELECT * FROM t WHERE a NOT BETWEEN 1 AND 2;`
     pub fn and_where_not_between<S: ToText, T: ToText, U: ToText>(
         &mut self,
         field: S,
@@ -637,7 +661,8 @@ impl SqlBuilder {
 
     /// Adds the condition as it stands: joins the last group by OR, and opens one where there
     /// is none.
-    /// `.and_where("a").or_where("b")` → `SELECT * FROM t WHERE a OR b;`
+    /// `SqlBuilder::select_from(alloc, "t")?.and_where("a")?.or_where("b")?.sql()?` →
+    /// `SELECT * FROM t WHERE a OR b;`
     pub fn or_where<S: ToText>(&mut self, condition: S) -> Result<&mut Self, SqlBuilderError>
         ensures* refused { sem 𝓛 (IsUnchangedIfErr self.entry result) }
         ensures changed { IsChangedSoThat self.entry
@@ -648,7 +673,8 @@ impl SqlBuilder {
     }
 
     /// Adds `field IS NULL`: joins the last group by OR, and opens one where there is none.
-    /// `.and_where("b").or_where_is_null("a")` → `SELECT * FROM t WHERE b OR a IS NULL;`
+    /// `SqlBuilder::select_from(alloc, "t")?.and_where("b")?.or_where_is_null("a")?.sql()?` →
+    /// `SELECT * FROM t WHERE b OR a IS NULL;`
     pub fn or_where_is_null<S: ToText>(&mut self, field: S) -> Result<&mut Self, SqlBuilderError>
         ensures* refused { sem 𝓛 (IsUnchangedIfErr self.entry result) }
         ensures changed { IsChangedSoThat self.entry
@@ -659,7 +685,8 @@ impl SqlBuilder {
     }
 
     /// Adds `field IS NOT NULL`: joins the last group by OR, and opens one where there is none.
-    /// `.and_where("b").or_where_is_not_null("a")` → `SELECT * FROM t WHERE b OR a IS NOT NULL;`
+    /// `SqlBuilder::select_from(alloc, "t")?.and_where("b")?.or_where_is_not_null("a")?.sql()?` →
+    /// `SELECT * FROM t WHERE b OR a IS NOT NULL;`
     pub fn or_where_is_not_null<S: ToText>(
         &mut self,
         field: S,
@@ -673,7 +700,8 @@ impl SqlBuilder {
     }
 
     /// Adds `field = value`: joins the last group by OR, and opens one where there is none.
-    /// `.and_where("b").or_where_eq("a", 1)` → `SELECT * FROM t WHERE b OR a = 1;`
+    /// `SqlBuilder::select_from(alloc, "t")?.and_where("b")?.or_where_eq("a", 1)?.sql()?` →
+    /// `SELECT * FROM t WHERE b OR a = 1;`
     pub fn or_where_eq<S: ToText, T: ToText>(
         &mut self,
         field: S,
@@ -688,7 +716,8 @@ impl SqlBuilder {
     }
 
     /// Adds `field <> value`: joins the last group by OR, and opens one where there is none.
-    /// `.and_where("b").or_where_ne("a", 1)` → `SELECT * FROM t WHERE b OR a <> 1;`
+    /// `SqlBuilder::select_from(alloc, "t")?.and_where("b")?.or_where_ne("a", 1)?.sql()?` →
+    /// `SELECT * FROM t WHERE b OR a <> 1;`
     pub fn or_where_ne<S: ToText, T: ToText>(
         &mut self,
         field: S,
@@ -703,7 +732,8 @@ impl SqlBuilder {
     }
 
     /// Adds `field > value`: joins the last group by OR, and opens one where there is none.
-    /// `.and_where("b").or_where_gt("a", 1)` → `SELECT * FROM t WHERE b OR a > 1;`
+    /// `SqlBuilder::select_from(alloc, "t")?.and_where("b")?.or_where_gt("a", 1)?.sql()?` →
+    /// `SELECT * FROM t WHERE b OR a > 1;`
     pub fn or_where_gt<S: ToText, T: ToText>(
         &mut self,
         field: S,
@@ -718,7 +748,8 @@ impl SqlBuilder {
     }
 
     /// Adds `field >= value`: joins the last group by OR, and opens one where there is none.
-    /// `.and_where("b").or_where_ge("a", 1)` → `SELECT * FROM t WHERE b OR a >= 1;`
+    /// `SqlBuilder::select_from(alloc, "t")?.and_where("b")?.or_where_ge("a", 1)?.sql()?` →
+    /// `SELECT * FROM t WHERE b OR a >= 1;`
     pub fn or_where_ge<S: ToText, T: ToText>(
         &mut self,
         field: S,
@@ -733,7 +764,8 @@ impl SqlBuilder {
     }
 
     /// Adds `field < value`: joins the last group by OR, and opens one where there is none.
-    /// `.and_where("b").or_where_lt("a", 1)` → `SELECT * FROM t WHERE b OR a < 1;`
+    /// `SqlBuilder::select_from(alloc, "t")?.and_where("b")?.or_where_lt("a", 1)?.sql()?` →
+    /// `SELECT * FROM t WHERE b OR a < 1;`
     pub fn or_where_lt<S: ToText, T: ToText>(
         &mut self,
         field: S,
@@ -748,7 +780,8 @@ impl SqlBuilder {
     }
 
     /// Adds `field <= value`: joins the last group by OR, and opens one where there is none.
-    /// `.and_where("b").or_where_le("a", 1)` → `SELECT * FROM t WHERE b OR a <= 1;`
+    /// `SqlBuilder::select_from(alloc, "t")?.and_where("b")?.or_where_le("a", 1)?.sql()?` →
+    /// `SELECT * FROM t WHERE b OR a <= 1;`
     pub fn or_where_le<S: ToText, T: ToText>(
         &mut self,
         field: S,
@@ -764,7 +797,8 @@ impl SqlBuilder {
 
     /// Adds `field LIKE` the mask, as `quote` writes it: joins the last group by OR, and opens
     /// one where there is none.
-    /// `.and_where("b").or_where_like("a", "it's")` → `SELECT * FROM t WHERE b OR a LIKE 'it''s';`
+    /// `SqlBuilder::select_from(alloc, "t")?.and_where("b")?.or_where_like("a", "it's")?.sql()?` →
+    /// `SELECT * FROM t WHERE b OR a LIKE 'it''s';`
     pub fn or_where_like<S: ToText, T: ToText>(
         &mut self,
         field: S,
@@ -780,7 +814,7 @@ impl SqlBuilder {
 
     /// Adds `field LIKE` `%` and the mask, which `quote` writes together: joins the last group
     /// by OR, and opens one where there is none.
-    /// `.and_where("b").or_where_like_right("a", "it's")` →
+    /// `SqlBuilder::select_from(alloc, "t")?.and_where("b")?.or_where_like_right("a", "it's")?.sql()?` →
     /// `SELECT * FROM t WHERE b OR a LIKE '%it''s';`
     pub fn or_where_like_right<S: ToText, T: ToText>(
         &mut self,
@@ -797,7 +831,7 @@ impl SqlBuilder {
 
     /// Adds `field LIKE` the mask and `%`, which `quote` writes together: joins the last group
     /// by OR, and opens one where there is none.
-    /// `.and_where("b").or_where_like_left("a", "it's")` →
+    /// `SqlBuilder::select_from(alloc, "t")?.and_where("b")?.or_where_like_left("a", "it's")?.sql()?` →
     /// `SELECT * FROM t WHERE b OR a LIKE 'it''s%';`
     pub fn or_where_like_left<S: ToText, T: ToText>(
         &mut self,
@@ -814,7 +848,7 @@ impl SqlBuilder {
 
     /// Adds `field LIKE` `%`, the mask and `%`, which `quote` writes together: joins the last
     /// group by OR, and opens one where there is none.
-    /// `.and_where("b").or_where_like_any("a", "it's")` →
+    /// `SqlBuilder::select_from(alloc, "t")?.and_where("b")?.or_where_like_any("a", "it's")?.sql()?` →
     /// `SELECT * FROM t WHERE b OR a LIKE '%it''s%';`
     pub fn or_where_like_any<S: ToText, T: ToText>(
         &mut self,
@@ -831,7 +865,7 @@ impl SqlBuilder {
 
     /// Adds `field NOT LIKE` the mask, as `quote` writes it: joins the last group by OR, and
     /// opens one where there is none.
-    /// `.and_where("b").or_where_not_like("a", "it's")` →
+    /// `SqlBuilder::select_from(alloc, "t")?.and_where("b")?.or_where_not_like("a", "it's")?.sql()?` →
     /// `SELECT * FROM t WHERE b OR a NOT LIKE 'it''s';`
     pub fn or_where_not_like<S: ToText, T: ToText>(
         &mut self,
@@ -848,7 +882,7 @@ impl SqlBuilder {
 
     /// Adds `field NOT LIKE` `%` and the mask, which `quote` writes together: joins the last
     /// group by OR, and opens one where there is none.
-    /// `.and_where("b").or_where_not_like_right("a", "it's")` →
+    /// `SqlBuilder::select_from(alloc, "t")?.and_where("b")?.or_where_not_like_right("a", "it's")?.sql()?` →
     /// `SELECT * FROM t WHERE b OR a NOT LIKE '%it''s';`
     pub fn or_where_not_like_right<S: ToText, T: ToText>(
         &mut self,
@@ -865,7 +899,7 @@ impl SqlBuilder {
 
     /// Adds `field NOT LIKE` the mask and `%`, which `quote` writes together: joins the last
     /// group by OR, and opens one where there is none.
-    /// `.and_where("b").or_where_not_like_left("a", "it's")` →
+    /// `SqlBuilder::select_from(alloc, "t")?.and_where("b")?.or_where_not_like_left("a", "it's")?.sql()?` →
     /// `SELECT * FROM t WHERE b OR a NOT LIKE 'it''s%';`
     pub fn or_where_not_like_left<S: ToText, T: ToText>(
         &mut self,
@@ -882,7 +916,7 @@ impl SqlBuilder {
 
     /// Adds `field NOT LIKE` `%`, the mask and `%`, which `quote` writes together: joins the
     /// last group by OR, and opens one where there is none.
-    /// `.and_where("b").or_where_not_like_any("a", "it's")` →
+    /// `SqlBuilder::select_from(alloc, "t")?.and_where("b")?.or_where_not_like_any("a", "it's")?.sql()?` →
     /// `SELECT * FROM t WHERE b OR a NOT LIKE '%it''s%';`
     pub fn or_where_not_like_any<S: ToText, T: ToText>(
         &mut self,
@@ -899,7 +933,8 @@ impl SqlBuilder {
 
     /// Adds `field IN (..)` of these values: joins the last group by OR, and opens one where
     /// there is none.
-    /// `.and_where("b").or_where_in("a", [1, 2])` → `SELECT * FROM t WHERE b OR a IN (1, 2);`
+    /// `SqlBuilder::select_from(alloc, "t")?.and_where("b")?.or_where_in("a", &[1, 2])?.sql()?` →
+    /// `SELECT * FROM t WHERE b OR a IN (1, 2);`
     pub fn or_where_in<S: ToText, T: ToText>(
         &mut self,
         field: S,
@@ -916,7 +951,7 @@ impl SqlBuilder {
 
     /// Adds `field IN (..)` of these values, each as `quote` writes it: joins the last group by
     /// OR, and opens one where there is none.
-    /// `.and_where("b").or_where_in_quoted("a", ["b", "it's"])` →
+    /// `SqlBuilder::select_from(alloc, "t")?.and_where("b")?.or_where_in_quoted("a", &["b", "it's"])?.sql()?` →
     /// `SELECT * FROM t WHERE b OR a IN ('b', 'it''s');`
     pub fn or_where_in_quoted<S: ToText, T: ToText>(
         &mut self,
@@ -933,7 +968,7 @@ impl SqlBuilder {
     }
 
     /// Adds `field IN (query)`: joins the last group by OR, and opens one where there is none.
-    /// `.and_where("b").or_where_in_query("a", "SELECT 1")` →
+    /// `SqlBuilder::select_from(alloc, "t")?.and_where("b")?.or_where_in_query("a", "SELECT 1")?.sql()?` →
     /// `SELECT * FROM t WHERE b OR a IN (SELECT 1);`
     pub fn or_where_in_query<S: ToText, T: ToText>(
         &mut self,
@@ -950,7 +985,7 @@ impl SqlBuilder {
 
     /// Adds `field BETWEEN least AND greatest`: joins the last group by OR, and opens one where
     /// there is none.
-    /// `.and_where("b").or_where_between("a", 1, 2)` →
+    /// `SqlBuilder::select_from(alloc, "t")?.and_where("b")?.or_where_between("a", 1, 2)?.sql()?` →
     /// `SELECT * FROM t WHERE b OR a BETWEEN 1 AND 2;`
     pub fn or_where_between<S: ToText, T: ToText, U: ToText>(
         &mut self,
@@ -969,7 +1004,7 @@ impl SqlBuilder {
 
     /// Adds `field NOT IN (..)` of these values: joins the last group by OR, and opens one
     /// where there is none.
-    /// `.and_where("b").or_where_not_in("a", [1, 2])` →
+    /// `SqlBuilder::select_from(alloc, "t")?.and_where("b")?.or_where_not_in("a", &[1, 2])?.sql()?` →
     /// `SELECT * FROM t WHERE b OR a NOT IN (1, 2);`
     pub fn or_where_not_in<S: ToText, T: ToText>(
         &mut self,
@@ -987,7 +1022,7 @@ impl SqlBuilder {
 
     /// Adds `field NOT IN (..)` of these values, each as `quote` writes it: joins the last
     /// group by OR, and opens one where there is none.
-    /// `.and_where("b").or_where_not_in_quoted("a", ["b", "it's"])` →
+    /// `SqlBuilder::select_from(alloc, "t")?.and_where("b")?.or_where_not_in_quoted("a", &["b", "it's"])?.sql()?` →
     /// `SELECT * FROM t WHERE b OR a NOT IN ('b', 'it''s');`
     pub fn or_where_not_in_quoted<S: ToText, T: ToText>(
         &mut self,
@@ -1005,7 +1040,7 @@ impl SqlBuilder {
 
     /// Adds `field NOT IN (query)`: joins the last group by OR, and opens one where there is
     /// none.
-    /// `.and_where("b").or_where_not_in_query("a", "SELECT 1")` →
+    /// `SqlBuilder::select_from(alloc, "t")?.and_where("b")?.or_where_not_in_query("a", "SELECT 1")?.sql()?` →
     /// `SELECT * FROM t WHERE b OR a NOT IN (SELECT 1);`
     pub fn or_where_not_in_query<S: ToText, T: ToText>(
         &mut self,
@@ -1022,7 +1057,7 @@ impl SqlBuilder {
 
     /// Adds `field NOT BETWEEN least AND greatest`: joins the last group by OR, and opens one
     /// where there is none.
-    /// `.and_where("b").or_where_not_between("a", 1, 2)` →
+    /// `SqlBuilder::select_from(alloc, "t")?.and_where("b")?.or_where_not_between("a", 1, 2)?.sql()?` →
     /// `SELECT * FROM t WHERE b OR a NOT BETWEEN 1 AND 2;`
     pub fn or_where_not_between<S: ToText, T: ToText, U: ToText>(
         &mut self,

@@ -32,14 +32,18 @@ pub trait SqlArg: Drop {
     ghost literal: { Self → LiteralValue };
 
     /// The literal as SQL writes it. It is refused only for want of memory.
-    /// `"it's".sql_arg()` → `'it''s'`
+    /// `"it's".sql_arg(alloc)?` → `'it''s'`
     fn sql_arg(&self, alloc: Global) -> Result<String, SqlBuilderError>
         ensures literal { IfOk result (λ s. string_bytes s ≡ literal_text (literal self.now)) }
         ensures memory { FailsOnlyByMemory result };
 
     /// Appends the literal to a text. A refusal, for want of memory alone, leaves the text with
     /// what it had, and perhaps with a part of the literal behind it.
-    /// `true.push_sql_arg(text)` appends `TRUE`
+    /// ```
+    /// let mut text = String::new(alloc);
+    /// true.push_sql_arg(alloc, &mut text)?;
+    /// text; // TRUE
+    /// ```
     fn push_sql_arg(&self, alloc: Global, out: &mut String) -> Result<(), SqlBuilderError>
         ensures literal { OnOk result (string_bytes out.new
             ≡ string_bytes out.old ++ literal_text (literal self.now)) }

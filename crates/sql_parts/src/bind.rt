@@ -22,7 +22,7 @@ pub trait Bind {
 
     /// The text with the argument in place of the first `?`. It is refused only for want of
     /// memory.
-    /// `"a = ? OR ?".bind(&"it's")` → `a = 'it''s' OR ?`
+    /// `"a = ? OR ?".bind(alloc, &"it's")?` → `a = 'it''s' OR ?`
     fn bind<A: SqlArg>(&self, alloc: Global, arg: &A) -> Result<String, SqlBuilderError>
         ensures text { IfOk result (λ s. Some (string_bytes s)
             ≡ bound (template self.now) templates.First (alone (A.literal arg.now))) }
@@ -35,8 +35,9 @@ pub trait Bind {
     /// The text with the arguments in place of each `?` in turn, the first again after the last.
     /// A text with a `?` and no argument is refused as `NoArguments`, whether there is memory or
     /// not. It is else refused only for want of memory.
-    /// `"? ? ?".binds([1, "b"])` → `1 'b' 1`
-    /// `"?".binds([])` is refused as `NoArguments`
+    /// `"? ? ?".binds(alloc, &[Box::new(alloc, 1)?, Box::new(alloc, String::from_str(alloc, "b")?)?])?` →
+    /// `1 'b' 1`
+    /// `"?".binds(alloc, &[])` fails with `NoArguments`
     fn binds(&self, alloc: Global, args: &[Box<dyn SqlArg>]) -> Result<String, SqlBuilderError>
         ensures text { IfOk result (λ s. Some (string_bytes s)
             ≡ bound (template self.now) (templates.Cycle (length args.now))
@@ -53,7 +54,7 @@ pub trait Bind {
 
     /// The text with the argument in place of each `$` and the number that no ASCII digit
     /// follows. It is refused only for want of memory.
-    /// `"$1 $12".bind_num(1, &7)` → `7 $12`
+    /// `"$1 $12".bind_num(alloc, 1, &7)?` → `7 $12`
     fn bind_num<A: SqlArg>(
         &self,
         alloc: Global,
@@ -71,7 +72,8 @@ pub trait Bind {
     /// The text with the arguments in place of `$1`, `$2` and so on. `$$` gives `$`, also with
     /// zeros between, and a number without an argument, or a `$` without a number, gives nothing.
     /// It is refused only for want of memory.
-    /// `"$2 $1 $$".bind_nums([1, "b"])` → `'b' 1 $`
+    /// `"$2 $1 $$".bind_nums(alloc, &[Box::new(alloc, 1)?, Box::new(alloc, String::from_str(alloc, "b")?)?])?` →
+    /// `'b' 1 $`
     fn bind_nums(&self, alloc: Global, args: &[Box<dyn SqlArg>]) -> Result<String, SqlBuilderError>
         ensures text { IfOk result (λ s. Some (string_bytes s)
             ≡ bound (template self.now) (templates.Nums (length args.now))
@@ -85,7 +87,7 @@ pub trait Bind {
 
     /// The text with the argument in place of each `:name:`, from the left and without overlap; the
     /// name may be empty. It is refused only for want of memory.
-    /// `":a: :b:".bind_name(&"a", &1)` → `1 :b:`
+    /// `":a: :b:".bind_name(alloc, &"a", &1)?` → `1 :b:`
     fn bind_name<K: ToText, A: SqlArg>(
         &self,
         alloc: Global,
@@ -104,7 +106,8 @@ pub trait Bind {
     /// The text with what the names are bound to in place of each `:name:`, and NULL where a name
     /// is bound to nothing. `::` gives `:`, and a `:` that no other one closes stays, with all
     /// behind it. It is refused only for want of memory.
-    /// `":a: :b: ::".bind_names([("a", 1)])` → `1 NULL :`
+    /// `":a: :b: ::".bind_names(alloc, &{ let mut names: Vec<(&str, Box<dyn SqlArg>)> = Vec::new(alloc); names.push(("a", Box::new(alloc, 1)?))?; names })?` →
+    /// `1 NULL :`
     fn bind_names<N: BindNames>(&self, alloc: Global, names: &N) -> Result<String, SqlBuilderError>
         ensures text { IfOk result (λ s. Some (string_bytes s)
             ≡ bound (template self.now) templates.Names (looked_up (N.literals names.now))) }

@@ -21,7 +21,8 @@ pub trait BindNames {
     ghost are_places: { Self → List (Bor (List ℕ) × ℕ) → Type 0 } = { λ _ _. ⊤ };
 
     /// The literal of the name as SQL writes it, or none. It is refused only for want of memory.
-    /// `[("a", 1)].look_up("a")` → `Some(1)`
+    /// `{ let mut names: Vec<(&str, Box<dyn SqlArg>)> = Vec::new(alloc); names.push(("a", Box::new(alloc, 1)?))?; names }.look_up(alloc, "a")?` →
+    /// `Some(1)`
     fn look_up(&self, alloc: Global, name: &str) -> Result<Option<String>, SqlBuilderError>
         ensures literal { IfOk result (λ text. option_map string_bytes text
             ≡ option_map literal_text (literals self.now name.now)) }
@@ -29,7 +30,8 @@ pub trait BindNames {
 
     /// The places of the names in a list, by which `push_named` finds them in a longer text; none
     /// where the names are found as fast without. It is refused only for want of memory.
-    /// `[("a", 1)].places().len()` → `0`
+    /// `{ let mut names: Vec<(&str, Box<dyn SqlArg>)> = Vec::new(alloc); names.push(("a", Box::new(alloc, 1)?))?; names }.places(alloc)?.len()` →
+    /// `0`
     fn places(&self, alloc: Global) -> Result<HashMap<&str, usize>, SqlBuilderError>
         ensures places { IfOk result (λ places. 0 < length places.entries
             → are_places self.now places.entries) }
@@ -40,7 +42,11 @@ pub trait BindNames {
 
     /// Appends the literal of the name, or NULL where it has none. The places are those that
     /// `places` gave, or none. It is refused only for want of memory.
-    /// `[("a", 1)].push_named(&[("a", 1)].places(), "a", text)` appends `1`
+    /// ```
+    /// let mut text = String::new(alloc);
+    /// { let mut names: Vec<(&str, Box<dyn SqlArg>)> = Vec::new(alloc); names.push(("a", Box::new(alloc, 1)?))?; names }.push_named(alloc, &{ let mut names: Vec<(&str, Box<dyn SqlArg>)> = Vec::new(alloc); names.push(("a", Box::new(alloc, 1)?))?; names }.places(alloc)?, "a", &mut text)?;
+    /// text; // 1
+    /// ```
     fn push_named(
         &self,
         alloc: Global,

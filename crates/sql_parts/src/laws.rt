@@ -16,7 +16,7 @@ ghost use Rattle.sql_parts.specs.Tokens.{clean, closed, is_semicolon, tokens};
 
 /// Two texts whose quoted texts are equal are equal, in each of the five forms of quoting.
 /// It does nothing when it runs.
-/// `quote("a'")` → `'a'''`
+/// `quote(alloc, "a'")?` → `'a'''`
 pub fn quoting_is_injective()
     ensures esc { WritesApart escaped }
     ensures quote { WritesApart quoted }
@@ -27,7 +27,7 @@ pub fn quoting_is_injective()
 
 /// A text in which each `$` stands twice is given back by `bind_nums`, and one in which each `:`
 /// stands twice by `bind_names`, whatever is bound. It does nothing when it runs.
-/// `"$$1 $$".bind_nums([7])` → `$1 $`
+/// `"$$1 $$".bind_nums(alloc, &[Box::new(alloc, 7)?])?` → `$1 $`
 pub fn doubling_is_undone()
     ensures bind_nums { (count : ℕ) → UndoesDoubling dollar (Nums count) }
     ensures bind_names { UndoesDoubling colon Names }
@@ -35,7 +35,7 @@ pub fn doubling_is_undone()
 
 /// A text without a `?` is given back by `bind`, and by `binds` of any number of arguments, none
 /// too. It does nothing when it runs.
-/// `"a = 1".bind(&7)` → `a = 1`
+/// `"a = 1".bind(alloc, &7)?` → `a = 1`
 pub fn unmarked_is_unchanged()
     ensures bind { LeavesWithout question_mark First }
     ensures binds { (count : ℕ) → LeavesWithout question_mark (Cycle count) }
@@ -70,7 +70,7 @@ pub fn string_texts_decide_nothing()
 /// the literals bound to it are of the same kinds in the same places, the bound texts have the same
 /// tokens, but for the texts of the string tokens at these places. So neither the number of `;` nor
 /// a test of fragments depends on texts that are bound. It does nothing when it runs.
-/// `"a = ?".bind(&"x' OR 1=1; --")` → `a = 'x'' OR 1=1; --'`
+/// `"a = ?".bind(alloc, &"x' OR 1=1; --")?` → `a = 'x'' OR 1=1; --'`
 pub fn bound_texts_do_not_interfere()
     ensures tokens { BoundTextsDoNotInterfere }
     ensures places { BoundTextsKeepTheirPlaces }
@@ -87,7 +87,7 @@ pub fn bound_texts_do_not_interfere()
 
 /// Where the values of a template stand apart, texts in place of other texts leave the number of
 /// tokens of the bound text as it is. It does nothing when it runs.
-/// `"a = ?".bind(&"b; c")` → `a = 'b; c'`
+/// `"a = ?".bind(alloc, &"b; c")?` → `a = 'b; c'`
 pub fn bound_texts_keep_the_count()
     ensures count { (template : List ℕ) (marks : Marks) (one other : Value → LiteralValue)
         → IsTrue (apart template marks) → DifferInTexts one other
@@ -97,7 +97,7 @@ pub fn bound_texts_keep_the_count()
 /// The text of each literal is an operand, balanced and closed, and has no outer word that begins
 /// a clause; so is that of each number and truth value as `ToText` writes it, and so is what
 /// `quote` gives. It does nothing when it runs.
-/// `quote("a OR b")` → `'a OR b'`
+/// `quote(alloc, "a OR b")?` → `'a OR b'`
 pub fn literals_are_operands()
     ensures literals { (literal : LiteralValue) → ServesAsOperand (literal_text literal) }
     ensures numbers { (number : ℤ) → ServesAsOperand (number_text number) }
@@ -109,7 +109,7 @@ pub fn literals_are_operands()
 /// in each form that writes its parts between quotes, or bare where each is such an operand itself:
 /// with an alias, where that is between quotes or is such an operand too. It does nothing when
 /// it runs.
-/// `SqlName::new("a").add("b c").safe()` → `` `a`.`b c` ``
+/// `SqlName::new(alloc, "a")?.add("b c")?.safe()?` → `` `a`.`b c` ``
 pub fn quoted_names_are_operands()
     ensures baquote { (text : List ℕ) → ServesAsOperand (baquoted text) }
     ensures brquote { (text : List ℕ) → ServesAsOperand (brquoted text) }
@@ -136,7 +136,7 @@ pub fn literals_without_backslashes_read_alike()
 /// A mask of LIKE that `escape_like` makes of a text matches that text alone; with `%` behind, what
 /// begins with the text; with `%` in front, what ends with it; with `%` on both sides, what contains
 /// it. Letters are compared as they are. It does nothing when it runs.
-/// `escape_like("50%", LikeEscape::Exclamation)` → `50!%`
+/// `escape_like(alloc, "50%", LikeEscape::Exclamation)?` → `50!%`
 pub fn escaped_masks_match_their_text()
     ensures exact { MasksMatch (λ mask. mask) (λ other text. other ≡ text) }
     ensures begins { MasksMatch (λ mask. mask ++ codes "%") (λ other text. IsTrue (starts_with nat_eq other text)) }

@@ -10,7 +10,7 @@ use crate::error::SqlBuilderError;
 pub struct Held<'a, T>(pub &'a mut T);
 
 /// The loan that a step holds, or how the step was refused.
-/// `release(Ok(Held(&mut 1)))` → `1`
+/// `release(Ok(Held(&mut 1)))?` → `1`
 pub fn release<T>(held: Result<Held<'_, T>, SqlBuilderError>) -> Result<&mut T, SqlBuilderError>
     ensures { result ≡ result_map_both (λ held. held.0) (λ error. error) held.entry }
 {

@@ -116,7 +116,7 @@ pub fn has_clause_word(text: &str) -> bool
 /// an OR, AND or NOT is the last or stands right before one that closes, or a BETWEEN has no AND of
 /// its own level behind it. It fails only if memory runs out, and not where no token raises the
 /// level.
-/// `has_dangling("a AND")` → `true`
+/// `has_dangling(alloc, "a AND")?` → `true`
 pub fn has_dangling(alloc: Global, text: &str) -> Result<bool, SqlBuilderError>
     ensures dangling { IfOk result (λ b. b ≡ dangling text.now) }
     ensures memory { IfErr result (RefusesLevels text.now) }
@@ -137,8 +137,8 @@ pub fn has_dangling(alloc: Global, text: &str) -> Result<bool, SqlBuilderError>
 /// Whether the values that these marks bind stand apart in a template: no `?` lacks an argument,
 /// each piece of it is closed, and nothing but a separator or an end of the text touches a value.
 /// A text that is bound there can't leave its literal. It is refused only for want of memory.
-/// `stands_apart("a = ?", &Marks::First)` → `true`
-/// `stands_apart("a = '?'", &Marks::First)` → `false`
+/// `stands_apart(alloc, "a = ?", &Marks::First)?` → `true`
+/// `stands_apart(alloc, "a = '?'", &Marks::First)?` → `false`
 pub fn stands_apart(
     alloc: Global,
     template: &str,

@@ -1,8 +1,7 @@
 //! The parts of SQL statements: texts, quoted texts, literals, names, binding, and the error that
 //! all calls share.
 //!
-//! Behind an arrow in a doc comment stands what a call prints. These examples leave out the
-//! allocator, `?`, boxes and the `&` of a list.
+//! After an arrow in a doc comment is what the code before it prints; `alloc` is the allocator.
 #![tactic(auto)]
 
 mod apart;

@@ -98,7 +98,7 @@ impl SqlName {
     ghost use Rattle.sql_parts.specs.Lending.{IsChangedTo, IsHeldChangedTo};
 
     /// A name of one part, without an alias. It is refused only for want of memory.
-    /// `SqlName::new("a").safe()` → `a`
+    /// `SqlName::new(alloc, "a")?.safe()?` → `a`
     pub fn new<S: ToText>(alloc: Global, part: S) -> Result<SqlName, SqlBuilderError>
         ensures name { IfOk result (λ name. name ≡ name_of (S.text part)) }
         ensures memory { FailsOnlyByMemory result }
@@ -138,7 +138,7 @@ impl SqlName {
 
     /// Adds a part behind the others. It is refused only for want of memory, and then the name
     /// is as it was.
-    /// `SqlName::new("a").add("b").safe()` → `a.b`
+    /// `SqlName::new(alloc, "a")?.add("b")?.safe()?` → `a.b`
     pub fn add<S: ToText>(&mut self, part: S) -> Result<&mut Self, SqlBuilderError>
         ensures* refused { sem 𝓛 (IsUnchangedIfErr self.entry result) }
         ensures changed { IsChangedTo self.entry (with_part (S.text part) self.old) result }
@@ -149,7 +149,7 @@ impl SqlName {
 
     /// Sets the alias, in place of any other. It is refused only for want of memory, and then
     /// the name is as it was.
-    /// `SqlName::new("a").alias("b").safe()` → `a AS b`
+    /// `SqlName::new(alloc, "a")?.alias("b")?.safe()?` → `a AS b`
     pub fn alias<S: ToText>(&mut self, alias: S) -> Result<&mut Self, SqlBuilderError>
         ensures* refused { sem 𝓛 (IsUnchangedIfErr self.entry result) }
         ensures changed { IsChangedTo self.entry (with_alias (S.text alias) self.old) result }
@@ -172,7 +172,7 @@ impl SqlName {
     }
 
     /// A name with the same parts and the same alias. It is refused only for want of memory.
-    /// `SqlName::new("a").clone().safe()` → `a`
+    /// `SqlName::new(alloc, "a")?.clone()?.safe()?` → `a`
     pub fn clone(&self) -> Result<SqlName, SqlBuilderError>
         ensures equal { IfOk result (λ name. name ≡ self.now) }
         ensures memory { FailsOnlyByMemory result }
@@ -187,7 +187,7 @@ impl SqlName {
 
     /// The name with all parts bare if all are plain, else with each part between backquotes. It is
     /// refused only for want of memory.
-    /// `SqlName::new("a").add("B").safe()` → `` `a`.`B` ``
+    /// `SqlName::new(alloc, "a")?.add("B")?.safe()?` → `` `a`.`B` ``
     #[tactic(auto, using(crate::proofs::NameTokens::safe_fits))]
     pub fn safe(&self) -> Result<String, SqlBuilderError>
         ensures text { IfOk result (λ s. string_bytes s ≡ safe_text self.now) }
@@ -199,7 +199,7 @@ impl SqlName {
     }
 
     /// The name with each part between single quotes. It is refused only for want of memory.
-    /// `SqlName::new("a").add("b").quoted()` → `'a'.'b'`
+    /// `SqlName::new(alloc, "a")?.add("b")?.quoted()?` → `'a'.'b'`
     pub fn quoted(&self) -> Result<String, SqlBuilderError>
         ensures text { IfOk result (λ s. string_bytes s ≡ name_text quoted self.now) }
         ensures tokens { IfOk result (λ s. tokens (string_bytes s)
@@ -211,7 +211,7 @@ impl SqlName {
     }
 
     /// The name with each part between backquotes. It is refused only for want of memory.
-    /// `SqlName::new("a").add("b").baquoted()` → `` `a`.`b` ``
+    /// `SqlName::new(alloc, "a")?.add("b")?.baquoted()?` → `` `a`.`b` ``
     pub fn baquoted(&self) -> Result<String, SqlBuilderError>
         ensures text { IfOk result (λ s. string_bytes s ≡ name_text baquoted self.now) }
         ensures tokens { IfOk result (λ s. tokens (string_bytes s)
@@ -223,7 +223,7 @@ impl SqlName {
     }
 
     /// The name with each part between square brackets. It is refused only for want of memory.
-    /// `SqlName::new("a").add("b").brquoted()` → `[a].[b]`
+    /// `SqlName::new(alloc, "a")?.add("b")?.brquoted()?` → `[a].[b]`
     pub fn brquoted(&self) -> Result<String, SqlBuilderError>
         ensures text { IfOk result (λ s. string_bytes s ≡ name_text brquoted self.now) }
         ensures tokens { IfOk result (λ s. tokens (string_bytes s)
@@ -235,7 +235,7 @@ impl SqlName {
     }
 
     /// The name with each part between double quotes. It is refused only for want of memory.
-    /// `SqlName::new("a").add("b").dquoted()` → `"a"."b"`
+    /// `SqlName::new(alloc, "a")?.add("b")?.dquoted()?` → `"a"."b"`
     pub fn dquoted(&self) -> Result<String, SqlBuilderError>
         ensures text { IfOk result (λ s. string_bytes s ≡ name_text dquoted self.now) }
         ensures tokens { IfOk result (λ s. tokens (string_bytes s)
@@ -354,35 +354,35 @@ macro_rules! name_in_form {
 /// A name by `safe`: `name!(alloc, part, ..; alias)`, with one part or more and perhaps an alias.
 /// The five macros want `SqlName` in the caller's scope. The value is the text, and a refusal is
 /// what the caller's function answers, by `?`.
-/// `name!("a", "b"; "c")` → `a.b AS c`
+/// `name!(alloc, "a", "b"; "c")` → `a.b AS c`
 #[macro_export]
 macro_rules! name {
     ($($name:tt)*) => { $crate::name_in_form!(safe; $($name)*) };
 }
 
 /// A name by `quoted`, as `name!` has it by `safe`.
-/// `qname!("a", "b"; "c")` → `'a'.'b' AS c`
+/// `qname!(alloc, "a", "b"; "c")` → `'a'.'b' AS c`
 #[macro_export]
 macro_rules! qname {
     ($($name:tt)*) => { $crate::name_in_form!(quoted; $($name)*) };
 }
 
 /// A name by `baquoted`, as `name!` has it by `safe`.
-/// `baname!("a", "b"; "c")` → `` `a`.`b` AS c ``
+/// `baname!(alloc, "a", "b"; "c")` → `` `a`.`b` AS c ``
 #[macro_export]
 macro_rules! baname {
     ($($name:tt)*) => { $crate::name_in_form!(baquoted; $($name)*) };
 }
 
 /// A name by `brquoted`, as `name!` has it by `safe`.
-/// `brname!("a", "b"; "c")` → `[a].[b] AS c`
+/// `brname!(alloc, "a", "b"; "c")` → `[a].[b] AS c`
 #[macro_export]
 macro_rules! brname {
     ($($name:tt)*) => { $crate::name_in_form!(brquoted; $($name)*) };
 }
 
 /// A name by `dquoted`, as `name!` has it by `safe`.
-/// `dname!("a", "b"; "c")` → `"a"."b" AS c`
+/// `dname!(alloc, "a", "b"; "c")` → `"a"."b" AS c`
 #[macro_export]
 macro_rules! dname {
     ($($name:tt)*) => { $crate::name_in_form!(dquoted; $($name)*) };

@@ -41,7 +41,7 @@ fn enclose<S: ToText>(alloc: Global, quotes: Quotes, text: S) -> Result<String, 
 
 /// The text with each `'` in it doubled: between two `'` it is an SQL text. It is refused only for
 /// want of memory.
-/// `esc("it's")` → `it''s`
+/// `esc(alloc, "it's")?` → `it''s`
 #[tactic(auto, using(crate::proofs::TokenLaws::escaped_token))]
 pub fn esc<S: ToText>(alloc: Global, text: S) -> Result<String, SqlBuilderError>
     ensures text { IfOk result (λ s. string_bytes s ≡ escaped (S.text text)) }
@@ -70,7 +70,7 @@ const SOME_MARKS: usize = 8;
 
 /// The text with each `'` in it doubled, borrowed where it has none. It fails only if memory runs
 /// out.
-/// `escaped("it's")` → `it''s`
+/// `escaped(alloc, "it's")?` → `it''s`
 pub fn escaped(alloc: Global, text: &str) -> Result<CowStr<'_>, AllocError>
     ensures { IfOk result (λ s. cow_str_bytes s ≡ escaped text.now) }
 {
@@ -86,7 +86,11 @@ pub fn escaped(alloc: Global, text: &str) -> Result<CowStr<'_>, AllocError>
 
 /// Appends the text between single quotes, with each `'` in it doubled. It fails only if memory runs
 /// out; what was there stays.
-/// `push_quoted(text, "it's")` appends `'it''s'`
+/// ```
+/// let mut text = String::new(alloc);
+/// push_quoted(&mut text, "it's")?;
+/// text; // 'it''s'
+/// ```
 pub fn push_quoted(out: &mut String, text: &str) -> Result<(), AllocError>
     ensures text { OnOk result (string_bytes out.new ≡ string_bytes out.old ++ quoted text.now) }
     ensures kept { OnErr result (StartsWith (string_bytes out.new) (string_bytes out.old)) }
@@ -96,7 +100,7 @@ pub fn push_quoted(out: &mut String, text: &str) -> Result<(), AllocError>
 
 /// The text between single quotes, with each `'` in it doubled: an SQL text. It is refused only
 /// for want of memory.
-/// `quote("it's")` → `'it''s'`
+/// `quote(alloc, "it's")?` → `'it''s'`
 pub fn quote<S: ToText>(alloc: Global, text: S) -> Result<String, SqlBuilderError>
     ensures text { IfOk result (λ s. string_bytes s ≡ quoted (S.text text)) }
     ensures token { IfOk result (λ s. tokens (string_bytes s) ≡ Str (S.text text) ∷ []) }
@@ -108,7 +112,7 @@ pub fn quote<S: ToText>(alloc: Global, text: S) -> Result<String, SqlBuilderErro
 
 /// The text between backquotes, with each backquote in it doubled: an SQL name. It is refused
 /// only for want of memory.
-/// ``baquote("a`b")`` → ``` `a``b` ```
+/// `` baquote(alloc, "a`b")? `` → ``` `a``b` ```
 pub fn baquote<S: ToText>(alloc: Global, text: S) -> Result<String, SqlBuilderError>
     ensures text { IfOk result (λ s. string_bytes s ≡ baquoted (S.text text)) }
     ensures token { IfOk result (λ s. tokens (string_bytes s) ≡ Name (S.text text) ∷ []) }
@@ -120,7 +124,7 @@ pub fn baquote<S: ToText>(alloc: Global, text: S) -> Result<String, SqlBuilderEr
 
 /// The text between square brackets, with each `]` in it doubled: an SQL name. It is refused
 /// only for want of memory.
-/// `brquote("a]")` → `[a]]]`
+/// `brquote(alloc, "a]")?` → `[a]]]`
 pub fn brquote<S: ToText>(alloc: Global, text: S) -> Result<String, SqlBuilderError>
     ensures text { IfOk result (λ s. string_bytes s ≡ brquoted (S.text text)) }
     ensures token { IfOk result (λ s. tokens (string_bytes s) ≡ Name (S.text text) ∷ []) }
@@ -132,7 +136,7 @@ pub fn brquote<S: ToText>(alloc: Global, text: S) -> Result<String, SqlBuilderEr
 
 /// The text between double quotes, with each `"` in it doubled: an SQL name. It is refused only
 /// for want of memory.
-/// `dquote("a\"b")` → `"a""b"`
+/// `dquote(alloc, "a\"b")?` → `"a""b"`
 pub fn dquote<S: ToText>(alloc: Global, text: S) -> Result<String, SqlBuilderError>
     ensures text { IfOk result (λ s. string_bytes s ≡ dquoted (S.text text)) }
     ensures token { IfOk result (λ s. tokens (string_bytes s) ≡ Name (S.text text) ∷ []) }

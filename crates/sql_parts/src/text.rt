@@ -20,13 +20,13 @@ pub trait ToText: Drop {
     ghost text: { Self → List ℕ };
 
     /// The text. It is refused only for want of memory.
-    /// `25.to_text()` → `25`
+    /// `25.to_text(alloc)?` → `25`
     fn to_text(&self, alloc: Global) -> Result<String, SqlBuilderError>
         ensures text { IfOk result (λ s. string_bytes s ≡ text self.now) }
         ensures memory { FailsOnlyByMemory result };
 
     /// The text, borrowed where the value has it, and else made. It fails only if memory runs out.
-    /// `"it's".as_text()` → `it's`
+    /// `"it's".as_text(alloc)?` → `it's`
     fn as_text(&self, alloc: Global) -> Result<CowStr<'_>, SqlBuilderError>
         ensures text { IfOk result (λ s. cow_str_bytes s ≡ text self.now) }
         ensures memory { FailsOnlyByMemory result }
@@ -41,7 +41,7 @@ pub trait Texts<'a>: Drop {
     ghost left: { Self → List (List ℕ) };
 
     /// Takes the next text, if one is left. It fails only if memory runs out.
-    /// `Items { items: ["a"] }.next_text()` → `Some(a)`
+    /// `Items { items: &["a"] }.next_text(alloc)?` → `Some(a)`
     fn next_text(&mut self, alloc: Global) -> Result<Option<CowStr<'a>>, SqlBuilderError>
         ensures next { IfOk result (λ next. MatchOption next
             ((left self.old ≡ []) × (left self.new ≡ []))
@@ -72,7 +72,7 @@ impl<'a, S: ToText> Texts<'a> for Items<'a, S> {
 }
 
 /// The text of each item. It is refused only for want of memory.
-/// `copies([1, 2])` → `[1, 2]`
+/// `copies(alloc, &[1, 2])?` → `[1, 2]`
 pub fn copies<S: ToText>(alloc: Global, items: &[S]) -> Result<Vec<String>, SqlBuilderError>
     ensures copied { IfOk result (λ copied. texts copied.items ≡ map S.text items.now) }
     ensures memory { FailsOnlyByMemory result }
@@ -85,7 +85,7 @@ pub fn copies<S: ToText>(alloc: Global, items: &[S]) -> Result<Vec<String>, SqlB
 }
 
 /// A copy of the text, if there is one. It is refused only for want of memory.
-/// `copy(&Some("a"))` → `Some(a)`
+/// `copy(alloc, &Some(String::from_str(alloc, "a")?))?` → `Some(a)`
 pub fn copy(alloc: Global, text: &Option<String>) -> Result<Option<String>, SqlBuilderError>
     ensures copied { IfOk result (λ copied. optional_text copied ≡ optional_text text.now) }
     ensures memory { FailsOnlyByMemory result }
@@ -104,7 +104,7 @@ const SOME_ESCAPES: usize = 8;
 /// the mask matches what begins with the text, with `%` in front what ends with it, with `%` on both
 /// sides what contains it. A quote is left as it is, for the call that quotes or binds the mask. It
 /// fails only if memory runs out.
-/// `escape_like("50%", LikeEscape::Exclamation)` → `50!%`
+/// `escape_like(alloc, "50%", LikeEscape::Exclamation)?` → `50!%`
 pub fn escape_like<S: ToText>(
     alloc: Global,
     text: S,
