@@ -1,5 +1,5 @@
 -- Worked rows: what the definitions give, by computing.
-use Rattle.std.specs.Prelude.{◌≡◌, ℕ, List, [], ◌∷◌, ◌++◌, Option, Some, None, Err, codes, refl, map, Bool, true, false, ◌&&◌, nat_lt}
+use Rattle.std.specs.Prelude.{◌≡◌, ℕ, List, [], ◌∷◌, ◌++◌, Option, Some, None, Result, Ok, Err, codes, is_err, refl, map, Bool, true, false, ◌&&◌, nat_lt}
 use Rattle.std.proofs.Common.{ap, ◌∙◌, arith, lit<}
 use Rattle.std.proofs.lemmas.Fmt.{decimal_digit}
 use Rattle.std.proofs.lemmas.Bool.Decides.{nat_tests}
@@ -12,11 +12,13 @@ use Rattle.sqlb.specs.Fault.{fault_text}
 use Rattle.sqlb.specs.Lines.{lines, command_of, command_in}
 use Rattle.sqlb.specs.Endings.{comparisons, ending_of, likes, memberships}
 use Rattle.sqlb.specs.Names.{ends, finishes, joins, lists, meaning_of, other_call, starts}
-use Rattle.sqlb.specs.Output.{Output, open_statement, output, output_of}
+use Rattle.sqlb.specs.Output.{Output, accepted_answers, answers, open_statement, output, output_of}
+use Rattle.sqlb.specs.Ran.{status_of}
+use Rattle.sql_builder.specs.Filters.{until}
 use Rattle.sql_builder.specs.SqlBuilderError.TheVariants.{NoSetFields, NoTableName, NoValues}
 use Rattle.sqlb.specs.declared.fault.Reason.{Reason}
 use Rattle.sqlb.specs.declared.fault.Reason.TheVariants.{UnknownCall, WrongArguments, NoStatement, StatementOpen, NoEnd, NotUtf8, Builder}
-use Rattle.sqlb.specs.declared.fault.Fault.TheVariants.{At}
+use Rattle.sqlb.specs.declared.fault.Fault.TheVariants.{At, Memory, Read, Write}
 
 abbrev is_ascii : List ℕ → Bool
 is_ascii text = list_all (λ byte. nat_lt byte 128) text
@@ -172,3 +174,34 @@ fault_line = rw (decimal_digit 3 (lit< tt)) refl
 
 refusal_line : fault_text (At 2 (Builder NoTableName)) ≡ codes "line 2: No table name"
 refusal_line = rw (decimal_digit 2 (lit< tt)) refl
+
+-- the accepted answers of an ASCII input compute too
+accepted_row : (input : List ℕ) (found : List (Result (Option (List ℕ)) Reason)) → list_all is_ascii (lines input) ≡ true
+    → until is_err (answers (map command_in (lines input))) ≡ found → accepted_answers input ≡ found
+unfolding accepted_answers
+accepted_row input found ascii computed = ap (λ commands. until is_err (answers commands)) (commands-ascii (lines input) ascii) ∙ computed
+
+-- memory may run out in the first line or the second, and not in the third, which fails a check
+accepted-unknown : accepted_answers (codes "select_from" ++ 9 ∷ [] ++ codes "t" ++ 10 ∷ [] ++ codes "sql" ++ 10 ∷ [] ++ codes "frobnicate" ++ 10 ∷ [])
+    ≡ Ok None ∷ Ok (Some (codes "SELECT * FROM t;")) ∷ []
+unfolding open_statement meaning_of other_call starts joins lists ends finishes ending_of comparisons likes memberships
+accepted-unknown = accepted_row _ _ refl refl
+
+accepted-first_fails : accepted_answers (codes "sql" ++ 10 ∷ []) ≡ []
+unfolding open_statement meaning_of other_call starts joins lists ends finishes ending_of comparisons likes memberships
+accepted-first_fails = accepted_row _ _ refl refl
+
+status-none : status_of {T = Unit {0}} (Ok tt) ≡ 0
+status-none = refl
+
+status-line : status_of {T = Unit {0}} (Err (At 3 UnknownCall)) ≡ 1
+status-line = refl
+
+status-memory : status_of {T = Unit {0}} (Err Memory) ≡ 1
+status-memory = refl
+
+status-read : status_of {T = Unit {0}} (Err Read) ≡ 2
+status-read = refl
+
+status-write : status_of {T = Unit {0}} (Err Write) ≡ 2
+status-write = refl
