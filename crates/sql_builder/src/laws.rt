@@ -14,7 +14,7 @@ ghost use Rattle.sql_builder.specs.Tables.{SubqueriesNestAsTables};
 ghost use Rattle.sql_builder.specs.Text.{pieces_text};
 ghost use Rattle.sql_parts.specs.Fragments.{balanced, dangling, has_clause_word, operand};
 ghost use Rattle.sql_parts.specs.Blanks.{IgnoresBoundTexts, IgnoresStrings, length_in_tokens, outline, semicolon_count};
-ghost use Rattle.sql_parts.specs.Tokens.{tokens};
+ghost use Rattle.sql_parts.specs.Tokens.{closed, tokens};
 
 pub use sql_parts::laws::{
     bound_texts_do_not_interfere, bound_texts_keep_the_count, doubling_is_undone,
@@ -70,6 +70,7 @@ pub fn quoted_texts_do_not_interfere()
     ensures count { IgnoresQuotedTexts length_in_tokens }
     ensures semicolons { IgnoresQuotedTexts semicolon_count }
     ensures clauses { IgnoresQuotedTexts clauses_but }
+    ensures closed { IgnoresQuotedTexts closed }
     ensures balanced { IgnoresQuotedTexts balanced }
     ensures operand { IgnoresQuotedTexts operand }
     ensures clause_word { IgnoresQuotedTexts has_clause_word }

@@ -1,6 +1,6 @@
 //! Facts about the definitions that the contracts of this crate speak of.
-ghost use Rattle.std.specs.Prelude.{◌≡◌, ◌++◌, Bool, IsTrue, List, codes, length, nat_eq, ℕ, ℤ};
-ghost use Rattle.std.specs.List.{count_by, ends_with, starts_with};
+ghost use Rattle.std.specs.Prelude.{◌≡◌, ◌++◌, Bool, IsTrue, List, codes, length, nat_eq, not, ℕ, ℤ};
+ghost use Rattle.std.specs.List.{count_by, ends_with, list_any, starts_with};
 ghost use Rattle.std.specs.Str.Iter.{HasSubslice};
 ghost use Rattle.sql_parts.specs.Apart.{apart};
 ghost use Rattle.sql_parts.specs.Fragments.{balanced, dangling, has_clause_word, has_outer, is_balanced, is_clause_word, is_dangling, is_operand, operand};
@@ -12,7 +12,7 @@ ghost use Rattle.sql_parts.specs.Name.{Name, safe_text};
 ghost use Rattle.sql_parts.specs.Operands.{NamesAreOperands, ServesAsOperand, has_operand_parts, is_operand_alias};
 ghost use Rattle.sql_parts.specs.Text.{bool_text, number_text};
 ghost use Rattle.sql_parts.specs.Templates.{Cycle, First, Marks, Names, Nums, Value, bound};
-ghost use Rattle.sql_parts.specs.Tokens.{clean, closed, is_semicolon, tokens};
+ghost use Rattle.sql_parts.specs.Tokens.{clean, closed, is_open, is_semicolon, tokens};
 
 /// Two texts whose quoted texts are equal are equal, in each of the five forms of quoting.
 /// It does nothing when it runs.
@@ -60,6 +60,7 @@ pub fn string_texts_decide_nothing()
     ensures somewhere { BlankSomewhere }
     ensures count { IgnoresStrings length }
     ensures semicolons { IgnoresStrings (count_by is_semicolon) }
+    ensures closed { IgnoresStrings (λ ts. not (list_any is_open ts)) }
     ensures balanced { IgnoresStrings is_balanced }
     ensures operand { IgnoresStrings is_operand }
     ensures clause_word { IgnoresStrings (has_outer is_clause_word) }
@@ -77,6 +78,7 @@ pub fn bound_texts_do_not_interfere()
     ensures strings { BoundTextsAreStrings }
     ensures outline { IgnoresBoundTexts outline }
     ensures semicolons { IgnoresBoundTexts semicolon_count }
+    ensures closed { IgnoresBoundTexts closed }
     ensures balanced { IgnoresBoundTexts balanced }
     ensures operand { IgnoresBoundTexts operand }
     ensures clause_word { IgnoresBoundTexts has_clause_word }

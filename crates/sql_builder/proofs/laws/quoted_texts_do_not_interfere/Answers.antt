@@ -1,10 +1,10 @@
-use Rattle.std.specs.List.{count_by}
-use Rattle.std.proofs.Common.{length, refl}
+use Rattle.std.specs.List.{count_by, list_any}
+use Rattle.std.proofs.Common.{length, not, refl}
 use Rattle.std.proofs.lemmas.List.{length-map}
 use Rattle.sql_parts.specs.Fragments.{has_outer, is_balanced, is_clause_word, is_dangling, is_operand}
 use Rattle.sql_parts.specs.Blanks.{blank, blank_token}
-use Rattle.sql_parts.specs.Tokens.{is_semicolon}
-use Rattle.sql_parts.proofs.Blanks.{count-blank, has_outer-blank, ignores, is_balanced-blank, is_dangling-blank, is_operand-blank}
+use Rattle.sql_parts.specs.Tokens.{is_open, is_semicolon}
+use Rattle.sql_parts.proofs.Blanks.{any-blank, count-blank, has_outer-blank, ignores, is_balanced-blank, is_dangling-blank, is_operand-blank}
 use Rattle.sql_builder.specs.Interference.{blank_clauses}
 use Rattle.sql_builder.proofs.BlankClauses.{blank_clauses-ignore}
 use Rattle.sql_builder.proofs.QuotedTexts.{quoted_places-kept, quoted_texts-apart, quoted_texts-ignored, quoted_texts-strings}
@@ -19,6 +19,9 @@ returns c = record {
   count = quoted_texts-ignored length (ignores length (λ ts. length-map ts blank_token));
   semicolons = quoted_texts-ignored (count_by is_semicolon) (ignores (count_by is_semicolon) (count-blank is_semicolon (λ text. refl)));
   clauses = quoted_texts-ignored blank_clauses blank_clauses-ignore;
+  closed =
+      quoted_texts-ignored (λ ts. not (list_any is_open ts))
+      (ignores (λ ts. not (list_any is_open ts)) (λ ts i. not (any-blank is_open (λ text. refl) ts i)));
   balanced = quoted_texts-ignored is_balanced (ignores is_balanced is_balanced-blank);
   operand = quoted_texts-ignored is_operand (ignores is_operand is_operand-blank);
   clause_word = quoted_texts-ignored (has_outer is_clause_word) (ignores (has_outer is_clause_word) (has_outer-blank is_clause_word (λ text. refl)));

@@ -1,9 +1,9 @@
-use Rattle.std.specs.List.{count_by}
-use Rattle.std.proofs.Common.{refl}
+use Rattle.std.specs.List.{count_by, list_any}
+use Rattle.std.proofs.Common.{not, refl}
 use Rattle.sql_parts.specs.Fragments.{has_outer, is_balanced, is_clause_word, is_dangling, is_operand}
 use Rattle.sql_parts.specs.Blanks.{blank}
-use Rattle.sql_parts.specs.Tokens.{is_semicolon}
-use Rattle.sql_parts.proofs.Blanks.{count-blank, has_outer-blank, ignores, is_balanced-blank, is_dangling-blank, is_operand-blank}
+use Rattle.sql_parts.specs.Tokens.{is_open, is_semicolon}
+use Rattle.sql_parts.proofs.Blanks.{any-blank, count-blank, has_outer-blank, ignores, is_balanced-blank, is_dangling-blank, is_operand-blank}
 use Rattle.sql_parts.proofs.BoundTexts.{arguments-differ, bound_places-kept, bound_texts-apart, bound_texts-ignored, bound_texts-strings, names-differ}
 use Rattle.sql_parts.proofs.laws.bound_texts_do_not_interfere.Goals as goal
 
@@ -14,6 +14,9 @@ returns c = record {
   strings = bound_texts-strings;
   outline = bound_texts-ignored blank (λ one other same. same);
   semicolons = bound_texts-ignored (count_by is_semicolon) (ignores (count_by is_semicolon) (count-blank is_semicolon (λ text. refl)));
+  closed =
+      bound_texts-ignored (λ ts. not (list_any is_open ts))
+      (ignores (λ ts. not (list_any is_open ts)) (λ ts i. not (any-blank is_open (λ text. refl) ts i)));
   balanced = bound_texts-ignored is_balanced (ignores is_balanced is_balanced-blank);
   operand = bound_texts-ignored is_operand (ignores is_operand is_operand-blank);
   clause_word = bound_texts-ignored (has_outer is_clause_word) (ignores (has_outer is_clause_word) (has_outer-blank is_clause_word (λ text. refl)));

@@ -1,10 +1,10 @@
-use Rattle.std.specs.List.{count_by}
-use Rattle.std.proofs.Common.{length, refl}
+use Rattle.std.specs.List.{count_by, list_any}
+use Rattle.std.proofs.Common.{length, not, refl}
 use Rattle.std.proofs.lemmas.List.{length-map}
 use Rattle.sql_parts.specs.Fragments.{has_outer, is_balanced, is_clause_word, is_dangling, is_operand}
 use Rattle.sql_parts.specs.Blanks.{blank_token}
-use Rattle.sql_parts.specs.Tokens.{is_semicolon}
-use Rattle.sql_parts.proofs.Blanks.{count-blank, has_outer-blank, ignores, is_balanced-blank, is_dangling-blank, is_operand-blank, somewhere}
+use Rattle.sql_parts.specs.Tokens.{is_open, is_semicolon}
+use Rattle.sql_parts.proofs.Blanks.{any-blank, count-blank, has_outer-blank, ignores, is_balanced-blank, is_dangling-blank, is_operand-blank, somewhere}
 use Rattle.sql_parts.proofs.laws.string_texts_decide_nothing.Goals as goal
 
 pub returns : goal.returns
@@ -12,6 +12,7 @@ returns c = record {
   somewhere = somewhere;
   count = ignores length (λ ts. length-map ts blank_token);
   semicolons = ignores (count_by is_semicolon) (count-blank is_semicolon (λ text. refl));
+  closed = ignores (λ ts. not (list_any is_open ts)) (λ ts i. not (any-blank is_open (λ text. refl) ts i));
   balanced = ignores is_balanced is_balanced-blank;
   operand = ignores is_operand is_operand-blank;
   clause_word = ignores (has_outer is_clause_word) (has_outer-blank is_clause_word (λ text. refl));
