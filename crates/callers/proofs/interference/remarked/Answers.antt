@@ -4,12 +4,19 @@ use Rattle.sql_builder.specs.Condition.{Like}
 use Rattle.sql_parts.specs.Blanks.{outline}
 use Rattle.sql_builder.specs.declared.condition.Family.TheVariants.{And}
 use Rattle.sql_builder.specs.declared.condition.Percent.TheVariants.{Any}
-use Rattle.sql_builder.proofs.Callers.{and_call, begun}
+use Rattle.sql_builder.proofs.Callers.{and_call, begun, chain_statement}
 use Rattle.sql_builder.proofs.ChainAnswers.{chain_answer}
 use Rattle.callers.proofs.interference.remarked.Goals as goal
 
 abbrev calls : List ℕ → List ℕ → List CallText
 calls word remark = SetStr (codes "remark") remark ∷ Cond And (Like false Any (codes "title") word) ∷ []
+
+pub returns-clause-statement : goal.returns-clause-statement
+returns-clause-statement c =
+    let told = and_call (Cond And (Like false Any (codes "title") c.args.word.now)) c.in_ok-and_where_like_any.ensures.changed.1.0.0
+    (and_call (SetStr (codes "remark") c.args.remark.now) c.in_ok-set_str.ensures.changed.1.0
+    (begun (UpdateTable (codes "books")) c.in_ok-update_table.ensures.made)) in
+    chain_statement Sql c.sql.result told c.sql.ensures.text c.sql.ensures.refused
 
 pub returns-clause-same : goal.returns-clause-same
 returns-clause-same c =
