@@ -1,14 +1,17 @@
 //! The statement that is open, and what the lines do to it. Each answers whether the line finished the
 //! statement.
-ghost use Rattle.std.specs.Prelude.{◌≡◌, IfErr, IfOk, IsSome, None, Ok, OnOk, is_some, string_bytes};
-ghost use Rattle.sql_builder.specs.Builder.{with_condition, with_order};
+ghost use Rattle.std.specs.Prelude.{◌≡◌, IfErr, IfOk, IfSome, IsErrOf, IsSome, None, Ok, OnOk, is_some, string_bytes};
+ghost use Rattle.sql_builder.specs.Builder.{HasJoin, with_condition, with_order};
 ghost use Rattle.sql_builder.specs.Calls.{SelectValues, SubqueryAs};
 ghost use Rattle.sql_builder.specs.Condition.{borrowed_view};
-ghost use Rattle.sql_builder.specs.Steps.{with_binary, with_call, with_unary, with_variadic};
+ghost use Rattle.sql_builder.specs.Steps.{MayTakeMemory, with_binary, with_call, with_unary, with_variadic};
 ghost use Rattle.sql_builder.specs.Views.{call_view, finish_view, start_on};
+ghost use Rattle.sql_builder.specs.declared.steps.BinaryClause.TheVariants.{OnEq};
+ghost use Rattle.sql_builder.specs.declared.steps.UnaryClause.TheVariants.{On};
 ghost use Rattle.sqlb.specs.Lines.{Finishes};
 ghost use Rattle.sqlb.specs.Script.{Opens, Runs, Tells};
 ghost use Rattle.sqlb.specs.declared.fault.Fault.TheVariants.{Memory};
+ghost use Rattle.sqlb.specs.declared.fault.LineError.TheVariants as out;
 ghost use Rattle.sqlb.specs.declared.fault.Reason.TheVariants.{NoStatement, StatementOpen};
 
 use crate::fault::{Fault, LineError, Reason};
@@ -108,7 +111,9 @@ impl Script {
 
     /// Makes a call of the open statement.
     pub(crate) fn tell(&mut self, call: &Call) -> Result<bool, LineError>
-        ensures { Tells result self.old self.new (with_call (call_view call.now)) }
+        ensures told { Tells result self.old self.new (with_call (call_view call.now)) }
+        ensures memory { IsErrOf result out.Memory
+            → IfSome self.old (MayTakeMemory (call_view call.now)) }
     {
         self.check_open()?;
         make(&mut self.builder, call)?;
@@ -117,7 +122,9 @@ impl Script {
 
     /// Makes a call of the open statement with one text.
     pub(crate) fn tell_unary(&mut self, clause: UnaryClause, text: &str) -> Result<bool, LineError>
-        ensures { Tells result self.old self.new (with_unary clause text.now) }
+        ensures told { Tells result self.old self.new (with_unary clause text.now) }
+        ensures memory { IsErrOf result out.Memory
+            → IfSome self.old (λ r. clause ≡ On → HasJoin r) }
     {
         self.check_open()?;
         make_unary(&mut self.builder, clause, text)?;
@@ -131,7 +138,9 @@ impl Script {
         first: &'a str,
         second: &'a str,
     ) -> Result<bool, LineError>
-        ensures { Tells result self.old self.new (with_binary clause first.now second.now) }
+        ensures told { Tells result self.old self.new (with_binary clause first.now second.now) }
+        ensures memory { IsErrOf result out.Memory
+            → IfSome self.old (λ r. clause ≡ OnEq → HasJoin r) }
     {
         self.check_open()?;
         make_binary(&mut self.builder, clause, first, second)?;
