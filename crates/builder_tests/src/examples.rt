@@ -65,7 +65,7 @@ fn makes_chains(rt: HostRuntime) -> Result<(), Fail> {
 }
 
 #[test]
-fn seeks_strangers_texts(rt: HostRuntime) -> Result<(), Fail> {
+fn seeks_untrusted_texts(rt: HostRuntime) -> Result<(), Fail> {
     let alloc = rt.alloc();
     assert_eq!(rt;
         titled_bound(alloc, "it's; --")?.as_str(),
@@ -123,7 +123,7 @@ fn says_the_same_of_other_texts(rt: HostRuntime) -> Result<(), Fail> {
 }
 
 #[test]
-fn quotes_strangers_texts(rt: HostRuntime) -> Result<(), Fail> {
+fn quotes_untrusted_texts(rt: HostRuntime) -> Result<(), Fail> {
     let alloc = rt.alloc();
     assert_eq!(rt;
         titled(alloc, "it's; --")?.as_str(),

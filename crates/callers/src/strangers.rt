@@ -1,4 +1,4 @@
-//! Strangers' values in statements.
+//! Untrusted values in statements.
 ghost use Rattle.std.specs.Prelude.{◌≡◌, [], ◌∷◌, ◌++◌, codes, length, map, option_map, string_bytes, IfOk, IfSome, IsTrue, Some};
 ghost use Rattle.sql_builder.specs.Apart.{bound_tokens};
 ghost use Rattle.sql_builder.specs.Builder.{started, with_condition};

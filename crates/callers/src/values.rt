@@ -11,7 +11,7 @@ use sql_builder::prelude::*;
 use sql_builder::{SqlBuilderError, name};
 use std::alloc::Global;
 
-/// A column of the table of books: a stranger's text is none.
+/// A column of the table of books: untrusted text is none.
 #[derive(Drop)]
 pub enum Column {
     /// The title.
