@@ -1,4 +1,4 @@
-//! Clones: each has every clause of its builder, and neither sees what the other is told.
+//! Clones: each has every clause of its builder, and neither sees what the other is given.
 
 use crate::every_call::{
     EVERY_START_AND_FINISH, Finish, Made, sql, tell_every_call, tell_every_call_after,

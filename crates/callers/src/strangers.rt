@@ -69,7 +69,7 @@ pub fn filled(
     Ok(Some(template.binds(alloc, args)?))
 }
 
-/// What is told of the books of this title, and of this author where one is given.
+/// What is known of the books of this title, and of this author where one is given.
 pub fn sought(
     alloc: Global,
     title: &str,

@@ -1,4 +1,4 @@
-//! The builder: it is told clauses call by call, and prints a statement of them.
+//! The builder: calls add clauses to it, and it prints a statement of them.
 ghost use Rattle.std.specs.Prelude.{◌≡◌, [], map, IfOk, OnErr, OnOk, string_bytes};
 ghost use Rattle.sql_parts.specs.Error.{FailsOnlyByMemory};
 ghost use Rattle.sql_parts.specs.Text.{texts};
@@ -213,7 +213,7 @@ impl SqlBuilder {
 
     // The four starts are functions of their own, since as parts of their callers they copied a builder
     // more often.
-    /// A SELECT from this table, told nothing else. It is refused only for want of memory, as is
+    /// A SELECT from this table, with no other clause. It fails only if memory runs out, as does
     /// each of the four starts below.
     /// `SqlBuilder::select_from(alloc, "t")?.sql()?` → `SELECT * FROM t;`
     #[inline(never)]
@@ -327,7 +327,7 @@ impl SqlBuilder {
         ))
     }
 
-    /// An equal builder. It is refused only for want of memory.
+    /// An equal builder. It fails only if memory runs out.
     /// `SqlBuilder::select_from(alloc, "t")?.field("a")?.clone()?.field("b")?.sql()?` →
     /// `SELECT a, b FROM t;`
     pub fn clone(&self) -> Result<SqlBuilder, SqlBuilderError>

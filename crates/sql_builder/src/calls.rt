@@ -378,7 +378,7 @@ pub fn print_to(
 }
 
 /// Makes the builder, makes the calls in order, and prints: the statement that the whole list
-/// means, or its refusal. Want of memory may come in place of either.
+/// means, or its refusal. It may run out of memory in place of either.
 ///
 /// The fragments are the texts that it prints as they stand. Where each is closed, the text has
 /// their tokens, and one token for each text that is quoted. Where each before the first UNION is

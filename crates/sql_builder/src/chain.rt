@@ -1,6 +1,5 @@
 //! The calls that tell a builder a clause. Each gives the builder back, so that calls form a chain.
-//! Each that can be refused is refused only for want of memory, and then leaves the builder as it
-//! was.
+//! Each that can fail fails only if memory runs out, and then leaves the builder as it was.
 ghost use Rattle.std.specs.Prelude.{◌≡◌, [], ◌∷◌, codes, false, map, true, IfErr};
 ghost use Rattle.sql_parts.specs.Error.{FailsOnlyByMemory};
 ghost use Rattle.sql_parts.specs.Quoting.{quoted};

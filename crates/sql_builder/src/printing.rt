@@ -392,7 +392,7 @@ impl SqlBuilder {
     /// and the statement is no SELECT of values; then with `NoValues` where an INSERT has neither
     /// rows nor a query, or a SELECT of values no value, with `NoSetFields` where an UPDATE sets
     /// nothing, and with `NoGroupBy` where a SELECT from a table has a HAVING and no GROUP BY; each
-    /// whether there is memory or not, and else only for want of memory.
+    /// whether there is memory or not, and else only if memory runs out.
     ///
     /// Where the builder's texts before the first UNION are balanced and, but between brackets,
     /// without an outer word that begins a clause, it reads back as the builder's clauses, and the
@@ -418,7 +418,7 @@ impl SqlBuilder {
     }
 
     /// The query, on a builder of any kind. It is refused with `NoGroupBy` where there is a HAVING
-    /// and no GROUP BY, whether there is memory or not, and else only for want of memory. It reads
+    /// and no GROUP BY, whether there is memory or not, and else only if memory runs out. It reads
     /// back, and has the truth of its groups, as what `sql` prints; where the builder's texts are
     /// balanced, also behind UNION, so is the query.
     /// `SqlBuilder::select_from(alloc, "t")?.query()?` → `SELECT * FROM t`
@@ -443,8 +443,8 @@ impl SqlBuilder {
         Ok(query)
     }
 
-    /// `SELECT` and the fields, nothing else, on a builder of any kind. It is refused only for want
-    /// of memory. It reads back as what `sql` prints.
+    /// `SELECT` and the fields, nothing else, on a builder of any kind. It fails only if memory
+    /// runs out. It reads back as what `sql` prints.
     /// `SqlBuilder::select_values(alloc, &[1, 2])?.query_values()?` → `SELECT 1, 2`
     #[tactic(auto, using(crate::proofs::Layouts::query_values_shape, crate::proofs::Layouts::query_values_closed, crate::proofs::ReadBack::query_values_clauses))]
     pub fn query_values(&self) -> Result<String, SqlBuilderError>

@@ -1,6 +1,6 @@
 //! The condition calls: each condition in the family that opens a group of its own, and in the one
 //! that joins the last group by OR and opens one only where there is none. Each gives the builder
-//! back; it is refused only for want of memory, and then leaves the builder as it was. Where its
+//! back; it fails only if memory runs out, and then leaves the builder as it was. Where its
 //! texts are operands, what it adds is an atom of truth, but of a condition that is handed in as it
 //! stands.
 ghost use Rattle.std.specs.Prelude.{◌≡◌, false, map, true};

@@ -31,14 +31,14 @@ pub trait SqlArg: Drop {
     /// The literal.
     ghost literal: { Self → LiteralValue };
 
-    /// The literal as SQL writes it. It is refused only for want of memory.
+    /// The literal as SQL writes it. It fails only if memory runs out.
     /// `"it's".sql_arg(alloc)?` → `'it''s'`
     fn sql_arg(&self, alloc: Global) -> Result<String, SqlBuilderError>
         ensures literal { IfOk result (λ s. string_bytes s ≡ literal_text (literal self.now)) }
         ensures memory { FailsOnlyByMemory result };
 
-    /// Appends the literal to a text. A refusal, for want of memory alone, leaves the text with
-    /// what it had, and perhaps with a part of the literal behind it.
+    /// Appends the literal to a text. It fails only if memory runs out, and then the text has what it
+    /// had, and perhaps a part of the literal behind it.
     /// ```
     /// let mut text = String::new(alloc);
     /// true.push_sql_arg(alloc, &mut text)?;

@@ -20,8 +20,7 @@ pub trait Bind {
     /// The text, as its bytes.
     ghost template: { Self → List ℕ };
 
-    /// The text with the argument in place of the first `?`. It is refused only for want of
-    /// memory.
+    /// The text with the argument in place of the first `?`. It fails only if memory runs out.
     /// `"a = ? OR ?".bind(alloc, &"it's")?` → `a = 'it''s' OR ?`
     fn bind<A: SqlArg>(&self, alloc: Global, arg: &A) -> Result<String, SqlBuilderError>
         ensures text { IfOk result (λ s. Some (string_bytes s)
@@ -34,7 +33,7 @@ pub trait Bind {
 
     /// The text with the arguments in place of each `?` in turn, the first again after the last.
     /// A text with a `?` and no argument is refused as `NoArguments`, whether there is memory or
-    /// not. It is else refused only for want of memory.
+    /// not. Otherwise it fails only if memory runs out.
     /// `"? ? ?".binds(alloc, &[Box::new(alloc, 1)?, Box::new(alloc, String::from_str(alloc, "b")?)?])?` →
     /// `1 'b' 1`
     /// `"?".binds(alloc, &[])` fails with `NoArguments`
@@ -53,7 +52,7 @@ pub trait Bind {
             → FailsOnlyByMemory result };
 
     /// The text with the argument in place of each `$` and the number that no ASCII digit
-    /// follows. It is refused only for want of memory.
+    /// follows. It fails only if memory runs out.
     /// `"$1 $12".bind_num(alloc, 1, &7)?` → `7 $12`
     fn bind_num<A: SqlArg>(
         &self,
@@ -71,7 +70,7 @@ pub trait Bind {
 
     /// The text with the arguments in place of `$1`, `$2` and so on. `$$` gives `$`, also with
     /// zeros between, and a number without an argument, or a `$` without a number, gives nothing.
-    /// It is refused only for want of memory.
+    /// It fails only if memory runs out.
     /// `"$2 $1 $$".bind_nums(alloc, &[Box::new(alloc, 1)?, Box::new(alloc, String::from_str(alloc, "b")?)?])?` →
     /// `'b' 1 $`
     fn bind_nums(&self, alloc: Global, args: &[Box<dyn SqlArg>]) -> Result<String, SqlBuilderError>
@@ -86,7 +85,7 @@ pub trait Bind {
         ensures memory { FailsOnlyByMemory result };
 
     /// The text with the argument in place of each `:name:`, from the left and without overlap; the
-    /// name may be empty. It is refused only for want of memory.
+    /// name may be empty. It fails only if memory runs out.
     /// `":a: :b:".bind_name(alloc, &"a", &1)?` → `1 :b:`
     fn bind_name<K: ToText, A: SqlArg>(
         &self,
@@ -105,7 +104,7 @@ pub trait Bind {
 
     /// The text with what the names are bound to in place of each `:name:`, and NULL where a name
     /// is bound to nothing. `::` gives `:`, and a `:` that no other one closes stays, with all
-    /// behind it. It is refused only for want of memory.
+    /// behind it. It fails only if memory runs out.
     /// `":a: :b: ::".bind_names(alloc, &{ let mut names: Vec<(&str, Box<dyn SqlArg>)> = Vec::new(alloc); names.push(("a", Box::new(alloc, 1)?))?; names })?` →
     /// `1 NULL :`
     fn bind_names<N: BindNames>(&self, alloc: Global, names: &N) -> Result<String, SqlBuilderError>

@@ -20,7 +20,7 @@ pub trait BindNames {
     /// Whether these are the places of the names in a list.
     ghost are_places: { Self → List (Bor (List ℕ) × ℕ) → Type 0 } = { λ _ _. ⊤ };
 
-    /// The literal of the name as SQL writes it, or none. It is refused only for want of memory.
+    /// The literal of the name as SQL writes it, or none. It fails only if memory runs out.
     /// `{ let mut names: Vec<(&str, Box<dyn SqlArg>)> = Vec::new(alloc); names.push(("a", Box::new(alloc, 1)?))?; names }.look_up(alloc, "a")?` →
     /// `Some(1)`
     fn look_up(&self, alloc: Global, name: &str) -> Result<Option<String>, SqlBuilderError>
@@ -29,7 +29,7 @@ pub trait BindNames {
         ensures memory { FailsOnlyByMemory result };
 
     /// The places of the names in a list, by which `push_named` finds them in a longer text; none
-    /// where the names are found as fast without. It is refused only for want of memory.
+    /// where the names are found as fast without. It fails only if memory runs out.
     /// `{ let mut names: Vec<(&str, Box<dyn SqlArg>)> = Vec::new(alloc); names.push(("a", Box::new(alloc, 1)?))?; names }.places(alloc)?.len()` →
     /// `0`
     fn places(&self, alloc: Global) -> Result<HashMap<&str, usize>, SqlBuilderError>
@@ -41,7 +41,7 @@ pub trait BindNames {
     }
 
     /// Appends the literal of the name, or NULL where it has none. The places are those that
-    /// `places` gave, or none. It is refused only for want of memory.
+    /// `places` gave, or none. It fails only if memory runs out.
     /// ```
     /// let mut text = String::new(alloc);
     /// { let mut names: Vec<(&str, Box<dyn SqlArg>)> = Vec::new(alloc); names.push(("a", Box::new(alloc, 1)?))?; names }.push_named(alloc, &{ let mut names: Vec<(&str, Box<dyn SqlArg>)> = Vec::new(alloc); names.push(("a", Box::new(alloc, 1)?))?; names }.places(alloc)?, "a", &mut text)?;

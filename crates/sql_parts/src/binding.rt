@@ -23,7 +23,7 @@ pub(crate) trait Literals: Drop {
     /// That a text which is kept of a literal is its text.
     ghost is_kept: { Self → Type 0 } = { λ _. ⊤ };
 
-    /// Appends the literal of a value. It is refused only for want of memory.
+    /// Appends the literal of a value. It fails only if memory runs out.
     fn push_literal(
         &self,
         alloc: Global,
@@ -63,7 +63,7 @@ pub(crate) struct Repeated<A> {
 }
 
 impl<A: SqlArg> Repeated<A> {
-    /// It is refused only for want of memory.
+    /// It fails only if memory runs out.
     pub(crate) fn new(alloc: Global, arg: A) -> Result<Self, SqlBuilderError>
         ensures arg { IfOk result (λ repeated. repeated.arg ≡ arg) }
         ensures text { IfOk result (λ repeated.
@@ -140,7 +140,7 @@ impl<N: BindNames + Drop> Literals for LookedUp<'_, N> {
 /// Below so many bytes a template has few names, and finds them faster than their places are kept.
 const SHORT: usize = 64;
 
-/// The places of the names, or none. It is refused only for want of memory.
+/// The places of the names, or none. It fails only if memory runs out.
 pub(crate) fn places_for<'a, N: BindNames>(
     alloc: Global,
     template: &str,
@@ -218,7 +218,7 @@ fn push_bound<L: Literals>(
 /// How many bytes most literals have at the most.
 const LITERAL: usize = 32;
 
-/// The template with literals in place of its markers. It is refused only for want of memory.
+/// The template with literals in place of its markers. It fails only if memory runs out.
 #[inline(always)]
 #[tactic(auto, using(crate::proofs::Confined::has_bound_tokens, crate::proofs::Confined::is_closed_if_apart))]
 pub(crate) fn bound_text<L: Literals>(

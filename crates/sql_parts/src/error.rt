@@ -17,7 +17,7 @@ pub enum SqlBuilderError {
     NoSetFields,
     /// `binds` has a text with a `?`, and no argument.
     NoArguments,
-    /// A growth was refused.
+    /// Memory ran out.
     Memory(AllocError),
     /// A query has a HAVING and no GROUP BY.
     NoGroupBy,

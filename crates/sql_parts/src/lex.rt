@@ -136,7 +136,7 @@ pub fn has_dangling(alloc: Global, text: &str) -> Result<bool, SqlBuilderError>
 
 /// Whether the values that these marks bind stand apart in a template: no `?` lacks an argument,
 /// each piece of it is closed, and nothing but a separator or an end of the text touches a value.
-/// A text that is bound there can't leave its literal. It is refused only for want of memory.
+/// A text that is bound there can't leave its literal. It fails only if memory runs out.
 /// `stands_apart(alloc, "a = ?", &Marks::First)?` → `true`
 /// `stands_apart(alloc, "a = '?'", &Marks::First)?` → `false`
 pub fn stands_apart(

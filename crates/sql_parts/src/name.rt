@@ -85,7 +85,7 @@ fn are_plain(parts: &[String]) -> bool
     parts.iter().all(|part| is_plain(part.as_str()))
 }
 
-/// What a name is told.
+/// What a call changes of a name.
 #[derive(Clone, Copy)]
 pub(crate) enum Told {
     Part,
@@ -97,7 +97,7 @@ impl SqlName {
     ghost use Rattle.sql_parts.specs.Chaining.{IsUnchangedIfErr, IsUnchangedIfHeldErr};
     ghost use Rattle.sql_parts.specs.Lending.{IsChangedTo, IsHeldChangedTo};
 
-    /// A name of one part, without an alias. It is refused only for want of memory.
+    /// A name of one part, without an alias. It fails only if memory runs out.
     /// `SqlName::new(alloc, "a")?.safe()?` → `a`
     pub fn new<S: ToText>(alloc: Global, part: S) -> Result<SqlName, SqlBuilderError>
         ensures name { IfOk result (λ name. name ≡ name_of (S.text part)) }
@@ -136,7 +136,7 @@ impl SqlName {
         Ok(Held(self))
     }
 
-    /// Adds a part behind the others. It is refused only for want of memory, and then the name
+    /// Adds a part behind the others. It fails only if memory runs out, and then the name
     /// is as it was.
     /// `SqlName::new(alloc, "a")?.add("b")?.safe()?` → `a.b`
     pub fn add<S: ToText>(&mut self, part: S) -> Result<&mut Self, SqlBuilderError>
@@ -147,7 +147,7 @@ impl SqlName {
         release(self.hold(Told::Part, part))
     }
 
-    /// Sets the alias, in place of any other. It is refused only for want of memory, and then
+    /// Sets the alias, in place of any other. It fails only if memory runs out, and then
     /// the name is as it was.
     /// `SqlName::new(alloc, "a")?.alias("b")?.safe()?` → `a AS b`
     pub fn alias<S: ToText>(&mut self, alias: S) -> Result<&mut Self, SqlBuilderError>
@@ -171,7 +171,7 @@ impl SqlName {
         }
     }
 
-    /// A name with the same parts and the same alias. It is refused only for want of memory.
+    /// A name with the same parts and the same alias. It fails only if memory runs out.
     /// `SqlName::new(alloc, "a")?.clone()?.safe()?` → `a`
     pub fn clone(&self) -> Result<SqlName, SqlBuilderError>
         ensures equal { IfOk result (λ name. name ≡ self.now) }
@@ -185,8 +185,8 @@ impl SqlName {
         })
     }
 
-    /// The name with all parts bare if all are plain, else with each part between backquotes. It is
-    /// refused only for want of memory.
+    /// The name with all parts bare if all are plain, else with each part between backquotes. It
+    /// fails only if memory runs out.
     /// `SqlName::new(alloc, "a")?.add("B")?.safe()?` → `` `a`.`B` ``
     #[tactic(auto, using(crate::proofs::NameTokens::safe_fits))]
     pub fn safe(&self) -> Result<String, SqlBuilderError>
@@ -198,7 +198,7 @@ impl SqlName {
         self.print(self.safe_form())
     }
 
-    /// The name with each part between single quotes. It is refused only for want of memory.
+    /// The name with each part between single quotes. It fails only if memory runs out.
     /// `SqlName::new(alloc, "a")?.add("b")?.quoted()?` → `'a'.'b'`
     pub fn quoted(&self) -> Result<String, SqlBuilderError>
         ensures text { IfOk result (λ s. string_bytes s ≡ name_text quoted self.now) }
@@ -210,7 +210,7 @@ impl SqlName {
         self.print(Form::Between(Quotes::Single))
     }
 
-    /// The name with each part between backquotes. It is refused only for want of memory.
+    /// The name with each part between backquotes. It fails only if memory runs out.
     /// `SqlName::new(alloc, "a")?.add("b")?.baquoted()?` → `` `a`.`b` ``
     pub fn baquoted(&self) -> Result<String, SqlBuilderError>
         ensures text { IfOk result (λ s. string_bytes s ≡ name_text baquoted self.now) }
@@ -222,7 +222,7 @@ impl SqlName {
         self.print(Form::Between(Quotes::Back))
     }
 
-    /// The name with each part between square brackets. It is refused only for want of memory.
+    /// The name with each part between square brackets. It fails only if memory runs out.
     /// `SqlName::new(alloc, "a")?.add("b")?.brquoted()?` → `[a].[b]`
     pub fn brquoted(&self) -> Result<String, SqlBuilderError>
         ensures text { IfOk result (λ s. string_bytes s ≡ name_text brquoted self.now) }
@@ -234,7 +234,7 @@ impl SqlName {
         self.print(Form::Between(Quotes::Square))
     }
 
-    /// The name with each part between double quotes. It is refused only for want of memory.
+    /// The name with each part between double quotes. It fails only if memory runs out.
     /// `SqlName::new(alloc, "a")?.add("b")?.dquoted()?` → `"a"."b"`
     pub fn dquoted(&self) -> Result<String, SqlBuilderError>
         ensures text { IfOk result (λ s. string_bytes s ≡ name_text dquoted self.now) }

@@ -39,8 +39,8 @@ fn enclose<S: ToText>(alloc: Global, quotes: Quotes, text: S) -> Result<String, 
     Ok(out)
 }
 
-/// The text with each `'` in it doubled: between two `'` it is an SQL text. It is refused only for
-/// want of memory.
+/// The text with each `'` in it doubled: between two `'` it is an SQL text. It fails only if memory
+/// runs out.
 /// `esc(alloc, "it's")?` → `it''s`
 #[tactic(auto, using(crate::proofs::TokenLaws::escaped_token))]
 pub fn esc<S: ToText>(alloc: Global, text: S) -> Result<String, SqlBuilderError>
@@ -98,8 +98,8 @@ pub fn push_quoted(out: &mut String, text: &str) -> Result<(), AllocError>
     push_enclosed(out, Quotes::Single, text)
 }
 
-/// The text between single quotes, with each `'` in it doubled: an SQL text. It is refused only
-/// for want of memory.
+/// The text between single quotes, with each `'` in it doubled: an SQL text. It fails only if
+/// memory runs out.
 /// `quote(alloc, "it's")?` → `'it''s'`
 pub fn quote<S: ToText>(alloc: Global, text: S) -> Result<String, SqlBuilderError>
     ensures text { IfOk result (λ s. string_bytes s ≡ quoted (S.text text)) }
@@ -110,8 +110,8 @@ pub fn quote<S: ToText>(alloc: Global, text: S) -> Result<String, SqlBuilderErro
     enclose(alloc, Quotes::Single, text)
 }
 
-/// The text between backquotes, with each backquote in it doubled: an SQL name. It is refused
-/// only for want of memory.
+/// The text between backquotes, with each backquote in it doubled: an SQL name. It fails only if
+/// memory runs out.
 /// `` baquote(alloc, "a`b")? `` → ``` `a``b` ```
 pub fn baquote<S: ToText>(alloc: Global, text: S) -> Result<String, SqlBuilderError>
     ensures text { IfOk result (λ s. string_bytes s ≡ baquoted (S.text text)) }
@@ -122,8 +122,8 @@ pub fn baquote<S: ToText>(alloc: Global, text: S) -> Result<String, SqlBuilderEr
     enclose(alloc, Quotes::Back, text)
 }
 
-/// The text between square brackets, with each `]` in it doubled: an SQL name. It is refused
-/// only for want of memory.
+/// The text between square brackets, with each `]` in it doubled: an SQL name. It fails only if
+/// memory runs out.
 /// `brquote(alloc, "a]")?` → `[a]]]`
 pub fn brquote<S: ToText>(alloc: Global, text: S) -> Result<String, SqlBuilderError>
     ensures text { IfOk result (λ s. string_bytes s ≡ brquoted (S.text text)) }
@@ -134,8 +134,8 @@ pub fn brquote<S: ToText>(alloc: Global, text: S) -> Result<String, SqlBuilderEr
     enclose(alloc, Quotes::Square, text)
 }
 
-/// The text between double quotes, with each `"` in it doubled: an SQL name. It is refused only
-/// for want of memory.
+/// The text between double quotes, with each `"` in it doubled: an SQL name. It fails only if
+/// memory runs out.
 /// `dquote(alloc, "a\"b")?` → `"a""b"`
 pub fn dquote<S: ToText>(alloc: Global, text: S) -> Result<String, SqlBuilderError>
     ensures text { IfOk result (λ s. string_bytes s ≡ dquoted (S.text text)) }

@@ -19,7 +19,7 @@ pub trait ToText: Drop {
     /// The text, as its bytes.
     ghost text: { Self → List ℕ };
 
-    /// The text. It is refused only for want of memory.
+    /// The text. It fails only if memory runs out.
     /// `25.to_text(alloc)?` → `25`
     fn to_text(&self, alloc: Global) -> Result<String, SqlBuilderError>
         ensures text { IfOk result (λ s. string_bytes s ≡ text self.now) }
@@ -71,7 +71,7 @@ impl<'a, S: ToText> Texts<'a> for Items<'a, S> {
     }
 }
 
-/// The text of each item. It is refused only for want of memory.
+/// The text of each item. It fails only if memory runs out.
 /// `copies(alloc, &[1, 2])?` → `[1, 2]`
 pub fn copies<S: ToText>(alloc: Global, items: &[S]) -> Result<Vec<String>, SqlBuilderError>
     ensures copied { IfOk result (λ copied. texts copied.items ≡ map S.text items.now) }
@@ -84,7 +84,7 @@ pub fn copies<S: ToText>(alloc: Global, items: &[S]) -> Result<Vec<String>, SqlB
     Ok(copied)
 }
 
-/// A copy of the text, if there is one. It is refused only for want of memory.
+/// A copy of the text, if there is one. It fails only if memory runs out.
 /// `copy(alloc, &Some(String::from_str(alloc, "a")?))?` → `Some(a)`
 pub fn copy(alloc: Global, text: &Option<String>) -> Result<Option<String>, SqlBuilderError>
     ensures copied { IfOk result (λ copied. optional_text copied ≡ optional_text text.now) }

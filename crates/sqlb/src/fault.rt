@@ -20,7 +20,7 @@ pub enum Reason {
     NoEnd,
     /// It is not UTF-8.
     NotUtf8,
-    /// It is a finish, and the statement is refused; never for want of memory.
+    /// It is a finish, and the statement is refused; never out of memory.
     Builder(SqlBuilderError),
 }
 
@@ -29,7 +29,7 @@ pub enum Reason {
 pub enum Fault {
     /// The line of this number, counted from 1, is not accepted.
     At(usize, Reason),
-    /// A growth was refused.
+    /// Memory ran out.
     Memory,
     /// A read answered an error.
     Read,
@@ -42,7 +42,7 @@ pub enum Fault {
 pub(crate) enum LineError {
     /// It is not accepted.
     Refused(Reason),
-    /// A growth was refused.
+    /// Memory ran out.
     Memory,
 }
 

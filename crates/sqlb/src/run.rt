@@ -88,7 +88,7 @@ pub fn run_input<R: Read, W: Write>(
     ensures read { IsErrOf result Fault.Read ↔ (reader.new.failed ≡ true) }
     ensures write { IsErrOf result Fault.Write ↔ (writer.new.failed ≡ true) }
 
-    // Want of memory is answered as `Memory`, and never as a line's reason.
+    // Out of memory is answered as `Memory`, and never as a line's reason.
     ensures no_memory { IfErr result NamesNoMemory }
 {
     let script = Script::new(alloc)?;
