@@ -9,7 +9,7 @@ use std::alloc::Global;
 use std::collections::HashMap;
 use std::test::Fail;
 
-/// Whether each call binds its marker of the template `?$1:a:`, those of lists to 10.
+/// Whether each call binds its placeholder of the template `?$1:a:`, those of lists to 10.
 fn is_bound<B: Bind>(alloc: Global, template: &B, args: &[Box<dyn SqlArg>]) -> bool {
     is_made(template.bind(alloc, &"it's"), "'it''s'$1:a:")
         && is_made(template.binds(alloc, args), "10$1:a:")
@@ -108,16 +108,22 @@ fn is_apart(alloc: Global, template: &str, marks: Marks<'_>, wanted: bool) -> bo
 }
 
 #[test]
-fn tells_which_templates_stand_apart(rt: HostRuntime) -> Result<(), Fail> {
+fn says_which_templates_stand_apart(rt: HostRuntime) -> Result<(), Fail> {
     let alloc = rt.alloc();
     assert!(rt; is_apart(alloc, "x = ? AND y = ?", Marks::Cycle(2), true));
     assert!(rt; is_apart(alloc, "?", Marks::Cycle(0), false), "no argument");
-    assert!(rt; is_apart(alloc, "'?'", Marks::First, false), "open pieces");
+    assert!(rt;
+        is_apart(alloc, "'?'", Marks::First, false),
+        "open segments"
+    );
     assert!(rt;
         is_apart(alloc, "x = '?", Marks::First, false),
         "an open end"
     );
-    assert!(rt; is_apart(alloc, "x = 'y", Marks::First, false), "no marker");
+    assert!(rt;
+        is_apart(alloc, "x = 'y", Marks::First, false),
+        "no placeholder"
+    );
     assert!(rt; is_apart(alloc, "a$1", Marks::Nums(1), false), "a touch");
     assert!(rt; is_apart(alloc, "a$1", Marks::Nums(0), true));
     assert!(rt; is_apart(alloc, "(:n:)", Marks::Names, true));
@@ -133,7 +139,7 @@ fn is_dangling(alloc: Global, text: &str, wanted: bool) -> bool {
 }
 
 #[test]
-fn tells_which_texts_dangle(rt: HostRuntime) -> Result<(), Fail> {
+fn says_which_texts_dangle(rt: HostRuntime) -> Result<(), Fail> {
     let alloc = rt.alloc();
     assert!(rt; is_dangling(alloc, "a OR", true));
     assert!(rt; is_dangling(alloc, "x BETWEEN 1", true));

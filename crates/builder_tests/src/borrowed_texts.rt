@@ -10,14 +10,14 @@ use sql_parts::{escaped, push_quoted, split_at_quote};
 use std::alloc::Global;
 use std::test::Fail;
 
-fn tell_fields(builder: &mut SqlBuilder) -> Result<(), SqlBuilderError> {
+fn add_fields(builder: &mut SqlBuilder) -> Result<(), SqlBuilderError> {
     make_unary(builder, UnaryClause::Field, "a")?;
     make_binary(builder, BinaryClause::CountAs, "b", "n")?;
     let fields = Items { items: &["c", "d"] };
     make_variadic(builder, VariadicClause::Fields, fields)
 }
 
-fn tell_condition_and_order(builder: &mut SqlBuilder) -> Result<(), SqlBuilderError> {
+fn add_condition_and_order(builder: &mut SqlBuilder) -> Result<(), SqlBuilderError> {
     let values = Items { items: &["1", "2"] };
     let condition = BorrowedCondition::InList(false, "a", values);
     make_condition(builder, Family::And, condition)?;
@@ -27,8 +27,8 @@ fn tell_condition_and_order(builder: &mut SqlBuilder) -> Result<(), SqlBuilderEr
 #[test]
 fn makes_calls_of_borrowed_texts(rt: HostRuntime) -> Result<(), Fail> {
     let mut builder = SqlBuilder::select_from(rt.alloc(), "t")?;
-    tell_fields(&mut builder)?;
-    tell_condition_and_order(&mut builder)?;
+    add_fields(&mut builder)?;
+    add_condition_and_order(&mut builder)?;
     assert_eq!(rt;
         builder.sql()?.as_str(),
         "SELECT a, COUNT(b) AS n, c, d FROM t WHERE a IN (1, 2) ORDER BY a DESC;"

@@ -120,25 +120,25 @@ pub(crate) const EVERY_START_AND_FINISH: [(Start, Finish, &str); 9] = [
     ),
 ];
 
-fn tell_distinct_and_tables(builder: &mut SqlBuilder) -> Result<(), SqlBuilderError> {
+fn add_distinct_and_tables(builder: &mut SqlBuilder) -> Result<(), SqlBuilderError> {
     builder.distinct().and_table("u")?;
     Ok(())
 }
 
-fn tell_a_join(builder: &mut SqlBuilder) -> Result<(), SqlBuilderError> {
+fn add_a_join(builder: &mut SqlBuilder) -> Result<(), SqlBuilderError> {
     builder.natural().left().join("a")?;
     builder.on("x")?.on_eq("y", "z")?;
     Ok(())
 }
 
-fn tell_further_joins(builder: &mut SqlBuilder) -> Result<(), SqlBuilderError> {
+fn add_further_joins(builder: &mut SqlBuilder) -> Result<(), SqlBuilderError> {
     builder.left_outer().join("b")?.right().join("c")?;
     builder.right_outer().join("d")?.inner().join("e")?;
     builder.cross().join("f")?;
     Ok(())
 }
 
-fn tell_fields(builder: &mut SqlBuilder) -> Result<(), SqlBuilderError> {
+fn add_fields(builder: &mut SqlBuilder) -> Result<(), SqlBuilderError> {
     builder
         .fields(&["g", "h"])?
         .set_fields(&["i", "j"])?
@@ -149,63 +149,63 @@ fn tell_fields(builder: &mut SqlBuilder) -> Result<(), SqlBuilderError> {
     Ok(())
 }
 
-fn tell_sets(builder: &mut SqlBuilder) -> Result<(), SqlBuilderError> {
+fn add_sets(builder: &mut SqlBuilder) -> Result<(), SqlBuilderError> {
     builder.set("p", "1")?.set_str("q", "it's")?;
     Ok(())
 }
 
-fn tell_rows_and_returning(builder: &mut SqlBuilder) -> Result<(), SqlBuilderError> {
+fn add_rows_and_returning(builder: &mut SqlBuilder) -> Result<(), SqlBuilderError> {
     builder.select("SELECT 3")?.values(&["4", "5"])?;
     builder.values(&["6"])?.returning("p")?.returning_id()?;
     Ok(())
 }
 
-fn tell_conditions(builder: &mut SqlBuilder) -> Result<(), SqlBuilderError> {
+fn add_conditions(builder: &mut SqlBuilder) -> Result<(), SqlBuilderError> {
     builder.and_where("r")?.and_where_gt("s", "7")?;
     Ok(())
 }
 
-fn tell_groups(builder: &mut SqlBuilder) -> Result<(), SqlBuilderError> {
+fn add_groups(builder: &mut SqlBuilder) -> Result<(), SqlBuilderError> {
     builder.group_by("v")?.group_by("w")?.having("x > 8")?;
     Ok(())
 }
 
-fn tell_unions(builder: &mut SqlBuilder) -> Result<(), SqlBuilderError> {
+fn add_unions(builder: &mut SqlBuilder) -> Result<(), SqlBuilderError> {
     builder.union("SELECT 9")?.union_all("SELECT 10")?;
     Ok(())
 }
 
-fn tell_order(builder: &mut SqlBuilder) -> Result<(), SqlBuilderError> {
+fn add_order(builder: &mut SqlBuilder) -> Result<(), SqlBuilderError> {
     builder.order_by("y", true)?.order_asc("z")?;
     builder.order_desc("z")?;
     Ok(())
 }
 
-fn tell_limits(builder: &mut SqlBuilder) -> Result<(), SqlBuilderError> {
+fn add_limits(builder: &mut SqlBuilder) -> Result<(), SqlBuilderError> {
     builder.limit("11")?.offset("12")?;
     Ok(())
 }
 
 /// One call of each case. A function for each few, since the proof of all in one takes long.
-pub(crate) fn tell_every_call(builder: &mut SqlBuilder) -> Result<(), SqlBuilderError> {
-    tell_distinct_and_tables(builder)?;
-    tell_a_join(builder)?;
-    tell_further_joins(builder)?;
-    tell_fields(builder)?;
-    tell_sets(builder)?;
-    tell_rows_and_returning(builder)?;
-    tell_conditions(builder)?;
-    tell_groups(builder)?;
-    tell_unions(builder)?;
-    tell_order(builder)?;
-    tell_limits(builder)
+pub(crate) fn add_every_call(builder: &mut SqlBuilder) -> Result<(), SqlBuilderError> {
+    add_distinct_and_tables(builder)?;
+    add_a_join(builder)?;
+    add_further_joins(builder)?;
+    add_fields(builder)?;
+    add_sets(builder)?;
+    add_rows_and_returning(builder)?;
+    add_conditions(builder)?;
+    add_groups(builder)?;
+    add_unions(builder)?;
+    add_order(builder)?;
+    add_limits(builder)
 }
 
-pub(crate) fn tell_every_call_after(alloc: Global, start: Start) -> Started
+pub(crate) fn start_and_add_every_call(alloc: Global, start: Start) -> Started
     requires { IsAlwaysCallable start }
 {
     let mut builder = start(alloc)?;
-    tell_every_call(&mut builder)?;
+    add_every_call(&mut builder)?;
     Ok(builder)
 }
 
@@ -213,7 +213,7 @@ fn made_of_every_call(alloc: Global, start: Start, finish: Finish) -> Made
     requires start { Start.IsAlwaysCallable start }
     requires finish { Finish.IsAlwaysCallable finish }
 {
-    let builder = tell_every_call_after(alloc, start)?;
+    let builder = start_and_add_every_call(alloc, start)?;
     finish(&builder)
 }
 

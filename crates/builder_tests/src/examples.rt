@@ -4,7 +4,7 @@ use callers::chains::{cheapest_first, dearer, limit, repriced, titles, titles_pr
 use callers::interference::remarked;
 use callers::lists::{books_where, of_books, titled_above};
 use callers::searches::{Search, search_printed};
-use callers::strangers::{filled, sought_printed, titled, titled_bound};
+use callers::untrusted::{filled, sought_printed, titled, titled_bound};
 use callers::values::{Cents, Column, above, between, of_title, sold_in, title};
 use sql_builder::SqlBuilderError;
 use sql_builder::prelude::*;
@@ -135,13 +135,13 @@ fn quotes_untrusted_texts(rt: HostRuntime) -> Result<(), Fail> {
         filled(alloc, "a = ?", args.as_slice())?.as_deref(),
         Some("a = 7")
     );
-    let refused = filled(alloc, "a = '?'", args.as_slice())?;
-    assert!(rt; refused.is_none(), "a marker between quotes");
+    let none = filled(alloc, "a = '?'", args.as_slice())?;
+    assert!(rt; none.is_none(), "a placeholder between quotes");
     Ok(())
 }
 
 #[test]
-fn hands_in_what_leaves_the_statement_as_it_is(rt: HostRuntime) -> Result<(), Fail> {
+fn takes_conditions_that_keep_the_statement(rt: HostRuntime) -> Result<(), Fail> {
     let alloc = rt.alloc();
     assert_eq!(rt; of_books(alloc, &[])?.as_str(), "SELECT * FROM books;");
     let made = books_where(alloc, "price < 9 OR new", "stock > 0")?;
@@ -149,15 +149,15 @@ fn hands_in_what_leaves_the_statement_as_it_is(rt: HostRuntime) -> Result<(), Fa
         made.as_deref(),
         Some("SELECT * FROM books WHERE (price < 9 OR new) AND (stock > 0);")
     );
-    let refused = books_where(alloc, "a) OR (b", "stock > 0")?;
-    assert!(rt; refused.is_none(), "brackets that close too early");
-    let refused = books_where(alloc, "stock > 0", "a UNION SELECT b")?;
-    assert!(rt; refused.is_none(), "a word that begins a clause");
+    let none = books_where(alloc, "a) OR (b", "stock > 0")?;
+    assert!(rt; none.is_none(), "brackets that close too early");
+    let none = books_where(alloc, "stock > 0", "a UNION SELECT b")?;
+    assert!(rt; none.is_none(), "a word that begins a clause");
     Ok(())
 }
 
 #[test]
-fn hands_in_values_without_a_test(rt: HostRuntime) -> Result<(), Fail> {
+fn takes_values_without_a_test(rt: HostRuntime) -> Result<(), Fail> {
     let alloc = rt.alloc();
     assert_eq!(rt;
         titled_above(alloc, "it's) OR (1 = 1", 9)?.as_str(),

@@ -1,7 +1,9 @@
-//! Tests of `sql_builder` that aren't rows. Rows of statements are lines, in `tests/rows` and `tests/conditions`, and rows of
-//! calls stand in `tests/calls.md` and `tests/every_call.md`.
+//! Tests of `sql_builder` that aren't rows. Rows of statements are lines, in `tests/rows` and `tests/conditions.md`, and rows of
+//! calls are in `tests/calls.md` and `tests/every_call.md`.
 #![tactic(auto)]
 
+#[cfg(test)]
+mod allocations;
 #[cfg(test)]
 mod binding;
 #[cfg(test)]
@@ -15,15 +17,13 @@ mod every_call;
 #[cfg(test)]
 mod examples;
 #[cfg(test)]
-mod growths;
-#[cfg(test)]
-mod kept_buffers;
-#[cfg(test)]
 mod lists_of_calls;
 #[cfg(test)]
 mod names;
 #[cfg(test)]
 mod quoting;
+#[cfg(test)]
+mod reused_buffers;
 #[cfg(test)]
 mod stated_laws;
 #[cfg(test)]

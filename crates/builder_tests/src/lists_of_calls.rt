@@ -9,7 +9,7 @@ use sql_builder::text::Items;
 use std::alloc::Global;
 use std::test::Fail;
 
-fn begun(alloc: Global) -> Made {
+fn chain_start(alloc: Global) -> Made {
     let start = Start::SelectFrom(String::from_str(alloc, "t")?);
     let builder = begin(alloc, &start)?;
     print(&builder, &Finish::Sql)
@@ -47,7 +47,7 @@ fn started_on_values(alloc: Global) -> Made {
 #[test]
 fn makes_one_call_of_a_list(rt: HostRuntime) -> Result<(), Fail> {
     let alloc = rt.alloc();
-    assert!(rt; is_made(begun(alloc), "SELECT * FROM t;"), "begin");
+    assert!(rt; is_made(chain_start(alloc), "SELECT * FROM t;"), "begin");
     assert!(rt; is_made(made(alloc), "SELECT a FROM t;"), "make");
     assert!(rt; is_made(ran(alloc), "SELECT DISTINCT * FROM t;"), "run");
     Ok(())

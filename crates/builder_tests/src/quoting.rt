@@ -19,13 +19,13 @@ fn quotes_texts(rt: HostRuntime) -> Result<(), Fail> {
     Ok(())
 }
 
-/// Whether a value's text is this, both lent and made.
+/// Whether a value's text is this, both borrowed and made.
 fn is_text<T: ToText>(alloc: Global, value: T, wanted: &str) -> bool {
-    let is_lent = match value.as_text(alloc) {
+    let is_borrowed = match value.as_text(alloc) {
         Ok(text) => text.as_str() == wanted,
         Err(_) => false,
     };
-    is_lent && is_made(value.to_text(alloc), wanted)
+    is_borrowed && is_made(value.to_text(alloc), wanted)
 }
 
 #[test]

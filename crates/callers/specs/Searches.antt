@@ -4,7 +4,7 @@ use Rattle.std.specs.Option.{option_to_list}
 use Rattle.sql_builder.specs.Calls.{CallText, Cond, Field}
 use Rattle.sql_builder.specs.Condition.{ConditionText, Compare, Like}
 use Rattle.sql_builder.specs.Quoting.{quoted}
-use Rattle.sql_builder.specs.Texts.{decimal_text}
+use Rattle.sql_builder.specs.Text.{decimal_text}
 use Rattle.sql_builder.specs.declared.condition.Family.TheVariants.{And}
 use Rattle.sql_builder.specs.declared.condition.Percent.TheVariants.{Any}
 use Rattle.sql_builder.specs.declared.condition.Relation.TheVariants.{Eq, Ge, Gt}

@@ -7,7 +7,7 @@ ghost use Rattle.sql_builder.specs.Error.{FailsOnlyByMemory};
 ghost use Rattle.sql_builder.specs.Layout.{byte_atoms, sql};
 ghost use Rattle.sql_builder.specs.Quoting.{quoted};
 ghost use Rattle.sql_builder.specs.Statement.{statement};
-ghost use Rattle.sql_builder.specs.Texts.{decimal_text};
+ghost use Rattle.sql_builder.specs.Text.{decimal_text};
 ghost use Rattle.sql_builder.specs.declared.condition.Family.TheVariants.{And};
 ghost use Rattle.sql_builder.specs.declared.condition.Relation.TheVariants.{Gt};
 ghost use Rattle.callers.specs.Columns.{limited};
@@ -18,7 +18,7 @@ use std::alloc::Global;
 
 /// Asks for at most so many books, where a number is given.
 pub fn limit(builder: &mut SqlBuilder, most: Option<u64>) -> Result<(), SqlBuilderError>
-    ensures told { OnOk result (builder.new ≡ limited most builder.old) }
+    ensures made { OnOk result (builder.new ≡ limited most builder.old) }
     ensures memory { FailsOnlyByMemory result }
 {
     if let Some(most) = most {
@@ -29,7 +29,7 @@ pub fn limit(builder: &mut SqlBuilder, most: Option<u64>) -> Result<(), SqlBuild
 
 /// Asks for at most so many books, the cheapest first.
 pub fn cheapest_first(builder: &mut SqlBuilder, most: u64) -> Result<(), SqlBuilderError>
-    ensures told { OnOk result (builder.new
+    ensures made { OnOk result (builder.new
         ≡ with_limit (decimal_text most) (with_order false (codes "price") builder.old)) }
     ensures memory { FailsOnlyByMemory result }
 {
@@ -39,7 +39,7 @@ pub fn cheapest_first(builder: &mut SqlBuilder, most: u64) -> Result<(), SqlBuil
 
 /// The titles of books, of at most so many where a number is given.
 pub fn titles(alloc: Global, most: Option<u64>) -> Result<SqlBuilder, SqlBuilderError>
-    ensures told { IfOk result (λ b. b ≡ limited most
+    ensures made { IfOk result (λ b. b ≡ limited most
         (with_fields (codes "title" ∷ []) (started (SelectFrom (codes "books"))))) }
     ensures memory { FailsOnlyByMemory result }
 {

@@ -1,6 +1,6 @@
 //! A statement that is the same whatever the user's texts are.
 ghost use Rattle.std.specs.Prelude.{◌≡◌, [], ◌∷◌, codes, false, string_bytes, IfOk, Ok};
-ghost use Rattle.sql_builder.specs.Blanks.{outline};
+ghost use Rattle.sql_builder.specs.StringTexts.{outline};
 ghost use Rattle.sql_builder.specs.Calls.{Cond, SetStr, Sql, UpdateTable};
 ghost use Rattle.sql_builder.specs.Condition.{Like};
 ghost use Rattle.sql_builder.specs.Error.{FailsOnlyByMemory};

@@ -6,5 +6,5 @@ pub mod chains;
 pub mod interference;
 pub mod lists;
 pub mod searches;
-pub mod strangers;
+pub mod untrusted;
 pub mod values;

@@ -1,14 +1,13 @@
 //! Lists of calls, as values.
 ghost use Rattle.std.specs.Prelude.{◌≡◌, ◌&&◌, ◌⊎◌, [], ◌∷◌, ◌++◌, codes, is_some, map, string_bytes, Err, IfErr, IfOk, IfSome, Ok};
-ghost use Rattle.sql_builder.specs.Calls.{SelectFrom, Sql};
+ghost use Rattle.sql_builder.specs.Calls.{SelectFrom, Sql, call_view};
 ghost use Rattle.sql_builder.specs.Error.{FailsOnlyByMemory, IsMemory};
-ghost use Rattle.sql_builder.specs.Handed.{Bare, is_fit};
+ghost use Rattle.sql_builder.specs.RawTexts.{Bare, is_fit};
 ghost use Rattle.sql_builder.specs.Meaning.{HasTruthOf};
 ghost use Rattle.sql_builder.specs.Quoting.{quoted};
 ghost use Rattle.sql_builder.specs.Statement.{statement};
-ghost use Rattle.sql_builder.specs.Texts.{decimal_text};
+ghost use Rattle.sql_builder.specs.Text.{decimal_text};
 ghost use Rattle.sql_builder.specs.Tokens.{Str, tokens};
-ghost use Rattle.sql_builder.specs.Views.{call_view};
 
 use sql_builder::SqlBuilderError;
 use sql_builder::calls::{Call, Condition, Family, Finish, Relation, Start, run};
@@ -21,7 +20,7 @@ use std::alloc::Global;
 pub fn of_books(alloc: Global, calls: &[Call]) -> Result<String, SqlBuilderError>
     ensures statement { IfOk result (λ s. statement (SelectFrom (codes "books"))
         (map call_view calls.now) Sql ≡ Ok (string_bytes s)) }
-    ensures refused { IfErr result (λ e. IsMemory e ⊎ (statement (SelectFrom (codes "books"))
+    ensures error { IfErr result (λ e. IsMemory e ⊎ (statement (SelectFrom (codes "books"))
         (map call_view calls.now) Sql ≡ Err e)) }
 {
     let start = Start::SelectFrom(String::from_str(alloc, "books")?);

@@ -16,7 +16,7 @@ use std::alloc::Global;
 /// What books are looked for: each filter that is given narrows the search.
 #[derive(Clone, Copy)]
 pub struct Search<'a> {
-    /// What stands in the title.
+    /// What the title contains.
     pub title: Option<&'a str>,
     /// Who wrote it.
     pub author: Option<&'a str>,
@@ -28,7 +28,7 @@ pub struct Search<'a> {
 
 /// The builder of a search.
 pub fn searching(alloc: Global, search: &Search<'_>) -> Result<SqlBuilder, SqlBuilderError>
-    ensures told { IfOk result (λ b. b ≡ made_by (SelectFrom (codes "books")) (calls search.now)) }
+    ensures made { IfOk result (λ b. b ≡ made_by (SelectFrom (codes "books")) (calls search.now)) }
     ensures memory { FailsOnlyByMemory result }
 {
     let mut builder = SqlBuilder::select_from(alloc, "books")?;

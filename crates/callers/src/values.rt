@@ -3,7 +3,7 @@ ghost use Rattle.std.specs.Prelude.{◌≡◌, ◌++◌, codes, pos, string_byte
 ghost use Rattle.sql_builder.specs.Error.{FailsOnlyByMemory};
 ghost use Rattle.sql_builder.specs.Literal.{whole};
 ghost use Rattle.sql_builder.specs.Quoting.{quoted};
-ghost use Rattle.sql_builder.specs.Texts.{decimal_text};
+ghost use Rattle.sql_builder.specs.Text.{decimal_text};
 ghost use Rattle.sql_builder.specs.Tokens.{closed};
 ghost use Rattle.callers.specs.Columns.{column_text};
 

@@ -3,17 +3,24 @@ use Rattle.std.specs.Prelude.{ℕ, List, [], ◌∷◌, ◌++◌, None, Some, Bo
 use Rattle.sql_parts.specs.Error.{IsMemory}
 use Rattle.sql_parts.specs.declared.error.SqlBuilderError.{SqlBuilderError}
 use Rattle.sql_builder.specs.Calls as call
-use Rattle.sql_builder.specs.Calls.{kind_of, StartText}
+use Rattle.sql_builder.specs.Calls.{CallText, StartText, binary_call, kind_of, unary_call, variadic_call}
 use Rattle.sql_builder.specs.Clauses.{Clauses, new_clauses}
 use Rattle.sql_builder.specs.Layout.{byte_atoms}
-use Rattle.sql_builder.specs.Phrases.{constraint, further_table, join, order, row}
+use Rattle.sql_builder.specs.Phrases.{constraint, count, count_as, equation, further_table, join, order, row}
 use Rattle.sql_builder.specs.declared.condition.Family.{Family}
 use Rattle.sql_builder.specs.declared.condition.Family.TheVariants.{And, Or}
 use Rattle.sql_builder.specs.Condition.{ConditionText, condition_bytes}
 use Rattle.sql_builder.specs.Filters.{cut}
+use Rattle.sql_parts.specs.Quoting.{quoted}
 use Rattle.sql_parts.specs.Text.{join_with}
 use Rattle.sql_builder.specs.declared.clauses.GroupedCondition.{GroupedCondition}
 use Rattle.sql_builder.specs.declared.clauses.JoinOperator.{JoinOperator}
+use Rattle.sql_builder.specs.declared.clauses.JoinOperator.TheVariants as operator
+use Rattle.sql_builder.specs.declared.steps.BinaryClause.{BinaryClause}
+use Rattle.sql_builder.specs.declared.steps.BinaryClause.TheVariants as binary
+use Rattle.sql_builder.specs.declared.steps.UnaryClause.{UnaryClause}
+use Rattle.sql_builder.specs.declared.steps.UnaryClause.TheVariants as unary
+use Rattle.sql_builder.specs.declared.steps.VariadicClause.{VariadicClause}
 
 -- a builder's clauses, each text as its bytes
 abbrev pub ClauseTexts : Type 0
@@ -35,7 +42,7 @@ extend_last t [] = []
 extend_last t (x ∷ []) = (x ++ t) ∷ []
 extend_last t (x ∷ y ∷ xs) = x ∷ extend_last t (y ∷ xs)
 
--- what a builder has been told by its start alone
+-- the clauses of a builder that has made no call
 abbrev pub started : StartText → ClauseTexts
 started start = new_clauses (kind_of start) (table start) (call.start_fields start)
   where
@@ -150,6 +157,85 @@ HasJoin r = some r.joins
     some [] = ⊥
     some (join ∷ joins) = Unit {0}
 
--- how a constraint is refused: for want of memory, and only where there is a join
-abbrev pub RefusesConstraint : ClauseTexts → SqlBuilderError → Type 0
-RefusesConstraint r refusal = IsMemory refusal × HasJoin r
+-- how a constraint fails: out of memory, and only where there is a join
+abbrev pub IsConstraintError : ClauseTexts → SqlBuilderError → Type 0
+IsConstraintError r error = IsMemory error × HasJoin r
+
+-- ---- calls
+
+-- what a call makes of them
+abbrev pub with_call : CallText → ClauseTexts → ClauseTexts
+with_call call.Natural r = with_natural r
+with_call call.Left r = with_operator operator.Left r
+with_call call.LeftOuter r = with_operator operator.LeftOuter r
+with_call call.Right r = with_operator operator.Right r
+with_call call.RightOuter r = with_operator operator.RightOuter r
+with_call call.Inner r = with_operator operator.Inner r
+with_call call.Cross r = with_operator operator.Cross r
+with_call call.Distinct r = with_distinct r
+with_call (call.AndTable table) r = with_table table r
+with_call (call.Join table) r = with_join table r
+with_call (call.On constraint) r = with_on constraint r
+with_call (call.OnEq left right) r = with_on (equation byte_atoms left right) r
+with_call (call.Fields fields) r = with_fields fields r
+with_call (call.SetFields fields) r = with_fields_set fields r
+with_call (call.Field field) r = with_fields (field ∷ []) r
+with_call (call.SetField field) r = with_fields_set (field ∷ []) r
+with_call (call.Count field) r = with_fields (count byte_atoms field ∷ []) r
+with_call (call.CountAs field name) r = with_fields (count_as byte_atoms field name ∷ []) r
+with_call (call.SetTo field value) r = with_set (equation byte_atoms field value) r
+with_call (call.SetStr field value) r = with_set (equation byte_atoms field (quoted value)) r
+with_call (call.Values values) r = with_row values r
+with_call (call.Select query) r = with_query query r
+with_call (call.Returning fields) r = with_returning fields r
+with_call call.ReturningId r = with_returning (codes "id") r
+with_call (call.GroupBy field) r = with_group_field field r
+with_call (call.Having condition) r = with_having condition r
+with_call (call.Union query) r = with_union false query r
+with_call (call.UnionAll query) r = with_union true query r
+with_call (call.OrderBy field descending) r = with_order descending field r
+with_call (call.OrderAsc field) r = with_order false field r
+with_call (call.OrderDesc field) r = with_order true field r
+with_call (call.Limit limit) r = with_limit limit r
+with_call (call.Offset offset) r = with_offset offset r
+with_call (call.Cond family condition) r = with_condition family condition r
+
+-- a call with one text
+abbrev pub with_unary : UnaryClause → List ℕ → ClauseTexts → ClauseTexts
+with_unary clause text r = with_call (unary_call clause text) r
+
+-- a call with two texts
+abbrev pub with_binary : BinaryClause → List ℕ → List ℕ → ClauseTexts → ClauseTexts
+with_binary clause first second r = with_call (binary_call clause first second) r
+
+-- a call with a list of texts
+abbrev pub with_variadic : VariadicClause → List (List ℕ) → ClauseTexts → ClauseTexts
+with_variadic clause texts r = with_call (variadic_call clause texts) r
+
+-- how a call with one text fails
+abbrev pub IsUnaryError : UnaryClause → ClauseTexts → SqlBuilderError → Type 0
+IsUnaryError unary.On r error = IsConstraintError r error
+IsUnaryError _ r error = IsMemory error
+
+-- how a call with two texts fails
+abbrev pub IsBinaryError : BinaryClause → ClauseTexts → SqlBuilderError → Type 0
+IsBinaryError binary.OnEq r error = IsConstraintError r error
+IsBinaryError _ r error = IsMemory error
+
+-- a call may take memory: one that sets a truth value or an operator takes none, and a constraint only where there is a join
+abbrev pub MayTakeMemory : CallText → ClauseTexts → Type 0
+MayTakeMemory call.Natural r = ⊥
+MayTakeMemory call.Left r = ⊥
+MayTakeMemory call.LeftOuter r = ⊥
+MayTakeMemory call.Right r = ⊥
+MayTakeMemory call.RightOuter r = ⊥
+MayTakeMemory call.Inner r = ⊥
+MayTakeMemory call.Cross r = ⊥
+MayTakeMemory call.Distinct r = ⊥
+MayTakeMemory (call.On constraint) r = HasJoin r
+MayTakeMemory (call.OnEq left right) r = HasJoin r
+MayTakeMemory _ r = Unit {0}
+
+-- how a call fails: because memory runs out, and only where it may take memory
+abbrev pub IsCallError : CallText → ClauseTexts → SqlBuilderError → Type 0
+IsCallError call r error = IsMemory error × MayTakeMemory call r

@@ -1,14 +1,29 @@
 -- What a start, a list of calls and a finish say, each text as its bytes: each clause filters the whole list.
-use Rattle.std.specs.Prelude.{ℕ, List, [], ◌∷◌, ◌++◌, Option, None, Some, Bool, true, false, map, codes, flat_map, filter_map}
+use Rattle.std.specs.Prelude.{ℕ, List, [], ◌∷◌, ◌++◌, Option, None, Some, Bool, true, false, map, codes, flat_map, filter_map, string_bytes}
 use Rattle.std.specs.List.{list_any}
 use Rattle.sql_builder.specs.Clauses.{Clauses}
-use Rattle.sql_builder.specs.Condition.{ConditionText, condition_pieces}
-use Rattle.sql_builder.specs.Filters.{any_unfollowed, cut, Group, in_place, last_said, since, until}
+use Rattle.sql_builder.specs.Condition.{ConditionText, condition_pieces, condition_raw_texts, condition_view}
+use Rattle.sql_builder.specs.Filters.{any_unfollowed, cut, Group, in_place, last_given, since, until}
 use Rattle.sql_builder.specs.Phrases.{constraint, count, count_as, equation, further_table, join, order, row}
-use Rattle.sql_builder.specs.Text.{Pieces, fixed_piece, quoted_piece, raw_piece}
-use Rattle.sql_parts.specs.Text.{join_with}
+use Rattle.sql_builder.specs.Pieces.{Pieces, fixed_piece, quoted_piece, raw_piece}
+use Rattle.sql_parts.specs.Text.{join_with, texts}
+use Rattle.sql_builder.specs.RawTexts.{RawText, Bare, Enclosed}
 use Rattle.sql_builder.specs.declared.condition.Family.{Family}
 use Rattle.sql_builder.specs.declared.condition.Family.TheVariants.{And, Or}
+use Rattle.sql_builder.specs.declared.calls.Call.{Call}
+use Rattle.sql_builder.specs.declared.calls.Call.TheVariants as call_case
+use Rattle.sql_builder.specs.declared.calls.Finish.{Finish}
+use Rattle.sql_builder.specs.declared.calls.Finish.TheVariants as finish_case
+use Rattle.sql_builder.specs.declared.calls.Start.{Start}
+use Rattle.sql_builder.specs.declared.calls.Start.TheVariants as start_case
+use Rattle.sql_builder.specs.declared.calls.TableStart.{TableStart}
+use Rattle.sql_builder.specs.declared.calls.TableStart.TheVariants as on_case
+use Rattle.sql_builder.specs.declared.steps.BinaryClause.{BinaryClause}
+use Rattle.sql_builder.specs.declared.steps.BinaryClause.TheVariants as binary
+use Rattle.sql_builder.specs.declared.steps.UnaryClause.{UnaryClause}
+use Rattle.sql_builder.specs.declared.steps.UnaryClause.TheVariants as unary
+use Rattle.sql_builder.specs.declared.steps.VariadicClause.{VariadicClause}
+use Rattle.sql_builder.specs.declared.steps.VariadicClause.TheVariants as variadic
 use Rattle.sql_builder.specs.declared.clauses.JoinOperator.{JoinOperator}
 use Rattle.sql_builder.specs.declared.clauses.JoinOperator.TheVariants as operator
 use Rattle.sql_builder.specs.declared.clauses.Kind.{Kind}
@@ -67,6 +82,157 @@ pub data FinishText : Type 0 where
   Subquery : FinishText
   SubqueryAs : List ℕ → FinishText
 
+-- ---- the arguments of `run`, each text as its bytes
+
+-- a start, its texts as bytes
+abbrev pub start_view : Start → StartText
+start_view (start_case.SelectFrom table) = SelectFrom (string_bytes table)
+start_view (start_case.SelectValues values) = SelectValues (texts values.items)
+start_view (start_case.InsertInto table) = InsertInto (string_bytes table)
+start_view (start_case.UpdateTable table) = UpdateTable (string_bytes table)
+start_view (start_case.DeleteFrom table) = DeleteFrom (string_bytes table)
+
+-- a start on this table
+abbrev pub start_on : TableStart → List ℕ → StartText
+start_on on_case.SelectFrom table = SelectFrom table
+start_on on_case.InsertInto table = InsertInto table
+start_on on_case.UpdateTable table = UpdateTable table
+start_on on_case.DeleteFrom table = DeleteFrom table
+
+-- a call, its texts as bytes
+abbrev pub call_view : Call → CallText
+call_view call_case.Natural = Natural
+call_view call_case.Left = Left
+call_view call_case.LeftOuter = LeftOuter
+call_view call_case.Right = Right
+call_view call_case.RightOuter = RightOuter
+call_view call_case.Inner = Inner
+call_view call_case.Cross = Cross
+call_view call_case.Distinct = Distinct
+call_view (call_case.AndTable table) = AndTable (string_bytes table)
+call_view (call_case.Join table) = Join (string_bytes table)
+call_view (call_case.On constraint) = On (string_bytes constraint)
+call_view (call_case.OnEq left right) = OnEq (string_bytes left) (string_bytes right)
+call_view (call_case.Fields fields) = Fields (texts fields.items)
+call_view (call_case.SetFields fields) = SetFields (texts fields.items)
+call_view (call_case.Field field) = Field (string_bytes field)
+call_view (call_case.SetField field) = SetField (string_bytes field)
+call_view (call_case.Count field) = Count (string_bytes field)
+call_view (call_case.CountAs field name) = CountAs (string_bytes field) (string_bytes name)
+call_view (call_case.SetTo field value) = SetTo (string_bytes field) (string_bytes value)
+call_view (call_case.SetStr field value) = SetStr (string_bytes field) (string_bytes value)
+call_view (call_case.Values values) = Values (texts values.items)
+call_view (call_case.Select query) = Select (string_bytes query)
+call_view (call_case.Returning fields) = Returning (string_bytes fields)
+call_view call_case.ReturningId = ReturningId
+call_view (call_case.GroupBy field) = GroupBy (string_bytes field)
+call_view (call_case.Having condition) = Having (string_bytes condition)
+call_view (call_case.Union query) = Union (string_bytes query)
+call_view (call_case.UnionAll query) = UnionAll (string_bytes query)
+call_view (call_case.OrderBy field descending) = OrderBy (string_bytes field) descending
+call_view (call_case.OrderAsc field) = OrderAsc (string_bytes field)
+call_view (call_case.OrderDesc field) = OrderDesc (string_bytes field)
+call_view (call_case.Limit limit) = Limit (string_bytes limit)
+call_view (call_case.Offset offset) = Offset (string_bytes offset)
+call_view (call_case.Cond family condition) = Cond family (condition_view condition)
+
+-- a finish, its text as bytes
+abbrev pub finish_view : Finish → FinishText
+finish_view finish_case.Sql = Sql
+finish_view finish_case.Query = Query
+finish_view finish_case.QueryValues = QueryValues
+finish_view finish_case.Subquery = Subquery
+finish_view (finish_case.SubqueryAs name) = SubqueryAs (string_bytes name)
+
+-- what f says of a start, calls and a finish, each as its texts
+abbrev pub of_list {ℓ} : {X : Type ℓ} → (StartText → List CallText → FinishText → X) → Start → List Call → Finish → X
+of_list f start calls finish = f (start_view start) (map call_view calls) (finish_view finish)
+
+-- ---- the calls of a clause that a constant names
+
+-- a call with one text
+abbrev pub unary_call : UnaryClause → List ℕ → CallText
+unary_call unary.AndTable table = AndTable table
+unary_call unary.Join table = Join table
+unary_call unary.On constraint = On constraint
+unary_call unary.Field field = Field field
+unary_call unary.SetField field = SetField field
+unary_call unary.Count field = Count field
+unary_call unary.Select query = Select query
+unary_call unary.Returning fields = Returning fields
+unary_call unary.GroupBy field = GroupBy field
+unary_call unary.Having condition = Having condition
+unary_call unary.Union query = Union query
+unary_call unary.UnionAll query = UnionAll query
+unary_call unary.OrderAsc field = OrderAsc field
+unary_call unary.OrderDesc field = OrderDesc field
+unary_call unary.Limit limit = Limit limit
+unary_call unary.Offset offset = Offset offset
+
+-- a call with two texts
+abbrev pub binary_call : BinaryClause → List ℕ → List ℕ → CallText
+binary_call binary.OnEq left right = OnEq left right
+binary_call binary.CountAs field name = CountAs field name
+binary_call binary.SetTo field value = SetTo field value
+binary_call binary.SetStr field value = SetStr field value
+
+-- a call with a list of texts
+abbrev pub variadic_call : VariadicClause → List (List ℕ) → CallText
+variadic_call variadic.Fields fields = Fields fields
+variadic_call variadic.SetFields fields = SetFields fields
+variadic_call variadic.Values values = Values values
+
+-- ---- the raw texts of calls, by where they are printed
+
+-- the texts of a start
+abbrev pub start_raw_texts : StartText → List RawText
+start_raw_texts (SelectFrom table) = Bare table ∷ []
+start_raw_texts (SelectValues values) = map Bare values
+start_raw_texts (InsertInto table) = Bare table ∷ []
+start_raw_texts (UpdateTable table) = Bare table ∷ []
+start_raw_texts (DeleteFrom table) = Bare table ∷ []
+
+-- a field, which `sql` of an INSERT encloses
+abbrev pub field_text : Bool → List ℕ → RawText
+field_text true field = Enclosed field
+field_text false field = Bare field
+
+-- the texts of a call, where fields are enclosed or not
+abbrev pub call_raw_texts : Bool → CallText → List RawText
+call_raw_texts enclosed (AndTable table) = Bare table ∷ []
+call_raw_texts enclosed (Join table) = Bare table ∷ []
+call_raw_texts enclosed (On text) = Bare text ∷ []
+call_raw_texts enclosed (OnEq left right) = Bare left ∷ Bare right ∷ []
+call_raw_texts enclosed (Fields fields) = map (field_text enclosed) fields
+call_raw_texts enclosed (SetFields fields) = map (field_text enclosed) fields
+call_raw_texts enclosed (Field field) = field_text enclosed field ∷ []
+call_raw_texts enclosed (SetField field) = field_text enclosed field ∷ []
+call_raw_texts enclosed (Count field) = Enclosed field ∷ []
+call_raw_texts enclosed (CountAs field name) = Enclosed field ∷ field_text enclosed name ∷ []
+call_raw_texts enclosed (SetTo field value) = Bare field ∷ Bare value ∷ []
+call_raw_texts enclosed (SetStr field value) = Bare field ∷ []
+call_raw_texts enclosed (Values values) = map Enclosed values
+call_raw_texts enclosed (Select query) = Bare query ∷ []
+call_raw_texts enclosed (Returning fields) = Bare fields ∷ []
+call_raw_texts enclosed (GroupBy field) = Bare field ∷ []
+call_raw_texts enclosed (Having condition) = Bare condition ∷ []
+call_raw_texts enclosed (Cond family condition) = condition_raw_texts condition
+call_raw_texts enclosed (Union query) = Enclosed query ∷ []
+call_raw_texts enclosed (UnionAll query) = Enclosed query ∷ []
+call_raw_texts enclosed (OrderBy field descending) = Bare field ∷ []
+call_raw_texts enclosed (OrderAsc field) = Bare field ∷ []
+call_raw_texts enclosed (OrderDesc field) = Bare field ∷ []
+call_raw_texts enclosed (Limit limit) = Bare limit ∷ []
+call_raw_texts enclosed (Offset offset) = Bare offset ∷ []
+call_raw_texts enclosed _ = []
+
+-- the text of a finish, a name behind the brackets
+abbrev pub finish_raw_texts : FinishText → List RawText
+finish_raw_texts (SubqueryAs name) = Bare name ∷ []
+finish_raw_texts _ = []
+
+-- ---- what the calls make
+
 -- the kind of statement that a start begins
 abbrev pub kind_of : StartText → Kind
 kind_of (SelectFrom table) = kind.SelectFrom
@@ -104,7 +270,7 @@ operator_in _ = None
 
 -- the operator that was chosen last
 abbrev pub operator_of : List CallText → Option JoinOperator
-operator_of calls = last_said operator_in calls
+operator_of calls = last_given operator_in calls
 
 -- whether a call is `natural`
 abbrev pub is_natural : CallText → Bool
@@ -203,7 +369,7 @@ rows_of calls = flat_map rows_in (since is_select calls)
 
 -- the last query since the last row
 abbrev pub query_of : List CallText → Option Pieces
-query_of calls = last_said query_in (since is_values calls)
+query_of calls = last_given query_in (since is_values calls)
 
 -- what a call returns
 abbrev pub returning_in : CallText → Option Pieces
@@ -279,12 +445,12 @@ clauses start calls = record {
   sets = flat_map sets_in calls;
   rows = rows_of calls;
   query = query_of calls;
-  returning = last_said returning_in calls;
+  returning = last_given returning_in calls;
   group_fields = flat_map group_fields_in calls;
-  having = last_said having_in calls;
+  having = last_given having_in calls;
   groups = map group_pieces (groups calls);
   unions = flat_map unions_in calls;
   order_fields = flat_map order_fields_in calls;
-  limit = last_said limit_in calls;
-  offset = last_said offset_in calls;
+  limit = last_given limit_in calls;
+  offset = last_given offset_in calls;
 }

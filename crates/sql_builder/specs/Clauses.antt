@@ -1,4 +1,4 @@
--- What a builder has been told, clause by clause, each text in a form T.
+-- A builder's clauses, each text in a form T.
 use Rattle.std.specs.Prelude.{List, [], Option, None, Bool, false, map, option_map}
 use Rattle.sql_builder.specs.declared.clauses.Kind.{Kind}
 use Rattle.sql_builder.specs.declared.clauses.JoinOperator.{JoinOperator}
@@ -65,7 +65,7 @@ map_clauses f r = record {
   offset = option_map f r.offset;
 }
 
--- a statement of this kind with this table and these fields, told nothing else
+-- a statement of this kind with this table and these fields, and no other clause
 abbrev pub new_clauses : {T : Type 0} → Kind → T → List T → Clauses T
 new_clauses kind table fields = record {
   kind = kind;

@@ -6,7 +6,7 @@ use Rattle.sql_builder.specs.declared.concat.Part.{Part}
 abbrev pub concat_bytes : List Part → List ℕ
 concat_bytes parts = flat_map (λ part. part.0.now) parts
 
--- a length, or the greatest `usize` where it is greater
+-- a length, or the greatest `usize` where that is less
 abbrev pub at_most_usize : ℕ → ℕ
 at_most_usize len = min len (2 ^ 64 - 1)
 

@@ -4,10 +4,10 @@ use Rattle.std.specs.List.{list_all}
 use Rattle.sql_parts.specs.Fragments.{balanced, operand}
 use Rattle.sql_parts.specs.Quoting.{quoted}
 use Rattle.sql_parts.specs.Text.{texts}
-use Rattle.sql_builder.specs.Handed.{Handed, Bare, Enclosed}
+use Rattle.sql_builder.specs.RawTexts.{RawText, Bare, Enclosed}
 use Rattle.sql_builder.specs.Layout.{byte_atoms}
 use Rattle.sql_builder.specs.Phrases.{comma_list}
-use Rattle.sql_builder.specs.Text.{Pieces, fixed_piece, quoted_piece, raw_piece}
+use Rattle.sql_builder.specs.Pieces.{Pieces, fixed_piece, quoted_piece, raw_piece}
 use Rattle.sql_builder.specs.declared.condition.BorrowedCondition.{BorrowedCondition}
 use Rattle.sql_builder.specs.declared.condition.BorrowedCondition.TheVariants as borrowed
 use Rattle.sql_builder.specs.declared.condition.Condition.{Condition}
@@ -68,19 +68,19 @@ relation_text Ge = codes " >= "
 relation_text Lt = codes " < "
 relation_text Le = codes " <= "
 
--- whether a percent sign stands in front of the mask
-abbrev pub is_in_front : Percent → Bool
-is_in_front Plain = false
-is_in_front Right = true
-is_in_front Left = false
-is_in_front Any = true
+-- whether a percent sign precedes the mask
+abbrev pub has_leading : Percent → Bool
+has_leading Plain = false
+has_leading Right = true
+has_leading Left = false
+has_leading Any = true
 
--- whether a percent sign stands behind the mask
-abbrev pub is_behind : Percent → Bool
-is_behind Plain = false
-is_behind Right = false
-is_behind Left = true
-is_behind Any = true
+-- whether a percent sign follows the mask
+abbrev pub has_trailing : Percent → Bool
+has_trailing Plain = false
+has_trailing Right = false
+has_trailing Left = true
+has_trailing Any = true
 
 -- a percent sign, if there is one
 abbrev pub percent_sign : Bool → List ℕ
@@ -89,14 +89,14 @@ percent_sign false = []
 
 -- the mask with its percent signs
 abbrev pub mask_text : Percent → List ℕ → List ℕ
-mask_text percent mask = percent_sign (is_in_front percent) ++ (mask ++ percent_sign (is_behind percent))
+mask_text percent mask = percent_sign (has_leading percent) ++ (mask ++ percent_sign (has_trailing percent))
 
 -- NOT, in the NOT form
 abbrev pub not_text : Bool → List ℕ
 not_text true = codes " NOT"
 not_text false = []
 
--- `word` gives the atoms of a text of the product's own, `raw` of one that is handed in, `quoted` of one between quotes
+-- `word` gives the atoms of a text of the product's own, `raw` of a raw text, `quoted` of one between quotes
 module _ {A : Type 0} (word raw quoted : List ℕ → List A) where
   -- what a condition prints
   abbrev pub condition_layout : ConditionText → List A
@@ -126,7 +126,7 @@ condition_bytes condition = condition_layout byte_atoms byte_atoms quoted condit
 abbrev pub condition_pieces : ConditionText → Pieces
 condition_pieces condition = condition_layout fixed_piece raw_piece quoted_piece condition
 
--- the texts of a condition are operands; of IN the field is, and what stands in the brackets is balanced
+-- the texts of a condition are operands; of IN the field is, and what is in the brackets is balanced
 abbrev pub has_operands : ConditionText → Bool
 has_operands (Raw condition) = false
 has_operands (Compare relation field value) = operand field && operand value
@@ -138,14 +138,20 @@ has_operands (InQuoted negated field values) = operand field
 has_operands (InQuery negated field query) = operand field && balanced query
 has_operands (Between negated field least greatest) = operand field && (operand least && operand greatest)
 
--- the texts that a condition is handed
-abbrev pub condition_handed : ConditionText → List Handed
-condition_handed (Raw condition) = Bare condition ∷ []
-condition_handed (Compare relation field value) = Bare field ∷ Bare value ∷ []
-condition_handed (Like negated percent field mask) = Bare field ∷ []
-condition_handed (IsNull field) = Bare field ∷ []
-condition_handed (IsNotNull field) = Bare field ∷ []
-condition_handed (InList negated field values) = Bare field ∷ map Enclosed values
-condition_handed (InQuoted negated field values) = Bare field ∷ []
-condition_handed (InQuery negated field query) = Bare field ∷ Enclosed query ∷ []
-condition_handed (Between negated field least greatest) = Bare field ∷ Bare least ∷ Bare greatest ∷ []
+-- the raw texts of a condition
+abbrev pub condition_raw_texts : ConditionText → List RawText
+condition_raw_texts (Raw condition) = Bare condition ∷ []
+condition_raw_texts (Compare relation field value) = Bare field ∷ Bare value ∷ []
+condition_raw_texts (Like negated percent field mask) = Bare field ∷ []
+condition_raw_texts (IsNull field) = Bare field ∷ []
+condition_raw_texts (IsNotNull field) = Bare field ∷ []
+condition_raw_texts (InList negated field values) = Bare field ∷ map Enclosed values
+condition_raw_texts (InQuoted negated field values) = Bare field ∷ []
+condition_raw_texts (InQuery negated field query) = Bare field ∷ Enclosed query ∷ []
+condition_raw_texts (Between negated field least greatest) = Bare field ∷ Bare least ∷ Bare greatest ∷ []
+
+-- a condition with no text in what it quotes: the mask of a LIKE, or each value of an IN
+abbrev pub blank_condition : ConditionText → ConditionText
+blank_condition (Like negated percent field mask) = Like negated percent field []
+blank_condition (InQuoted negated field values) = InQuoted negated field (map (λ value. []) values)
+blank_condition condition = condition

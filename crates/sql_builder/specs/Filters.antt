@@ -2,9 +2,9 @@
 use Rattle.std.specs.Prelude.{List, [], ◌∷◌, ◌++◌, Option, None, Bool, true, false, ◌&&◌, ◌||◌, not, if◌then◌else◌, filter_map}
 use Rattle.std.specs.List.{list_any, last_or}
 
--- what f says of the last element of which it says something
-abbrev pub last_said : {X Y : Type 0} → (X → Option Y) → List X → Option Y
-last_said f xs = last_or None (filter_map f xs)
+-- what f gives of the last element of which it gives something
+abbrev pub last_given : {X Y : Type 0} → (X → Option Y) → List X → Option Y
+last_given f xs = last_or None (filter_map f xs)
 
 -- the list from its last element that passes on, or all of it where none passes
 abbrev pub since : {X : Type 0} → (X → Bool) → List X → List X
@@ -30,7 +30,7 @@ in_place f before (x ∷ xs) = f before x xs ++ in_place f (before ++ x ∷ []) 
 abbrev pub Group : Type 0 → Type 0
 Group X = X × List X
 
--- x begins a group with those that stand first, or is the first of them
+-- x begins a group with those that are first, or is the first of them
 abbrev pub begins : {X : Type 0} → Bool → X → List X × List (Group X) → List X × List (Group X)
 begins true x r = ([], (x, r.0) ∷ r.1)
 begins false x r = (x ∷ r.0, r.1)

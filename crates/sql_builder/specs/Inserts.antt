@@ -4,18 +4,18 @@ use Rattle.std.specs.List.{list_all}
 use Rattle.sql_parts.specs.Fragments.{balanced, has_outer, is_clause_word, placed}
 use Rattle.sql_parts.specs.Tokens.{Token, Word, tokens}
 use Rattle.sql_builder.specs.Builder.{ClauseTexts}
-use Rattle.sql_builder.specs.Calls.{CallText, StartText, Query, Sql, clauses, is_select, query_of, unions_in}
+use Rattle.sql_builder.specs.Calls.{CallText, StartText, Query, Sql, clauses, is_select, query_of, unions_in, call_raw_texts}
 use Rattle.sql_builder.specs.Calls as call
 use Rattle.sql_builder.specs.Clauses.{Clauses}
-use Rattle.sql_builder.specs.Fitting.{are_fit, call_handed, has_fit_fragments}
-use Rattle.sql_builder.specs.Handed.{Bare, is_fit}
+use Rattle.sql_builder.specs.FitFragments.{are_fit, has_fit_fragments}
+use Rattle.sql_builder.specs.RawTexts.{Bare, is_fit}
 use Rattle.sql_builder.specs.Layout.{byte_atoms, insert_target, query, sql}
 use Rattle.sql_builder.specs.Meaning.{HasFitFragments}
-use Rattle.sql_builder.specs.Parts.{parts_at}
+use Rattle.sql_builder.specs.TokenParts.{parts_at}
 use Rattle.sql_builder.specs.Reading.{Clause, is_union, read}
 use Rattle.sql_builder.specs.Shape.{as_fragments, pieces_tokens}
 use Rattle.sql_builder.specs.Statement.{statement}
-use Rattle.sql_builder.specs.Text.{Pieces, fixed_piece, raw_piece}
+use Rattle.sql_builder.specs.Pieces.{Pieces, fixed_piece, raw_piece}
 use Rattle.sql_builder.specs.declared.clauses.Kind.TheVariants.{InsertInto}
 
 -- the tokens before the first outer clause word: none of a query that begins with SELECT
@@ -28,21 +28,21 @@ returning_clauses None = []
 returning_clauses (Some returned) = (Word (codes "RETURNING"), pieces_tokens returned) ∷ []
 
 -- those that are read behind a query: none behind an outer UNION, where a reader ends
-abbrev pub returning_behind : List Token → Option Pieces → List Clause
-returning_behind query returned = if has_outer is_union query then [] else returning_clauses returned
+abbrev pub returning_after : List Token → Option Pieces → List Clause
+returning_after query returned = if has_outer is_union query then [] else returning_clauses returned
 
 -- the clauses of an INSERT of a query: its own, with the table and the fields, then those of the query, and RETURNING
 abbrev pub insert_clauses : Clauses Pieces → List Token → List Clause
 insert_clauses r query =
     (Word (codes "INSERT"), Word (codes "INTO") ∷ (pieces_tokens (insert_target fixed_piece r) ++ lead_of query))
-    ∷ (read query ++ returning_behind query r.returning)
+    ∷ (read query ++ returning_after query r.returning)
 
 -- what is returned is fit, where something is
 abbrev pub is_fit_returning : Option Pieces → Bool
 is_fit_returning None = true
 is_fit_returning (Some returned) = are_fit returned
 
--- the table and the fields, which stand between brackets, are fit, and what is returned is
+-- the table and the fields, which are between brackets, are fit, and what is returned is
 abbrev pub has_fit_target : Clauses Pieces → Bool
 has_fit_target r = are_fit (insert_target fixed_piece r) && is_fit_returning r.returning
 
@@ -72,9 +72,9 @@ abbrev pub BuildersOfQueriesAreOne : Type 0
 BuildersOfQueriesAreOne = (r : ClauseTexts)
     → r.unions ≡ [] → IsTrue (has_fit_fragments (query fixed_piece (as_fragments r))) → IsTrue (is_one_query (query byte_atoms r))
 
--- each text that is handed in is fit, but for queries
+-- each raw text is fit, but for queries
 abbrev pub has_fit_insert_texts : List ℕ → List CallText → Bool
-has_fit_insert_texts table calls = is_fit (Bare table) && list_all (λ c. is_select c || list_all is_fit (call_handed true c)) calls
+has_fit_insert_texts table calls = is_fit (Bare table) && list_all (λ c. is_select c || list_all is_fit (call_raw_texts true c)) calls
 
 -- where these texts are fit, so are the fragments beside the query
 abbrev pub FitTextsMakeFitTargets : Type 0

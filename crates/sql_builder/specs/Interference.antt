@@ -1,28 +1,22 @@
 -- No interference: statements that are the same but for the texts that calls quote.
 use Rattle.std.specs.Prelude.{◌≡◌, ℕ, List, [], ◌∷◌, Bool, true, IfOk, IsTrue, Result, Ok, Err, flat_map, map}
 use Rattle.std.specs.Result.{result_map_both}
-use Rattle.sql_parts.specs.Blanks.{are_strings, blank, blank_at, nowhere, outline}
+use Rattle.sql_parts.specs.StringTexts.{are_strings, blank, blank_at, nowhere, outline}
 use Rattle.sql_parts.specs.Quoting.{quoted}
 use Rattle.sql_parts.specs.Tokens.{Token, closed, tokens}
 use Rattle.sql_parts.specs.declared.error.SqlBuilderError.{SqlBuilderError}
 use Rattle.sql_builder.specs.Builder.{ClauseTexts}
 use Rattle.sql_builder.specs.Calls.{CallText, FinishText, StartText, Cond, SetStr}
 use Rattle.sql_builder.specs.Clauses.{map_clauses}
-use Rattle.sql_builder.specs.Condition.{ConditionText, InQuoted, Like, condition_bytes, condition_pieces}
+use Rattle.sql_builder.specs.Condition.{ConditionText, blank_condition, condition_bytes, condition_pieces}
 use Rattle.sql_builder.specs.Layout.{byte_atoms}
 use Rattle.sql_builder.specs.Phrases.{equation}
 use Rattle.sql_builder.specs.Reading.{Clause, read}
 use Rattle.sql_builder.specs.Shape.{HasClosedFragments, as_fragments, has_closed_fragments, piece_tokens}
 use Rattle.sql_builder.specs.Statement.{layout_at, pieces, statement, text_at}
-use Rattle.sql_builder.specs.Text.{Piece, Pieces, Fixed, Quoted, Raw, fixed_piece, raw_piece}
+use Rattle.sql_builder.specs.Pieces.{Piece, Pieces, Fixed, Quoted, Raw, fixed_piece, raw_piece}
 
 -- ---- the texts that calls quote
-
--- a condition with no text in what it quotes: the mask of a LIKE, or each value of an IN
-abbrev pub blank_condition : ConditionText → ConditionText
-blank_condition (Like negated percent field mask) = Like negated percent field []
-blank_condition (InQuoted negated field values) = InQuoted negated field (map (λ value. []) values)
-blank_condition condition = condition
 
 -- a call with no text in what it quotes
 abbrev pub blank_call : CallText → CallText
@@ -44,20 +38,20 @@ piece_places (Raw text) = nowhere (tokens text)
 abbrev pub places_in : Pieces → List Bool
 places_in printed = flat_map piece_places printed
 
--- for each token of the pieces that are printed; nothing where the list is refused
-abbrev pub places_unless_refused : Result Pieces SqlBuilderError → List Bool
-places_unless_refused (Ok printed) = places_in printed
-places_unless_refused (Err refusal) = []
+-- for each token of the pieces that are printed; nothing where the list fails
+abbrev pub places_unless_error : Result Pieces SqlBuilderError → List Bool
+places_unless_error (Ok printed) = places_in printed
+places_unless_error (Err error) = []
 
 -- for each token of what is printed, whether it is a text that a call quoted
 abbrev pub quoted_places : StartText → List CallText → FinishText → List Bool
-quoted_places start calls finish = places_unless_refused (pieces start calls finish)
+quoted_places start calls finish = places_unless_error (pieces start calls finish)
 
 -- ---- statements
 
--- what holds of a statement, or its refusal
+-- what holds of a statement, or its error
 abbrev pub answer_of : {X : Type 0} → (List ℕ → X) → StartText → List CallText → FinishText → Result X SqlBuilderError
-answer_of answer start calls finish = result_map_both answer (λ refusal. refusal) (statement start calls finish)
+answer_of answer start calls finish = result_map_both answer (λ error. error) (statement start calls finish)
 
 -- the tokens of a text, blanked at some places
 abbrev pub tokens_but : List Bool → List ℕ → List Token
@@ -74,7 +68,7 @@ QuotedTextsAreStrings = (start : StartText) (calls : List CallText) (finish : Fi
     → IfOk (statement start calls finish) (λ text. IsTrue (are_strings (quoted_places start calls finish) (tokens text)))
 
 -- where each fragment is closed, texts that are quoted in place of others leave all other tokens of a statement as they are, or
--- its refusal
+-- its error
 abbrev pub QuotedTextsDoNotInterfere : Type 0
 QuotedTextsDoNotInterfere = (start : StartText) (one other : List CallText) (finish : FinishText)
     → DifferInQuotedTexts one other → HasClosedFragments start one finish
@@ -107,12 +101,12 @@ clauses_but text = blank_clauses (tokens text)
 abbrev pub piece_outline : Piece → List Token
 piece_outline piece = blank (piece_tokens piece)
 
--- the same of each piece that is printed, or the refusal
+-- the same of each piece that is printed, or the error
 abbrev pub outlines : StartText → List CallText → FinishText → Result (List (List Token)) SqlBuilderError
-outlines start calls finish = result_map_both (map piece_outline) (λ refusal. refusal) (pieces start calls finish)
+outlines start calls finish = result_map_both (map piece_outline) (λ error. error) (pieces start calls finish)
 
 -- where each fragment is closed, starts and calls whose pieces have the same outlines make statements that have the same outline,
--- or are refused alike
+-- or fail alike
 abbrev pub FragmentsDoNotInterfere : Type 0
 FragmentsDoNotInterfere = (start other_start : StartText) (one other : List CallText) (finish : FinishText)
     → outlines start one finish ≡ outlines other_start other finish → HasClosedFragments start one finish

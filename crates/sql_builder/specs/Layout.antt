@@ -17,7 +17,7 @@ pub record Section (A : Type 0) : Type 0 where
 abbrev pub section : {A : Type 0} → List ℕ → List A → Section A
 section opening body = record { opening = opening; body = body }
 
--- a clause that stands only where it has a text
+-- a clause that is there only where it has a text
 abbrev pub optional_section : {A : Type 0} → List ℕ → Option (List A) → List (Section A)
 optional_section opening None = []
 optional_section opening (Some body) = section opening body ∷ []
@@ -50,7 +50,7 @@ module _ {A : Type 0} (word : List ℕ → List A) where
   abbrev pub concat_sections : List (Section A) → List A
   concat_sections sections = flat_map (λ s. word s.opening ++ s.body) sections
 
-  -- a clause of a list, which stands only where the list has an item
+  -- a clause of a list, which is there only where the list has an item
   abbrev pub list_sections : List ℕ → List (List A) → List (Section A)
   list_sections opening [] = []
   list_sections opening (t ∷ ts) = section opening (comma_list word (t ∷ ts)) ∷ []
@@ -64,20 +64,20 @@ module _ {A : Type 0} (word : List ℕ → List A) where
   abbrev pub table_and_joins : List A → List (List A) → List A
   table_and_joins table joins = table ++ flat_map (λ join. word (codes " ") ++ join) joins
 
-  -- one group stands bare, several stand in brackets with AND between them
+  -- one group is bare, several are in brackets with AND between them
   abbrev pub where_sections : List (List A) → List (Section A)
   where_sections [] = []
   where_sections (g ∷ []) = section (codes " WHERE ") g ∷ []
   where_sections (g ∷ h ∷ gs) =
       section (codes " WHERE ") (join_with (word (codes " AND ")) (map (in_brackets word) (g ∷ h ∷ gs))) ∷ []
 
-  -- HAVING stands only behind GROUP BY
+  -- HAVING only follows GROUP BY
   abbrev pub group_by_sections : List (List A) → Option (List A) → List (Section A)
   group_by_sections [] having = []
   group_by_sections (t ∷ ts) having =
       section (codes " GROUP BY ") (comma_list word (t ∷ ts)) ∷ optional_section (codes " HAVING ") having
 
-  -- ORDER BY stands only where there is no union
+  -- ORDER BY is there only where there is no union
   abbrev pub order_by_sections : List (Bool × List A) → List (List A) → List (Section A)
   order_by_sections [] fields = list_sections (codes " ORDER BY ") fields
   order_by_sections (u ∷ us) fields = []
@@ -145,41 +145,41 @@ module _ {A : Type 0} (word : List ℕ → List A) where
   abbrev pub subquery_as : List A → Clauses (List A) → List A
   subquery_as name r = word (codes "(") ++ (query r ++ (word (codes ") AS ") ++ name))
 
--- no table, else what else is refused
-abbrev pub refuse_no_table : List ℕ → Option SqlBuilderError → Option SqlBuilderError
-refuse_no_table [] other = Some NoTableName
-refuse_no_table (byte ∷ bytes) other = other
+-- the error of no table, else another
+abbrev pub no_table_error : List ℕ → Option SqlBuilderError → Option SqlBuilderError
+no_table_error [] other = Some NoTableName
+no_table_error (byte ∷ bytes) other = other
 
--- this refusal, where a list is empty
-abbrev pub refuse_empty : {T : Type 0} → SqlBuilderError → List T → Option SqlBuilderError
-refuse_empty refusal [] = Some refusal
-refuse_empty refusal (t ∷ ts) = None
+-- this error, where a list is empty
+abbrev pub empty_error : {T : Type 0} → SqlBuilderError → List T → Option SqlBuilderError
+empty_error error [] = Some error
+empty_error error (t ∷ ts) = None
 
 -- an INSERT that has neither a query nor rows
-abbrev pub refuse_no_rows : {T : Type 0} → Option T → List T → Option SqlBuilderError
-refuse_no_rows None rows = refuse_empty NoValues rows
-refuse_no_rows (Some query) rows = None
+abbrev pub no_rows_error : {T : Type 0} → Option T → List T → Option SqlBuilderError
+no_rows_error None rows = empty_error NoValues rows
+no_rows_error (Some query) rows = None
 
 -- HAVING without a GROUP BY
-abbrev pub refuse_no_group_by : {T : Type 0} → Option T → List T → Option SqlBuilderError
-refuse_no_group_by None fields = None
-refuse_no_group_by (Some having) fields = refuse_empty NoGroupBy fields
+abbrev pub no_group_by_error : {T : Type 0} → Option T → List T → Option SqlBuilderError
+no_group_by_error None fields = None
+no_group_by_error (Some having) fields = empty_error NoGroupBy fields
 
--- what a query refuses
-abbrev pub query_refusal : Clauses (List ℕ) → Option SqlBuilderError
-query_refusal r = refuse_no_group_by r.having r.group_fields
+-- the error of a query
+abbrev pub query_error : Clauses (List ℕ) → Option SqlBuilderError
+query_error r = no_group_by_error r.having r.group_fields
 
--- what `sql` refuses of a statement of each kind, no table first
-abbrev pub refusal_of : Kind → Clauses (List ℕ) → Option SqlBuilderError
-refusal_of SelectFrom r = refuse_no_table r.table (query_refusal r)
-refusal_of SelectValues r = refuse_empty NoValues r.fields
-refusal_of InsertInto r = refuse_no_table r.table (refuse_no_rows r.query r.rows)
-refusal_of UpdateTable r = refuse_no_table r.table (refuse_empty NoSetFields r.sets)
-refusal_of DeleteFrom r = refuse_no_table r.table None
+-- the error of `sql` for a statement of each kind, no table first
+abbrev pub error_of : Kind → Clauses (List ℕ) → Option SqlBuilderError
+error_of SelectFrom r = no_table_error r.table (query_error r)
+error_of SelectValues r = empty_error NoValues r.fields
+error_of InsertInto r = no_table_error r.table (no_rows_error r.query r.rows)
+error_of UpdateTable r = no_table_error r.table (empty_error NoSetFields r.sets)
+error_of DeleteFrom r = no_table_error r.table None
 
--- what `sql` refuses
-abbrev pub refusal : Clauses (List ℕ) → Option SqlBuilderError
-refusal r = refusal_of r.kind r
+-- the error of `sql`
+abbrev pub sql_error : Clauses (List ℕ) → Option SqlBuilderError
+sql_error r = error_of r.kind r
 
 -- a text of bytes is its own atoms
 abbrev pub byte_atoms : List ℕ → List ℕ

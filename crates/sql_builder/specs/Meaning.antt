@@ -5,12 +5,12 @@ use Rattle.sql_parts.specs.Tokens.{Token, tokens}
 use Rattle.sql_builder.specs.Builder.{ClauseTexts, with_condition_bytes}
 use Rattle.sql_builder.specs.Calls.{CallText, FinishText, StartText, Sql, Query, Subquery, SubqueryAs, groups}
 use Rattle.sql_builder.specs.Condition.{ConditionText, condition_bytes, condition_pieces, has_operands}
-use Rattle.sql_builder.specs.Fitting.{has_balanced_fragments, has_fit_fragments, has_fit_groups}
-use Rattle.sql_builder.specs.Reading.{piece_clauses, read, stand_with}
+use Rattle.sql_builder.specs.FitFragments.{has_balanced_fragments, has_fit_fragments, has_fit_groups}
+use Rattle.sql_builder.specs.Reading.{piece_clauses, read, clause_bodies}
 use Rattle.sql_builder.specs.Shape.{AddsText, cond_tokens}
 use Rattle.sql_builder.specs.Statement.{pieces}
-use Rattle.sql_builder.specs.Text.{Pieces}
-use Rattle.sql_builder.specs.Truths.{IsAtom, Truth, Valuation, greatest, least, truth}
+use Rattle.sql_builder.specs.Pieces.{Pieces}
+use Rattle.sql_builder.specs.Truths.{IsAtom, Truth, Valuation, or_all, and_all, truth}
 use Rattle.sql_builder.specs.declared.condition.Family.{Family}
 use Rattle.sql_builder.specs.declared.clauses.Kind.{Kind}
 use Rattle.sql_builder.specs.declared.clauses.Kind.TheVariants.{SelectFrom, UpdateTable, DeleteFrom}
@@ -49,17 +49,17 @@ prints_where Sql UpdateTable = true
 prints_where Sql DeleteFrom = true
 prints_where _ _ = false
 
--- one truth, the least over the groups of the greatest over a group's conditions; none where there is no condition
+-- one truth, the AND of the groups, each the OR of its conditions; none where there is no condition
 abbrev pub where_truths : Valuation → List (List (List Token)) → List Truth
 where_truths facts [] = []
-where_truths facts (group ∷ groups) = least (map (λ conditions. greatest (map (truth facts) conditions)) (group ∷ groups)) ∷ []
+where_truths facts (group ∷ groups) = and_all (map (λ conditions. or_all (map (truth facts) conditions)) (group ∷ groups)) ∷ []
 
--- whatever is known of atoms, what stands with WHERE in a text has the truth of these groups
+-- whatever is known of atoms, the WHERE of a text has the truth of these groups
 abbrev pub HasTruthOf : List (List (List Token)) → List ℕ → Type 0
 HasTruthOf groups text =
-    (facts : Valuation) → map (truth facts) (stand_with (codes "WHERE") (read (tokens text))) ≡ where_truths facts groups
+    (facts : Valuation) → map (truth facts) (clause_bodies (codes "WHERE") (read (tokens text))) ≡ where_truths facts groups
 
--- where the statement has a WHERE, if there is a condition, and fragments and groups are fit, what stands with WHERE in a text
+-- where the statement has a WHERE, if there is a condition, and fragments and groups are fit, the WHERE of a text
 -- has the truth of the groups
 abbrev pub HasTruthOfGroups : FinishText → ClauseTexts → Pieces → List ℕ → Type 0
 HasTruthOfGroups finish r printed text =
@@ -89,7 +89,7 @@ abbrev pub IsAtomIfOperands : ConditionText → List Token → Type 0
 IsAtomIfOperands condition ts = IsTrue (has_operands condition) → IsAtom ts
 
 -- The new record has this condition added. Where its fragments are closed, what is added has the condition's tokens and is
--- closed; where they are operands, and it is no condition handed in as it stands, it is an atom.
+-- closed; where they are operands, and it is no raw condition, it is an atom.
 abbrev pub AddsCondition : Family → ConditionText → ClauseTexts → ClauseTexts → Type 0
 AddsCondition family condition old new =
     AddsText (λ added. with_condition_bytes family added old) (condition_bytes condition) (condition_pieces condition) new

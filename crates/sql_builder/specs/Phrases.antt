@@ -1,4 +1,4 @@
--- What calls make of the texts that they are handed, over any kind of atom A: bytes, or pieces.
+-- What calls make of the texts that they are given, over any kind of atom A: bytes, or pieces.
 use Rattle.std.specs.Prelude.{ℕ, List, ◌++◌, Option, None, Some, Bool, true, false, codes}
 use Rattle.sql_parts.specs.Text.{join_with}
 use Rattle.sql_builder.specs.declared.clauses.JoinOperator.{JoinOperator}

@@ -5,9 +5,9 @@ use Rattle.sql_parts.specs.declared.error.SqlBuilderError.{SqlBuilderError}
 use Rattle.sql_parts.specs.Fragments.{Placed, Outer, Inner, is_clause_word, is_word, placed}
 use Rattle.sql_parts.specs.Tokens.{Token, Str, ends_with, is_semicolon, tokens}
 use Rattle.sql_builder.specs.Calls.{CallText, FinishText, StartText}
-use Rattle.sql_builder.specs.Parts.{before_outer, but_last, parts_at}
+use Rattle.sql_builder.specs.TokenParts.{before_outer, but_last, parts_at}
 use Rattle.sql_builder.specs.Statement.{pieces}
-use Rattle.sql_builder.specs.Text.{Piece, Pieces, Fixed, Quoted, Raw}
+use Rattle.sql_builder.specs.Pieces.{Piece, Pieces, Fixed, Quoted, Raw}
 
 -- A clause: its word, and the tokens up to the next clause's word.
 abbrev pub Clause : Type 0
@@ -25,7 +25,7 @@ is_union token = is_word (codes "UNION") token
 unfoldable pub read : List Token → List Clause
 read ts = (parts_at is_clause_word (before_outer is_union (placed (without_semicolon ts)))).rest
 
--- the tokens of a piece: those that stand in a text of the builder's own count as outer, whatever their level
+-- the tokens of a piece: those of a text of the builder's own count as outer, whatever their nesting depth
 abbrev pub own_placed : Piece → List Placed
 own_placed (Fixed text) = map Outer (tokens text)
 own_placed (Quoted text) = Inner (Str text) ∷ []
@@ -39,10 +39,10 @@ ends_clauses token = is_union token || is_semicolon token
 unfoldable pub piece_clauses : Pieces → List Clause
 piece_clauses printed = (parts_at is_clause_word (before_outer ends_clauses (flat_map own_placed printed))).rest
 
--- the clauses of the pieces that are printed, or the refusal
+-- the clauses of the pieces that are printed, or the error
 abbrev pub clause_list : StartText → List CallText → FinishText → Result (List Clause) SqlBuilderError
-clause_list start calls finish = result_map_both piece_clauses (λ refusal. refusal) (pieces start calls finish)
+clause_list start calls finish = result_map_both piece_clauses (λ error. error) (pieces start calls finish)
 
--- what stands with this word, in each clause that has it
-abbrev pub stand_with : List ℕ → List Clause → List (List Token)
-stand_with word clauses = flat_map (λ clause. if is_word word clause.0 then clause.1 ∷ [] else []) clauses
+-- the body of each clause that begins with this word
+abbrev pub clause_bodies : List ℕ → List Clause → List (List Token)
+clause_bodies word clauses = flat_map (λ clause. if is_word word clause.0 then clause.1 ∷ [] else []) clauses

@@ -10,7 +10,7 @@ use Rattle.sql_builder.specs.Calls.{CallText, FinishText, StartText}
 use Rattle.sql_builder.specs.Clauses.{Clauses, map_clauses}
 use Rattle.sql_builder.specs.Condition.{ConditionText, condition_pieces}
 use Rattle.sql_builder.specs.Statement.{pieces}
-use Rattle.sql_builder.specs.Text.{Piece, Pieces, Fixed, Quoted, Raw, raw_piece}
+use Rattle.sql_builder.specs.Pieces.{Piece, Pieces, Fixed, Quoted, Raw, raw_piece}
 
 -- the tokens of a piece: a text between single quotes is one, which reads back as the text
 abbrev pub piece_tokens : Piece → List Token
@@ -22,7 +22,7 @@ piece_tokens (Raw text) = tokens text
 abbrev pub pieces_tokens : Pieces → List Token
 pieces_tokens printed = flat_map piece_tokens printed
 
--- a fragment, a text as it was handed in, is closed; the other pieces are no fragments
+-- a raw fragment is closed; the other pieces are no fragments
 abbrev pub is_closed_piece : Piece → Bool
 is_closed_piece (Fixed text) = true
 is_closed_piece (Quoted text) = true
@@ -32,9 +32,9 @@ is_closed_piece (Raw text) = closed text
 abbrev pub cond_tokens : ConditionText → List Token
 cond_tokens condition = pieces_tokens (condition_pieces condition)
 
--- the tokens of the pieces that are printed, or the refusal
+-- the tokens of the pieces that are printed, or the error
 abbrev pub shape : StartText → List CallText → FinishText → Result (List Token) SqlBuilderError
-shape start calls finish = result_map_both pieces_tokens (λ refusal. refusal) (pieces start calls finish)
+shape start calls finish = result_map_both pieces_tokens (λ error. error) (pieces start calls finish)
 
 -- each fragment among the pieces is closed
 abbrev pub has_closed_fragments : Pieces → Bool

@@ -1,15 +1,14 @@
 -- Laws of the statement that a start, calls and a finish make, and of the builder that prints it.
 use Rattle.std.specs.Prelude.{◌≡◌, IfOk, IsTrue, List, [], ◌∷◌, ◌++◌, Ok}
 use Rattle.sql_parts.specs.Tokens.{closed, tokens}
-use Rattle.sql_builder.specs.Builder.{ClauseTexts}
+use Rattle.sql_builder.specs.Builder.{ClauseTexts, with_call}
 use Rattle.sql_builder.specs.Calls.{CallText, FinishText, StartText, clauses, kind_of}
 use Rattle.sql_builder.specs.Clauses.{map_clauses}
-use Rattle.sql_builder.specs.Fitting.{has_fit_conditions}
+use Rattle.sql_builder.specs.FitFragments.{has_fit_conditions}
 use Rattle.sql_builder.specs.Meaning.{HasBalancedFragments, HasFitFragments, HasTruthOf, condition_groups, is_nested, prints_where}
 use Rattle.sql_builder.specs.Shape.{HasClosedFragments, shape}
-use Rattle.sql_builder.specs.Statement.{refusal_at, statement, text_at, unless_refused}
-use Rattle.sql_builder.specs.Steps.{with_call}
-use Rattle.sql_builder.specs.Text.{pieces_text}
+use Rattle.sql_builder.specs.Statement.{error_at, statement, text_at, unless_error}
+use Rattle.sql_builder.specs.Pieces.{pieces_text}
 
 -- where each fragment is closed, the statement has the tokens of its pieces
 abbrev pub StatementsKeepTokens : Type 0
@@ -41,7 +40,7 @@ made_by start calls = map_clauses pieces_text (clauses start calls)
 abbrev pub BuildersFollowCalls : Type 0
 BuildersFollowCalls = (start : StartText) (calls : List CallText) (c : CallText) → with_call c (made_by start calls) ≡ made_by start (calls ++ c ∷ [])
 
--- what it prints, or refuses to print, is the statement of the start, the calls and the finish
+-- what it prints, or its error, is the statement of the start, the calls and the finish
 abbrev pub BuildersPrintStatements : Type 0
 BuildersPrintStatements = (start : StartText) (calls : List CallText) (finish : FinishText)
-    → unless_refused (refusal_at finish (made_by start calls)) (text_at finish (made_by start calls)) ≡ statement start calls finish
+    → unless_error (error_at finish (made_by start calls)) (text_at finish (made_by start calls)) ≡ statement start calls finish

@@ -5,43 +5,43 @@ use Rattle.std.specs.List.{list_all, list_any}
 use Rattle.std.specs.Str.{bytes_eq}
 use Rattle.sql_parts.specs.Fragments.{Placed, Outer, Inner, any_token, has_outer, is_clause_word, is_outer, is_symbol, is_word, level, placed, places}
 use Rattle.sql_parts.specs.Tokens.{Token, Word, Str, Name, Symbol, Open, begins_with, ends_with}
-use Rattle.sql_builder.specs.Parts.{but_last, pieces_at}
+use Rattle.sql_builder.specs.TokenParts.{but_last, pieces_at}
 
 -- A truth value.
 pub data Truth : Type 0 where
   False Unknown True : Truth
 
--- the one that comes first in the order False, Unknown, True: what AND gives
-abbrev pub lesser : Truth → Truth → Truth
-lesser False y = False
-lesser True y = y
-lesser Unknown False = False
-lesser Unknown Unknown = Unknown
-lesser Unknown True = Unknown
+-- AND: the first in the order False, Unknown, True
+abbrev pub and3 : Truth → Truth → Truth
+and3 False y = False
+and3 True y = y
+and3 Unknown False = False
+and3 Unknown Unknown = Unknown
+and3 Unknown True = Unknown
 
--- the one that comes last in that order: what OR gives
-abbrev pub greater : Truth → Truth → Truth
-greater True y = True
-greater False y = y
-greater Unknown True = True
-greater Unknown Unknown = Unknown
-greater Unknown False = Unknown
+-- OR: the last in that order
+abbrev pub or3 : Truth → Truth → Truth
+or3 True y = True
+or3 False y = y
+or3 Unknown True = True
+or3 Unknown Unknown = Unknown
+or3 Unknown False = Unknown
 
--- the least of several, which is True of none
-abbrev pub least : List Truth → Truth
-least [] = True
-least (x ∷ xs) = lesser x (least xs)
+-- the AND of several, which is True of none
+abbrev pub and_all : List Truth → Truth
+and_all [] = True
+and_all (x ∷ xs) = and3 x (and_all xs)
 
--- the greatest of several, which is False of none
-abbrev pub greatest : List Truth → Truth
-greatest [] = False
-greatest (x ∷ xs) = greater x (greatest xs)
+-- the OR of several, which is False of none
+abbrev pub or_all : List Truth → Truth
+or_all [] = False
+or_all (x ∷ xs) = or3 x (or_all xs)
 
--- what NOT gives
-abbrev pub exchange : Truth → Truth
-exchange False = True
-exchange Unknown = Unknown
-exchange True = False
+-- NOT
+abbrev pub not3 : Truth → Truth
+not3 False = True
+not3 Unknown = Unknown
+not3 True = False
 
 -- the same token, letter by letter
 abbrev pub same_token : Token → Token → Bool
@@ -106,15 +106,15 @@ owns_next owned [] = owned
 owns_next owned (Inner token ∷ more) = owns_next owned more
 owns_next owned (Outer token ∷ more) = owns_next (is_between_last owned token) more
 
--- the level is at least 1 behind each token
+-- the nesting depth is at least 1 after each token
 abbrev pub is_inside : List Token → Bool
 is_inside ts = list_all (λ place. int_le (pos 1) (level ts (suc place))) (places any_token ts)
 
--- what stands between the first token and the last
+-- what is between the first token and the last
 abbrev pub inside : List Token → List Token
 inside ts = but_last (drop 1 ts)
 
--- `(`, an inside and `)`: the level is at least 1 behind each token but the last, and the inside by itself has no outer
+-- `(`, an inside and `)`: the nesting depth is at least 1 after each token but the last, and the inside by itself has no outer
 -- clause word, so that it is no query
 abbrev pub is_bracketed : List Token → Bool
 is_bracketed ts =
@@ -145,9 +145,9 @@ form ts = form_of (placed ts) (is_bracketed ts) ts
 
 -- the truth by the form, from the truth of its pieces and, for an atom, its value
 abbrev pub truth_by : (List Token → Truth) → Truth → Form → Truth
-truth_by truth_of value (AnyOf pieces) = greatest (map truth_of pieces)
-truth_by truth_of value (AllOf pieces) = least (map truth_of pieces)
-truth_by truth_of value (Negated rest) = exchange (truth_of rest)
+truth_by truth_of value (AnyOf pieces) = or_all (map truth_of pieces)
+truth_by truth_of value (AllOf pieces) = and_all (map truth_of pieces)
+truth_by truth_of value (Negated rest) = not3 (truth_of rest)
 truth_by truth_of value (Bracketed inner) = truth_of inner
 truth_by truth_of value Atom = value
 

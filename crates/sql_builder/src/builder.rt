@@ -238,7 +238,7 @@ impl SqlBuilder {
         Ok(SqlBuilder::new(alloc, Kind::SelectValues, String::new(alloc), fields))
     }
 
-    /// An INSERT into this table, told nothing else.
+    /// An INSERT into this table, with no other clause.
     /// `SqlBuilder::insert_into(alloc, "t")?.field("a")?.values(&[1])?.sql()?` →
     /// `INSERT INTO t (a) VALUES (1);`
     #[inline(never)]
@@ -249,7 +249,7 @@ impl SqlBuilder {
         SqlBuilder::starting_from(alloc, Kind::InsertInto, table)
     }
 
-    /// An UPDATE of this table, told nothing else.
+    /// An UPDATE of this table, with no other clause.
     /// `SqlBuilder::update_table(alloc, "t")?.set("a", 1)?.sql()?` → `UPDATE t SET a = 1;`
     #[inline(never)]
     pub fn update_table<S: ToText>(alloc: Global, table: S) -> Result<SqlBuilder, SqlBuilderError>
@@ -259,7 +259,7 @@ impl SqlBuilder {
         SqlBuilder::starting_from(alloc, Kind::UpdateTable, table)
     }
 
-    /// A DELETE from this table, told nothing else.
+    /// A DELETE from this table, with no other clause.
     /// `SqlBuilder::delete_from(alloc, "t")?.sql()?` → `DELETE FROM t;`
     #[inline(never)]
     pub fn delete_from<S: ToText>(alloc: Global, table: S) -> Result<SqlBuilder, SqlBuilderError>

@@ -1,18 +1,16 @@
 //! Lists of calls, as values, and the statement that a list makes.
-ghost use Rattle.std.specs.Prelude.{◌≡◌, ◌⊎◌, ◌≤◌, ◌+◌, ◌-◌, ◌^◌, ◌++◌, [], length, map, min, IfErr, IfOk, IfSome, IsNone, IsOk, IsTrue, Ok, OnErr, OnOk, string_bytes, string_capacity, string_len};
+ghost use Rattle.std.specs.Prelude.{◌≡◌, ◌⊎◌, ◌≤◌, ◌+◌, ◌-◌, ◌^◌, ◌++◌, length, map, min, IfErr, IfOk, IfSome, IsNone, IsOk, IsTrue, Ok, OnErr, OnOk, string_bytes, string_capacity, string_len};
 ghost use Rattle.sql_parts.specs.Error.{FailsOnlyByMemory, IsMemory};
-ghost use Rattle.sql_builder.specs.Views.{call_view, finish_view, start_on, start_view};
-ghost use Rattle.sql_builder.specs.Steps.{RefusesCall, with_call};
-ghost use Rattle.sql_builder.specs.Calls.{SelectValues, clauses, kind_of};
-ghost use Rattle.sql_builder.specs.Clauses.{map_clauses};
+ghost use Rattle.sql_builder.specs.Builder.{started, IsCallError, with_call};
+ghost use Rattle.sql_builder.specs.Calls.{SelectValues, kind_of, call_view, finish_view, of_list, start_on, start_view};
 ghost use Rattle.sql_builder.specs.Meaning.{HasBalancedFragments, HasFitFragments, HasTruthOf, condition_groups, is_nested, is_unenclosed, prints_where};
-ghost use Rattle.sql_builder.specs.Fitting.{has_fit_conditions};
-ghost use Rattle.sql_builder.specs.Handed.{Bare, is_fit};
+ghost use Rattle.sql_builder.specs.FitFragments.{has_fit_conditions};
+ghost use Rattle.sql_builder.specs.RawTexts.{Bare, is_fit};
 ghost use Rattle.sql_builder.specs.Reading.{clause_list, read};
 ghost use Rattle.sql_builder.specs.Shape.{HasClosedFragments, shape};
-ghost use Rattle.sql_builder.specs.Statement.{refusal_at, statement, text_at};
-ghost use Rattle.sql_builder.specs.Tables.{makes_table};
-ghost use Rattle.sql_builder.specs.Text.{pieces_text};
+ghost use Rattle.sql_builder.specs.Statement.{error_at, statement, text_at};
+ghost use Rattle.sql_builder.specs.StatementLaws.{made_by};
+ghost use Rattle.sql_builder.specs.Subqueries.{makes_table};
 ghost use Rattle.sql_parts.specs.Tokens.{closed, tokens};
 
 use crate::builder::SqlBuilder;
@@ -145,8 +143,7 @@ pub enum Finish {
 /// The builder that a start makes. It fails only if memory runs out.
 /// `begin(alloc, &Start::SelectFrom(String::from_str(alloc, "t")?))?.sql()?` → `SELECT * FROM t;`
 pub fn begin(alloc: Global, start: &Start) -> Result<SqlBuilder, SqlBuilderError>
-    ensures made { IfOk result (λ b. b
-        ≡ map_clauses pieces_text (clauses (start_view start.now) [])) }
+    ensures made { IfOk result (λ b. b ≡ started (start_view start.now)) }
     ensures memory { FailsOnlyByMemory result }
 {
     match start {
@@ -167,8 +164,7 @@ pub fn begin(alloc: Global, start: &Start) -> Result<SqlBuilder, SqlBuilderError
 /// b.sql()?; // DELETE FROM u;
 /// ```
 pub fn restart(builder: &mut SqlBuilder, start: &Start) -> Result<(), SqlBuilderError>
-    ensures restarted { OnOk result (builder.new
-        ≡ map_clauses pieces_text (clauses (start_view start.now) [])) }
+    ensures restarted { OnOk result (builder.new ≡ started (start_view start.now)) }
     ensures unchanged { OnErr result (builder.new ≡ builder.old) }
     ensures memory { FailsOnlyByMemory result }
 {
@@ -193,8 +189,7 @@ pub fn restart_on(
     start: TableStart,
     table: &str,
 ) -> Result<(), SqlBuilderError>
-    ensures restarted { OnOk result (builder.new
-        ≡ map_clauses pieces_text (clauses (start_on start table.now) [])) }
+    ensures restarted { OnOk result (builder.new ≡ started (start_on start table.now)) }
     ensures unchanged { OnErr result (builder.new ≡ builder.old) }
     ensures memory { FailsOnlyByMemory result }
 {
@@ -218,8 +213,7 @@ pub fn restart_values<'a, T: Texts<'a>>(
     builder: &mut SqlBuilder,
     values: T,
 ) -> Result<(), SqlBuilderError>
-    ensures restarted { OnOk result (builder.new
-        ≡ map_clauses pieces_text (clauses (SelectValues (T.left values)) [])) }
+    ensures restarted { OnOk result (builder.new ≡ started (SelectValues (T.left values))) }
     ensures unchanged { OnErr result (builder.new ≡ builder.old) }
     ensures memory { FailsOnlyByMemory result }
 {
@@ -235,8 +229,8 @@ pub fn restart_values<'a, T: Texts<'a>>(
 /// ```
 pub fn make(builder: &mut SqlBuilder, call: &Call) -> Result<(), SqlBuilderError>
     ensures made { OnOk result (builder.new ≡ with_call (call_view call.now) builder.old) }
-    ensures refused { OnErr result (builder.new ≡ builder.old) }
-    ensures memory { IfErr result (RefusesCall (call_view call.now) builder.old) }
+    ensures unchanged { OnErr result (builder.new ≡ builder.old) }
+    ensures memory { IfErr result (IsCallError (call_view call.now) builder.old) }
 {
     match call {
         Call::Natural => {
@@ -312,10 +306,10 @@ pub fn make(builder: &mut SqlBuilder, call: &Call) -> Result<(), SqlBuilderError
     }
 }
 
-#[tactic(auto, using(crate::proofs::Runs::one_more_call))]
+#[tactic(auto, using(crate::proofs::statements::RunLemmas::one_more_call, crate::proofs::statements::RunLemmas::clauses_start))]
 fn build(alloc: Global, start: &Start, calls: &[Call]) -> Result<SqlBuilder, SqlBuilderError>
-    ensures made { IfOk result (λ b. b ≡ map_clauses pieces_text
-        (clauses (start_view start.now) (map call_view calls.now))) }
+    ensures made { IfOk result (λ b. b
+        ≡ made_by (start_view start.now) (map call_view calls.now)) }
     ensures memory { FailsOnlyByMemory result }
 {
     let mut builder = begin(alloc, start)?;
@@ -333,9 +327,9 @@ fn build(alloc: Global, start: &Start, calls: &[Call]) -> Result<SqlBuilder, Sql
 pub fn print(builder: &SqlBuilder, finish: &Finish) -> Result<String, SqlBuilderError>
     ensures text { IfOk result (λ s. string_bytes s
         ≡ text_at (finish_view finish.now) builder.now) }
-    ensures refused { IfSome (refusal_at (finish_view finish.now) builder.now)
-        (λ refusal. result ≡ Err refusal) }
-    ensures memory { IsNone (refusal_at (finish_view finish.now) builder.now)
+    ensures error { IfSome (error_at (finish_view finish.now) builder.now)
+        (λ error. result ≡ Err error) }
+    ensures memory { IsNone (error_at (finish_view finish.now) builder.now)
         → FailsOnlyByMemory result }
 {
     builder.print(finish)
@@ -366,11 +360,11 @@ pub fn print_to(
     ensures appended { OnOk result (string_bytes out.new
         ≡ string_bytes out.old ++ text_at (finish_view finish.now) builder.now) }
     ensures unchanged { OnErr result (string_bytes out.new ≡ string_bytes out.old) }
-    ensures refused { IfSome (refusal_at (finish_view finish.now) builder.now)
-        (λ refusal. result ≡ Err refusal) }
-    ensures memory { IsNone (refusal_at (finish_view finish.now) builder.now)
+    ensures error { IfSome (error_at (finish_view finish.now) builder.now)
+        (λ error. result ≡ Err error) }
+    ensures memory { IsNone (error_at (finish_view finish.now) builder.now)
         → FailsOnlyByMemory result }
-    ensures succeeds { IsNone (refusal_at (finish_view finish.now) builder.now)
+    ensures succeeds { IsNone (error_at (finish_view finish.now) builder.now)
         → string_len out.old + length (text_at (finish_view finish.now) builder.now)
         ≤ string_capacity out.old → IsOk result }
 {
@@ -378,7 +372,7 @@ pub fn print_to(
 }
 
 /// Makes the builder, makes the calls in order, and prints: the statement that the whole list
-/// means, or its refusal. It may run out of memory in place of either.
+/// means, or its error. It may run out of memory in place of either.
 ///
 /// The fragments are the texts that it prints as they stand. Where each is closed, the text has
 /// their tokens, and one token for each text that is quoted. Where each before the first UNION is
@@ -386,8 +380,8 @@ pub fn print_to(
 /// round it, what `sql`, `query` and `query_values` print reads back, up to that UNION, as the
 /// clauses that the calls say. Where this holds of the fragments of each condition too, by
 /// the condition's own brackets, the truth of the WHERE of a query, and of what `sql` prints of a
-/// SELECT from a table, an UPDATE or a DELETE, is the least over the groups of the greatest over a
-/// group's conditions. Where each fragment is balanced, those behind a UNION too, what `query` and
+/// SELECT from a table, an UPDATE or a DELETE, is the AND of the groups, each the OR of
+/// its conditions. Where each fragment is balanced, those behind a UNION too, what `query` and
 /// `subquery_as` print is balanced, and what `subquery` prints is an operand without an outer word
 /// that begins a clause; nor has what `subquery_as` prints one, where its name has none.
 /// `run(alloc, &Start::SelectFrom(String::from_str(alloc, "t")?), &[Call::Field(String::from_str(alloc, "a")?)], &Finish::Sql)?` →
@@ -398,30 +392,26 @@ pub fn run(
     calls: &[Call],
     finish: &Finish,
 ) -> Result<String, SqlBuilderError>
-    ensures text { IfOk result (λ s. statement (start_view start.now) (map call_view calls.now)
-        (finish_view finish.now) ≡ Ok (string_bytes s)) }
-    ensures refused { IfErr result (λ e. IsMemory e ⊎ (statement (start_view start.now)
-        (map call_view calls.now) (finish_view finish.now) ≡ Err e)) }
-    ensures shape { HasClosedFragments (start_view start.now) (map call_view calls.now)
-        (finish_view finish.now) → IfOk result (λ s. shape (start_view start.now)
-        (map call_view calls.now) (finish_view finish.now) ≡ Ok (tokens (string_bytes s))) }
-    ensures closed { HasClosedFragments (start_view start.now) (map call_view calls.now)
-        (finish_view finish.now) → IfOk result (λ s. IsTrue (closed (string_bytes s))) }
+    ensures text { IfOk result (λ s.
+        of_list statement start.now calls.now finish.now ≡ Ok (string_bytes s)) }
+    ensures error { IfErr result (λ e. IsMemory e
+        ⊎ (of_list statement start.now calls.now finish.now ≡ Err e)) }
+    ensures shape { of_list HasClosedFragments start.now calls.now finish.now → IfOk result (λ s.
+        of_list shape start.now calls.now finish.now ≡ Ok (tokens (string_bytes s))) }
+    ensures closed { of_list HasClosedFragments start.now calls.now finish.now → IfOk result (λ s.
+        IsTrue (closed (string_bytes s))) }
     ensures clauses { IsTrue (is_unenclosed (finish_view finish.now))
-        → HasFitFragments (start_view start.now) (map call_view calls.now)
-        (finish_view finish.now) → IfOk result (λ s. clause_list (start_view start.now)
-        (map call_view calls.now) (finish_view finish.now) ≡ Ok (read (tokens (string_bytes s)))) }
+        → of_list HasFitFragments start.now calls.now finish.now → IfOk result (λ s.
+        of_list clause_list start.now calls.now finish.now ≡ Ok (read (tokens (string_bytes s)))) }
     ensures truth { IsTrue (prints_where (finish_view finish.now) (kind_of (start_view start.now)))
-        → HasFitFragments (start_view start.now) (map call_view calls.now)
-        (finish_view finish.now) → IsTrue (has_fit_conditions (map call_view calls.now))
-        → IfOk result (λ s.
+        → of_list HasFitFragments start.now calls.now finish.now
+        → IsTrue (has_fit_conditions (map call_view calls.now)) → IfOk result (λ s.
         HasTruthOf (condition_groups (map call_view calls.now)) (string_bytes s)) }
-    ensures nests { HasBalancedFragments (start_view start.now) (map call_view calls.now)
-        (finish_view finish.now) → IfOk result (λ s.
+    ensures nests { of_list HasBalancedFragments start.now calls.now finish.now → IfOk result (λ s.
         IsTrue (is_nested (finish_view finish.now) (string_bytes s))) }
     ensures nests_as_table { IsTrue (makes_table (finish_view finish.now))
-        → HasBalancedFragments (start_view start.now) (map call_view calls.now)
-        (finish_view finish.now) → IfOk result (λ s. IsTrue (is_fit (Bare (string_bytes s)))) }
+        → of_list HasBalancedFragments start.now calls.now finish.now → IfOk result (λ s.
+        IsTrue (is_fit (Bare (string_bytes s)))) }
 {
     let builder = build(alloc, start, calls)?;
     print(&builder, finish)

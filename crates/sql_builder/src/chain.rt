@@ -1,29 +1,29 @@
-//! The calls that tell a builder a clause. Each gives the builder back, so that calls form a chain.
+//! The calls that give a builder a clause. Each gives the builder back, so that calls form a chain.
 //! Each that can fail fails only if memory runs out, and then leaves the builder as it was.
 ghost use Rattle.std.specs.Prelude.{◌≡◌, [], ◌∷◌, codes, false, map, true, IfErr};
 ghost use Rattle.sql_parts.specs.Error.{FailsOnlyByMemory};
 ghost use Rattle.sql_parts.specs.Quoting.{quoted};
 ghost use Rattle.sql_builder.specs.Shape.{AddsText};
-ghost use Rattle.sql_builder.specs.Text.{fixed_piece, quoted_piece, raw_piece};
+ghost use Rattle.sql_builder.specs.Pieces.{fixed_piece, quoted_piece, raw_piece};
 ghost use Rattle.sql_builder.specs.Layout.{byte_atoms};
 ghost use Rattle.sql_builder.specs.Phrases.{count, count_as, equation};
 
 use crate::builder::SqlBuilder;
 use crate::clauses::JoinOperator;
 use crate::steps::{BinaryClause, UnaryClause, VariadicClause};
-use sql_parts::lending::release;
+use sql_parts::loan::release;
 use sql_parts::{SqlBuilderError, ToText};
 
 impl SqlBuilder {
     ghost use Rattle.std.specs.Borrow.{sem};
-    ghost use Rattle.sql_builder.specs.Builder.{RefusesConstraint, with_fields, with_fields_set, with_group_field, with_having, with_join, with_limit, with_offset, with_on, with_order, with_query, with_returning, with_row, with_set, with_table, with_union};
-    ghost use Rattle.sql_builder.specs.Chaining.{IsUnchangedIfErr};
-    ghost use Rattle.sql_parts.specs.Lending.{IsChangedSoThat, IsChangedTo};
+    ghost use Rattle.sql_builder.specs.Builder.{IsConstraintError, with_fields, with_fields_set, with_group_field, with_having, with_join, with_limit, with_offset, with_on, with_order, with_query, with_returning, with_row, with_set, with_table, with_union};
+    ghost use Rattle.sql_builder.specs.BuilderLoans.{IsUnchangedIfErr};
+    ghost use Rattle.sql_parts.specs.Loans.{IsChangedSoThat, IsChangedTo};
 
     /// Adds a table: appends `, ` and the table to the table text, also to an empty one.
     /// `SqlBuilder::select_from(alloc, "t")?.and_table("u")?.sql()?` → `SELECT * FROM t, u;`
     pub fn and_table<S: ToText>(&mut self, table: S) -> Result<&mut Self, SqlBuilderError>
-        ensures* refused { sem 𝓛 (IsUnchangedIfErr self.entry result) }
+        ensures* unchanged { sem 𝓛 (IsUnchangedIfErr self.entry result) }
         ensures changed { IsChangedTo self.entry (with_table (S.text table) self.old) result }
         ensures memory { FailsOnlyByMemory result }
     {
@@ -34,7 +34,7 @@ impl SqlBuilder {
     /// for it; no later join is then NATURAL by that `natural`.
     /// `SqlBuilder::select_from(alloc, "t")?.left().join("u")?.sql()?` → `SELECT * FROM t LEFT JOIN u;`
     pub fn join<S: ToText>(&mut self, table: S) -> Result<&mut Self, SqlBuilderError>
-        ensures* refused { sem 𝓛 (IsUnchangedIfErr self.entry result) }
+        ensures* unchanged { sem 𝓛 (IsUnchangedIfErr self.entry result) }
         ensures changed { IsChangedTo self.entry (with_join (S.text table) self.old) result }
         ensures memory { FailsOnlyByMemory result }
     {
@@ -45,9 +45,9 @@ impl SqlBuilder {
     /// `SqlBuilder::select_from(alloc, "t")?.join("u")?.on("a = b")?.sql()?` →
     /// `SELECT * FROM t JOIN u ON a = b;`
     pub fn on<S: ToText>(&mut self, constraint: S) -> Result<&mut Self, SqlBuilderError>
-        ensures* refused { sem 𝓛 (IsUnchangedIfErr self.entry result) }
+        ensures* unchanged { sem 𝓛 (IsUnchangedIfErr self.entry result) }
         ensures changed { IsChangedTo self.entry (with_on (S.text constraint) self.old) result }
-        ensures memory { IfErr result (RefusesConstraint self.old) }
+        ensures memory { IfErr result (IsConstraintError self.old) }
     {
         release(self.hold_unary(UnaryClause::On, constraint))
     }
@@ -61,11 +61,11 @@ impl SqlBuilder {
         left: S,
         right: T,
     ) -> Result<&mut Self, SqlBuilderError>
-        ensures* refused { sem 𝓛 (IsUnchangedIfErr self.entry result) }
+        ensures* unchanged { sem 𝓛 (IsUnchangedIfErr self.entry result) }
         ensures changed { IsChangedSoThat self.entry (AddsText (λ added. with_on added self.old)
             (equation byte_atoms (S.text left) (T.text right))
             (equation fixed_piece (raw_piece (S.text left)) (raw_piece (T.text right)))) result }
-        ensures memory { IfErr result (RefusesConstraint self.old) }
+        ensures memory { IfErr result (IsConstraintError self.old) }
     {
         release(self.hold_binary(BinaryClause::OnEq, left, right))
     }
@@ -73,7 +73,7 @@ impl SqlBuilder {
     /// Appends fields.
     /// `SqlBuilder::select_from(alloc, "t")?.fields(&["a", "b"])?.sql()?` → `SELECT a, b FROM t;`
     pub fn fields<S: ToText>(&mut self, fields: &[S]) -> Result<&mut Self, SqlBuilderError>
-        ensures* refused { sem 𝓛 (IsUnchangedIfErr self.entry result) }
+        ensures* unchanged { sem 𝓛 (IsUnchangedIfErr self.entry result) }
         ensures changed { IsChangedTo self.entry
             (with_fields (map S.text fields.now) self.old) result }
         ensures memory { FailsOnlyByMemory result }
@@ -85,7 +85,7 @@ impl SqlBuilder {
     /// `SqlBuilder::select_from(alloc, "t")?.field("a")?.set_fields(&["b", "c"])?.sql()?` →
     /// `SELECT b, c FROM t;`
     pub fn set_fields<S: ToText>(&mut self, fields: &[S]) -> Result<&mut Self, SqlBuilderError>
-        ensures* refused { sem 𝓛 (IsUnchangedIfErr self.entry result) }
+        ensures* unchanged { sem 𝓛 (IsUnchangedIfErr self.entry result) }
         ensures changed { IsChangedTo self.entry
             (with_fields_set (map S.text fields.now) self.old) result }
         ensures memory { FailsOnlyByMemory result }
@@ -96,7 +96,7 @@ impl SqlBuilder {
     /// Appends a field.
     /// `SqlBuilder::select_from(alloc, "t")?.field("a")?.sql()?` → `SELECT a FROM t;`
     pub fn field<S: ToText>(&mut self, field: S) -> Result<&mut Self, SqlBuilderError>
-        ensures* refused { sem 𝓛 (IsUnchangedIfErr self.entry result) }
+        ensures* unchanged { sem 𝓛 (IsUnchangedIfErr self.entry result) }
         ensures changed { IsChangedTo self.entry
             (with_fields (S.text field ∷ []) self.old) result }
         ensures memory { FailsOnlyByMemory result }
@@ -107,7 +107,7 @@ impl SqlBuilder {
     /// Puts this field in the place of all others.
     /// `SqlBuilder::select_from(alloc, "t")?.field("a")?.set_field("b")?.sql()?` → `SELECT b FROM t;`
     pub fn set_field<S: ToText>(&mut self, field: S) -> Result<&mut Self, SqlBuilderError>
-        ensures* refused { sem 𝓛 (IsUnchangedIfErr self.entry result) }
+        ensures* unchanged { sem 𝓛 (IsUnchangedIfErr self.entry result) }
         ensures changed { IsChangedTo self.entry
             (with_fields_set (S.text field ∷ []) self.old) result }
         ensures memory { FailsOnlyByMemory result }
@@ -118,7 +118,7 @@ impl SqlBuilder {
     /// Appends the field `COUNT(field)`.
     /// `SqlBuilder::select_from(alloc, "t")?.count("a")?.sql()?` → `SELECT COUNT(a) FROM t;`
     pub fn count<S: ToText>(&mut self, field: S) -> Result<&mut Self, SqlBuilderError>
-        ensures* refused { sem 𝓛 (IsUnchangedIfErr self.entry result) }
+        ensures* unchanged { sem 𝓛 (IsUnchangedIfErr self.entry result) }
         ensures changed { IsChangedTo self.entry
             (with_fields (count byte_atoms (S.text field) ∷ []) self.old) result }
         ensures memory { FailsOnlyByMemory result }
@@ -134,7 +134,7 @@ impl SqlBuilder {
         field: S,
         name: T,
     ) -> Result<&mut Self, SqlBuilderError>
-        ensures* refused { sem 𝓛 (IsUnchangedIfErr self.entry result) }
+        ensures* unchanged { sem 𝓛 (IsUnchangedIfErr self.entry result) }
         ensures changed { IsChangedSoThat self.entry
             (AddsText (λ added. with_fields (added ∷ []) self.old)
             (count_as byte_atoms (S.text field) (T.text name))
@@ -151,7 +151,7 @@ impl SqlBuilder {
         field: S,
         value: T,
     ) -> Result<&mut Self, SqlBuilderError>
-        ensures* refused { sem 𝓛 (IsUnchangedIfErr self.entry result) }
+        ensures* unchanged { sem 𝓛 (IsUnchangedIfErr self.entry result) }
         ensures changed { IsChangedSoThat self.entry (AddsText (λ added. with_set added self.old)
             (equation byte_atoms (S.text field) (T.text value))
             (equation fixed_piece (raw_piece (S.text field)) (raw_piece (T.text value)))) result }
@@ -169,7 +169,7 @@ impl SqlBuilder {
         field: S,
         value: T,
     ) -> Result<&mut Self, SqlBuilderError>
-        ensures* refused { sem 𝓛 (IsUnchangedIfErr self.entry result) }
+        ensures* unchanged { sem 𝓛 (IsUnchangedIfErr self.entry result) }
         ensures changed { IsChangedSoThat self.entry (AddsText (λ added. with_set added self.old)
             (equation byte_atoms (S.text field) (quoted (T.text value)))
             (equation fixed_piece (raw_piece (S.text field)) (quoted_piece (T.text value))))
@@ -183,7 +183,7 @@ impl SqlBuilder {
     /// `SqlBuilder::insert_into(alloc, "t")?.field("a")?.values(&[1])?.values(&[2])?.sql()?` →
     /// `INSERT INTO t (a) VALUES (1), (2);`
     pub fn values<S: ToText>(&mut self, values: &[S]) -> Result<&mut Self, SqlBuilderError>
-        ensures* refused { sem 𝓛 (IsUnchangedIfErr self.entry result) }
+        ensures* unchanged { sem 𝓛 (IsUnchangedIfErr self.entry result) }
         ensures changed { IsChangedTo self.entry
             (with_row (map S.text values.now) self.old) result }
         ensures memory { FailsOnlyByMemory result }
@@ -195,7 +195,7 @@ impl SqlBuilder {
     /// `SqlBuilder::insert_into(alloc, "t")?.field("a")?.select("SELECT 1")?.sql()?` →
     /// `INSERT INTO t (a) SELECT 1;`
     pub fn select<S: ToText>(&mut self, query: S) -> Result<&mut Self, SqlBuilderError>
-        ensures* refused { sem 𝓛 (IsUnchangedIfErr self.entry result) }
+        ensures* unchanged { sem 𝓛 (IsUnchangedIfErr self.entry result) }
         ensures changed { IsChangedTo self.entry (with_query (S.text query) self.old) result }
         ensures memory { FailsOnlyByMemory result }
     {
@@ -206,7 +206,7 @@ impl SqlBuilder {
     /// `returning_id` counts.
     /// `SqlBuilder::delete_from(alloc, "t")?.returning("a")?.sql()?` → `DELETE FROM t RETURNING a;`
     pub fn returning<S: ToText>(&mut self, fields: S) -> Result<&mut Self, SqlBuilderError>
-        ensures* refused { sem 𝓛 (IsUnchangedIfErr self.entry result) }
+        ensures* unchanged { sem 𝓛 (IsUnchangedIfErr self.entry result) }
         ensures changed { IsChangedTo self.entry
             (with_returning (S.text fields) self.old) result }
         ensures memory { FailsOnlyByMemory result }
@@ -218,7 +218,7 @@ impl SqlBuilder {
     /// `returning_id` counts.
     /// `SqlBuilder::delete_from(alloc, "t")?.returning_id()?.sql()?` → `DELETE FROM t RETURNING id;`
     pub fn returning_id(&mut self) -> Result<&mut Self, SqlBuilderError>
-        ensures* refused { sem 𝓛 (IsUnchangedIfErr self.entry result) }
+        ensures* unchanged { sem 𝓛 (IsUnchangedIfErr self.entry result) }
         ensures changed { IsChangedTo self.entry (with_returning (codes "id") self.old) result }
         ensures memory { FailsOnlyByMemory result }
     {
@@ -228,7 +228,7 @@ impl SqlBuilder {
     /// Appends a field to GROUP BY.
     /// `SqlBuilder::select_from(alloc, "t")?.group_by("a")?.sql()?` → `SELECT * FROM t GROUP BY a;`
     pub fn group_by<S: ToText>(&mut self, field: S) -> Result<&mut Self, SqlBuilderError>
-        ensures* refused { sem 𝓛 (IsUnchangedIfErr self.entry result) }
+        ensures* unchanged { sem 𝓛 (IsUnchangedIfErr self.entry result) }
         ensures changed { IsChangedTo self.entry
             (with_group_field (S.text field) self.old) result }
         ensures memory { FailsOnlyByMemory result }
@@ -241,7 +241,7 @@ impl SqlBuilder {
     /// `SqlBuilder::select_from(alloc, "t")?.group_by("a")?.having("b")?.sql()?` →
     /// `SELECT * FROM t GROUP BY a HAVING b;`
     pub fn having<S: ToText>(&mut self, condition: S) -> Result<&mut Self, SqlBuilderError>
-        ensures* refused { sem 𝓛 (IsUnchangedIfErr self.entry result) }
+        ensures* unchanged { sem 𝓛 (IsUnchangedIfErr self.entry result) }
         ensures changed { IsChangedTo self.entry
             (with_having (S.text condition) self.old) result }
         ensures memory { FailsOnlyByMemory result }
@@ -253,7 +253,7 @@ impl SqlBuilder {
     /// `SqlBuilder::select_from(alloc, "t")?.union("SELECT 1")?.sql()?` →
     /// `SELECT * FROM t UNION SELECT 1;`
     pub fn union<S: ToText>(&mut self, query: S) -> Result<&mut Self, SqlBuilderError>
-        ensures* refused { sem 𝓛 (IsUnchangedIfErr self.entry result) }
+        ensures* unchanged { sem 𝓛 (IsUnchangedIfErr self.entry result) }
         ensures changed { IsChangedTo self.entry
             (with_union false (S.text query) self.old) result }
         ensures memory { FailsOnlyByMemory result }
@@ -265,7 +265,7 @@ impl SqlBuilder {
     /// `SqlBuilder::select_from(alloc, "t")?.union_all("SELECT 1")?.sql()?` →
     /// `SELECT * FROM t UNION ALL SELECT 1;`
     pub fn union_all<S: ToText>(&mut self, query: S) -> Result<&mut Self, SqlBuilderError>
-        ensures* refused { sem 𝓛 (IsUnchangedIfErr self.entry result) }
+        ensures* unchanged { sem 𝓛 (IsUnchangedIfErr self.entry result) }
         ensures changed { IsChangedTo self.entry
             (with_union true (S.text query) self.old) result }
         ensures memory { FailsOnlyByMemory result }
@@ -282,7 +282,7 @@ impl SqlBuilder {
         field: S,
         descending: bool,
     ) -> Result<&mut Self, SqlBuilderError>
-        ensures* refused { sem 𝓛 (IsUnchangedIfErr self.entry result) }
+        ensures* unchanged { sem 𝓛 (IsUnchangedIfErr self.entry result) }
         ensures changed { IsChangedTo self.entry
             (with_order descending (S.text field) self.old) result }
         ensures memory { FailsOnlyByMemory result }
@@ -293,7 +293,7 @@ impl SqlBuilder {
     /// Appends a field to ORDER BY, which is left out beside a union.
     /// `SqlBuilder::select_from(alloc, "t")?.order_asc("a")?.sql()?` → `SELECT * FROM t ORDER BY a;`
     pub fn order_asc<S: ToText>(&mut self, field: S) -> Result<&mut Self, SqlBuilderError>
-        ensures* refused { sem 𝓛 (IsUnchangedIfErr self.entry result) }
+        ensures* unchanged { sem 𝓛 (IsUnchangedIfErr self.entry result) }
         ensures changed { IsChangedTo self.entry
             (with_order false (S.text field) self.old) result }
         ensures memory { FailsOnlyByMemory result }
@@ -305,7 +305,7 @@ impl SqlBuilder {
     /// `SqlBuilder::select_from(alloc, "t")?.order_desc("a")?.sql()?` →
     /// `SELECT * FROM t ORDER BY a DESC;`
     pub fn order_desc<S: ToText>(&mut self, field: S) -> Result<&mut Self, SqlBuilderError>
-        ensures* refused { sem 𝓛 (IsUnchangedIfErr self.entry result) }
+        ensures* unchanged { sem 𝓛 (IsUnchangedIfErr self.entry result) }
         ensures changed { IsChangedTo self.entry
             (with_order true (S.text field) self.old) result }
         ensures memory { FailsOnlyByMemory result }
@@ -316,7 +316,7 @@ impl SqlBuilder {
     /// The text of a query's LIMIT; the last call counts.
     /// `SqlBuilder::select_from(alloc, "t")?.limit(3)?.sql()?` → `SELECT * FROM t LIMIT 3;`
     pub fn limit<S: ToText>(&mut self, limit: S) -> Result<&mut Self, SqlBuilderError>
-        ensures* refused { sem 𝓛 (IsUnchangedIfErr self.entry result) }
+        ensures* unchanged { sem 𝓛 (IsUnchangedIfErr self.entry result) }
         ensures changed { IsChangedTo self.entry (with_limit (S.text limit) self.old) result }
         ensures memory { FailsOnlyByMemory result }
     {
@@ -327,7 +327,7 @@ impl SqlBuilder {
     /// `SqlBuilder::select_from(alloc, "t")?.limit(3)?.offset(2)?.sql()?` →
     /// `SELECT * FROM t LIMIT 3 OFFSET 2;`
     pub fn offset<S: ToText>(&mut self, offset: S) -> Result<&mut Self, SqlBuilderError>
-        ensures* refused { sem 𝓛 (IsUnchangedIfErr self.entry result) }
+        ensures* unchanged { sem 𝓛 (IsUnchangedIfErr self.entry result) }
         ensures changed { IsChangedTo self.entry (with_offset (S.text offset) self.old) result }
         ensures memory { FailsOnlyByMemory result }
     {
@@ -337,13 +337,14 @@ impl SqlBuilder {
 
 impl SqlBuilder {
     ghost use Rattle.sql_builder.specs.Builder.{with_distinct, with_natural, with_operator};
+    ghost use Rattle.sql_builder.specs.BuilderLoans.{IsSameLoan};
     ghost use Rattle.sql_builder.specs.declared.clauses.JoinOperator.TheVariants.{Left, LeftOuter, Right, RightOuter, Inner, Cross};
 
     /// The next join is NATURAL. It can't be refused, and gives the builder back.
     /// `SqlBuilder::select_from(alloc, "t")?.natural().join("u")?.join("v")?.sql()?` →
     /// `SELECT * FROM t NATURAL JOIN u JOIN v;`
     pub fn natural(&mut self) -> &mut Self
-        ensures same { result.ghost_name ≡ self.entry.ghost_name }
+        ensures same { IsSameLoan self.entry result }
         ensures changed { result.now ≡ with_natural self.old }
     {
         self.natural = true;
@@ -355,7 +356,7 @@ impl SqlBuilder {
     /// `SqlBuilder::select_from(alloc, "t")?.left().join("u")?.join("v")?.sql()?` →
     /// `SELECT * FROM t LEFT JOIN u LEFT JOIN v;`
     pub fn left(&mut self) -> &mut Self
-        ensures same { result.ghost_name ≡ self.entry.ghost_name }
+        ensures same { IsSameLoan self.entry result }
         ensures changed { result.now ≡ with_operator Left self.old }
     {
         self.operator = Some(JoinOperator::Left);
@@ -367,7 +368,7 @@ impl SqlBuilder {
     /// `SqlBuilder::select_from(alloc, "t")?.left_outer().join("u")?.sql()?` →
     /// `SELECT * FROM t LEFT OUTER JOIN u;`
     pub fn left_outer(&mut self) -> &mut Self
-        ensures same { result.ghost_name ≡ self.entry.ghost_name }
+        ensures same { IsSameLoan self.entry result }
         ensures changed { result.now ≡ with_operator LeftOuter self.old }
     {
         self.operator = Some(JoinOperator::LeftOuter);
@@ -379,7 +380,7 @@ impl SqlBuilder {
     /// `SqlBuilder::select_from(alloc, "t")?.right().join("u")?.sql()?` →
     /// `SELECT * FROM t RIGHT JOIN u;`
     pub fn right(&mut self) -> &mut Self
-        ensures same { result.ghost_name ≡ self.entry.ghost_name }
+        ensures same { IsSameLoan self.entry result }
         ensures changed { result.now ≡ with_operator Right self.old }
     {
         self.operator = Some(JoinOperator::Right);
@@ -391,7 +392,7 @@ impl SqlBuilder {
     /// `SqlBuilder::select_from(alloc, "t")?.right_outer().join("u")?.sql()?` →
     /// `SELECT * FROM t RIGHT OUTER JOIN u;`
     pub fn right_outer(&mut self) -> &mut Self
-        ensures same { result.ghost_name ≡ self.entry.ghost_name }
+        ensures same { IsSameLoan self.entry result }
         ensures changed { result.now ≡ with_operator RightOuter self.old }
     {
         self.operator = Some(JoinOperator::RightOuter);
@@ -403,7 +404,7 @@ impl SqlBuilder {
     /// `SqlBuilder::select_from(alloc, "t")?.inner().join("u")?.sql()?` →
     /// `SELECT * FROM t INNER JOIN u;`
     pub fn inner(&mut self) -> &mut Self
-        ensures same { result.ghost_name ≡ self.entry.ghost_name }
+        ensures same { IsSameLoan self.entry result }
         ensures changed { result.now ≡ with_operator Inner self.old }
     {
         self.operator = Some(JoinOperator::Inner);
@@ -415,7 +416,7 @@ impl SqlBuilder {
     /// `SqlBuilder::select_from(alloc, "t")?.cross().join("u")?.sql()?` →
     /// `SELECT * FROM t CROSS JOIN u;`
     pub fn cross(&mut self) -> &mut Self
-        ensures same { result.ghost_name ≡ self.entry.ghost_name }
+        ensures same { IsSameLoan self.entry result }
         ensures changed { result.now ≡ with_operator Cross self.old }
     {
         self.operator = Some(JoinOperator::Cross);
@@ -426,7 +427,7 @@ impl SqlBuilder {
     /// `SqlBuilder::select_from(alloc, "t")?.distinct().field("a")?.sql()?` →
     /// `SELECT DISTINCT a FROM t;`
     pub fn distinct(&mut self) -> &mut Self
-        ensures same { result.ghost_name ≡ self.entry.ghost_name }
+        ensures same { IsSameLoan self.entry result }
         ensures changed { result.now ≡ with_distinct self.old }
     {
         self.distinct = true;

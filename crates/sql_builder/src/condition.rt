@@ -1,7 +1,7 @@
 //! What a condition says, and its text.
 ghost use Rattle.std.specs.Prelude.{◌≡◌, ◌++◌, codes, if◌then◌else◌, map, string_bytes, IfOk};
 ghost use Rattle.sql_parts.specs.Error.{FailsOnlyByMemory};
-ghost use Rattle.sql_builder.specs.Condition.{Between, Compare, InList, InQuery, InQuoted, IsNotNull, IsNull, Like, borrowed_view, condition_bytes, condition_view, is_behind, is_in_front, not_text, relation_text};
+ghost use Rattle.sql_builder.specs.Condition.{Between, Compare, InList, InQuery, InQuoted, IsNotNull, IsNull, Like, borrowed_view, condition_bytes, condition_view, has_trailing, has_leading, not_text, relation_text};
 
 use crate::concat::{Part, concat};
 use crate::phrases::{push_items, push_quoted_items};
@@ -112,14 +112,14 @@ impl Relation {
 }
 
 impl Percent {
-    fn is_in_front(self) -> bool
-        ensures { result ≡ is_in_front self }
+    fn has_leading(self) -> bool
+        ensures { result ≡ has_leading self }
     {
         matches!(self, Percent::Right | Percent::Any)
     }
 
-    fn is_behind(self) -> bool
-        ensures { result ≡ is_behind self }
+    fn has_trailing(self) -> bool
+        ensures { result ≡ has_trailing self }
     {
         matches!(self, Percent::Left | Percent::Any)
     }
@@ -240,7 +240,7 @@ pub(crate) fn is_not_null(alloc: Global, field: &str) -> Result<String, SqlBuild
 }
 
 /// A field that is like a mask, which is quoted with its percent signs.
-#[tactic(auto, using(crate::proofs::Masks::quoted_mask))]
+#[tactic(auto, using(crate::proofs::conditions::MaskFacts::quoted_mask))]
 pub(crate) fn like<'a>(
     alloc: Global,
     negated: bool,
@@ -265,8 +265,8 @@ fn like_escaped<'a>(
     mask: &'a str,
 ) -> Result<String, AllocError>
     ensures { IfOk result (λ s. string_bytes s ≡ field.now ++ (not.now ++ (codes " LIKE "
-        ++ ((if is_in_front percent then codes "'%" else codes "'")
-        ++ (mask.now ++ (if is_behind percent then codes "%'" else codes "'")))))) }
+        ++ ((if has_leading percent then codes "'%" else codes "'")
+        ++ (mask.now ++ (if has_trailing percent then codes "%'" else codes "'")))))) }
 {
     concat(
         alloc,
@@ -274,9 +274,9 @@ fn like_escaped<'a>(
             Part(field),
             Part(not),
             Part(" LIKE "),
-            Part(if percent.is_in_front() { "'%" } else { "'" }),
+            Part(if percent.has_leading() { "'%" } else { "'" }),
             Part(mask),
-            Part(if percent.is_behind() { "%'" } else { "'" }),
+            Part(if percent.has_trailing() { "%'" } else { "'" }),
         ],
     )
 }

@@ -2,18 +2,18 @@
 //! nothing.
 ghost use Rattle.std.specs.Prelude.{IfOk, IsTrue, List, codes};
 ghost use Rattle.sql_builder.specs.Calls.{CallText, Sql, StartText, having_in, limit_in, offset_in, returning_in};
-ghost use Rattle.sql_builder.specs.HandedTexts.{ClosedTextsMakeClosedFragments, FitTextsMakeClosedFragments, PlainTextsEndInOneSemicolon, PlainTextsMakePlainFragments, SelectsNeedGroupBy, TextsAreFitCallByCall, TextsPassCallByCall};
+ghost use Rattle.sql_builder.specs.TextTests.{ClosedTextsMakeClosedFragments, FitTextsMakeClosedFragments, PlainTextsEndInOneSemicolon, PlainTextsMakePlainFragments, SelectsNeedGroupBy, TextsAreFitCallByCall, TextsPassCallByCall};
 ghost use Rattle.sql_builder.specs.Inserts.{BuildersOfInsertsReadBack, BuildersOfQueriesAreOne, FitTextsMakeFitTargets, InsertsReadBack, QueriesAreOne};
 ghost use Rattle.sql_builder.specs.Interference.{ConditionsKeepTheirOutline, EquationsKeepTheirOutline, FragmentsDoNotInterfere, IgnoresQuotedTexts, OutlinesDecideOutlines, QuotedTextsAreStrings, QuotedTextsDoNotInterfere, QuotedTextsKeepTheirPlaces, QuotesKeepTheirOutline, blank_clauses, clauses_but};
-ghost use Rattle.sql_builder.specs.Laws.{BuildersEndInOneSemicolon, ConditionsAreAtoms, ConditionsKeepTokens, BracketsMakeOperands, CountsKeepTokens, EquationsKeepTokens, FieldsJoin, FitTextsMakeBalancedFragments, FitTextsMakeFitConditions, FitTextsMakeFitFragments, IsValued, OnlyLastCounts, QuotedEquationsKeepTokens, StatementsReadBack, TruthOfAnd, TruthOfBrackets, TruthOfNot, TruthOfOr, TruthOfWhere, a_without_c, brackets_and_not, range_and_case};
+ghost use Rattle.sql_builder.specs.BuilderLaws.{BuildersEndInOneSemicolon, ConditionsAreAtoms, ConditionsKeepTokens, BracketsMakeOperands, CountsKeepTokens, EquationsKeepTokens, FieldsJoin, FitTextsMakeBalancedFragments, FitTextsMakeFitConditions, FitTextsMakeFitFragments, IsValued, OnlyLastCounts, QuotedEquationsKeepTokens, StatementsReadBack, TruthOfAnd, TruthOfBrackets, TruthOfNot, TruthOfOr, TruthOfWhere, a_without_c, brackets_and_not, range_and_case};
 ghost use Rattle.sql_builder.specs.Truths.{False, True, Unknown};
 ghost use Rattle.sql_builder.specs.Shape.{EndsInOneSemicolon, has_closed_fragments, has_no_semicolons};
 ghost use Rattle.sql_builder.specs.Statement.{pieces};
 ghost use Rattle.sql_builder.specs.StatementLaws.{BuildersFollowCalls, BuildersPrintStatements, StatementsAreClosed, StatementsHaveTruth, StatementsKeepTokens, StatementsNest};
-ghost use Rattle.sql_builder.specs.Tables.{SubqueriesNestAsTables};
-ghost use Rattle.sql_builder.specs.Text.{pieces_text};
+ghost use Rattle.sql_builder.specs.Subqueries.{SubqueriesNestAsTables};
+ghost use Rattle.sql_builder.specs.Pieces.{pieces_text};
 ghost use Rattle.sql_parts.specs.Fragments.{balanced, dangling, has_clause_word, operand};
-ghost use Rattle.sql_parts.specs.Blanks.{IgnoresBoundTexts, IgnoresStrings, length_in_tokens, outline, semicolon_count};
+ghost use Rattle.sql_parts.specs.StringTexts.{IgnoresBoundTexts, IgnoresStrings, length_in_tokens, outline, semicolon_count};
 ghost use Rattle.sql_parts.specs.Tokens.{closed, tokens};
 
 pub use sql_parts::laws::{
@@ -26,7 +26,7 @@ pub use sql_parts::laws::{
 /// `fields` of a list and then of another is `fields` of the two joined.
 /// `SqlBuilder::select_from(alloc, "t")?.fields(&["a"])?.fields(&["b"])?.sql()?` →
 /// `SELECT a, b FROM t;`
-#[tactic(auto, using(crate::proofs::LaterCalls::fields_join))]
+#[tactic(auto, using(crate::proofs::statements::LaterCallLemmas::fields_join))]
 pub fn fields_join()
     ensures joined { FieldsJoin }
 {}
@@ -34,7 +34,7 @@ pub fn fields_join()
 /// Of the calls of `limit`, of `offset`, of `having` and of `returning`, only the last of each
 /// counts; `returning_id` is a `returning`.
 /// `SqlBuilder::select_from(alloc, "t")?.limit(1)?.limit(2)?.sql()?` → `SELECT * FROM t LIMIT 2;`
-#[tactic(auto, using(crate::proofs::LaterCalls::limit_counts_last, crate::proofs::LaterCalls::offset_counts_last, crate::proofs::LaterCalls::having_counts_last, crate::proofs::LaterCalls::returning_counts_last))]
+#[tactic(auto, using(crate::proofs::statements::LaterCallLemmas::limit_counts_last, crate::proofs::statements::LaterCallLemmas::offset_counts_last, crate::proofs::statements::LaterCallLemmas::having_counts_last, crate::proofs::statements::LaterCallLemmas::returning_counts_last))]
 pub fn only_last_counts()
     ensures limit { OnlyLastCounts limit_in }
     ensures offset { OnlyLastCounts offset_in }
@@ -42,11 +42,11 @@ pub fn only_last_counts()
     ensures returning { OnlyLastCounts returning_in }
 {}
 
-/// Where the texts handed in as they stand are closed, what a condition call, `on_eq`, `set`,
+/// Where the raw fragments are closed, what a condition call, `on_eq`, `set`,
 /// `set_str` or `count_as` adds has the tokens of its parts, where a text that it quotes is one
 /// token, and is closed.
 /// `SqlBuilder::update_table(alloc, "t")?.set_str("a", "b; c")?.sql()?` → `UPDATE t SET a = 'b; c';`
-#[tactic(auto, using(crate::proofs::ClauseShapes::condition_keeps, crate::proofs::ClauseShapes::equation_keeps, crate::proofs::ClauseShapes::quoted_equation_keeps, crate::proofs::ClauseShapes::count_as_keeps))]
+#[tactic(auto, using(crate::proofs::pieces::ClauseShapeLemmas::condition_keeps, crate::proofs::pieces::ClauseShapeLemmas::equation_keeps, crate::proofs::pieces::ClauseShapeLemmas::quoted_equation_keeps, crate::proofs::pieces::ClauseShapeLemmas::count_as_keeps))]
 pub fn added_texts_keep_tokens()
     ensures conditions { ConditionsKeepTokens }
     ensures equations { EquationsKeepTokens }
@@ -101,11 +101,11 @@ pub fn string_texts_begin_no_clause()
     ensures bound { IgnoresBoundTexts clauses_but }
 {}
 
-/// A condition whose texts are operands, but one that is handed in as it stands, is an atom: its
+/// A condition whose texts are operands, but a raw one, is an atom: its
 /// truth is what is known of its tokens. Of an IN that is asked of its field alone, and of what
 /// stands in its brackets that it is balanced.
 /// `is_operand("a OR b")` → `false`
-#[tactic(auto, using(crate::proofs::ConditionAtoms::condition_atom))]
+#[tactic(auto, using(crate::proofs::conditions::ConditionLemmas::condition_atom))]
 pub fn conditions_are_atoms()
     ensures { ConditionsAreAtoms }
 {}
@@ -113,7 +113,7 @@ pub fn conditions_are_atoms()
 /// Where each fragment that `sql` prints is closed and has no `;` among its tokens, the tokens of
 /// the statement have one `;`, and it is the last; the same of a builder and its texts.
 /// `SqlBuilder::select_from(alloc, "t")?.field("';'")?.sql()?` → `SELECT ';' FROM t;`
-#[tactic(auto, using(crate::proofs::ClauseShapes::last_semicolon, crate::proofs::ClauseShapes::builder_semicolon))]
+#[tactic(auto, using(crate::proofs::pieces::ClauseShapeLemmas::last_semicolon, crate::proofs::pieces::ClauseShapeLemmas::builder_semicolon))]
 pub fn only_the_end_is_a_semicolon()
     ensures last { (start : StartText) (calls : List CallText) → IfOk (pieces start calls Sql)
         (λ printed. IsTrue (has_closed_fragments printed) → IsTrue (has_no_semicolons printed)
@@ -124,7 +124,7 @@ pub fn only_the_end_is_a_semicolon()
 /// What `sql`, `query` and `query_values` print of a list of calls reads back as the clauses that
 /// the list says, where its fragments before the first UNION are fit.
 /// `has_clause_word("a FROM b")` → `true`
-#[tactic(auto, using(crate::proofs::StatementLaws::statements_read_back))]
+#[tactic(auto, using(crate::proofs::statements::StatementLaws::statements_read_back))]
 pub fn statements_read_back()
     ensures { StatementsReadBack }
 {}
@@ -132,7 +132,7 @@ pub fn statements_read_back()
 /// Where each fragment that is printed is closed, a statement has the tokens of its pieces, where a
 /// text that was quoted is one token that parses back as that text, and is closed.
 /// `SqlBuilder::update_table(alloc, "t")?.set_str("a", "b; c")?.sql()?` → `UPDATE t SET a = 'b; c';`
-#[tactic(auto, using(crate::proofs::StatementLaws::statements_keep_tokens, crate::proofs::StatementLaws::statements_are_closed))]
+#[tactic(auto, using(crate::proofs::statements::StatementLaws::statements_keep_tokens, crate::proofs::statements::StatementLaws::statements_are_closed))]
 pub fn statements_keep_tokens()
     ensures shape { StatementsKeepTokens }
     ensures closed { StatementsAreClosed }
@@ -143,7 +143,7 @@ pub fn statements_keep_tokens()
 /// groups, each the OR of its conditions, in SQL's three-valued logic.
 /// `SqlBuilder::select_from(alloc, "t")?.and_where("a")?.or_where("b")?.and_where("c")?.sql()?` →
 /// `SELECT * FROM t WHERE (a OR b) AND (c);`
-#[tactic(auto, using(crate::proofs::StatementLaws::statements_have_truth))]
+#[tactic(auto, using(crate::proofs::statements::StatementLaws::statements_have_truth))]
 pub fn statements_have_truth()
     ensures { StatementsHaveTruth }
 {}
@@ -151,7 +151,7 @@ pub fn statements_have_truth()
 /// Where each fragment is balanced, what `query` and `subquery_as` print is balanced, and what
 /// `subquery` prints is an operand without a top-level clause keyword.
 /// `begin(alloc, &Start::SelectFrom(String::from_str(alloc, "t")?))?.subquery()?` → `(SELECT * FROM t)`
-#[tactic(auto, using(crate::proofs::StatementLaws::statements_nest))]
+#[tactic(auto, using(crate::proofs::statements::StatementLaws::statements_nest))]
 pub fn statements_nest()
     ensures { StatementsNest }
 {}
@@ -160,7 +160,7 @@ pub fn statements_nest()
 /// statement of that start and these calls, or fails with its error.
 /// `print(&begin(alloc, &Start::SelectFrom(String::from_str(alloc, "t")?))?, &Finish::Query)?` →
 /// `SELECT * FROM t`
-#[tactic(auto, using(crate::proofs::StatementLaws::builders_follow_calls, crate::proofs::StatementLaws::builders_print_statements))]
+#[tactic(auto, using(crate::proofs::statements::StatementLaws::builders_follow_calls, crate::proofs::statements::StatementLaws::builders_print_statements))]
 pub fn builders_print_statements()
     ensures calls { BuildersFollowCalls }
     ensures printed { BuildersPrintStatements }
@@ -171,7 +171,7 @@ pub fn builders_print_statements()
 /// in a query behind UNION), the fragments that are printed are fit: what `run` asks of them for
 /// clauses, for WHERE and for nesting.
 /// `is_balanced("a) OR (b")` → `false`
-#[tactic(auto, using(crate::proofs::FitTexts::fit_fragments, crate::proofs::FitTexts::fit_conditions, crate::proofs::FitTexts::balanced_fragments))]
+#[tactic(auto, using(crate::proofs::fragments::FitLemmas::fit_fragments, crate::proofs::fragments::FitLemmas::fit_conditions, crate::proofs::fragments::FitLemmas::balanced_fragments))]
 pub fn fit_texts_make_fit_fragments()
     ensures fragments { FitTextsMakeFitFragments }
     ensures conditions { FitTextsMakeFitConditions }
@@ -183,7 +183,7 @@ pub fn fit_texts_make_fit_fragments()
 /// prints of closed fragments ends in its only `;`.
 /// `SqlBuilder::select_from(alloc, "t")?.and_where("a = ';'")?.sql()?` →
 /// `SELECT * FROM t WHERE a = ';';`
-#[tactic(auto, using(crate::proofs::HandedTexts::closed_texts, crate::proofs::HandedTexts::fit_texts_are_closed, crate::proofs::HandedTexts::plain_texts, crate::proofs::HandedTexts::plain_texts_end))]
+#[tactic(auto, using(crate::proofs::fragments::TextTestLemmas::closed_texts, crate::proofs::fragments::TextTestLemmas::fit_texts_are_closed, crate::proofs::fragments::TextTestLemmas::plain_texts, crate::proofs::fragments::TextTestLemmas::plain_texts_end))]
 pub fn closed_texts_make_closed_fragments()
     ensures closed { ClosedTextsMakeClosedFragments }
     ensures of_fit { FitTextsMakeClosedFragments }
@@ -194,7 +194,7 @@ pub fn closed_texts_make_closed_fragments()
 /// The texts of a longer list pass a test, or are fit, exactly where those of the list do and those
 /// of each further call. So it takes one fact for each call, however many of them are optional.
 /// `is_closed("a = 'b")` → `false`
-#[tactic(auto, using(crate::proofs::HandedTexts::texts_pass_call_by_call, crate::proofs::HandedTexts::texts_are_fit_call_by_call))]
+#[tactic(auto, using(crate::proofs::fragments::TextTestLemmas::texts_pass_call_by_call, crate::proofs::fragments::TextTestLemmas::texts_are_fit_call_by_call))]
 pub fn texts_pass_call_by_call()
     ensures passing { TextsPassCallByCall }
     ensures fit { TextsAreFitCallByCall }
@@ -203,19 +203,19 @@ pub fn texts_pass_call_by_call()
 /// `sql` of a SELECT from a table that has a name fails exactly where a list of calls has a `having`
 /// and no `group_by`, and then with `NoGroupBy`; but for memory.
 /// `SqlBuilder::select_from(alloc, "t")?.having("a > 1")?.sql()` fails with `NoGroupBy`
-#[tactic(auto, using(crate::proofs::HandedTexts::selects_need_group_by))]
+#[tactic(auto, using(crate::proofs::fragments::TextTestLemmas::selects_need_group_by))]
 pub fn selects_need_group_by()
     ensures { SelectsNeedGroupBy }
 {}
 
-/// The truth of a condition by how it is made: of an OR whose left side is balanced the greater;
-/// of an AND the lesser, where the left side is balanced, neither side has an outer OR, and no
-/// BETWEEN on the left owns the AND; of a NOT the exchange, where no outer OR, AND or BETWEEN is behind
+/// The truth of a condition by how it is made: of an OR whose left side is balanced the OR of both;
+/// of an AND the AND of both, where the left side is balanced, neither side has an outer OR, and no
+/// BETWEEN on the left owns the AND; of a NOT the negation, where no outer OR, AND or BETWEEN is behind
 /// it; of brackets round what is balanced and has no outer clause word that of the inside; of a
-/// WHERE of such conditions the least over its groups of the greatest over a group's conditions.
+/// WHERE of such conditions the AND of its groups, each the OR of its conditions.
 /// `SqlBuilder::select_from(alloc, "t")?.and_where("a")?.or_where("b")?.and_where("c")?.sql()?` →
 /// `SELECT * FROM t WHERE (a OR b) AND (c);`
-#[tactic(auto, using(crate::proofs::TruthLaws::of_or, crate::proofs::TruthLaws::of_and, crate::proofs::TruthLaws::of_not, crate::proofs::TruthLaws::of_brackets, crate::proofs::TruthLaws::of_where))]
+#[tactic(auto, using(crate::proofs::truth::TruthLaws::of_or, crate::proofs::truth::TruthLaws::of_and, crate::proofs::truth::TruthLaws::of_not, crate::proofs::truth::TruthLaws::of_brackets, crate::proofs::truth::TruthLaws::of_where))]
 pub fn truth_follows_the_form()
     ensures of_or { TruthOfOr }
     ensures of_and { TruthOfAnd }
@@ -227,7 +227,7 @@ pub fn truth_follows_the_form()
 /// What is balanced is an operand between brackets, without an outer clause word, whatever it
 /// holds.
 /// `is_operand("(a OR b)")` → `true`
-#[tactic(auto, using(crate::proofs::TruthLaws::brackets_make_operands))]
+#[tactic(auto, using(crate::proofs::truth::TruthLaws::brackets_make_operands))]
 pub fn brackets_make_operands()
     ensures { BracketsMakeOperands }
 {}
@@ -239,7 +239,7 @@ pub fn brackets_make_operands()
 /// `(a OR b) AND (c)`, but `a OR b AND c` is true.
 /// `SqlBuilder::select_from(alloc, "t")?.and_where("a OR b")?.and_where("c")?.sql()?` →
 /// `SELECT * FROM t WHERE (a OR b) AND (c);`
-#[tactic(auto, using(crate::proofs::MeaningRows::unknown_or, crate::proofs::MeaningRows::unknown_not, crate::proofs::MeaningRows::unknown_group, crate::proofs::MeaningRows::true_group, crate::proofs::MeaningRows::unknown_whole, crate::proofs::MeaningRows::false_group, crate::proofs::MeaningRows::false_whole, crate::proofs::MeaningRows::own_brackets, crate::proofs::MeaningRows::own_not, crate::proofs::MeaningRows::own_whole, crate::proofs::MeaningRows::with_brackets, crate::proofs::MeaningRows::without_brackets))]
+#[tactic(auto, using(crate::proofs::rows::MeaningRows::unknown_or, crate::proofs::rows::MeaningRows::unknown_not, crate::proofs::rows::MeaningRows::unknown_group, crate::proofs::rows::MeaningRows::true_group, crate::proofs::rows::MeaningRows::unknown_whole, crate::proofs::rows::MeaningRows::false_group, crate::proofs::rows::MeaningRows::false_whole, crate::proofs::rows::MeaningRows::own_brackets, crate::proofs::rows::MeaningRows::own_not, crate::proofs::rows::MeaningRows::own_whole, crate::proofs::rows::MeaningRows::with_brackets, crate::proofs::rows::MeaningRows::without_brackets))]
 pub fn worked_truths()
     ensures unknown_or { IsValued (range_and_case False) (codes "p OR q") Unknown }
     ensures unknown_not { IsValued (range_and_case False) (codes "NOT (p OR q)") Unknown }
@@ -262,10 +262,10 @@ pub fn worked_truths()
 {}
 
 /// Where each fragment of a query is balanced, those behind a UNION too, what `subquery` prints of
-/// it is fit to be handed in as a table: balanced, and without an outer word that begins a clause;
+/// it is fit as a table: balanced, and without an outer word that begins a clause;
 /// and so is what `subquery_as` prints, where its name has no such word.
 /// `SqlBuilder::select_from(alloc, "t")?.subquery_as("s")?` → `(SELECT * FROM t) AS s`
-#[tactic(auto, using(crate::proofs::Tables::subqueries_nest))]
+#[tactic(auto, using(crate::proofs::reading::SubqueryLemmas::subqueries_nest))]
 pub fn subqueries_nest_as_tables()
     ensures { SubqueriesNestAsTables }
 {}
@@ -276,7 +276,7 @@ pub fn subqueries_nest_as_tables()
 /// `query` prints has none, where it has no union and its fragments are fit.
 /// `SqlBuilder::insert_into(alloc, "t")?.field("a")?.select("SELECT b FROM c")?.sql()?` →
 /// `INSERT INTO t (a) SELECT b FROM c;`
-#[tactic(auto, using(crate::proofs::Inserts::inserts_read_back, crate::proofs::Inserts::builders_of_inserts_read_back, crate::proofs::Inserts::queries_are_one, crate::proofs::Inserts::builders_of_queries_are_one, crate::proofs::InsertTexts::fit_targets))]
+#[tactic(auto, using(crate::proofs::reading::InsertLemmas::inserts_read_back, crate::proofs::reading::InsertLemmas::builders_of_inserts_read_back, crate::proofs::reading::InsertLemmas::queries_are_one, crate::proofs::reading::InsertLemmas::builders_of_queries_are_one, crate::proofs::fragments::InsertFitLemmas::fit_targets))]
 pub fn inserts_read_back()
     ensures statements { InsertsReadBack }
     ensures of_builders { BuildersOfInsertsReadBack }

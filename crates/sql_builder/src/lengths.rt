@@ -8,7 +8,7 @@ ghost use Rattle.sql_builder.specs.Concat.{at_most_usize};
 ghost use Rattle.sql_builder.specs.Layout.{byte_atoms, query, query_values};
 ghost use Rattle.sql_builder.specs.Printed.{delete_bytes, further_bytes, group_by_bytes, insert_bytes, join_bytes, optional_bytes, order_by_bytes, statement_bytes, update_bytes, where_bytes};
 ghost use Rattle.sql_builder.specs.Statement.{text_at};
-ghost use Rattle.sql_builder.specs.Views.{finish_view};
+ghost use Rattle.sql_builder.specs.Calls.{finish_view};
 
 use crate::builder::SqlBuilder;
 use crate::calls::Finish;
@@ -38,7 +38,7 @@ fn optional_len(words: &str, text: &OptionalText) -> usize
     }
 }
 
-#[tactic(auto, using(crate::proofs::Printed::one_more))]
+#[tactic(auto, using(crate::proofs::output::LoopFacts::one_more))]
 fn joins_len(joins: &[String]) -> usize
     ensures { result ≡ at_most_usize (length (join_bytes (texts joins.now))) }
 {
@@ -49,7 +49,7 @@ fn joins_len(joins: &[String]) -> usize
     sum
 }
 
-#[tactic(auto, using(crate::proofs::Printed::one_more))]
+#[tactic(auto, using(crate::proofs::output::LoopFacts::one_more))]
 fn further_len(conditions: &[GroupedCondition]) -> usize
     ensures { result ≡ at_most_usize
         (length (further_bytes (map condition_in_group conditions.now))) }
@@ -146,7 +146,7 @@ impl SqlBuilder {
         ])
     }
 
-    #[tactic(auto, using(crate::proofs::Printed::update_is))]
+    #[tactic(auto, using(crate::proofs::output::PrintingLemmas::update_is))]
     fn update_len(&self) -> usize
         ensures { result ≡ at_most_usize (length (update_bytes self.now)) }
     {
@@ -159,7 +159,7 @@ impl SqlBuilder {
         ])
     }
 
-    #[tactic(auto, using(crate::proofs::Printed::delete_is))]
+    #[tactic(auto, using(crate::proofs::output::PrintingLemmas::delete_is))]
     fn delete_len(&self) -> usize
         ensures { result ≡ at_most_usize (length (delete_bytes self.now)) }
     {

@@ -9,6 +9,7 @@ mod chain;
 mod clauses;
 mod concat;
 mod condition;
+mod ghost_list;
 pub mod laws;
 mod lengths;
 mod optional_text;

@@ -5,17 +5,16 @@ ghost use Rattle.std.specs.List.{list_any};
 ghost use Rattle.sql_parts.specs.Error.{FailsOnlyByMemory};
 ghost use Rattle.sql_parts.specs.Text.{texts};
 ghost use Rattle.sql_builder.specs.Builder.{condition_in_group, group_texts};
-ghost use Rattle.sql_builder.specs.Calls.{Query, Sql, Subquery, SubqueryAs};
+ghost use Rattle.sql_builder.specs.Calls.{Query, Sql, Subquery, SubqueryAs, finish_view};
 ghost use Rattle.sql_builder.specs.Concat.{HasRoom, Writes};
-ghost use Rattle.sql_builder.specs.Layout.{byte_atoms, fields_or_star, query, query_refusal, query_values, refusal, select_opening, sql, subquery, subquery_as};
+ghost use Rattle.sql_builder.specs.Layout.{byte_atoms, fields_or_star, query, query_error, query_values, sql_error, select_opening, sql, subquery, subquery_as};
 ghost use Rattle.sql_builder.specs.Meaning.{HasTruthOfGroups, Nests, ReadsBack};
 ghost use Rattle.sql_builder.specs.Phrases.{comma_list};
 ghost use Rattle.sql_builder.specs.Printed.{delete_bytes, further_bytes, further_condition, group_by_bytes, insert_bytes, inserted_bytes, join_bytes, optional_bytes, order_by_bytes, query_end, query_start, statement_bytes, update_bytes, where_bytes, where_end, where_opening};
 ghost use Rattle.sql_builder.specs.Shape.{HasShape, IsClosedAs, as_fragments};
-ghost use Rattle.sql_builder.specs.Statement.{refusal_at, text_at, unless_refused};
-ghost use Rattle.sql_builder.specs.Tables.{NestsAsTable};
-ghost use Rattle.sql_builder.specs.Text.{fixed_piece, raw_piece};
-ghost use Rattle.sql_builder.specs.Views.{finish_view};
+ghost use Rattle.sql_builder.specs.Statement.{error_at, text_at, unless_error};
+ghost use Rattle.sql_builder.specs.Subqueries.{NestsAsTable};
+ghost use Rattle.sql_builder.specs.Pieces.{fixed_piece, raw_piece};
 
 use crate::builder::SqlBuilder;
 use crate::calls::Finish;
@@ -29,7 +28,7 @@ use std::alloc::AllocError;
 
 // Words, and a text behind them. It is a part of each caller, where the words' length is known.
 #[inline(always)]
-fn push_behind(out: &mut String, words: &str, text: &str)
+fn push_clause(out: &mut String, words: &str, text: &str)
     requires room { HasRoom out.old (words.now ++ text.now) }
     ensures { Writes out.old out.new (words.now ++ text.now) }
 {
@@ -44,7 +43,7 @@ fn push_optional(out: &mut String, words: &str, text: &OptionalText)
     ensures { Writes out.old out.new (optional_bytes words.now text.now) }
 {
     if let Some(text) = text.get() {
-        push_behind(out, words, text);
+        push_clause(out, words, text);
     }
 }
 
@@ -54,7 +53,7 @@ fn push_list(out: &mut String, words: &str, items: &TextList)
     requires room { HasRoom out.old (words.now ++ comma_list byte_atoms items.now) }
     ensures { Writes out.old out.new (words.now ++ comma_list byte_atoms items.now) }
 {
-    push_behind(out, words, items.as_str());
+    push_clause(out, words, items.as_str());
 }
 
 /// The words that a query begins with.
@@ -69,7 +68,7 @@ pub(crate) fn select_words(distinct: bool) -> &'static str
 }
 
 /// The fields, or `*` where there are none.
-#[tactic(auto, using(crate::proofs::Printed::some_fields, crate::proofs::Printed::no_fields))]
+#[tactic(auto, using(crate::proofs::output::PrintingLemmas::some_fields, crate::proofs::output::PrintingLemmas::no_fields))]
 pub(crate) fn fields_text(fields: &TextList) -> &str
     ensures { result.now ≡ fields_or_star byte_atoms fields.now }
 {
@@ -84,16 +83,16 @@ fn push_select(out: &mut String, distinct: bool, fields: &TextList)
     requires room { HasRoom out.old (select_opening distinct ++ fields_or_star byte_atoms fields.now) }
     ensures { Writes out.old out.new (select_opening distinct ++ fields_or_star byte_atoms fields.now) }
 {
-    push_behind(out, select_words(distinct), fields_text(fields));
+    push_clause(out, select_words(distinct), fields_text(fields));
 }
 
-#[tactic(auto, using(crate::proofs::Printed::one_more))]
+#[tactic(auto, using(crate::proofs::output::LoopFacts::one_more))]
 fn push_joins(out: &mut String, joins: &[String])
     requires room { HasRoom out.old (join_bytes (texts joins.now)) }
     ensures { Writes out.old out.new (join_bytes (texts joins.now)) }
 {
     for join in joins {
-        push_behind(out, " ", join.as_str());
+        push_clause(out, " ", join.as_str());
     }
 }
 
@@ -111,7 +110,7 @@ fn push_further_condition(out: &mut String, condition: &GroupedCondition)
     push_text(out, condition.text.as_str());
 }
 
-#[tactic(auto, using(crate::proofs::Printed::one_more))]
+#[tactic(auto, using(crate::proofs::output::LoopFacts::one_more))]
 fn push_further_conditions(out: &mut String, conditions: &[GroupedCondition])
     requires room { HasRoom out.old (further_bytes (map condition_in_group conditions.now)) }
     ensures { Writes out.old out.new (further_bytes (map condition_in_group conditions.now)) }
@@ -138,7 +137,7 @@ fn push_conditions(out: &mut String, first: &GroupedCondition, further: &[Groupe
     ensures { Writes out.old out.new (where_bytes (group_texts (first.now ∷ further.now))) }
 {
     let (opening, end) = where_words(further);
-    push_behind(out, opening, first.text.as_str());
+    push_clause(out, opening, first.text.as_str());
     push_further_conditions(out, further);
     push_text(out, end);
 }
@@ -152,7 +151,7 @@ fn push_where(out: &mut String, conditions: &[GroupedCondition])
     }
 }
 
-#[tactic(auto, using(crate::proofs::Printed::some_group_fields, std::proofs::lemmas::List::append_assoc))]
+#[tactic(auto, using(crate::proofs::output::PrintingLemmas::some_group_fields, std::proofs::lemmas::List::append_assoc))]
 fn push_group_by(out: &mut String, fields: &TextList, having: &OptionalText)
     requires room { HasRoom out.old (group_by_bytes fields.now having.now) }
     ensures { Writes out.old out.new (group_by_bytes fields.now having.now) }
@@ -164,7 +163,7 @@ fn push_group_by(out: &mut String, fields: &TextList, having: &OptionalText)
 }
 
 // ORDER BY stands only where there is no union.
-#[tactic(auto, using(crate::proofs::Printed::ordered))]
+#[tactic(auto, using(crate::proofs::output::PrintingLemmas::ordered))]
 fn push_order_by(out: &mut String, unions: &UnionList, fields: &TextList)
     requires room { HasRoom out.old (order_by_bytes unions.now fields.now) }
     ensures { Writes out.old out.new (order_by_bytes unions.now fields.now) }
@@ -175,7 +174,7 @@ fn push_order_by(out: &mut String, unions: &UnionList, fields: &TextList)
 }
 
 impl SqlBuilder {
-    #[tactic(auto, using(crate::proofs::Printed::query_is))]
+    #[tactic(auto, using(crate::proofs::output::PrintingLemmas::query_is))]
     fn push_query(&self, out: &mut String)
         requires room { HasRoom out.old (query byte_atoms self.now) }
         ensures { Writes out.old out.new (query byte_atoms self.now) }
@@ -191,7 +190,7 @@ impl SqlBuilder {
         ensures { Writes out.old out.new (query_start self.now) }
     {
         push_select(out, self.distinct, &self.fields);
-        push_behind(out, " FROM ", self.table.as_str());
+        push_clause(out, " FROM ", self.table.as_str());
         push_joins(out, &self.joins);
     }
 
@@ -228,10 +227,10 @@ impl SqlBuilder {
         requires room { HasRoom out.old (insert_bytes self.now) }
         ensures { Writes out.old out.new (insert_bytes self.now) }
     {
-        push_behind(out, "INSERT INTO ", self.table.as_str());
+        push_clause(out, "INSERT INTO ", self.table.as_str());
         push_list(out, " (", &self.fields);
         let (words, inserted) = self.inserted();
-        push_behind(out, words, inserted);
+        push_clause(out, words, inserted);
         push_optional(out, " RETURNING ", &self.returning);
     }
 
@@ -239,7 +238,7 @@ impl SqlBuilder {
         requires room { HasRoom out.old (update_bytes self.now) }
         ensures { Writes out.old out.new (update_bytes self.now) }
     {
-        push_behind(out, "UPDATE ", self.table.as_str());
+        push_clause(out, "UPDATE ", self.table.as_str());
         push_list(out, " SET ", &self.sets);
         push_where(out, &self.conditions);
         push_optional(out, " RETURNING ", &self.returning);
@@ -249,7 +248,7 @@ impl SqlBuilder {
         requires room { HasRoom out.old (delete_bytes self.now) }
         ensures { Writes out.old out.new (delete_bytes self.now) }
     {
-        push_behind(out, "DELETE FROM ", self.table.as_str());
+        push_clause(out, "DELETE FROM ", self.table.as_str());
         push_where(out, &self.conditions);
         push_optional(out, " RETURNING ", &self.returning);
     }
@@ -290,7 +289,7 @@ impl SqlBuilder {
     {
         push_text(out, "(");
         self.push_query(out);
-        push_behind(out, ") AS ", name);
+        push_clause(out, ") AS ", name);
     }
 
     fn push_finished(&self, finish: &Finish, out: &mut String)
@@ -309,7 +308,7 @@ impl SqlBuilder {
 
 impl SqlBuilder {
     fn check_query(&self) -> Result<(), SqlBuilderError>
-        ensures { result ≡ unless_refused (query_refusal self.now) tt }
+        ensures { result ≡ unless_error (query_error self.now) tt }
     {
         if self.having.is_some() && self.group_fields.is_empty() {
             return Err(SqlBuilderError::NoGroupBy);
@@ -318,7 +317,7 @@ impl SqlBuilder {
     }
 
     fn check(&self) -> Result<(), SqlBuilderError>
-        ensures { result ≡ unless_refused (refusal self.now) tt }
+        ensures { result ≡ unless_error (sql_error self.now) tt }
     {
         let values = matches!(self.kind, Kind::SelectValues);
         if !values && self.table.is_empty() {
@@ -336,7 +335,7 @@ impl SqlBuilder {
     }
 
     fn check_finish(&self, finish: &Finish) -> Result<(), SqlBuilderError>
-        ensures { result ≡ unless_refused (refusal_at (finish_view finish.now) self.now) tt }
+        ensures { result ≡ unless_error (error_at (finish_view finish.now) self.now) tt }
     {
         match finish {
             Finish::Sql => self.check(),
@@ -359,9 +358,9 @@ impl SqlBuilder {
     /// `?`, so that search finds what follows of the text.
     pub(crate) fn print(&self, finish: &Finish) -> Result<String, SqlBuilderError>
         ensures text { IfOk result (λ s. string_bytes s ≡ text_at (finish_view finish.now) self.now) }
-        ensures refused { IfSome (refusal_at (finish_view finish.now) self.now)
-            (λ refusal. result ≡ Err refusal) }
-        ensures memory { IsNone (refusal_at (finish_view finish.now) self.now)
+        ensures error { IfSome (error_at (finish_view finish.now) self.now)
+            (λ error. result ≡ Err error) }
+        ensures memory { IsNone (error_at (finish_view finish.now) self.now)
             → FailsOnlyByMemory result }
     {
         self.check_finish(finish)?;
@@ -375,11 +374,11 @@ impl SqlBuilder {
         ensures appended { OnOk result (string_bytes out.new
             ≡ string_bytes out.old ++ text_at (finish_view finish.now) self.now) }
         ensures unchanged { OnErr result (string_bytes out.new ≡ string_bytes out.old) }
-        ensures refused { IfSome (refusal_at (finish_view finish.now) self.now)
-            (λ refusal. result ≡ Err refusal) }
-        ensures memory { IsNone (refusal_at (finish_view finish.now) self.now)
+        ensures error { IfSome (error_at (finish_view finish.now) self.now)
+            (λ error. result ≡ Err error) }
+        ensures memory { IsNone (error_at (finish_view finish.now) self.now)
             → FailsOnlyByMemory result }
-        ensures succeeds { IsNone (refusal_at (finish_view finish.now) self.now)
+        ensures succeeds { IsNone (error_at (finish_view finish.now) self.now)
             → HasRoom out.old (text_at (finish_view finish.now) self.now) → IsOk result }
     {
         self.check_finish(finish)?;
@@ -396,10 +395,10 @@ impl SqlBuilder {
     ///
     /// Where the builder's texts before the first UNION are balanced and, but between brackets,
     /// without an outer word that begins a clause, it reads back as the builder's clauses, and the
-    /// truth of a WHERE is the least over the builder's groups.
+    /// truth of a WHERE is the AND of the builder's groups.
     /// `SqlBuilder::select_from(alloc, "t")?.sql()?` → `SELECT * FROM t;`
     /// `SqlBuilder::select_from(alloc, "")?.sql()` fails with `NoTableName`
-    #[tactic(auto, using(crate::proofs::Layouts::sql_shape, crate::proofs::Layouts::sql_closed, crate::proofs::ReadBack::sql_clauses, crate::proofs::ReadBack::sql_truth))]
+    #[tactic(auto, using(crate::proofs::pieces::LayoutShapeLemmas::sql_shape, crate::proofs::pieces::LayoutShapeLemmas::sql_closed, crate::proofs::reading::ReadBackLemmas::sql_clauses, crate::proofs::reading::ReadBackLemmas::sql_truth))]
     pub fn sql(&self) -> Result<String, SqlBuilderError>
         ensures text { IfOk result (λ s. string_bytes s ≡ sql byte_atoms self.now) }
         ensures shape { IfOk result (λ s.
@@ -410,8 +409,8 @@ impl SqlBuilder {
             ReadsBack (sql fixed_piece (as_fragments self.now)) (string_bytes s)) }
         ensures truth { IfOk result (λ s.
             HasTruthOfGroups Sql self.now (sql fixed_piece (as_fragments self.now)) (string_bytes s)) }
-        ensures refused { IfSome (refusal self.now) (λ refusal. result ≡ Err refusal) }
-        ensures memory { IsNone (refusal self.now) → FailsOnlyByMemory result }
+        ensures error { IfSome (sql_error self.now) (λ error. result ≡ Err error) }
+        ensures memory { IsNone (sql_error self.now) → FailsOnlyByMemory result }
     {
         let statement = self.print(&Finish::Sql)?;
         Ok(statement)
@@ -423,7 +422,7 @@ impl SqlBuilder {
     /// balanced, also behind UNION, so is the query.
     /// `SqlBuilder::select_from(alloc, "t")?.query()?` → `SELECT * FROM t`
     /// `SqlBuilder::select_from(alloc, "t")?.having("a")?.query()` fails with `NoGroupBy`
-    #[tactic(auto, using(crate::proofs::Layouts::query_shape, crate::proofs::Layouts::query_closed, crate::proofs::ReadBack::query_clauses, crate::proofs::ReadBack::query_truth, crate::proofs::ReadBack::query_nests))]
+    #[tactic(auto, using(crate::proofs::pieces::LayoutShapeLemmas::query_shape, crate::proofs::pieces::LayoutShapeLemmas::query_closed, crate::proofs::reading::ReadBackLemmas::query_clauses, crate::proofs::reading::ReadBackLemmas::query_truth, crate::proofs::reading::ReadBackLemmas::query_nests))]
     pub fn query(&self) -> Result<String, SqlBuilderError>
         ensures text { IfOk result (λ s. string_bytes s ≡ query byte_atoms self.now) }
         ensures shape { IfOk result (λ s.
@@ -436,8 +435,8 @@ impl SqlBuilder {
             HasTruthOfGroups Query self.now (query fixed_piece (as_fragments self.now)) (string_bytes s)) }
         ensures nests { IfOk result (λ s.
             Nests Query (query fixed_piece (as_fragments self.now)) (string_bytes s)) }
-        ensures refused { IfSome (query_refusal self.now) (λ refusal. result ≡ Err refusal) }
-        ensures memory { IsNone (query_refusal self.now) → FailsOnlyByMemory result }
+        ensures error { IfSome (query_error self.now) (λ error. result ≡ Err error) }
+        ensures memory { IsNone (query_error self.now) → FailsOnlyByMemory result }
     {
         let query = self.print(&Finish::Query)?;
         Ok(query)
@@ -446,7 +445,7 @@ impl SqlBuilder {
     /// `SELECT` and the fields, nothing else, on a builder of any kind. It fails only if memory
     /// runs out. It reads back as what `sql` prints.
     /// `SqlBuilder::select_values(alloc, &[1, 2])?.query_values()?` → `SELECT 1, 2`
-    #[tactic(auto, using(crate::proofs::Layouts::query_values_shape, crate::proofs::Layouts::query_values_closed, crate::proofs::ReadBack::query_values_clauses))]
+    #[tactic(auto, using(crate::proofs::pieces::LayoutShapeLemmas::query_values_shape, crate::proofs::pieces::LayoutShapeLemmas::query_values_closed, crate::proofs::reading::ReadBackLemmas::query_values_clauses))]
     pub fn query_values(&self) -> Result<String, SqlBuilderError>
         ensures text { IfOk result (λ s. string_bytes s ≡ query_values byte_atoms self.now) }
         ensures shape { IfOk result (λ s.
@@ -464,7 +463,7 @@ impl SqlBuilder {
     /// The query in brackets: an operand without an outer word that begins a clause, where the
     /// builder's texts are balanced. It is refused as `query` is.
     /// `SqlBuilder::select_from(alloc, "t")?.subquery()?` → `(SELECT * FROM t)`
-    #[tactic(auto, using(crate::proofs::Layouts::subquery_shape, crate::proofs::Layouts::subquery_closed, crate::proofs::ReadBack::subquery_nests))]
+    #[tactic(auto, using(crate::proofs::pieces::LayoutShapeLemmas::subquery_shape, crate::proofs::pieces::LayoutShapeLemmas::subquery_closed, crate::proofs::reading::ReadBackLemmas::subquery_nests))]
     pub fn subquery(&self) -> Result<String, SqlBuilderError>
         ensures text { IfOk result (λ s. string_bytes s ≡ subquery byte_atoms self.now) }
         ensures shape { IfOk result (λ s.
@@ -473,8 +472,8 @@ impl SqlBuilder {
             IsClosedAs (subquery fixed_piece (as_fragments self.now)) (string_bytes s)) }
         ensures nests { IfOk result (λ s.
             Nests Subquery (subquery fixed_piece (as_fragments self.now)) (string_bytes s)) }
-        ensures refused { IfSome (query_refusal self.now) (λ refusal. result ≡ Err refusal) }
-        ensures memory { IsNone (query_refusal self.now) → FailsOnlyByMemory result }
+        ensures error { IfSome (query_error self.now) (λ error. result ≡ Err error) }
+        ensures memory { IsNone (query_error self.now) → FailsOnlyByMemory result }
     {
         let query = self.print(&Finish::Subquery)?;
         Ok(query)
@@ -484,7 +483,7 @@ impl SqlBuilder {
     /// are, and without an outer word that begins a clause, where the name has none; so it serves
     /// as a table. It is refused as `query` is.
     /// `SqlBuilder::select_from(alloc, "t")?.subquery_as("s")?` → `(SELECT * FROM t) AS s`
-    #[tactic(auto, using(crate::proofs::Layouts::subquery_as_shape, crate::proofs::Layouts::subquery_as_closed, crate::proofs::ReadBack::subquery_as_nests, crate::proofs::Tables::subquery_as_table))]
+    #[tactic(auto, using(crate::proofs::pieces::LayoutShapeLemmas::subquery_as_shape, crate::proofs::pieces::LayoutShapeLemmas::subquery_as_closed, crate::proofs::reading::ReadBackLemmas::subquery_as_nests, crate::proofs::reading::SubqueryLemmas::subquery_as_table))]
     pub fn subquery_as<S: ToText>(&self, name: S) -> Result<String, SqlBuilderError>
         ensures text { IfOk result (λ s. string_bytes s
             ≡ subquery_as byte_atoms (S.text name) self.now) }
@@ -497,8 +496,8 @@ impl SqlBuilder {
         ensures nests_as_table { IfOk result (λ s. NestsAsTable (SubqueryAs (S.text name))
             (subquery_as fixed_piece (raw_piece (S.text name)) (as_fragments self.now))
             (string_bytes s)) }
-        ensures refused { IfSome (query_refusal self.now) (λ refusal. result ≡ Err refusal) }
-        ensures memory { IsNone (query_refusal self.now) → FailsOnlyByMemory result }
+        ensures error { IfSome (query_error self.now) (λ error. result ≡ Err error) }
+        ensures memory { IsNone (query_error self.now) → FailsOnlyByMemory result }
     {
         self.check_query()?;
         let name = name.to_text(self.alloc)?;

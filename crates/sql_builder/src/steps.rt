@@ -1,18 +1,18 @@
-//! The steps of the calls: one for each way to be handed texts, told by a constant which clause is
+//! The steps of the calls: one for each way to be given texts. A constant says which clause is
 //! meant, and one that adds a condition. Those that borrow their texts are public in `calls`.
 ghost use Rattle.std.specs.Prelude.{◌≡◌, [], ◌∷◌, ◌++◌, map, codes, string_bytes, IfErr, OnOk, OnErr};
 ghost use Rattle.sql_parts.specs.Error.{FailsOnlyByMemory};
 ghost use Rattle.sql_parts.specs.Quoting.{escaped};
-ghost use Rattle.sql_builder.specs.Builder.{with_condition, with_condition_bytes, with_order, with_returning};
+ghost use Rattle.sql_builder.specs.Builder.{with_condition, with_condition_bytes, with_order, with_returning, IsBinaryError, IsUnaryError, with_binary, with_unary, with_variadic};
 ghost use Rattle.sql_builder.specs.Concat.{concat_bytes};
 ghost use Rattle.sql_builder.specs.Condition.{borrowed_view};
-ghost use Rattle.sql_builder.specs.Steps.{AddsBinary, RefusesBinary, RefusesUnary, Tells, with_binary, with_unary, with_variadic};
+ghost use Rattle.sql_builder.specs.Steps.{AddsBinary, Applies};
 
 use crate::builder::SqlBuilder;
 use crate::clauses::{GroupedCondition, JoinOperator, append_to_last};
 use crate::concat::{Part, append};
 use crate::condition::{BorrowedCondition, Family};
-use sql_parts::lending::Held;
+use sql_parts::loan::Held;
 use sql_parts::text::{Items, Texts};
 use sql_parts::{SqlBuilderError, ToText, escaped, split_at_quote};
 use std::mem::swap;
@@ -86,13 +86,13 @@ impl SqlBuilder {
     ghost use Rattle.sql_builder.specs.Builder.{with_fields, with_fields_set, with_group_field, with_having, with_join, with_limit, with_offset, with_on, with_query, with_set, with_table, with_union};
 
     fn push_table(&mut self, table: &str) -> Result<(), SqlBuilderError>
-        ensures { Tells result self.old self.new (with_table table.now) }
+        ensures { Applies result self.old self.new (with_table table.now) }
     {
         Ok(append(&mut self.table, &[Part(", "), Part(table)])?)
     }
 
     fn push_join(&mut self, table: &str) -> Result<(), SqlBuilderError>
-        ensures { Tells result self.old self.new (with_join table.now) }
+        ensures { Applies result self.old self.new (with_join table.now) }
     {
         let natural = if self.natural { "NATURAL " } else { "" };
         let words = JoinOperator::words(self.operator);
@@ -110,7 +110,7 @@ impl SqlBuilder {
         sign: &'a str,
         right: &'a str,
     ) -> Result<(), SqlBuilderError>
-        ensures { Tells result self.old self.new
+        ensures { Applies result self.old self.new
             (with_on (left.now ++ (sign.now ++ right.now))) }
     {
         Ok(append_to_last(
@@ -120,13 +120,13 @@ impl SqlBuilder {
     }
 
     fn push_field(&mut self, parts: &[Part<'_>]) -> Result<(), SqlBuilderError>
-        ensures { Tells result self.old self.new (with_fields (concat_bytes parts.now ∷ [])) }
+        ensures { Applies result self.old self.new (with_fields (concat_bytes parts.now ∷ [])) }
     {
         Ok(self.fields.push(parts)?)
     }
 
     fn set_only_field(&mut self, field: &str) -> Result<(), SqlBuilderError>
-        ensures { Tells result self.old self.new (with_fields_set (field.now ∷ [])) }
+        ensures { Applies result self.old self.new (with_fields_set (field.now ∷ [])) }
     {
         Ok(self.fields.replace(&[Part(field)])?)
     }
@@ -134,7 +134,7 @@ impl SqlBuilder {
     // A part of each caller, where the number of parts is known.
     #[inline(always)]
     fn push_set(&mut self, parts: &[Part<'_>]) -> Result<(), SqlBuilderError>
-        ensures { Tells result self.old self.new (with_set (concat_bytes parts.now)) }
+        ensures { Applies result self.old self.new (with_set (concat_bytes parts.now)) }
     {
         Ok(self.sets.push(parts)?)
     }
@@ -142,7 +142,7 @@ impl SqlBuilder {
     // A text without a quote. A function of its own has less to clear where it is called, as has the next.
     #[inline(never)]
     fn push_plain_set<'a>(&mut self, field: &'a str, text: &'a str) -> Result<(), SqlBuilderError>
-        ensures { Tells result self.old self.new (with_set
+        ensures { Applies result self.old self.new (with_set
             (field.now ++ (codes " = '" ++ (text.now ++ codes "'")))) }
     {
         self.push_set(&[Part(field), Part(" = '"), Part(text), Part("'")])
@@ -156,7 +156,7 @@ impl SqlBuilder {
         before: &'a str,
         after: &'a str,
     ) -> Result<(), SqlBuilderError>
-        ensures { Tells result self.old self.new (with_set (field.now
+        ensures { Applies result self.old self.new (with_set (field.now
             ++ (codes " = '" ++ (before.now ++ (codes "''" ++ (after.now ++ codes "'")))))) }
     {
         self.push_set(&[
@@ -171,7 +171,7 @@ impl SqlBuilder {
 
     #[tactic(auto, using(std::proofs::lemmas::List::append_assoc))]
     fn push_quoted_set(&mut self, field: &str, text: &str) -> Result<(), SqlBuilderError>
-        ensures { Tells result self.old self.new (with_set
+        ensures { Applies result self.old self.new (with_set
             (field.now ++ (codes " = '" ++ (escaped text.now ++ codes "'")))) }
     {
         let Some((before, after)) = split_at_quote(text) else {
@@ -182,7 +182,7 @@ impl SqlBuilder {
     }
 
     fn put_query(&mut self, query: &str) -> Result<(), SqlBuilderError>
-        ensures { Tells result self.old self.new (with_query query.now) }
+        ensures { Applies result self.old self.new (with_query query.now) }
     {
         self.query.set(query)?;
         self.rows.clear();
@@ -190,48 +190,48 @@ impl SqlBuilder {
     }
 
     pub(crate) fn put_returning(&mut self, fields: &str) -> Result<(), SqlBuilderError>
-        ensures { Tells result self.old self.new (with_returning fields.now) }
+        ensures { Applies result self.old self.new (with_returning fields.now) }
     {
         Ok(self.returning.set(fields)?)
     }
 
     fn push_group_field(&mut self, field: &str) -> Result<(), SqlBuilderError>
-        ensures { Tells result self.old self.new (with_group_field field.now) }
+        ensures { Applies result self.old self.new (with_group_field field.now) }
     {
         Ok(self.group_fields.push(&[Part(field)])?)
     }
 
     fn put_having(&mut self, condition: &str) -> Result<(), SqlBuilderError>
-        ensures { Tells result self.old self.new (with_having condition.now) }
+        ensures { Applies result self.old self.new (with_having condition.now) }
     {
         Ok(self.having.set(condition)?)
     }
 
     fn push_union(&mut self, all: bool, query: &str) -> Result<(), SqlBuilderError>
-        ensures { Tells result self.old self.new (with_union all query.now) }
+        ensures { Applies result self.old self.new (with_union all query.now) }
     {
         Ok(self.unions.push(all, query)?)
     }
 
     fn put_limit(&mut self, limit: &str) -> Result<(), SqlBuilderError>
-        ensures { Tells result self.old self.new (with_limit limit.now) }
+        ensures { Applies result self.old self.new (with_limit limit.now) }
     {
         Ok(self.limit.set(limit)?)
     }
 
     fn put_offset(&mut self, offset: &str) -> Result<(), SqlBuilderError>
-        ensures { Tells result self.old self.new (with_offset offset.now) }
+        ensures { Applies result self.old self.new (with_offset offset.now) }
     {
         Ok(self.offset.set(offset)?)
     }
 
-    #[tactic(auto, using(crate::proofs::Groups::one_more_condition))]
+    #[tactic(auto, using(crate::proofs::lists::GroupLemmas::one_more_condition))]
     pub(crate) fn push_condition(
         &mut self,
         family: Family,
         condition: String,
     ) -> Result<(), SqlBuilderError>
-        ensures { Tells result self.old self.new
+        ensures { Applies result self.old self.new
             (with_condition_bytes family (string_bytes condition)) }
     {
         self.conditions.push(GroupedCondition {
@@ -255,8 +255,8 @@ pub fn make_unary(
     text: &str,
 ) -> Result<(), SqlBuilderError>
     ensures made { OnOk result (builder.new ≡ with_unary clause text.now builder.old) }
-    ensures refused { OnErr result (builder.new ≡ builder.old) }
-    ensures memory { IfErr result (RefusesUnary clause builder.old) }
+    ensures unchanged { OnErr result (builder.new ≡ builder.old) }
+    ensures memory { IfErr result (IsUnaryError clause builder.old) }
 {
     match clause {
         UnaryClause::AndTable => builder.push_table(text),
@@ -294,8 +294,8 @@ pub fn make_binary<'a>(
 ) -> Result<(), SqlBuilderError>
     ensures made { OnOk result (builder.new
         ≡ with_binary clause first.now second.now builder.old) }
-    ensures refused { OnErr result (builder.new ≡ builder.old) }
-    ensures memory { IfErr result (RefusesBinary clause builder.old) }
+    ensures unchanged { OnErr result (builder.new ≡ builder.old) }
+    ensures memory { IfErr result (IsBinaryError clause builder.old) }
 {
     match clause {
         BinaryClause::OnEq if builder.joins.is_empty() => Ok(()),
@@ -324,7 +324,7 @@ pub fn make_variadic<'a, T: Texts<'a>>(
     texts: T,
 ) -> Result<(), SqlBuilderError>
     ensures made { OnOk result (builder.new ≡ with_variadic clause (T.left texts) builder.old) }
-    ensures refused { OnErr result (builder.new ≡ builder.old) }
+    ensures unchanged { OnErr result (builder.new ≡ builder.old) }
     ensures memory { FailsOnlyByMemory result }
 {
     let spare = &mut builder.spare;
@@ -358,7 +358,7 @@ pub fn make_order(
     descending: bool,
 ) -> Result<(), SqlBuilderError>
     ensures made { OnOk result (builder.new ≡ with_order descending field.now builder.old) }
-    ensures refused { OnErr result (builder.new ≡ builder.old) }
+    ensures unchanged { OnErr result (builder.new ≡ builder.old) }
     ensures memory { FailsOnlyByMemory result }
 {
     let words = if descending { " DESC" } else { "" };
@@ -379,7 +379,7 @@ pub fn make_condition<'a, T: Texts<'a>>(
 ) -> Result<(), SqlBuilderError>
     ensures made { OnOk result (builder.new
         ≡ with_condition family (borrowed_view T.left condition.entry) builder.old) }
-    ensures refused { OnErr result (builder.new ≡ builder.old) }
+    ensures unchanged { OnErr result (builder.new ≡ builder.old) }
     ensures memory { FailsOnlyByMemory result }
 {
     let text = condition.text(builder.alloc)?;
@@ -391,7 +391,7 @@ impl SqlBuilder {
     fn push_unary<S: ToText>(&mut self, clause: UnaryClause, text: S) -> Result<(), SqlBuilderError>
         ensures ok { OnOk result (self.new ≡ with_unary clause (S.text text) self.old) }
         ensures err { OnErr result (self.new ≡ self.old) }
-        ensures memory { IfErr result (RefusesUnary clause self.old) }
+        ensures memory { IfErr result (IsUnaryError clause self.old) }
     {
         if matches!(clause, UnaryClause::On) && self.joins.is_empty() {
             return Ok(());
@@ -409,7 +409,7 @@ impl SqlBuilder {
         ensures ok { OnOk result (self.new
             ≡ with_binary clause (S.text first) (T.text second) self.old) }
         ensures err { OnErr result (self.new ≡ self.old) }
-        ensures memory { IfErr result (RefusesBinary clause self.old) }
+        ensures memory { IfErr result (IsBinaryError clause self.old) }
     {
         if matches!(clause, BinaryClause::OnEq) && self.joins.is_empty() {
             return Ok(());
@@ -422,25 +422,25 @@ impl SqlBuilder {
 
 impl SqlBuilder {
     ghost use Rattle.std.specs.Borrow.{sem};
-    ghost use Rattle.sql_builder.specs.Chaining.{IsUnchangedIfHeldErr};
-    ghost use Rattle.sql_parts.specs.Lending.{IsHeldChangedSoThat, IsHeldChangedTo};
+    ghost use Rattle.sql_builder.specs.BuilderLoans.{IsUnchangedIfHeldErr};
+    ghost use Rattle.sql_parts.specs.Loans.{IsHeldChangedSoThat, IsHeldChangedTo};
 
     pub(crate) fn hold_unary<S: ToText>(
         &mut self,
         clause: UnaryClause,
         text: S,
     ) -> Result<Held<'_, SqlBuilder>, SqlBuilderError>
-        ensures* refused { sem 𝓛 (IsUnchangedIfHeldErr self.entry result) }
+        ensures* unchanged { sem 𝓛 (IsUnchangedIfHeldErr self.entry result) }
         ensures changed { IsHeldChangedTo self.entry
             (with_unary clause (S.text text) self.old) result }
-        ensures memory { IfErr result (RefusesUnary clause self.old) }
+        ensures memory { IfErr result (IsUnaryError clause self.old) }
     {
         self.push_unary(clause, text)?;
         Ok(Held(self))
     }
 
     pub(crate) fn hold_returning_id(&mut self) -> Result<Held<'_, SqlBuilder>, SqlBuilderError>
-        ensures* refused { sem 𝓛 (IsUnchangedIfHeldErr self.entry result) }
+        ensures* unchanged { sem 𝓛 (IsUnchangedIfHeldErr self.entry result) }
         ensures changed { IsHeldChangedTo self.entry (with_returning (codes "id") self.old) result }
         ensures memory { FailsOnlyByMemory result }
     {
@@ -448,17 +448,17 @@ impl SqlBuilder {
         Ok(Held(self))
     }
 
-    #[tactic(auto, using(crate::proofs::ClauseShapes::adds_binary))]
+    #[tactic(auto, using(crate::proofs::pieces::ClauseShapeLemmas::adds_binary))]
     pub(crate) fn hold_binary<S: ToText, T: ToText>(
         &mut self,
         clause: BinaryClause,
         first: S,
         second: T,
     ) -> Result<Held<'_, SqlBuilder>, SqlBuilderError>
-        ensures* refused { sem 𝓛 (IsUnchangedIfHeldErr self.entry result) }
+        ensures* unchanged { sem 𝓛 (IsUnchangedIfHeldErr self.entry result) }
         ensures changed { IsHeldChangedSoThat self.entry
             (AddsBinary clause (S.text first) (T.text second) self.old) result }
-        ensures memory { IfErr result (RefusesBinary clause self.old) }
+        ensures memory { IfErr result (IsBinaryError clause self.old) }
     {
         self.push_binary(clause, first, second)?;
         Ok(Held(self))
@@ -469,7 +469,7 @@ impl SqlBuilder {
         clause: VariadicClause,
         items: &[S],
     ) -> Result<Held<'_, SqlBuilder>, SqlBuilderError>
-        ensures* refused { sem 𝓛 (IsUnchangedIfHeldErr self.entry result) }
+        ensures* unchanged { sem 𝓛 (IsUnchangedIfHeldErr self.entry result) }
         ensures changed { IsHeldChangedTo self.entry
             (with_variadic clause (map S.text items.now) self.old) result }
         ensures memory { FailsOnlyByMemory result }
@@ -483,7 +483,7 @@ impl SqlBuilder {
         field: S,
         descending: bool,
     ) -> Result<Held<'_, SqlBuilder>, SqlBuilderError>
-        ensures* refused { sem 𝓛 (IsUnchangedIfHeldErr self.entry result) }
+        ensures* unchanged { sem 𝓛 (IsUnchangedIfHeldErr self.entry result) }
         ensures changed { IsHeldChangedTo self.entry
             (with_order descending (S.text field) self.old) result }
         ensures memory { FailsOnlyByMemory result }

@@ -1,13 +1,13 @@
 //! Lists of texts that are kept in one text, with commas between them.
-ghost use Rattle.std.specs.Prelude.{◌≡◌, ◌++◌, [], ◌∷◌, ◌==◌, codes, length, IfOk, OnErr, OnOk};
+ghost use Rattle.std.specs.Prelude.{◌≡◌, ◌++◌, [], ◌∷◌, ◌==◌, codes, if◌then◌else◌, length, IfOk, OnErr, OnOk};
 ghost use Rattle.sql_parts.specs.Error.{FailsOnlyByMemory};
 ghost use Rattle.sql_parts.specs.Text.{join_with};
 ghost use Rattle.sql_builder.specs.Concat.{HasRoom, Writes, concat_bytes};
 ghost use Rattle.sql_builder.specs.Layout.{byte_atoms};
 ghost use Rattle.sql_builder.specs.Phrases.{row};
-ghost use Rattle.sql_builder.specs.TextLists.{comma_before};
 
 use crate::concat::{Part, push_all, push_text, total_len};
+use crate::ghost_list::{Bytes, GhostList};
 use crate::phrases::push_row;
 use sql_parts::SqlBuilderError;
 use sql_parts::text::Texts;
@@ -21,27 +21,27 @@ pub(crate) const FIRST_ROOM: usize = 64;
 #[derive(Drop)]
 pub(crate) struct TextList {
     text: String,
-    lengths: Vec<usize>,
+    // One empty text and none are printed alike.
+    has_items: bool,
+    items: GhostList<Bytes>,
 }
 
 impl Model for TextList {
-    ghost use Rattle.std.specs.Prelude.{◌≡◌, ℕ, List, codes, string_bytes};
+    ghost use Rattle.std.specs.Prelude.{◌≡◌, ◌==◌, ℕ, List, codes, length, not, string_bytes};
     ghost use Rattle.sql_parts.specs.Text.{join_with};
-    ghost use Rattle.sql_builder.specs.TextLists.{items_of, lengths_of};
 
     ghost Value = { List (List ℕ) };
 
-    ghost view = { λ list. items_of list.lengths.items (string_bytes list.text) };
+    ghost view = { λ list. list.items.items };
 
-    ghost invariant = { λ list. let items = items_of list.lengths.items (string_bytes list.text) in
-        (join_with (codes ", ") items ≡ string_bytes list.text) × (lengths_of items ≡ list.lengths.items) };
+    ghost invariant = { λ list. (join_with (codes ", ") list.items.items ≡ string_bytes list.text) × (not list.has_items ≡ (length list.items.items == 0)) };
 }
 
 // Writes what is in front of a text, which may be the first.
 #[inline(always)]
 fn push_comma(out: &mut String, is_first: bool)
-    requires room { HasRoom out.old (comma_before is_first) }
-    ensures { Writes out.old out.new (comma_before is_first) }
+    requires room { HasRoom out.old (if is_first then [] else codes ", ") }
+    ensures { Writes out.old out.new (if is_first then [] else codes ", ") }
 {
     if !is_first {
         push_text(out, ", ");
@@ -55,14 +55,15 @@ impl TextList {
     {
         TextList {
             text: String::new(alloc),
-            lengths: Vec::new(alloc),
+            has_items: false,
+            items: GhostList::new(),
         }
     }
 
     pub(crate) fn is_empty(&self) -> bool
         ensures { result ≡ (length self.now == 0) }
     {
-        self.lengths.is_empty()
+        !self.has_items
     }
 
     /// The texts with `, ` between each and the next.
@@ -84,10 +85,10 @@ impl TextList {
         let least = if is_first { FIRST_ROOM } else { 0 };
         self.text
             .reserve(least.max(len.saturating_add(", ".len())))?;
-        self.lengths.reserve(1)?;
         push_comma(&mut self.text, is_first);
         push_all(&mut self.text, parts);
-        self.lengths.push(len)?;
+        self.has_items = true;
+        self.items.append(&GhostList::of(&parts));
         Ok(())
     }
 
@@ -106,11 +107,10 @@ impl TextList {
     {
         let len = total_len(parts);
         self.text.reserve(len)?;
-        self.lengths.reserve(1)?;
         self.text.clear();
-        self.lengths.clear();
         push_all(&mut self.text, parts);
-        self.lengths.push(len)?;
+        self.has_items = true;
+        self.items = GhostList::of(&parts);
         Ok(())
     }
 
@@ -119,7 +119,8 @@ impl TextList {
         ensures { self.new ≡ [] }
     {
         self.text.clear();
-        self.lengths.clear();
+        self.has_items = false;
+        self.items = GhostList::new();
     }
 
     /// Appends the texts of another list. Where memory runs out, the list is as it was.
@@ -133,10 +134,10 @@ impl TextList {
         let is_first = self.is_empty();
         self.text
             .reserve(further.text.len().saturating_add(", ".len()))?;
-        self.lengths.reserve(further.lengths.len())?;
         push_comma(&mut self.text, is_first);
         push_text(&mut self.text, further.text.as_str());
-        self.lengths.extend_from_slice(&further.lengths)?;
+        self.has_items = true;
+        self.items.append(&further.items);
         Ok(())
     }
 
@@ -169,13 +170,13 @@ impl TextList {
     {
         self.clear();
         self.text.reserve(FIRST_ROOM)?;
-        self.lengths.reserve(1)?;
         let pushed = push_row(alloc, &mut self.text, values);
         if pushed.is_err() {
             self.text.clear();
             return pushed;
         }
-        self.lengths.push(self.text.len())?;
+        self.has_items = true;
+        self.items = GhostList::of(&self.text);
         Ok(())
     }
 

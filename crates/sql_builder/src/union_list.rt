@@ -3,6 +3,7 @@ ghost use Rattle.std.specs.Prelude.{◌≡◌, ◌++◌, [], ◌∷◌, ◌==◌
 ghost use Rattle.sql_builder.specs.Layout.{union_opening};
 
 use crate::concat::push_text;
+use crate::ghost_list::{Bytes, GhostList};
 use std::alloc::{AllocError, Global};
 use std::marker::Model;
 
@@ -11,21 +12,18 @@ use std::marker::Model;
 #[derive(Drop)]
 pub(crate) struct UnionList {
     text: String,
-    // Whether each is UNION ALL, and how long its query is.
-    unions: Vec<(bool, usize)>,
+    unions: GhostList<(bool, Bytes)>,
 }
 
 impl Model for UnionList {
     ghost use Rattle.std.specs.Prelude.{◌≡◌, ◌++◌, ℕ, Bool, List, flat_map, string_bytes};
     ghost use Rattle.sql_builder.specs.Layout.{union_opening};
-    ghost use Rattle.sql_builder.specs.TextLists.{cut_out, places_of};
 
     ghost Value = { List (Bool × List ℕ) };
 
-    ghost view = { λ list. cut_out union_opening list.unions.items (string_bytes list.text) };
+    ghost view = { λ list. list.unions.items };
 
-    ghost invariant = { λ list. let unions = cut_out union_opening list.unions.items (string_bytes list.text) in
-        (flat_map (λ union. union_opening union.0 ++ union.1) unions ≡ string_bytes list.text) × (places_of unions ≡ list.unions.items) };
+    ghost invariant = { λ list. flat_map (λ union. union_opening union.0 ++ union.1) list.unions.items ≡ string_bytes list.text };
 }
 
 /// The words in front of a query.
@@ -42,14 +40,14 @@ impl UnionList {
     {
         UnionList {
             text: String::new(alloc),
-            unions: Vec::new(alloc),
+            unions: GhostList::new(),
         }
     }
 
     pub(crate) fn is_empty(&self) -> bool
         ensures { result ≡ (length self.now == 0) }
     {
-        self.unions.is_empty()
+        self.as_str().is_empty()
     }
 
     /// The queries as they are printed, one after another.
@@ -66,10 +64,9 @@ impl UnionList {
     {
         let words = words(all);
         self.text.reserve(query.len().saturating_add(words.len()))?;
-        self.unions.reserve(1)?;
         push_text(&mut self.text, words);
         push_text(&mut self.text, query);
-        self.unions.push((all, query.len()))?;
+        self.unions.append(&GhostList::of(&(all, query)));
         Ok(())
     }
 
@@ -78,18 +75,16 @@ impl UnionList {
         ensures { self.new ≡ [] }
     {
         self.text.clear();
-        self.unions.clear();
+        self.unions = GhostList::new();
     }
 
     /// An equal list.
     pub(crate) fn copy(&self, alloc: Global) -> Result<UnionList, AllocError>
         ensures { IfOk result (λ copy. copy ≡ self.now) }
     {
-        let mut unions = Vec::with_capacity(alloc, self.unions.len())?;
-        unions.extend_from_slice(&self.unions)?;
         Ok(UnionList {
             text: String::from_str(alloc, self.text.as_str())?,
-            unions,
+            unions: GhostList::of(&self.unions),
         })
     }
 }

@@ -1,8 +1,7 @@
 //! The condition calls: each condition in the family that opens a group of its own, and in the one
 //! that joins the last group by OR and opens one only where there is none. Each gives the builder
 //! back; it fails only if memory runs out, and then leaves the builder as it was. Where its
-//! texts are operands, what it adds is an atom of truth, but of a condition that is handed in as it
-//! stands.
+//! texts are operands, what it adds is an atom of truth, but for a raw condition.
 ghost use Rattle.std.specs.Prelude.{◌≡◌, false, map, true};
 ghost use Rattle.sql_parts.specs.Error.{FailsOnlyByMemory};
 ghost use Rattle.sql_builder.specs.Steps.{is_negated};
@@ -12,7 +11,7 @@ use crate::condition::{
     Family, Percent, Relation, between, compare, in_list, in_query, in_quoted, is_not_null,
     is_null, like,
 };
-use sql_parts::lending::{Held, release};
+use sql_parts::loan::{Held, release};
 use sql_parts::text::Items;
 use sql_parts::{SqlBuilderError, ToText};
 
@@ -31,23 +30,23 @@ impl Sense {
     }
 }
 
-// The steps of the calls: one for each condition, told by constants what the names of the calls say.
+// The steps of the calls: one for each condition. Constants say what the names of the calls do.
 impl SqlBuilder {
     ghost use Rattle.std.specs.Borrow.{sem};
-    ghost use Rattle.sql_builder.specs.Chaining.{IsUnchangedIfHeldErr};
-    ghost use Rattle.sql_parts.specs.Lending.{IsHeldChangedSoThat};
+    ghost use Rattle.sql_builder.specs.BuilderLoans.{IsUnchangedIfHeldErr};
+    ghost use Rattle.sql_parts.specs.Loans.{IsHeldChangedSoThat};
     ghost use Rattle.sql_builder.specs.Condition.{Raw, Compare, Like, IsNull, IsNotNull, InList, InQuoted, InQuery, Between};
-    ghost use Rattle.sql_builder.specs.Steps.{AddsConditionSealed, is_negated};
+    ghost use Rattle.sql_builder.specs.Steps.{AddsConditionOpaque, is_negated};
 
-    #[tactic(auto, using(crate::proofs::ConditionAtoms::adds_condition_sealed))]
+    #[tactic(auto, using(crate::proofs::pieces::ClauseShapeLemmas::adds_condition_opaque))]
     fn hold_raw<S: ToText>(
         &mut self,
         family: Family,
         condition: S,
     ) -> Result<Held<'_, SqlBuilder>, SqlBuilderError>
-        ensures* refused { sem 𝓛 (IsUnchangedIfHeldErr self.entry result) }
+        ensures* unchanged { sem 𝓛 (IsUnchangedIfHeldErr self.entry result) }
         ensures changed { IsHeldChangedSoThat self.entry
-            (AddsConditionSealed family (Raw (S.text condition)) self.old) result }
+            (AddsConditionOpaque family (Raw (S.text condition)) self.old) result }
         ensures memory { FailsOnlyByMemory result }
     {
         let text = condition.to_text(self.alloc)?;
@@ -55,15 +54,15 @@ impl SqlBuilder {
         Ok(Held(self))
     }
 
-    #[tactic(auto, using(crate::proofs::ConditionAtoms::adds_condition_sealed))]
+    #[tactic(auto, using(crate::proofs::pieces::ClauseShapeLemmas::adds_condition_opaque))]
     fn hold_is_null<S: ToText>(
         &mut self,
         family: Family,
         field: S,
     ) -> Result<Held<'_, SqlBuilder>, SqlBuilderError>
-        ensures* refused { sem 𝓛 (IsUnchangedIfHeldErr self.entry result) }
+        ensures* unchanged { sem 𝓛 (IsUnchangedIfHeldErr self.entry result) }
         ensures changed { IsHeldChangedSoThat self.entry
-            (AddsConditionSealed family (IsNull (S.text field)) self.old) result }
+            (AddsConditionOpaque family (IsNull (S.text field)) self.old) result }
         ensures memory { FailsOnlyByMemory result }
     {
         let field = field.as_text(self.alloc)?;
@@ -72,15 +71,15 @@ impl SqlBuilder {
         Ok(Held(self))
     }
 
-    #[tactic(auto, using(crate::proofs::ConditionAtoms::adds_condition_sealed))]
+    #[tactic(auto, using(crate::proofs::pieces::ClauseShapeLemmas::adds_condition_opaque))]
     fn hold_is_not_null<S: ToText>(
         &mut self,
         family: Family,
         field: S,
     ) -> Result<Held<'_, SqlBuilder>, SqlBuilderError>
-        ensures* refused { sem 𝓛 (IsUnchangedIfHeldErr self.entry result) }
+        ensures* unchanged { sem 𝓛 (IsUnchangedIfHeldErr self.entry result) }
         ensures changed { IsHeldChangedSoThat self.entry
-            (AddsConditionSealed family (IsNotNull (S.text field)) self.old) result }
+            (AddsConditionOpaque family (IsNotNull (S.text field)) self.old) result }
         ensures memory { FailsOnlyByMemory result }
     {
         let field = field.as_text(self.alloc)?;
@@ -89,7 +88,7 @@ impl SqlBuilder {
         Ok(Held(self))
     }
 
-    #[tactic(auto, using(crate::proofs::ConditionAtoms::adds_condition_sealed))]
+    #[tactic(auto, using(crate::proofs::pieces::ClauseShapeLemmas::adds_condition_opaque))]
     fn hold_compare<S: ToText, T: ToText>(
         &mut self,
         family: Family,
@@ -97,9 +96,9 @@ impl SqlBuilder {
         field: S,
         value: T,
     ) -> Result<Held<'_, SqlBuilder>, SqlBuilderError>
-        ensures* refused { sem 𝓛 (IsUnchangedIfHeldErr self.entry result) }
+        ensures* unchanged { sem 𝓛 (IsUnchangedIfHeldErr self.entry result) }
         ensures changed { IsHeldChangedSoThat self.entry
-            (AddsConditionSealed family (Compare relation (S.text field) (T.text value)) self.old) result }
+            (AddsConditionOpaque family (Compare relation (S.text field) (T.text value)) self.old) result }
         ensures memory { FailsOnlyByMemory result }
     {
         let field = field.as_text(self.alloc)?;
@@ -109,7 +108,7 @@ impl SqlBuilder {
         Ok(Held(self))
     }
 
-    #[tactic(auto, using(crate::proofs::ConditionAtoms::adds_condition_sealed))]
+    #[tactic(auto, using(crate::proofs::pieces::ClauseShapeLemmas::adds_condition_opaque))]
     fn hold_like<S: ToText, T: ToText>(
         &mut self,
         family: Family,
@@ -117,9 +116,9 @@ impl SqlBuilder {
         field: S,
         mask: T,
     ) -> Result<Held<'_, SqlBuilder>, SqlBuilderError>
-        ensures* refused { sem 𝓛 (IsUnchangedIfHeldErr self.entry result) }
+        ensures* unchanged { sem 𝓛 (IsUnchangedIfHeldErr self.entry result) }
         ensures changed { IsHeldChangedSoThat self.entry
-            (AddsConditionSealed family (Like false percent (S.text field) (T.text mask)) self.old) result }
+            (AddsConditionOpaque family (Like false percent (S.text field) (T.text mask)) self.old) result }
         ensures memory { FailsOnlyByMemory result }
     {
         let field = field.as_text(self.alloc)?;
@@ -129,7 +128,7 @@ impl SqlBuilder {
         Ok(Held(self))
     }
 
-    #[tactic(auto, using(crate::proofs::ConditionAtoms::adds_condition_sealed))]
+    #[tactic(auto, using(crate::proofs::pieces::ClauseShapeLemmas::adds_condition_opaque))]
     fn hold_not_like<S: ToText, T: ToText>(
         &mut self,
         family: Family,
@@ -137,9 +136,9 @@ impl SqlBuilder {
         field: S,
         mask: T,
     ) -> Result<Held<'_, SqlBuilder>, SqlBuilderError>
-        ensures* refused { sem 𝓛 (IsUnchangedIfHeldErr self.entry result) }
+        ensures* unchanged { sem 𝓛 (IsUnchangedIfHeldErr self.entry result) }
         ensures changed { IsHeldChangedSoThat self.entry
-            (AddsConditionSealed family (Like true percent (S.text field) (T.text mask)) self.old) result }
+            (AddsConditionOpaque family (Like true percent (S.text field) (T.text mask)) self.old) result }
         ensures memory { FailsOnlyByMemory result }
     {
         let field = field.as_text(self.alloc)?;
@@ -149,7 +148,7 @@ impl SqlBuilder {
         Ok(Held(self))
     }
 
-    #[tactic(auto, using(crate::proofs::ConditionAtoms::adds_condition_sealed))]
+    #[tactic(auto, using(crate::proofs::pieces::ClauseShapeLemmas::adds_condition_opaque))]
     fn hold_in_list<S: ToText, T: ToText>(
         &mut self,
         family: Family,
@@ -157,9 +156,9 @@ impl SqlBuilder {
         field: S,
         values: &[T],
     ) -> Result<Held<'_, SqlBuilder>, SqlBuilderError>
-        ensures* refused { sem 𝓛 (IsUnchangedIfHeldErr self.entry result) }
+        ensures* unchanged { sem 𝓛 (IsUnchangedIfHeldErr self.entry result) }
         ensures changed { IsHeldChangedSoThat self.entry
-            (AddsConditionSealed family (InList (is_negated sense) (S.text field) (map T.text values.now)) self.old) result }
+            (AddsConditionOpaque family (InList (is_negated sense) (S.text field) (map T.text values.now)) self.old) result }
         ensures memory { FailsOnlyByMemory result }
     {
         let field = field.as_text(self.alloc)?;
@@ -169,7 +168,7 @@ impl SqlBuilder {
         Ok(Held(self))
     }
 
-    #[tactic(auto, using(crate::proofs::ConditionAtoms::adds_condition_sealed))]
+    #[tactic(auto, using(crate::proofs::pieces::ClauseShapeLemmas::adds_condition_opaque))]
     fn hold_in_quoted<S: ToText, T: ToText>(
         &mut self,
         family: Family,
@@ -177,9 +176,9 @@ impl SqlBuilder {
         field: S,
         values: &[T],
     ) -> Result<Held<'_, SqlBuilder>, SqlBuilderError>
-        ensures* refused { sem 𝓛 (IsUnchangedIfHeldErr self.entry result) }
+        ensures* unchanged { sem 𝓛 (IsUnchangedIfHeldErr self.entry result) }
         ensures changed { IsHeldChangedSoThat self.entry
-            (AddsConditionSealed family (InQuoted (is_negated sense) (S.text field) (map T.text values.now)) self.old) result }
+            (AddsConditionOpaque family (InQuoted (is_negated sense) (S.text field) (map T.text values.now)) self.old) result }
         ensures memory { FailsOnlyByMemory result }
     {
         let field = field.as_text(self.alloc)?;
@@ -189,7 +188,7 @@ impl SqlBuilder {
         Ok(Held(self))
     }
 
-    #[tactic(auto, using(crate::proofs::ConditionAtoms::adds_condition_sealed))]
+    #[tactic(auto, using(crate::proofs::pieces::ClauseShapeLemmas::adds_condition_opaque))]
     fn hold_in_query<S: ToText, T: ToText>(
         &mut self,
         family: Family,
@@ -197,9 +196,9 @@ impl SqlBuilder {
         field: S,
         query: T,
     ) -> Result<Held<'_, SqlBuilder>, SqlBuilderError>
-        ensures* refused { sem 𝓛 (IsUnchangedIfHeldErr self.entry result) }
+        ensures* unchanged { sem 𝓛 (IsUnchangedIfHeldErr self.entry result) }
         ensures changed { IsHeldChangedSoThat self.entry
-            (AddsConditionSealed family (InQuery (is_negated sense) (S.text field) (T.text query)) self.old) result }
+            (AddsConditionOpaque family (InQuery (is_negated sense) (S.text field) (T.text query)) self.old) result }
         ensures memory { FailsOnlyByMemory result }
     {
         let field = field.as_text(self.alloc)?;
@@ -214,7 +213,7 @@ impl SqlBuilder {
         Ok(Held(self))
     }
 
-    #[tactic(auto, using(crate::proofs::ConditionAtoms::adds_condition_sealed))]
+    #[tactic(auto, using(crate::proofs::pieces::ClauseShapeLemmas::adds_condition_opaque))]
     fn hold_between<S: ToText, T: ToText, U: ToText>(
         &mut self,
         family: Family,
@@ -223,9 +222,9 @@ impl SqlBuilder {
         least: T,
         greatest: U,
     ) -> Result<Held<'_, SqlBuilder>, SqlBuilderError>
-        ensures* refused { sem 𝓛 (IsUnchangedIfHeldErr self.entry result) }
+        ensures* unchanged { sem 𝓛 (IsUnchangedIfHeldErr self.entry result) }
         ensures changed { IsHeldChangedSoThat self.entry
-            (AddsConditionSealed family (Between (is_negated sense) (S.text field) (T.text least) (U.text greatest)) self.old) result }
+            (AddsConditionOpaque family (Between (is_negated sense) (S.text field) (T.text least) (U.text greatest)) self.old) result }
         ensures memory { FailsOnlyByMemory result }
     {
         let field = field.as_text(self.alloc)?;
@@ -246,18 +245,18 @@ impl SqlBuilder {
 impl SqlBuilder {
     ghost use Rattle.std.specs.Borrow.{sem};
     ghost use Rattle.sql_builder.specs.Meaning.{AddsCondition};
-    ghost use Rattle.sql_builder.specs.Chaining.{IsUnchangedIfErr};
-    ghost use Rattle.sql_parts.specs.Lending.{IsChangedSoThat};
+    ghost use Rattle.sql_builder.specs.BuilderLoans.{IsUnchangedIfErr};
+    ghost use Rattle.sql_parts.specs.Loans.{IsChangedSoThat};
     ghost use Rattle.sql_builder.specs.Condition.{Raw, Compare, Like, IsNull, IsNotNull, InList, InQuoted, InQuery, Between};
     ghost use Rattle.sql_builder.specs.declared.condition.Family.TheVariants.{And, Or};
     ghost use Rattle.sql_builder.specs.declared.condition.Percent.TheVariants.{Plain, Right, Left, Any};
     ghost use Rattle.sql_builder.specs.declared.condition.Relation.TheVariants.{Eq, Ne, Gt, Ge, Lt, Le};
 
-    /// Adds the condition as it stands, in a group of its own.
+    /// Adds the condition unchanged, in a group of its own.
     /// `SqlBuilder::select_from(alloc, "t")?.and_where("a")?.and_where("b")?.sql()?` →
     /// `SELECT * FROM t WHERE (a) AND (b);`
     pub fn and_where<S: ToText>(&mut self, condition: S) -> Result<&mut Self, SqlBuilderError>
-        ensures* refused { sem 𝓛 (IsUnchangedIfErr self.entry result) }
+        ensures* unchanged { sem 𝓛 (IsUnchangedIfErr self.entry result) }
         ensures changed { IsChangedSoThat self.entry
             (AddsCondition And (Raw (S.text condition)) self.old) result }
         ensures memory { FailsOnlyByMemory result }
@@ -269,7 +268,7 @@ impl SqlBuilder {
     /// `SqlBuilder::select_from(alloc, "t")?.and_where_is_null("a")?.sql()?` →
     /// `SELECT * FROM t WHERE a IS NULL;`
     pub fn and_where_is_null<S: ToText>(&mut self, field: S) -> Result<&mut Self, SqlBuilderError>
-        ensures* refused { sem 𝓛 (IsUnchangedIfErr self.entry result) }
+        ensures* unchanged { sem 𝓛 (IsUnchangedIfErr self.entry result) }
         ensures changed { IsChangedSoThat self.entry
             (AddsCondition And (IsNull (S.text field)) self.old) result }
         ensures memory { FailsOnlyByMemory result }
@@ -284,7 +283,7 @@ impl SqlBuilder {
         &mut self,
         field: S,
     ) -> Result<&mut Self, SqlBuilderError>
-        ensures* refused { sem 𝓛 (IsUnchangedIfErr self.entry result) }
+        ensures* unchanged { sem 𝓛 (IsUnchangedIfErr self.entry result) }
         ensures changed { IsChangedSoThat self.entry
             (AddsCondition And (IsNotNull (S.text field)) self.old) result }
         ensures memory { FailsOnlyByMemory result }
@@ -300,7 +299,7 @@ impl SqlBuilder {
         field: S,
         value: T,
     ) -> Result<&mut Self, SqlBuilderError>
-        ensures* refused { sem 𝓛 (IsUnchangedIfErr self.entry result) }
+        ensures* unchanged { sem 𝓛 (IsUnchangedIfErr self.entry result) }
         ensures changed { IsChangedSoThat self.entry
             (AddsCondition And (Compare Eq (S.text field) (T.text value)) self.old) result }
         ensures memory { FailsOnlyByMemory result }
@@ -316,7 +315,7 @@ impl SqlBuilder {
         field: S,
         value: T,
     ) -> Result<&mut Self, SqlBuilderError>
-        ensures* refused { sem 𝓛 (IsUnchangedIfErr self.entry result) }
+        ensures* unchanged { sem 𝓛 (IsUnchangedIfErr self.entry result) }
         ensures changed { IsChangedSoThat self.entry
             (AddsCondition And (Compare Ne (S.text field) (T.text value)) self.old) result }
         ensures memory { FailsOnlyByMemory result }
@@ -332,7 +331,7 @@ impl SqlBuilder {
         field: S,
         value: T,
     ) -> Result<&mut Self, SqlBuilderError>
-        ensures* refused { sem 𝓛 (IsUnchangedIfErr self.entry result) }
+        ensures* unchanged { sem 𝓛 (IsUnchangedIfErr self.entry result) }
         ensures changed { IsChangedSoThat self.entry
             (AddsCondition And (Compare Gt (S.text field) (T.text value)) self.old) result }
         ensures memory { FailsOnlyByMemory result }
@@ -348,7 +347,7 @@ impl SqlBuilder {
         field: S,
         value: T,
     ) -> Result<&mut Self, SqlBuilderError>
-        ensures* refused { sem 𝓛 (IsUnchangedIfErr self.entry result) }
+        ensures* unchanged { sem 𝓛 (IsUnchangedIfErr self.entry result) }
         ensures changed { IsChangedSoThat self.entry
             (AddsCondition And (Compare Ge (S.text field) (T.text value)) self.old) result }
         ensures memory { FailsOnlyByMemory result }
@@ -364,7 +363,7 @@ impl SqlBuilder {
         field: S,
         value: T,
     ) -> Result<&mut Self, SqlBuilderError>
-        ensures* refused { sem 𝓛 (IsUnchangedIfErr self.entry result) }
+        ensures* unchanged { sem 𝓛 (IsUnchangedIfErr self.entry result) }
         ensures changed { IsChangedSoThat self.entry
             (AddsCondition And (Compare Lt (S.text field) (T.text value)) self.old) result }
         ensures memory { FailsOnlyByMemory result }
@@ -380,7 +379,7 @@ impl SqlBuilder {
         field: S,
         value: T,
     ) -> Result<&mut Self, SqlBuilderError>
-        ensures* refused { sem 𝓛 (IsUnchangedIfErr self.entry result) }
+        ensures* unchanged { sem 𝓛 (IsUnchangedIfErr self.entry result) }
         ensures changed { IsChangedSoThat self.entry
             (AddsCondition And (Compare Le (S.text field) (T.text value)) self.old) result }
         ensures memory { FailsOnlyByMemory result }
@@ -396,7 +395,7 @@ impl SqlBuilder {
         field: S,
         mask: T,
     ) -> Result<&mut Self, SqlBuilderError>
-        ensures* refused { sem 𝓛 (IsUnchangedIfErr self.entry result) }
+        ensures* unchanged { sem 𝓛 (IsUnchangedIfErr self.entry result) }
         ensures changed { IsChangedSoThat self.entry
             (AddsCondition And (Like false Plain (S.text field) (T.text mask)) self.old) result }
         ensures memory { FailsOnlyByMemory result }
@@ -413,7 +412,7 @@ impl SqlBuilder {
         field: S,
         mask: T,
     ) -> Result<&mut Self, SqlBuilderError>
-        ensures* refused { sem 𝓛 (IsUnchangedIfErr self.entry result) }
+        ensures* unchanged { sem 𝓛 (IsUnchangedIfErr self.entry result) }
         ensures changed { IsChangedSoThat self.entry
             (AddsCondition And (Like false Right (S.text field) (T.text mask)) self.old) result }
         ensures memory { FailsOnlyByMemory result }
@@ -430,7 +429,7 @@ impl SqlBuilder {
         field: S,
         mask: T,
     ) -> Result<&mut Self, SqlBuilderError>
-        ensures* refused { sem 𝓛 (IsUnchangedIfErr self.entry result) }
+        ensures* unchanged { sem 𝓛 (IsUnchangedIfErr self.entry result) }
         ensures changed { IsChangedSoThat self.entry
             (AddsCondition And (Like false Left (S.text field) (T.text mask)) self.old) result }
         ensures memory { FailsOnlyByMemory result }
@@ -447,7 +446,7 @@ impl SqlBuilder {
         field: S,
         mask: T,
     ) -> Result<&mut Self, SqlBuilderError>
-        ensures* refused { sem 𝓛 (IsUnchangedIfErr self.entry result) }
+        ensures* unchanged { sem 𝓛 (IsUnchangedIfErr self.entry result) }
         ensures changed { IsChangedSoThat self.entry
             (AddsCondition And (Like false Any (S.text field) (T.text mask)) self.old) result }
         ensures memory { FailsOnlyByMemory result }
@@ -463,7 +462,7 @@ impl SqlBuilder {
         field: S,
         mask: T,
     ) -> Result<&mut Self, SqlBuilderError>
-        ensures* refused { sem 𝓛 (IsUnchangedIfErr self.entry result) }
+        ensures* unchanged { sem 𝓛 (IsUnchangedIfErr self.entry result) }
         ensures changed { IsChangedSoThat self.entry
             (AddsCondition And (Like true Plain (S.text field) (T.text mask)) self.old) result }
         ensures memory { FailsOnlyByMemory result }
@@ -480,7 +479,7 @@ impl SqlBuilder {
         field: S,
         mask: T,
     ) -> Result<&mut Self, SqlBuilderError>
-        ensures* refused { sem 𝓛 (IsUnchangedIfErr self.entry result) }
+        ensures* unchanged { sem 𝓛 (IsUnchangedIfErr self.entry result) }
         ensures changed { IsChangedSoThat self.entry
             (AddsCondition And (Like true Right (S.text field) (T.text mask)) self.old) result }
         ensures memory { FailsOnlyByMemory result }
@@ -497,7 +496,7 @@ impl SqlBuilder {
         field: S,
         mask: T,
     ) -> Result<&mut Self, SqlBuilderError>
-        ensures* refused { sem 𝓛 (IsUnchangedIfErr self.entry result) }
+        ensures* unchanged { sem 𝓛 (IsUnchangedIfErr self.entry result) }
         ensures changed { IsChangedSoThat self.entry
             (AddsCondition And (Like true Left (S.text field) (T.text mask)) self.old) result }
         ensures memory { FailsOnlyByMemory result }
@@ -514,7 +513,7 @@ impl SqlBuilder {
         field: S,
         mask: T,
     ) -> Result<&mut Self, SqlBuilderError>
-        ensures* refused { sem 𝓛 (IsUnchangedIfErr self.entry result) }
+        ensures* unchanged { sem 𝓛 (IsUnchangedIfErr self.entry result) }
         ensures changed { IsChangedSoThat self.entry
             (AddsCondition And (Like true Any (S.text field) (T.text mask)) self.old) result }
         ensures memory { FailsOnlyByMemory result }
@@ -530,7 +529,7 @@ impl SqlBuilder {
         field: S,
         values: &[T],
     ) -> Result<&mut Self, SqlBuilderError>
-        ensures* refused { sem 𝓛 (IsUnchangedIfErr self.entry result) }
+        ensures* unchanged { sem 𝓛 (IsUnchangedIfErr self.entry result) }
         ensures changed { IsChangedSoThat self.entry
             (AddsCondition And
             (InList false (S.text field) (map T.text values.now)) self.old) result }
@@ -547,7 +546,7 @@ impl SqlBuilder {
         field: S,
         values: &[T],
     ) -> Result<&mut Self, SqlBuilderError>
-        ensures* refused { sem 𝓛 (IsUnchangedIfErr self.entry result) }
+        ensures* unchanged { sem 𝓛 (IsUnchangedIfErr self.entry result) }
         ensures changed { IsChangedSoThat self.entry
             (AddsCondition And
             (InQuoted false (S.text field) (map T.text values.now)) self.old) result }
@@ -564,7 +563,7 @@ impl SqlBuilder {
         field: S,
         query: T,
     ) -> Result<&mut Self, SqlBuilderError>
-        ensures* refused { sem 𝓛 (IsUnchangedIfErr self.entry result) }
+        ensures* unchanged { sem 𝓛 (IsUnchangedIfErr self.entry result) }
         ensures changed { IsChangedSoThat self.entry
             (AddsCondition And (InQuery false (S.text field) (T.text query)) self.old) result }
         ensures memory { FailsOnlyByMemory result }
@@ -581,7 +580,7 @@ impl SqlBuilder {
         least: T,
         greatest: U,
     ) -> Result<&mut Self, SqlBuilderError>
-        ensures* refused { sem 𝓛 (IsUnchangedIfErr self.entry result) }
+        ensures* unchanged { sem 𝓛 (IsUnchangedIfErr self.entry result) }
         ensures changed { IsChangedSoThat self.entry
             (AddsCondition And
             (Between false (S.text field) (T.text least) (U.text greatest)) self.old) result }
@@ -598,7 +597,7 @@ impl SqlBuilder {
         field: S,
         values: &[T],
     ) -> Result<&mut Self, SqlBuilderError>
-        ensures* refused { sem 𝓛 (IsUnchangedIfErr self.entry result) }
+        ensures* unchanged { sem 𝓛 (IsUnchangedIfErr self.entry result) }
         ensures changed { IsChangedSoThat self.entry
             (AddsCondition And
             (InList true (S.text field) (map T.text values.now)) self.old) result }
@@ -616,7 +615,7 @@ impl SqlBuilder {
         field: S,
         values: &[T],
     ) -> Result<&mut Self, SqlBuilderError>
-        ensures* refused { sem 𝓛 (IsUnchangedIfErr self.entry result) }
+        ensures* unchanged { sem 𝓛 (IsUnchangedIfErr self.entry result) }
         ensures changed { IsChangedSoThat self.entry
             (AddsCondition And
             (InQuoted true (S.text field) (map T.text values.now)) self.old) result }
@@ -633,7 +632,7 @@ impl SqlBuilder {
         field: S,
         query: T,
     ) -> Result<&mut Self, SqlBuilderError>
-        ensures* refused { sem 𝓛 (IsUnchangedIfErr self.entry result) }
+        ensures* unchanged { sem 𝓛 (IsUnchangedIfErr self.entry result) }
         ensures changed { IsChangedSoThat self.entry
             (AddsCondition And (InQuery true (S.text field) (T.text query)) self.old) result }
         ensures memory { FailsOnlyByMemory result }
@@ -650,7 +649,7 @@ impl SqlBuilder {
         least: T,
         greatest: U,
     ) -> Result<&mut Self, SqlBuilderError>
-        ensures* refused { sem 𝓛 (IsUnchangedIfErr self.entry result) }
+        ensures* unchanged { sem 𝓛 (IsUnchangedIfErr self.entry result) }
         ensures changed { IsChangedSoThat self.entry
             (AddsCondition And
             (Between true (S.text field) (T.text least) (U.text greatest)) self.old) result }
@@ -659,12 +658,12 @@ impl SqlBuilder {
         release(self.hold_between(Family::And, Sense::Negated, field, least, greatest))
     }
 
-    /// Adds the condition as it stands: joins the last group by OR, and opens one where there
+    /// Adds the condition unchanged: joins the last group by OR, and opens one where there
     /// is none.
     /// `SqlBuilder::select_from(alloc, "t")?.and_where("a")?.or_where("b")?.sql()?` →
     /// `SELECT * FROM t WHERE a OR b;`
     pub fn or_where<S: ToText>(&mut self, condition: S) -> Result<&mut Self, SqlBuilderError>
-        ensures* refused { sem 𝓛 (IsUnchangedIfErr self.entry result) }
+        ensures* unchanged { sem 𝓛 (IsUnchangedIfErr self.entry result) }
         ensures changed { IsChangedSoThat self.entry
             (AddsCondition Or (Raw (S.text condition)) self.old) result }
         ensures memory { FailsOnlyByMemory result }
@@ -676,7 +675,7 @@ impl SqlBuilder {
     /// `SqlBuilder::select_from(alloc, "t")?.and_where("b")?.or_where_is_null("a")?.sql()?` →
     /// `SELECT * FROM t WHERE b OR a IS NULL;`
     pub fn or_where_is_null<S: ToText>(&mut self, field: S) -> Result<&mut Self, SqlBuilderError>
-        ensures* refused { sem 𝓛 (IsUnchangedIfErr self.entry result) }
+        ensures* unchanged { sem 𝓛 (IsUnchangedIfErr self.entry result) }
         ensures changed { IsChangedSoThat self.entry
             (AddsCondition Or (IsNull (S.text field)) self.old) result }
         ensures memory { FailsOnlyByMemory result }
@@ -691,7 +690,7 @@ impl SqlBuilder {
         &mut self,
         field: S,
     ) -> Result<&mut Self, SqlBuilderError>
-        ensures* refused { sem 𝓛 (IsUnchangedIfErr self.entry result) }
+        ensures* unchanged { sem 𝓛 (IsUnchangedIfErr self.entry result) }
         ensures changed { IsChangedSoThat self.entry
             (AddsCondition Or (IsNotNull (S.text field)) self.old) result }
         ensures memory { FailsOnlyByMemory result }
@@ -707,7 +706,7 @@ impl SqlBuilder {
         field: S,
         value: T,
     ) -> Result<&mut Self, SqlBuilderError>
-        ensures* refused { sem 𝓛 (IsUnchangedIfErr self.entry result) }
+        ensures* unchanged { sem 𝓛 (IsUnchangedIfErr self.entry result) }
         ensures changed { IsChangedSoThat self.entry
             (AddsCondition Or (Compare Eq (S.text field) (T.text value)) self.old) result }
         ensures memory { FailsOnlyByMemory result }
@@ -723,7 +722,7 @@ impl SqlBuilder {
         field: S,
         value: T,
     ) -> Result<&mut Self, SqlBuilderError>
-        ensures* refused { sem 𝓛 (IsUnchangedIfErr self.entry result) }
+        ensures* unchanged { sem 𝓛 (IsUnchangedIfErr self.entry result) }
         ensures changed { IsChangedSoThat self.entry
             (AddsCondition Or (Compare Ne (S.text field) (T.text value)) self.old) result }
         ensures memory { FailsOnlyByMemory result }
@@ -739,7 +738,7 @@ impl SqlBuilder {
         field: S,
         value: T,
     ) -> Result<&mut Self, SqlBuilderError>
-        ensures* refused { sem 𝓛 (IsUnchangedIfErr self.entry result) }
+        ensures* unchanged { sem 𝓛 (IsUnchangedIfErr self.entry result) }
         ensures changed { IsChangedSoThat self.entry
             (AddsCondition Or (Compare Gt (S.text field) (T.text value)) self.old) result }
         ensures memory { FailsOnlyByMemory result }
@@ -755,7 +754,7 @@ impl SqlBuilder {
         field: S,
         value: T,
     ) -> Result<&mut Self, SqlBuilderError>
-        ensures* refused { sem 𝓛 (IsUnchangedIfErr self.entry result) }
+        ensures* unchanged { sem 𝓛 (IsUnchangedIfErr self.entry result) }
         ensures changed { IsChangedSoThat self.entry
             (AddsCondition Or (Compare Ge (S.text field) (T.text value)) self.old) result }
         ensures memory { FailsOnlyByMemory result }
@@ -771,7 +770,7 @@ impl SqlBuilder {
         field: S,
         value: T,
     ) -> Result<&mut Self, SqlBuilderError>
-        ensures* refused { sem 𝓛 (IsUnchangedIfErr self.entry result) }
+        ensures* unchanged { sem 𝓛 (IsUnchangedIfErr self.entry result) }
         ensures changed { IsChangedSoThat self.entry
             (AddsCondition Or (Compare Lt (S.text field) (T.text value)) self.old) result }
         ensures memory { FailsOnlyByMemory result }
@@ -787,7 +786,7 @@ impl SqlBuilder {
         field: S,
         value: T,
     ) -> Result<&mut Self, SqlBuilderError>
-        ensures* refused { sem 𝓛 (IsUnchangedIfErr self.entry result) }
+        ensures* unchanged { sem 𝓛 (IsUnchangedIfErr self.entry result) }
         ensures changed { IsChangedSoThat self.entry
             (AddsCondition Or (Compare Le (S.text field) (T.text value)) self.old) result }
         ensures memory { FailsOnlyByMemory result }
@@ -804,7 +803,7 @@ impl SqlBuilder {
         field: S,
         mask: T,
     ) -> Result<&mut Self, SqlBuilderError>
-        ensures* refused { sem 𝓛 (IsUnchangedIfErr self.entry result) }
+        ensures* unchanged { sem 𝓛 (IsUnchangedIfErr self.entry result) }
         ensures changed { IsChangedSoThat self.entry
             (AddsCondition Or (Like false Plain (S.text field) (T.text mask)) self.old) result }
         ensures memory { FailsOnlyByMemory result }
@@ -821,7 +820,7 @@ impl SqlBuilder {
         field: S,
         mask: T,
     ) -> Result<&mut Self, SqlBuilderError>
-        ensures* refused { sem 𝓛 (IsUnchangedIfErr self.entry result) }
+        ensures* unchanged { sem 𝓛 (IsUnchangedIfErr self.entry result) }
         ensures changed { IsChangedSoThat self.entry
             (AddsCondition Or (Like false Right (S.text field) (T.text mask)) self.old) result }
         ensures memory { FailsOnlyByMemory result }
@@ -838,7 +837,7 @@ impl SqlBuilder {
         field: S,
         mask: T,
     ) -> Result<&mut Self, SqlBuilderError>
-        ensures* refused { sem 𝓛 (IsUnchangedIfErr self.entry result) }
+        ensures* unchanged { sem 𝓛 (IsUnchangedIfErr self.entry result) }
         ensures changed { IsChangedSoThat self.entry
             (AddsCondition Or (Like false Left (S.text field) (T.text mask)) self.old) result }
         ensures memory { FailsOnlyByMemory result }
@@ -855,7 +854,7 @@ impl SqlBuilder {
         field: S,
         mask: T,
     ) -> Result<&mut Self, SqlBuilderError>
-        ensures* refused { sem 𝓛 (IsUnchangedIfErr self.entry result) }
+        ensures* unchanged { sem 𝓛 (IsUnchangedIfErr self.entry result) }
         ensures changed { IsChangedSoThat self.entry
             (AddsCondition Or (Like false Any (S.text field) (T.text mask)) self.old) result }
         ensures memory { FailsOnlyByMemory result }
@@ -872,7 +871,7 @@ impl SqlBuilder {
         field: S,
         mask: T,
     ) -> Result<&mut Self, SqlBuilderError>
-        ensures* refused { sem 𝓛 (IsUnchangedIfErr self.entry result) }
+        ensures* unchanged { sem 𝓛 (IsUnchangedIfErr self.entry result) }
         ensures changed { IsChangedSoThat self.entry
             (AddsCondition Or (Like true Plain (S.text field) (T.text mask)) self.old) result }
         ensures memory { FailsOnlyByMemory result }
@@ -889,7 +888,7 @@ impl SqlBuilder {
         field: S,
         mask: T,
     ) -> Result<&mut Self, SqlBuilderError>
-        ensures* refused { sem 𝓛 (IsUnchangedIfErr self.entry result) }
+        ensures* unchanged { sem 𝓛 (IsUnchangedIfErr self.entry result) }
         ensures changed { IsChangedSoThat self.entry
             (AddsCondition Or (Like true Right (S.text field) (T.text mask)) self.old) result }
         ensures memory { FailsOnlyByMemory result }
@@ -906,7 +905,7 @@ impl SqlBuilder {
         field: S,
         mask: T,
     ) -> Result<&mut Self, SqlBuilderError>
-        ensures* refused { sem 𝓛 (IsUnchangedIfErr self.entry result) }
+        ensures* unchanged { sem 𝓛 (IsUnchangedIfErr self.entry result) }
         ensures changed { IsChangedSoThat self.entry
             (AddsCondition Or (Like true Left (S.text field) (T.text mask)) self.old) result }
         ensures memory { FailsOnlyByMemory result }
@@ -923,7 +922,7 @@ impl SqlBuilder {
         field: S,
         mask: T,
     ) -> Result<&mut Self, SqlBuilderError>
-        ensures* refused { sem 𝓛 (IsUnchangedIfErr self.entry result) }
+        ensures* unchanged { sem 𝓛 (IsUnchangedIfErr self.entry result) }
         ensures changed { IsChangedSoThat self.entry
             (AddsCondition Or (Like true Any (S.text field) (T.text mask)) self.old) result }
         ensures memory { FailsOnlyByMemory result }
@@ -940,7 +939,7 @@ impl SqlBuilder {
         field: S,
         values: &[T],
     ) -> Result<&mut Self, SqlBuilderError>
-        ensures* refused { sem 𝓛 (IsUnchangedIfErr self.entry result) }
+        ensures* unchanged { sem 𝓛 (IsUnchangedIfErr self.entry result) }
         ensures changed { IsChangedSoThat self.entry
             (AddsCondition Or
             (InList false (S.text field) (map T.text values.now)) self.old) result }
@@ -958,7 +957,7 @@ impl SqlBuilder {
         field: S,
         values: &[T],
     ) -> Result<&mut Self, SqlBuilderError>
-        ensures* refused { sem 𝓛 (IsUnchangedIfErr self.entry result) }
+        ensures* unchanged { sem 𝓛 (IsUnchangedIfErr self.entry result) }
         ensures changed { IsChangedSoThat self.entry
             (AddsCondition Or
             (InQuoted false (S.text field) (map T.text values.now)) self.old) result }
@@ -975,7 +974,7 @@ impl SqlBuilder {
         field: S,
         query: T,
     ) -> Result<&mut Self, SqlBuilderError>
-        ensures* refused { sem 𝓛 (IsUnchangedIfErr self.entry result) }
+        ensures* unchanged { sem 𝓛 (IsUnchangedIfErr self.entry result) }
         ensures changed { IsChangedSoThat self.entry
             (AddsCondition Or (InQuery false (S.text field) (T.text query)) self.old) result }
         ensures memory { FailsOnlyByMemory result }
@@ -993,7 +992,7 @@ impl SqlBuilder {
         least: T,
         greatest: U,
     ) -> Result<&mut Self, SqlBuilderError>
-        ensures* refused { sem 𝓛 (IsUnchangedIfErr self.entry result) }
+        ensures* unchanged { sem 𝓛 (IsUnchangedIfErr self.entry result) }
         ensures changed { IsChangedSoThat self.entry
             (AddsCondition Or
             (Between false (S.text field) (T.text least) (U.text greatest)) self.old) result }
@@ -1011,7 +1010,7 @@ impl SqlBuilder {
         field: S,
         values: &[T],
     ) -> Result<&mut Self, SqlBuilderError>
-        ensures* refused { sem 𝓛 (IsUnchangedIfErr self.entry result) }
+        ensures* unchanged { sem 𝓛 (IsUnchangedIfErr self.entry result) }
         ensures changed { IsChangedSoThat self.entry
             (AddsCondition Or
             (InList true (S.text field) (map T.text values.now)) self.old) result }
@@ -1029,7 +1028,7 @@ impl SqlBuilder {
         field: S,
         values: &[T],
     ) -> Result<&mut Self, SqlBuilderError>
-        ensures* refused { sem 𝓛 (IsUnchangedIfErr self.entry result) }
+        ensures* unchanged { sem 𝓛 (IsUnchangedIfErr self.entry result) }
         ensures changed { IsChangedSoThat self.entry
             (AddsCondition Or
             (InQuoted true (S.text field) (map T.text values.now)) self.old) result }
@@ -1047,7 +1046,7 @@ impl SqlBuilder {
         field: S,
         query: T,
     ) -> Result<&mut Self, SqlBuilderError>
-        ensures* refused { sem 𝓛 (IsUnchangedIfErr self.entry result) }
+        ensures* unchanged { sem 𝓛 (IsUnchangedIfErr self.entry result) }
         ensures changed { IsChangedSoThat self.entry
             (AddsCondition Or (InQuery true (S.text field) (T.text query)) self.old) result }
         ensures memory { FailsOnlyByMemory result }
@@ -1065,7 +1064,7 @@ impl SqlBuilder {
         least: T,
         greatest: U,
     ) -> Result<&mut Self, SqlBuilderError>
-        ensures* refused { sem 𝓛 (IsUnchangedIfErr self.entry result) }
+        ensures* unchanged { sem 𝓛 (IsUnchangedIfErr self.entry result) }
         ensures changed { IsChangedSoThat self.entry
             (AddsCondition Or
             (Between true (S.text field) (T.text least) (U.text greatest)) self.old) result }

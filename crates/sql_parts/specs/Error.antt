@@ -1,9 +1,9 @@
--- The texts of refusals, and which calls are refused for want of memory alone.
+-- The messages of errors, and which calls fail only because memory runs out.
 use Rattle.std.specs.Prelude.{ℕ, List, codes, Result, IfErr}
 use Rattle.sql_parts.specs.declared.error.SqlBuilderError.{SqlBuilderError}
 use Rattle.sql_parts.specs.declared.error.SqlBuilderError.TheVariants.{NoTableName, NoValues, NoSetFields, NoArguments, Memory, NoGroupBy}
 
--- a refusal's text
+-- an error's message
 abbrev pub message_text : SqlBuilderError → List ℕ
 message_text NoTableName = codes "No table name"
 message_text NoValues = codes "No values"
@@ -12,11 +12,11 @@ message_text NoArguments = codes "No arguments"
 message_text (Memory error) = codes "Out of memory"
 message_text NoGroupBy = codes "No group by"
 
--- the refusal is want of memory
+-- memory ran out
 abbrev pub IsMemory : SqlBuilderError → Type 0
 IsMemory (Memory error) = Unit {0}
 IsMemory _ = ⊥
 
--- where the call is refused, that is for want of memory
+-- where the call fails, memory ran out
 abbrev pub FailsOnlyByMemory : {T : Type 0} → Result T SqlBuilderError → Type 0
 FailsOnlyByMemory result = IfErr result IsMemory

@@ -1,6 +1,7 @@
--- Fragments of SQL: the levels of their brackets, and which are balanced, operands, or dangling.
+-- Fragments of SQL: their nesting depth, and which are balanced, operands, or dangling.
 use Prim.Native.Char.{code}
-use Rattle.std.specs.Prelude.{ℕ, zero, suc, ◌==◌, ◌&&◌, ◌||◌, Bool, true, false, not, nat_lt, List, [], ◌∷◌, length, take, map, ℤ, pos, ◌-ℤ◌, int_le, if◌then◌else◌, codes, IsTrue}
+use Rattle.std.specs.Prelude.{ℕ, zero, suc, ◌==◌, ◌&&◌, ◌||◌, Bool, true, false, not, nat_lt, List, [], ◌∷◌, length, take, map, ℤ, pos, ◌-ℤ◌, int_le}
+use Rattle.std.specs.Prelude.{if◌then◌else◌, codes, IsTrue}
 use Rattle.std.specs.List.{count_by, list_all, list_any, zip}
 use Rattle.std.specs.Ordering.{int_eq}
 use Rattle.std.specs.Str.{str_eq_ignore_ascii_case}
@@ -22,7 +23,7 @@ abbrev pub is_symbol : ℕ → Token → Bool
 is_symbol sign (Symbol byte) = byte == sign
 is_symbol sign _ = false
 
--- `(` and CASE raise the level
+-- `(` and CASE raise the depth
 abbrev pub raises : Token → Bool
 raises token = is_symbol (code "(") token || is_word (codes "CASE") token
 
@@ -34,7 +35,7 @@ lowers token = is_symbol (code ")") token || is_word (codes "END") token
 abbrev pub weight : (Token → Bool) → Token → ℕ
 weight test token = if test token then 1 else 0
 
--- The level at a place, which is just before the token there: how many of the tokens before it raise the level, less how
+-- The nesting depth at a place, which is just before the token there: how many of the tokens before it raise it, less how
 -- many of them lower it.
 abbrev pub level : List Token → ℕ → ℤ
 level ts place = pos (count_by raises (take place ts)) -ℤ pos (count_by lowers (take place ts))
@@ -59,7 +60,7 @@ abbrev pub is_before : (Token → Bool) → List Token → ℕ → Bool
 is_before test ts zero = false
 is_before test ts (suc place) = is_at test ts place
 
--- the place is outer: its level is 0
+-- the place is outer: its depth is 0
 abbrev pub is_outer_place : List Token → ℕ → Bool
 is_outer_place ts place = int_eq (level ts place) (pos 0)
 
@@ -67,7 +68,7 @@ is_outer_place ts place = int_eq (level ts place) (pos 0)
 abbrev pub has_outer : (Token → Bool) → List Token → Bool
 has_outer test ts = list_any (is_outer_place ts) (places test ts)
 
--- A token that stands at an outer place, or at another.
+-- A token at an outer place, or at another.
 pub data Placed : Type 0 where
   Outer : Token → Placed
   Inner : Token → Placed
@@ -86,7 +87,7 @@ abbrev pub token_of : Placed → Token
 token_of (Outer token) = token
 token_of (Inner token) = token
 
--- a token that stands at an outer place passes a test
+-- a token at an outer place passes a test
 abbrev pub is_outer : (Token → Bool) → Placed → Bool
 is_outer test (Outer token) = test token
 is_outer test (Inner token) = false
@@ -109,12 +110,12 @@ has_clause_word text = has_outer is_clause_word (tokens text)
 abbrev pub is_whole : Token → Bool
 is_whole token = not (is_open token) && not (is_semicolon token)
 
--- the level is at least 0 after each token, and 0 after the last
+-- the depth is at least 0 after each token, and 0 after the last
 abbrev pub is_level : List Token → Bool
 is_level ts =
     list_all (λ place. int_le (pos 0) (level ts (suc place))) (places any_token ts) && int_eq (level ts (length ts)) (pos 0)
 
--- there is a token, none is open or a `;`, and the brackets are level
+-- there is a token, none is open or a `;`, and the brackets match
 abbrev pub is_balanced : List Token → Bool
 is_balanced ts = not (is_empty ts) && list_all is_whole ts && is_level ts
 
@@ -158,19 +159,19 @@ needs_left token = is_word_of (codes "OR" ∷ codes "AND" ∷ []) token
 abbrev pub needs_right : Token → Bool
 needs_right token = is_word_of (codes "OR" ∷ codes "AND" ∷ codes "NOT" ∷ []) token
 
--- no OR or AND is first, or stands right behind a token that opens
+-- no OR or AND is first, or follows a token that opens
 abbrev pub has_left_sides : List Token → Bool
 has_left_sides ts = list_all (is_before (λ token. not (is_opening token)) ts) (places needs_left ts)
 
--- no OR, AND or NOT is last, or stands right before a token that closes
+-- no OR, AND or NOT is last, or precedes a token that closes
 abbrev pub has_right_sides : List Token → Bool
 has_right_sides ts = list_all (λ place. is_at (λ token. not (is_closing token)) ts (suc place)) (places needs_right ts)
 
--- a place stands between two others
+-- a place is between two others
 abbrev pub is_between : ℕ → ℕ → ℕ → Bool
 is_between start end place = nat_lt start place && nat_lt place end
 
--- The AND at one place is that of the BETWEEN at another before it: it has the same level, the level never falls under
+-- The AND at one place is that of the BETWEEN at another before it: it has the same depth, the depth never falls under
 -- theirs in between, and no AND, OR or BETWEEN in between has theirs.
 abbrev pub is_and_of : List Token → ℕ → ℕ → Bool
 is_and_of ts between and =
@@ -184,13 +185,13 @@ abbrev pub has_ands : List Token → Bool
 has_ands ts =
     list_all (λ between. list_any (is_and_of ts between) (places (is_word (codes "AND")) ts)) (places (is_word (codes "BETWEEN")) ts)
 
--- an OR, AND or NOT stands where it may not, or a BETWEEN has no AND
+-- an OR, AND or NOT is where it may not be, or a BETWEEN has no AND
 abbrev pub is_dangling : List Token → Bool
 is_dangling ts = not (has_left_sides ts && has_right_sides ts && has_ands ts)
 
--- how a test fails that keeps a truth value for each level: because memory runs out, and only where a token raises the level
-abbrev pub RefusesLevels : List ℕ → SqlBuilderError → Type 0
-RefusesLevels text refusal = IsMemory refusal × IsTrue (list_any raises (tokens text))
+-- how a test fails that stores a truth value for each depth: because memory runs out, and only where a token raises the depth
+abbrev pub IsMemoryForNesting : List ℕ → SqlBuilderError → Type 0
+IsMemoryForNesting text refusal = IsMemory refusal × IsTrue (list_any raises (tokens text))
 
 -- a text whose tokens dangle
 abbrev pub dangling : List ℕ → Bool

@@ -8,9 +8,9 @@ use Rattle.sql_parts.specs.Tokens as tokens
 use Rattle.sql_parts.specs.Tokens.{Token, Word, Str, Symbol, quoted_token}
 use Rattle.sql_parts.specs.declared.name.Form.{Form}
 use Rattle.sql_parts.specs.declared.name.Form.TheVariants.{Bare, Between}
-use Rattle.sql_parts.specs.declared.quotes.Quotes.TheVariants.{Back}
-use Rattle.sql_parts.specs.declared.name.Told.{Told}
-use Rattle.sql_parts.specs.declared.name.Told.TheVariants.{Part, Alias}
+use Rattle.sql_parts.specs.declared.delimiters.Quotes.TheVariants.{Back}
+use Rattle.sql_parts.specs.declared.name.Change.{Change}
+use Rattle.sql_parts.specs.declared.name.Change.TheVariants.{Part, Alias}
 
 -- A name: its first part, the parts behind it, and perhaps an alias.
 pub record Name : Type 0 where
@@ -34,10 +34,10 @@ with_part part name = record { first = name.first; rest = name.rest ++ part ∷ 
 abbrev pub with_alias : List ℕ → Name → Name
 with_alias alias name = record { first = name.first; rest = name.rest; alias = Some alias }
 
--- the name told a part or an alias
-abbrev pub with_told : Told → List ℕ → Name → Name
-with_told Part text name = with_part text name
-with_told Alias text name = with_alias text name
+-- the name with this part or this alias
+abbrev pub with_change : Change → List ℕ → Name → Name
+with_change Part text name = with_part text name
+with_change Alias text name = with_alias text name
 
 -- a byte is a small ASCII letter, a digit or `_`
 abbrev pub is_plain_byte : ℕ → Bool
@@ -56,7 +56,7 @@ alias_text (Some alias) = codes " AS " ++ (if is_plain alias then alias else baq
 abbrev pub name_text : (List ℕ → List ℕ) → Name → List ℕ
 name_text written name = join_with (codes ".") (map written (name_parts name)) ++ alias_text name.alias
 
--- a text as it stands
+-- a text itself
 abbrev pub bare : List ℕ → List ℕ
 bare text = text
 

@@ -1,25 +1,25 @@
 -- Texts between quotes.
 use Prim.Native.Char.{code}
 use Rattle.std.specs.Prelude.{ℕ, List, [], ◌∷◌, ◌++◌, ◌==◌, flat_map, if◌then◌else◌}
-use Rattle.sql_parts.specs.declared.quotes.Quotes.{Quotes}
-use Rattle.sql_parts.specs.declared.quotes.Quotes.TheVariants.{Single, Back, Square, Double}
+use Rattle.sql_parts.specs.declared.delimiters.Quotes.{Quotes}
+use Rattle.sql_parts.specs.declared.delimiters.Quotes.TheVariants.{Single, Back, Square, Double}
 
--- the text with each byte `mark` in it written twice
+-- the text with each byte `delimiter` in it written twice
 abbrev pub doubled : ℕ → List ℕ → List ℕ
-doubled mark text = flat_map (λ byte. if byte == mark then mark ∷ mark ∷ [] else byte ∷ []) text
+doubled delimiter text = flat_map (λ byte. if byte == delimiter then delimiter ∷ delimiter ∷ [] else byte ∷ []) text
 
--- the text between two marks, with each closing mark in it written twice
+-- the text between two delimiters, with each closing delimiter in it written twice
 abbrev pub enclosed : ℕ → ℕ → List ℕ → List ℕ
 enclosed opening closing text = opening ∷ doubled closing text ++ closing ∷ []
 
--- the mark before a text
+-- the delimiter before a text
 abbrev pub opening : Quotes → ℕ
 opening Single = code "'"
 opening Back = code "`"
 opening Square = code "["
 opening Double = code "\""
 
--- the mark behind a text
+-- the delimiter behind a text
 abbrev pub closing : Quotes → ℕ
 closing Single = code "'"
 closing Back = code "`"

@@ -1,6 +1,7 @@
--- Templates: texts in which markers stand for values.
+-- Templates: texts whose markers are replaced by values.
 use Prim.Native.Char.{code}
-use Rattle.std.specs.Prelude.{ℕ, zero, suc, ◌+◌, ◌-◌, ◌%◌, ◌==◌, nat_eq, nat_le, List, [], ◌∷◌, ◌++◌, length, take, drop, if◌then◌else◌, codes, Option, Some, None, option_map, flat_map, slice_get, unwrap_or}
+use Rattle.std.specs.Prelude.{ℕ, zero, suc, ◌+◌, ◌-◌, ◌%◌, ◌==◌, nat_eq, nat_le, List, [], ◌∷◌, ◌++◌, length, take, drop, if◌then◌else◌, codes, Option, Some}
+use Rattle.std.specs.Prelude.{None, option_map, flat_map, slice_get, unwrap_or}
 use Rattle.std.specs.Char.{is_ascii_digit}
 use Rattle.std.specs.List.{position_or_len, prefix_len, starts_with}
 use Rattle.std.specs.Str.Parse.{digits_value}
@@ -17,24 +18,24 @@ pub data Marks : Type 0 where
   Name : List ℕ → Marks
   Names : Marks
 
--- What a marker stands for: an argument, counted from 0, or what a name is bound to.
+-- What a marker is replaced by: an argument, counted from 0, or what a name is bound to.
 pub data Value : Type 0 where
   Argument : ℕ → Value
   Named : List ℕ → Value
 
--- What stands at a place: a text, perhaps another than is read there, or a value.
+-- What is at a place: a text, perhaps another than is read there, or a value.
 pub data Place : Type 0 where
   Writes : List ℕ → Place
   Holds : Value → Place
 
 -- the text that every marker and every escape begins with
-abbrev pub opening : Marks → List ℕ
-opening First = codes "?"
-opening (Cycle count) = codes "?"
-opening (Num number) = codes "$" ++ decimal_text number
-opening (Nums count) = codes "$"
-opening (Name name) = codes ":" ++ name ++ codes ":"
-opening Names = codes ":"
+abbrev pub prefix : Marks → List ℕ
+prefix First = codes "?"
+prefix (Cycle count) = codes "?"
+prefix (Num number) = codes "$" ++ decimal_text number
+prefix (Nums count) = codes "$"
+prefix (Name name) = codes ":" ++ name ++ codes ":"
+prefix Names = codes ":"
 
 -- `$` and the digits behind it: number 0 is one `$` where another `$` follows at once, and else nothing,
 -- and so is a number past the list.
@@ -55,57 +56,55 @@ named behind =
 -- `$` and a number: no marker where one more digit follows, and then it is text.
 abbrev pub whole_number : ℕ → List ℕ → Place × ℕ
 whole_number number behind =
-    if prefix_len is_ascii_digit behind == 0 then (Holds (Argument 0), 0) else (Writes (opening (Num number)), 0)
+    if prefix_len is_ascii_digit behind == 0 then (Holds (Argument 0), 0) else (Writes (prefix (Num number)), 0)
 
--- What stands at an opening, and how many bytes of the text behind it belong to it, where `seen` markers stand
--- before it.
-abbrev pub stands : Marks → ℕ → List ℕ → Place × ℕ
-stands First seen behind = if seen == 0 then (Holds (Argument 0), 0) else (Writes (codes "?"), 0)
-stands (Cycle count) seen behind = (Holds (Argument (seen % count)), 0)
-stands (Num number) seen behind = whole_number number behind
-stands (Nums count) seen behind = numbered count behind
-stands (Name name) seen behind = (Holds (Argument 0), 0)
-stands Names seen behind = named behind
+-- What is read at a prefix, and how many bytes of the text behind it belong to it, where `seen` markers precede it.
+abbrev pub place_behind : Marks → ℕ → List ℕ → Place × ℕ
+place_behind First seen behind = if seen == 0 then (Holds (Argument 0), 0) else (Writes (codes "?"), 0)
+place_behind (Cycle count) seen behind = (Holds (Argument (seen % count)), 0)
+place_behind (Num number) seen behind = whole_number number behind
+place_behind (Nums count) seen behind = numbered count behind
+place_behind (Name name) seen behind = (Holds (Argument 0), 0)
+place_behind Names seen behind = named behind
 
--- What stands at a byte, and how many of the bytes behind it belong to it: where no opening begins it is text.
-abbrev pub stands_at : Marks → ℕ → ℕ → List ℕ → Place × ℕ
-stands_at marks seen byte behind =
-    let more = length (opening marks) - 1 in
-    let found = stands marks seen (drop more behind) in
-    if starts_with nat_eq (byte ∷ behind) (opening marks) then (found.0, more + found.1) else (Writes (byte ∷ []), 0)
+-- What is read at a byte, and how many of the bytes behind it belong to it: where no prefix begins it is text.
+abbrev pub place_at : Marks → ℕ → ℕ → List ℕ → Place × ℕ
+place_at marks seen byte behind =
+    let more = length (prefix marks) - 1 in
+    let found = place_behind marks seen (drop more behind) in
+    if starts_with nat_eq (byte ∷ behind) (prefix marks) then (found.0, more + found.1) else (Writes (byte ∷ []), 0)
 
--- The first piece of a template, and each value with the piece behind it.
+-- The first segment of a template, and each value with the segment behind it.
 abbrev pub Resolved : Type 0
 Resolved = List ℕ × List (Value × List ℕ)
 
--- what stands at a place, and then the rest: a text is part of the piece behind it
+-- what is at a place, and then the rest: a text is part of the segment behind it
 abbrev pub followed_by : Place → Resolved → Resolved
 followed_by (Writes text) rest = (text ++ rest.0, rest.1)
 followed_by (Holds value) rest = ([], (value, rest.0) ∷ rest.1)
 
--- how many markers stand before what is behind a place
+-- how many markers precede what is behind a place
 abbrev pub counted : Place → ℕ → ℕ
 counted (Writes text) seen = seen
 counted (Holds value) seen = suc seen
 
--- A text that `seen` markers stand before, without its first `skipped` bytes: what stands at its first byte, and
--- then the rest likewise.
+-- A text that `seen` markers precede, without its first `skipped` bytes: what is at its first byte, and then the rest likewise.
 abbrev pub resolved_from : Marks → ℕ → ℕ → List ℕ → Resolved
 resolved_from marks seen skipped [] = ([], [])
 resolved_from marks seen zero (byte ∷ behind) =
-    let found = stands_at marks seen byte behind in followed_by found.0 (resolved_from marks (counted found.0 seen) found.1 behind)
+    let found = place_at marks seen byte behind in followed_by found.0 (resolved_from marks (counted found.0 seen) found.1 behind)
 resolved_from marks seen (suc skipped) (byte ∷ behind) = resolved_from marks seen skipped behind
 
 -- nothing, where there is a marker and no argument to go round with
 abbrev pub supplied : Marks → Resolved → Option Resolved
-supplied (Cycle zero) (piece, value ∷ values) = None
+supplied (Cycle zero) (segment, value ∷ values) = None
 supplied _ resolved = Some resolved
 
--- The template as pieces with values between them.
+-- The template as segments with values between them.
 abbrev pub resolve : List ℕ → Marks → Option Resolved
 resolve template marks = supplied marks (resolved_from marks 0 0 template)
 
--- the pieces with the literals of the values between them
+-- the segments with the literals of the values between them
 abbrev pub written : (Value → LiteralValue) → Resolved → List ℕ
 written literals resolved = resolved.0 ++ flat_map (λ part. literal_text (literals part.0) ++ part.1) resolved.1
 

@@ -1,10 +1,11 @@
 -- The tokens of an SQL text: it is read from left to right, each time by the first rule that fits.
 use Prim.Native.Char.{code}
-use Rattle.std.specs.Prelude.{ℕ, zero, suc, ◌==◌, ◌||◌, Bool, true, false, not, nat_eq, nat_le, List, [], ◌∷◌, ◌++◌, length, take, drop, if◌then◌else◌, codes, Option, Some, None, option_map}
+use Rattle.std.specs.Prelude.{ℕ, zero, suc, ◌==◌, ◌||◌, Bool, true, false, not, nat_eq, nat_le, List, [], ◌∷◌, ◌++◌, length, take, drop, if◌then◌else◌, codes}
+use Rattle.std.specs.Prelude.{Option, Some, None, option_map}
 use Rattle.std.specs.Char.{is_ascii_alphanumeric}
 use Rattle.std.specs.List.{list_any, prefix_len, starts_with}
-use Rattle.sql_parts.specs.declared.quotes.Quotes.{Quotes}
-use Rattle.sql_parts.specs.declared.quotes.Quotes.TheVariants.{Single, Back, Square, Double}
+use Rattle.sql_parts.specs.declared.delimiters.Quotes.{Quotes}
+use Rattle.sql_parts.specs.declared.delimiters.Quotes.TheVariants.{Single, Back, Square, Double}
 
 -- A word, a text or a name between quotes as it reads back, any other byte, or a quote or a comment that has no end.
 pub data Token : Type 0 where
@@ -32,14 +33,15 @@ reach ending [] = None
 reach ending (byte ∷ behind) =
     if starts_with nat_eq (byte ∷ behind) ending then Some (length ending) else option_map suc (reach ending behind)
 
--- Behind a quote: the text up to the mark that closes it, and how many bytes reach to the end of that mark. The mark
+-- Behind a quote: the text up to the delimiter that closes it, and how many bytes reach to the end of that delimiter. The delimiter
 -- twice stands for itself once.
 abbrev pub inside : ℕ → List ℕ → Option (List ℕ × ℕ)
-inside mark [] = None
-inside mark (byte ∷ []) = if byte == mark then Some ([], 1) else None
-inside mark (byte ∷ next ∷ behind) =
-    if byte == mark then (if next == mark then option_map (λ found. (mark ∷ found.0, suc (suc found.1))) (inside mark behind) else Some ([], 1))
-    else option_map (λ found. (byte ∷ found.0, suc found.1)) (inside mark (next ∷ behind))
+inside delimiter [] = None
+inside delimiter (byte ∷ []) = if byte == delimiter then Some ([], 1) else None
+inside delimiter (byte ∷ next ∷ behind) =
+    if byte == delimiter then (if next == delimiter then option_map (λ found. (delimiter ∷ found.0, suc (suc found.1))) (inside delimiter behind) else Some
+    ([], 1))
+    else option_map (λ found. (byte ∷ found.0, suc found.1)) (inside delimiter (next ∷ behind))
 
 -- a comment up to its end, and else up to the end of the text
 abbrev pub comment : List ℕ → Option ℕ → List Token × ℕ
@@ -95,7 +97,7 @@ quoted_token Double text = Name text
 abbrev pub closed : List ℕ → Bool
 closed text = not (list_any is_open (tokens text))
 
--- a `;` that stands in no quotes
+-- a `;` outside of quotes
 abbrev pub is_semicolon : Token → Bool
 is_semicolon (Symbol byte) = byte == code ";"
 is_semicolon _ = false
@@ -128,6 +130,6 @@ abbrev pub is_empty : {X : Type 0} → List X → Bool
 is_empty [] = true
 is_empty (x ∷ xs) = false
 
--- The second text may stand behind the first: one of them is empty, or an edge stands beside the seam.
+-- The second text may follow the first: one of them is empty, or an edge is beside the seam.
 abbrev pub clean : List ℕ → List ℕ → Bool
 clean one other = is_empty one || is_empty other || ends_with is_edge one || begins_with is_edge other

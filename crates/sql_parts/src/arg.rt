@@ -1,4 +1,4 @@
-//! What can stand as a value in an SQL text.
+//! Literals of SQL, and values that have one.
 ghost use Rattle.std.specs.Prelude.{◌≡◌, ◌++◌, pos, string_bytes, IfOk, OnErr, OnOk};
 ghost use Rattle.std.specs.Io.{StartsWith};
 ghost use Rattle.std.specs.Cow.{cow_str_bytes};
@@ -6,8 +6,8 @@ ghost use Rattle.sql_parts.specs.Error.{FailsOnlyByMemory};
 ghost use Rattle.sql_parts.specs.Literal.{LiteralValue, literal_or_null, literal_text, literal_value};
 ghost use Rattle.sql_parts.specs.Literal.{truth, whole, words};
 
+use crate::delimiters::Quotes;
 use crate::error::SqlBuilderError;
-use crate::quotes::Quotes;
 use crate::quoting::{push_enclosed, quote};
 use crate::text::ToText;
 use std::alloc::Global;
@@ -26,7 +26,7 @@ pub enum Literal {
     Text(String),
 }
 
-/// What stands for a literal: a user's own type does by an implementation.
+/// A value that has a literal. Implement it for types of your own.
 pub trait SqlArg: Drop {
     /// The literal.
     ghost literal: { Self → LiteralValue };

@@ -8,9 +8,9 @@ ghost use Rattle.sql_parts.specs.declared.error.SqlBuilderError.TheVariants.{NoA
 
 use crate::arg::SqlArg;
 pub use crate::bind_names::BindNames;
-use crate::binding::{Alone, LookedUp, Repeated, bound_text, lacks_arguments, places_for};
 use crate::error::SqlBuilderError;
-pub use crate::marks::Marks;
+pub use crate::placeholders::Marks;
+use crate::substitution::{Alone, LookedUp, Repeated, bound_text, lacks_arguments, places_for};
 use crate::text::ToText;
 use std::alloc::Global;
 
@@ -32,7 +32,7 @@ pub trait Bind {
         ensures memory { FailsOnlyByMemory result };
 
     /// The text with the arguments in place of each `?` in turn, the first again after the last.
-    /// A text with a `?` and no argument is refused as `NoArguments`, whether there is memory or
+    /// A text with a `?` and no argument fails with `NoArguments`, whether there is memory or
     /// not. Otherwise it fails only if memory runs out.
     /// `"? ? ?".binds(alloc, &[Box::new(alloc, 1)?, Box::new(alloc, String::from_str(alloc, "b")?)?])?` →
     /// `1 'b' 1`

@@ -68,7 +68,7 @@ pub trait BindNames {
     }
 }
 
-/// From how many pairs on their places are kept.
+/// From how many pairs on their places are stored.
 const LONG: usize = 16;
 
 // The literal in a box, where there is one.
@@ -110,7 +110,7 @@ fn last_value<'a, V>(pairs: &'a [(&str, V)], name: &str) -> Option<&'a V>
     Some(value)
 }
 
-// Where the last pair with each name stands, where there are many.
+// The place of the last pair with each name, where there are many pairs.
 fn places_of<'a, V>(
     alloc: Global,
     pairs: &'a [(&'a str, V)],

@@ -1,21 +1,21 @@
-//! What dangles: an OR, AND or NOT where it may not stand, and a BETWEEN without its AND.
+//! What dangles: an OR, AND or NOT where it may not be, and a BETWEEN without its AND.
 ghost use Rattle.std.specs.Prelude.{◌≡◌, ◌&&◌, [], ◌∷◌, List, IfErr, IfOk, IsTrue, false, not, true};
 ghost use Rattle.sql_parts.specs.Error.{IsMemory};
 ghost use Rattle.sql_parts.specs.Fragments.{is_closing, is_opening, needs_left, needs_right, raises};
 ghost use Rattle.sql_parts.specs.Roles.{HasRole};
 ghost use Rattle.sql_parts.specs.Tokens as tokens;
-ghost use Rattle.sql_parts.specs.Waiting.{all_have_ands, waiting};
+ghost use Rattle.sql_parts.specs.Ranges.{all_have_ands, open_ranges};
 
 use crate::error::SqlBuilderError;
 use crate::roles::Role;
 use std::alloc::Global;
 
-/// What may not stand at the place reached.
+/// What may not be at the place reached.
 #[derive(Clone, Copy)]
 pub(crate) struct Sides {
-    /// No OR or AND: a text begins there, or a token that opens stands before it.
+    /// No OR or AND: a text begins there, or a token that opens precedes it.
     begins: bool,
-    /// No token that closes, and no end: OR, AND or NOT stands before it.
+    /// No token that closes, and no end: OR, AND or NOT precedes it.
     wants: bool,
 }
 
@@ -30,7 +30,7 @@ impl Sides {
         }
     }
 
-    // Whether the token may stand there.
+    // Whether the token may be there.
     pub(crate) fn fits(self, role: Role) -> bool
         ensures { (defined : tokens.Token) → HasRole role defined
             → result ≡ (not (self.begins && needs_left defined) && not (self.wants && is_closing defined)) }
@@ -59,18 +59,18 @@ impl Sides {
 
 /// The BETWEENs that wait for their AND.
 #[derive(Drop)]
-pub(crate) struct Betweens {
-    /// Whether one waits at the level reached.
+pub(crate) struct OpenRanges {
+    /// Whether one waits at the depth reached.
     waits: bool,
-    /// Whether one waits at each level outside it.
+    /// Whether one waits at each depth outside it.
     outside: Vec<bool>,
 }
 
-impl Betweens {
-    pub(crate) fn new(alloc: Global) -> Betweens
-        ensures { waiting result ≡ false ∷ [] }
+impl OpenRanges {
+    pub(crate) fn new(alloc: Global) -> OpenRanges
+        ensures { open_ranges result ≡ false ∷ [] }
     {
-        Betweens {
+        OpenRanges {
             waits: false,
             outside: Vec::new(alloc),
         }

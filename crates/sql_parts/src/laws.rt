@@ -4,8 +4,10 @@ ghost use Rattle.std.specs.List.{count_by, ends_with, list_any, starts_with};
 ghost use Rattle.std.specs.Str.Iter.{HasSubslice};
 ghost use Rattle.sql_parts.specs.Apart.{apart};
 ghost use Rattle.sql_parts.specs.Fragments.{balanced, dangling, has_clause_word, has_outer, is_balanced, is_clause_word, is_dangling, is_operand, operand};
-ghost use Rattle.sql_parts.specs.Blanks.{ArgumentsDifferInTexts, BlankSomewhere, BoundTextsAreStrings, BoundTextsDoNotInterfere, BoundTextsKeepTheirPlaces, IgnoresBoundTexts, IgnoresStrings, NamesDifferInTexts, outline, semicolon_count};
-ghost use Rattle.sql_parts.specs.Laws.{DifferInTexts, EndsAsWritten, HasOneReading, LeavesWithout, MasksMatch, UndoesDoubling, WritesApart, colon, dollar, question_mark, token_count};
+ghost use Rattle.sql_parts.specs.StringTexts.{ArgumentsDifferInTexts, BlankSomewhere, BoundTextsAreStrings, BoundTextsDoNotInterfere};
+ghost use Rattle.sql_parts.specs.StringTexts.{BoundTextsKeepTheirPlaces, IgnoresBoundTexts, IgnoresStrings, NamesDifferInTexts, outline, semicolon_count};
+ghost use Rattle.sql_parts.specs.TextLaws.{DifferInTexts, EndsAsWritten, HasOneReading, LeavesTextWithout, MasksMatch, UndoesDoubling, IsInjective, colon};
+ghost use Rattle.sql_parts.specs.TextLaws.{dollar, question_mark, token_count};
 ghost use Rattle.sql_parts.specs.Quoting.{baquoted, brquoted, dquoted, escaped, quoted};
 ghost use Rattle.sql_parts.specs.Literal.{LiteralValue, literal_text, words};
 ghost use Rattle.sql_parts.specs.Name.{Name, safe_text};
@@ -18,15 +20,15 @@ ghost use Rattle.sql_parts.specs.Tokens.{clean, closed, is_open, is_semicolon, t
 /// It does nothing when it runs.
 /// `quote(alloc, "a'")?` → `'a'''`
 pub fn quoting_is_injective()
-    ensures esc { WritesApart escaped }
-    ensures quote { WritesApart quoted }
-    ensures baquote { WritesApart baquoted }
-    ensures brquote { WritesApart brquoted }
-    ensures dquote { WritesApart dquoted }
+    ensures esc { IsInjective escaped }
+    ensures quote { IsInjective quoted }
+    ensures baquote { IsInjective baquoted }
+    ensures brquote { IsInjective brquoted }
+    ensures dquote { IsInjective dquoted }
 {}
 
-/// A text in which each `$` stands twice is given back by `bind_nums`, and one in which each `:`
-/// stands twice by `bind_names`, whatever is bound. It does nothing when it runs.
+/// A text in which each `$` is doubled is given back by `bind_nums`, and one in which each `:` is
+/// doubled by `bind_names`, whatever is bound. It does nothing when it runs.
 /// `"$$1 $$".bind_nums(alloc, &[Box::new(alloc, 7)?])?` → `$1 $`
 pub fn doubling_is_undone()
     ensures bind_nums { (count : ℕ) → UndoesDoubling dollar (Nums count) }
@@ -37,11 +39,11 @@ pub fn doubling_is_undone()
 /// too. It does nothing when it runs.
 /// `"a = 1".bind(alloc, &7)?` → `a = 1`
 pub fn unmarked_is_unchanged()
-    ensures bind { LeavesWithout question_mark First }
-    ensures binds { (count : ℕ) → LeavesWithout question_mark (Cycle count) }
+    ensures bind { LeavesTextWithout question_mark First }
+    ensures binds { (count : ℕ) → LeavesTextWithout question_mark (Cycle count) }
 {}
 
-/// Where a text is closed and an edge stands beside the seam, the tokens on both sides of it stay
+/// Where a text is closed and an edge is beside the seam, the tokens on both sides of it stay
 /// what they are, whatever the second text is; if that is closed too, so are both together. It does
 /// nothing when it runs.
 /// `is_closed("a, -- b")` → `false`

@@ -1,27 +1,27 @@
 //! Tests of fragments, which read a text as the tokens of SQL.
-ghost use Rattle.std.specs.Prelude.{◌≡◌, ◌&&◌, IfErr, IfOk, codes, not};
-ghost use Rattle.sql_parts.specs.Apart.{apart};
+ghost use Rattle.std.specs.Prelude.{◌≡◌, ◌&&◌, IfErr, IfOk, codes, not, true};
+ghost use Rattle.sql_parts.specs.Apart.{apart, segment_apart, segments_apart};
 ghost use Rattle.sql_parts.specs.Backslash.{has_backslash};
 ghost use Rattle.sql_parts.specs.Error.{FailsOnlyByMemory};
-ghost use Rattle.sql_parts.specs.Fragments.{RefusesLevels, balanced, dangling, has_clause_word, has_outer, is_balanced, is_joining, is_word, operand};
-ghost use Rattle.sql_parts.specs.Places.{marks_of};
+ghost use Rattle.sql_parts.specs.Fragments.{IsMemoryForNesting, balanced, dangling, has_clause_word, has_outer, is_balanced, is_joining, is_word, operand};
+ghost use Rattle.sql_parts.specs.Placeholders.{marks_of};
 ghost use Rattle.sql_parts.specs.Roles.{HasRole};
+ghost use Rattle.sql_parts.specs.Templates.{resolved_from};
 ghost use Rattle.sql_parts.specs.Tokens as tokens;
-ghost use Rattle.sql_parts.specs.Tokens.{begins_with, has_semicolon};
+ghost use Rattle.sql_parts.specs.Tokens.{begins_with, ends_with, has_semicolon, is_separator};
 
-use crate::apart::pieces_apart;
-use crate::binding::lacks_arguments;
-use crate::dangling::{Betweens, Sides};
+use crate::dangling::{OpenRanges, Sides};
+use crate::depth::Depth;
 use crate::error::SqlBuilderError;
-use crate::levels::Level;
-pub use crate::lexer::is_closed;
-use crate::lexer::{Token, first_token};
-use crate::marks::Marks;
+use crate::placeholders::{Marks, Place, first_place, prefix};
 use crate::roles::{Role, first_role};
-use crate::scan::split_at_first;
+use crate::search::{Front, split_at_first};
+use crate::substitution::lacks_arguments;
+pub use crate::tokenizer::is_closed;
+use crate::tokenizer::{Token, first_token};
 use std::alloc::Global;
 
-/// Whether a `;` is among the tokens of the text. It can't be refused.
+/// Whether a `;` is among the tokens of the text. It can't fail.
 /// `has_semicolon("a; b")` → `true`
 pub fn has_semicolon(text: &str) -> bool
     ensures { result ≡ has_semicolon text.now }
@@ -43,7 +43,7 @@ fn bars_first(operand: bool, role: Role) -> bool
     operand && role.is_not()
 }
 
-// Whether the token may not stand at level 0, where the text is to be an operand.
+// Whether the token may not be at level 0, where the text is to be an operand.
 fn bars_outer(operand: bool, role: Role) -> bool
     ensures { (defined : tokens.Token) → HasRole role defined → result ≡ (operand && is_joining defined) }
 {
@@ -58,26 +58,26 @@ fn is_balanced_as(text: &str, operand: bool) -> bool
         && not (has_outer (λ token. operand && is_joining token) (tokens.tokens text.now))
         && not (begins_with (λ token. operand && is_word (codes "NOT") token) (tokens.tokens text.now))) }
 {
-    let mut level = Level::start();
+    let mut depth = Depth::start();
     let mut is_empty = true;
     let mut rest = text;
     while let Some((role, behind)) = first_role(rest) {
-        if is_empty && bars_first(operand, role) || level.is_outer() && bars_outer(operand, role) {
+        if is_empty && bars_first(operand, role) || depth.is_outer() && bars_outer(operand, role) {
             return false;
         }
-        level = level.behind(role);
-        if !role.is_whole() || level.is_below() {
+        depth = depth.behind(role);
+        if !role.is_whole() || depth.is_below() {
             return false;
         }
         is_empty = false;
         rest = behind;
     }
-    !is_empty && level.is_outer()
+    !is_empty && depth.is_outer()
 }
 
 /// Whether the text has a token, no quote or comment without an end and no `;`, and its brackets
-/// are level, `(` and CASE counted together, and `)` and END: as many close as open, and at no
-/// place have more closed than opened. Which closes which isn't asked. It can't be refused.
+/// match, `(` and CASE counted together, and `)` and END: as many close as open, and at no
+/// place have more closed than opened. Which closes which isn't asked. It can't fail.
 /// `is_balanced("a) OR (b")` → `false`
 pub fn is_balanced(text: &str) -> bool
     ensures { result ≡ balanced text.now }
@@ -86,7 +86,7 @@ pub fn is_balanced(text: &str) -> bool
 }
 
 /// Whether the text is balanced, has no OR, AND or BETWEEN at level 0, and doesn't begin with NOT.
-/// It can't be refused.
+/// It can't fail.
 /// `is_operand("a OR b")` → `false`
 pub fn is_operand(text: &str) -> bool
     ensures { result ≡ operand text.now }
@@ -94,48 +94,114 @@ pub fn is_operand(text: &str) -> bool
     is_balanced_as(text, true)
 }
 
-/// Whether a word that begins a clause stands at level 0 of the text: as many `(` and CASE stand
-/// before it as `)` and END. It can't be refused.
+/// Whether a clause keyword is at level 0 of the text: as many `(` and CASE precede it as `)` and
+/// END. It can't fail.
 /// `has_clause_word("a UNION SELECT b")` → `true`
 pub fn has_clause_word(text: &str) -> bool
     ensures { result ≡ has_clause_word text.now }
 {
-    let mut level = Level::start();
+    let mut depth = Depth::start();
     let mut rest = text;
     while let Some((role, behind)) = first_role(rest) {
-        if level.is_outer() && role.is_clause() {
+        if depth.is_outer() && role.is_clause() {
             return true;
         }
-        level = level.behind(role);
+        depth = depth.behind(role);
         rest = behind;
     }
     false
 }
 
-/// Whether an OR or AND is the first token of the text or stands right behind a token that opens,
-/// an OR, AND or NOT is the last or stands right before one that closes, or a BETWEEN has no AND of
+/// Whether an OR or AND is the first token of the text or follows a token that opens, an OR, AND or
+/// NOT is the last or precedes one that closes, or a BETWEEN has no AND of
 /// its own level behind it. It fails only if memory runs out, and not where no token raises the
 /// level.
 /// `has_dangling(alloc, "a AND")?` → `true`
 pub fn has_dangling(alloc: Global, text: &str) -> Result<bool, SqlBuilderError>
     ensures dangling { IfOk result (λ b. b ≡ dangling text.now) }
-    ensures memory { IfErr result (RefusesLevels text.now) }
+    ensures memory { IfErr result (IsMemoryForNesting text.now) }
 {
     let mut sides = Sides::start();
-    let mut betweens = Betweens::new(alloc);
+    let mut ranges = OpenRanges::new(alloc);
     let mut rest = text;
     while let Some((role, behind)) = first_role(rest) {
-        if !sides.fits(role) || !betweens.read(role)? {
+        if !sides.fits(role) || !ranges.read(role)? {
             return Ok(true);
         }
         sides = Sides::behind(role);
         rest = behind;
     }
-    Ok(!sides.may_end() || !betweens.is_empty())
+    Ok(!sides.may_end() || !ranges.is_empty())
+}
+
+fn is_separator(byte: u8) -> bool
+    ensures { result ≡ is_separator byte }
+{
+    matches!(
+        byte,
+        b' ' | b'\t' | b'\n' | b'\r' | b'(' | b')' | b',' | b';' | b'=' | b'<' | b'>'
+    )
+}
+
+fn begins_apart(segment: &str) -> bool
+    ensures { result ≡ begins_with is_separator segment.now }
+{
+    match segment.as_bytes().first() {
+        None => false,
+        Some(byte) => is_separator(*byte),
+    }
+}
+
+fn ends_apart(segment: &str) -> bool
+    ensures { result ≡ ends_with is_separator segment.now }
+{
+    match segment.as_bytes().last() {
+        None => false,
+        Some(byte) => is_separator(*byte),
+    }
+}
+
+fn segment_apart(first: bool, last: bool, segment: &str) -> bool
+    ensures { result ≡ segment_apart first last segment.now }
+{
+    is_closed(segment)
+        && (last || first && segment.is_empty() || ends_apart(segment))
+        && (first || last && segment.is_empty() || begins_apart(segment))
+}
+
+// Whether the segments of a template are apart from its values, for a `?` without arguments too.
+fn segments_apart(alloc: Global, template: &str, marks: Marks<'_>) -> Result<bool, SqlBuilderError>
+    ensures apart { let resolved = resolved_from (marks_of marks.entry) 0 0 template.now in
+        IfOk result (λ b. b ≡ segments_apart true resolved.0 resolved.1) }
+    ensures memory { FailsOnlyByMemory result }
+{
+    let prefix = prefix(alloc, marks)?;
+    let prefix = prefix.as_str();
+    let front = Front::of(prefix);
+    let mut segment = String::new(alloc);
+    let mut rest = template;
+    let mut seen = 0;
+    while let Some(found) = first_place(marks, prefix, front, seen, rest) {
+        segment.push_str(found.segment)?;
+        match found.place {
+            Place::Prefix => segment.push_str(prefix)?,
+            Place::Writes(text) => segment.push_str(text)?,
+            Place::Holds(_) => {
+                if !segment_apart(seen == 0, false, segment.as_str()) {
+                    return Ok(false);
+                }
+                segment.clear();
+                seen += 1;
+            }
+        }
+        rest = found.rest;
+    }
+    segment.push_str(rest)?;
+    Ok(segment_apart(seen == 0, true, segment.as_str()))
 }
 
 /// Whether the values that these marks bind stand apart in a template: no `?` lacks an argument,
-/// each piece of it is closed, and nothing but a separator or an end of the text touches a value.
+/// each segment of it is closed, and nothing but a separator or an end of the text touches a value.
 /// A text that is bound there can't leave its literal. It fails only if memory runs out.
 /// `stands_apart(alloc, "a = ?", &Marks::First)?` → `true`
 /// `stands_apart(alloc, "a = '?'", &Marks::First)?` → `false`
@@ -149,7 +215,7 @@ pub fn stands_apart(
 {
     match marks {
         Marks::Cycle(count) if lacks_arguments(template, *count) => Ok(false),
-        _ => pieces_apart(alloc, template, *marks),
+        _ => segments_apart(alloc, template, *marks),
     }
 }
 
@@ -159,5 +225,5 @@ pub fn stands_apart(
 pub fn has_backslash(text: &str) -> bool
     ensures { result ≡ has_backslash text.now }
 {
-    split_at_first(text, "\\").is_some()
+    split_at_first(text, "\\", Front::of("\\")).is_some()
 }

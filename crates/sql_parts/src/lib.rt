@@ -4,27 +4,25 @@
 //! After an arrow in a doc comment is what the code before it prints; `alloc` is the allocator.
 #![tactic(auto)]
 
-mod apart;
 pub mod arg;
 pub mod bind;
 mod bind_names;
-mod binding;
 mod dangling;
+mod delimiters;
+mod depth;
 pub mod error;
 pub mod laws;
-pub mod lending;
-mod levels;
 pub mod lex;
-mod lexer;
 mod like;
-mod marks;
+pub mod loan;
 pub mod name;
-mod places;
-mod quotes;
+mod placeholders;
 mod quoting;
 mod roles;
-mod scan;
+mod search;
+mod substitution;
 pub mod text;
+mod tokenizer;
 
 pub use arg::{Literal, SqlArg};
 pub use bind::{Bind, BindNames, Marks};

@@ -2,14 +2,15 @@
 ghost use Rattle.std.specs.Prelude.{◌≡◌, ◌++◌, Some, codes, flat_map, map, string_bytes, IfOk, IsTrue, OnErr, OnOk};
 ghost use Rattle.std.specs.List.{list_all};
 ghost use Rattle.sql_parts.specs.Error.{FailsOnlyByMemory};
-ghost use Rattle.sql_parts.specs.Name.{alias_text, fits_form, is_plain, name_of, name_parts, name_text, name_token, name_tokens, safe_form, safe_text, safe_tokens};
-ghost use Rattle.sql_parts.specs.Name.{str_token, tokens_in, with_alias, with_part, with_told, written_in};
+ghost use Rattle.sql_parts.specs.Name.{alias_text, fits_form, is_plain, name_of, name_parts, name_text, name_token, name_tokens, safe_form, safe_text};
+ghost use Rattle.sql_parts.specs.Name.{safe_tokens};
+ghost use Rattle.sql_parts.specs.Name.{str_token, tokens_in, with_alias, with_part, with_change, written_in};
 ghost use Rattle.sql_parts.specs.Quoting.{baquoted, brquoted, dquoted, quoted};
 ghost use Rattle.sql_parts.specs.Text.{optional_texts, texts};
 ghost use Rattle.sql_parts.specs.Tokens.{closed, tokens};
 
 use crate::error::SqlBuilderError;
-use crate::lending::{Held, release};
+use crate::loan::{Held, release};
 use crate::quoting::push_enclosed;
 use crate::text::{Quotes, ToText, copies, copy};
 use std::alloc::{AllocError, Global};
@@ -41,7 +42,7 @@ impl Model for SqlName {
     } };
 }
 
-/// How the parts of a name are written: as they stand, or between marks.
+/// How the parts of a name are written: bare, or between delimiters.
 #[derive(Clone, Copy)]
 enum Form {
     Bare,
@@ -87,15 +88,15 @@ fn are_plain(parts: &[String]) -> bool
 
 /// What a call changes of a name.
 #[derive(Clone, Copy)]
-pub(crate) enum Told {
+pub(crate) enum Change {
     Part,
     Alias,
 }
 
 impl SqlName {
     ghost use Rattle.std.specs.Borrow.{sem};
-    ghost use Rattle.sql_parts.specs.Chaining.{IsUnchangedIfErr, IsUnchangedIfHeldErr};
-    ghost use Rattle.sql_parts.specs.Lending.{IsChangedTo, IsHeldChangedTo};
+    ghost use Rattle.sql_parts.specs.NameLoans.{IsUnchangedIfErr, IsUnchangedIfHeldErr};
+    ghost use Rattle.sql_parts.specs.Loans.{IsChangedTo, IsHeldChangedTo};
 
     /// A name of one part, without an alias. It fails only if memory runs out.
     /// `SqlName::new(alloc, "a")?.safe()?` → `a`
@@ -123,15 +124,19 @@ impl SqlName {
         Ok(())
     }
 
-    fn hold<S: ToText>(&mut self, told: Told, text: S) -> Result<Held<'_, SqlName>, SqlBuilderError>
+    fn hold<S: ToText>(
+        &mut self,
+        change: Change,
+        text: S,
+    ) -> Result<Held<'_, SqlName>, SqlBuilderError>
         ensures* refused { sem 𝓛 (IsUnchangedIfHeldErr self.entry result) }
-        ensures changed { IsHeldChangedTo self.entry (with_told told (S.text text) self.old) result }
+        ensures changed { IsHeldChangedTo self.entry (with_change change (S.text text) self.old) result }
         ensures memory { FailsOnlyByMemory result }
     {
         let text = text.to_text(self.alloc)?;
-        match told {
-            Told::Part => self.push_part(text)?,
-            Told::Alias => self.alias = Some(text),
+        match change {
+            Change::Part => self.push_part(text)?,
+            Change::Alias => self.alias = Some(text),
         }
         Ok(Held(self))
     }
@@ -144,7 +149,7 @@ impl SqlName {
         ensures changed { IsChangedTo self.entry (with_part (S.text part) self.old) result }
         ensures memory { FailsOnlyByMemory result }
     {
-        release(self.hold(Told::Part, part))
+        release(self.hold(Change::Part, part))
     }
 
     /// Sets the alias, in place of any other. It fails only if memory runs out, and then
@@ -155,7 +160,7 @@ impl SqlName {
         ensures changed { IsChangedTo self.entry (with_alias (S.text alias) self.old) result }
         ensures memory { FailsOnlyByMemory result }
     {
-        release(self.hold(Told::Alias, alias))
+        release(self.hold(Change::Alias, alias))
     }
 
     fn copy_rest(&self) -> Result<Option<(String, Vec<String>)>, SqlBuilderError>
@@ -188,7 +193,7 @@ impl SqlName {
     /// The name with all parts bare if all are plain, else with each part between backquotes. It
     /// fails only if memory runs out.
     /// `SqlName::new(alloc, "a")?.add("B")?.safe()?` → `` `a`.`B` ``
-    #[tactic(auto, using(crate::proofs::NameTokens::safe_fits))]
+    #[tactic(auto, using(crate::proofs::tokens::NameFacts::safe_fits))]
     pub fn safe(&self) -> Result<String, SqlBuilderError>
         ensures text { IfOk result (λ s. string_bytes s ≡ safe_text self.now) }
         ensures tokens { IfOk result (λ s. tokens (string_bytes s) ≡ safe_tokens self.now) }
@@ -289,7 +294,7 @@ impl SqlName {
         }
     }
 
-    // Room for the name, as long as no part has a mark to double.
+    // Room for the name, as long as no part has a delimiter to double.
     fn room(&self) -> usize {
         let mut room = self.first.len().saturating_add("``".len());
         if let Some((second, further)) = &self.rest {
@@ -308,7 +313,7 @@ impl SqlName {
         }
     }
 
-    #[tactic(auto, using(crate::proofs::NameTokens::name_is, crate::proofs::NameTokens::name_closed))]
+    #[tactic(auto, using(crate::proofs::tokens::NameFacts::name_is, crate::proofs::tokens::NameFacts::name_closed))]
     fn print(&self, form: Form) -> Result<String, SqlBuilderError>
         ensures text { IfOk result (λ s. string_bytes s ≡ name_text (written_in form) self.now) }
         ensures tokens { IfOk result (λ s. IsTrue (fits_form form (name_parts self.now))
@@ -336,7 +341,7 @@ fn push_alias(out: &mut String, alias: &str) -> Result<(), AllocError>
     form.push_part(out, alias)
 }
 
-/// The text of a name in the form that stands first: what the five macros below share.
+/// The text of a name in the form that is given first: what the five macros below share.
 #[doc(hidden)]
 #[macro_export]
 macro_rules! name_in_form {
@@ -352,8 +357,8 @@ macro_rules! name_in_form {
 }
 
 /// A name by `safe`: `name!(alloc, part, ..; alias)`, with one part or more and perhaps an alias.
-/// The five macros want `SqlName` in the caller's scope. The value is the text, and a refusal is
-/// what the caller's function answers, by `?`.
+/// The five macros want `SqlName` in the caller's scope. The value is the text, and an error is
+/// what the caller's function returns, by `?`.
 /// `name!(alloc, "a", "b"; "c")` → `a.b AS c`
 #[macro_export]
 macro_rules! name {

@@ -6,14 +6,14 @@ ghost use Rattle.sql_parts.specs.Error.{FailsOnlyByMemory};
 ghost use Rattle.sql_parts.specs.Quoting.{baquoted, between, brquoted, dquoted, escaped, quoted};
 ghost use Rattle.sql_parts.specs.Tokens.{Name, Str, closed, quoted_token, tokens};
 
+use crate::delimiters::{Quotes, push_doubled, split_at_delimiter};
 use crate::error::SqlBuilderError;
-use crate::quotes::{Quotes, push_doubled, split_at_mark};
 use crate::text::ToText;
 use std::alloc::{AllocError, Global};
 use std::borrow::CowStr;
 
-/// Appends the text between its marks, with each closing mark in it written twice.
-#[tactic(auto, using(crate::proofs::Kept::kept_by_more))]
+/// Appends the text between its delimiters, with each closing delimiter in it written twice.
+#[tactic(auto, using(crate::proofs::texts::DoublingLemmas::starts_with_more))]
 pub(crate) fn push_enclosed(out: &mut String, quotes: Quotes, text: &str) -> Result<(), AllocError>
     ensures text { OnOk result
         (string_bytes out.new ≡ string_bytes out.old ++ between quotes text.now) }
@@ -24,7 +24,7 @@ pub(crate) fn push_enclosed(out: &mut String, quotes: Quotes, text: &str) -> Res
     out.push(quotes.closing())
 }
 
-#[tactic(auto, using(crate::proofs::TokenLaws::between_token, crate::proofs::TokenLaws::between_closed))]
+#[tactic(auto, using(crate::proofs::tokens::TokenFacts::between_token, crate::proofs::tokens::TokenFacts::between_closed))]
 fn enclose<S: ToText>(alloc: Global, quotes: Quotes, text: S) -> Result<String, SqlBuilderError>
     ensures text { IfOk result (λ s. string_bytes s ≡ between quotes (S.text text)) }
     ensures token { IfOk result (λ s. tokens (string_bytes s)
@@ -42,7 +42,7 @@ fn enclose<S: ToText>(alloc: Global, quotes: Quotes, text: S) -> Result<String, 
 /// The text with each `'` in it doubled: between two `'` it is an SQL text. It fails only if memory
 /// runs out.
 /// `esc(alloc, "it's")?` → `it''s`
-#[tactic(auto, using(crate::proofs::TokenLaws::escaped_token))]
+#[tactic(auto, using(crate::proofs::tokens::TokenFacts::escaped_token))]
 pub fn esc<S: ToText>(alloc: Global, text: S) -> Result<String, SqlBuilderError>
     ensures text { IfOk result (λ s. string_bytes s ≡ escaped (S.text text)) }
     ensures token { IfOk result (λ s. tokens (codes "'" ++ (string_bytes s ++ codes "'"))
@@ -62,11 +62,11 @@ pub fn split_at_quote(text: &str) -> Option<(&str, &str)>
     ensures doubled { MatchOption result (escaped text.now ≡ text.now)
         (λ parts. escaped text.now ≡ parts.0.now ++ (codes "''" ++ escaped parts.1.now)) }
 {
-    split_at_mark(text, '\'')
+    split_at_delimiter(text, '\'')
 }
 
-// Room for so many marks that are doubled is taken at once.
-const SOME_MARKS: usize = 8;
+// Room for so many delimiters that are doubled is taken at once.
+const SOME_DELIMITERS: usize = 8;
 
 /// The text with each `'` in it doubled, borrowed where it has none. It fails only if memory runs
 /// out.
@@ -77,7 +77,7 @@ pub fn escaped(alloc: Global, text: &str) -> Result<CowStr<'_>, AllocError>
     let Some((before, after)) = split_at_quote(text) else {
         return Ok(CowStr::Borrowed(text));
     };
-    let mut out = String::with_capacity(alloc, text.len().saturating_add(SOME_MARKS))?;
+    let mut out = String::with_capacity(alloc, text.len().saturating_add(SOME_DELIMITERS))?;
     out.push_str(before)?;
     out.push_str("''")?;
     push_doubled(&mut out, '\'', after)?;

@@ -2,20 +2,20 @@
 ghost use Rattle.std.specs.Prelude.{◌≡◌, ◌<◌, [], ◌∷◌, IfSome, MatchOption, codes, if◌then◌else◌, length};
 ghost use Rattle.std.specs.Str.{str_eq_ignore_ascii_case};
 ghost use Rattle.sql_parts.specs.Fragments.{is_clause_word, is_closing, is_joining, is_opening, is_whole, is_word, lowers, needs_left, needs_right, raises};
-ghost use Rattle.sql_parts.specs.Lexing.{StandsFor};
+ghost use Rattle.sql_parts.specs.Tokenizer.{Represents};
 ghost use Rattle.sql_parts.specs.Roles.{HasRole};
 ghost use Rattle.sql_parts.specs.Tokens.{Token, Symbol, Word, tokens};
 
-use crate::lexer;
+use crate::tokenizer;
 
 /// What a token means to the tests of fragments.
 #[derive(Clone, Copy)]
 pub(crate) enum Role {
-    /// `(` or CASE, which raise the level.
+    /// `(` or CASE, which raise the nesting depth.
     Raises,
     /// `)` or END, which lower it.
     Lowers,
-    /// `,`, WHEN, THEN or ELSE, which stand between operands.
+    /// `,`, WHEN, THEN or ELSE, which separate operands.
     Parts,
     Or,
     And,
@@ -23,7 +23,7 @@ pub(crate) enum Role {
     Not,
     /// A word that begins a clause.
     Clause,
-    /// What stands in no fragment: `;`, and a quote or a comment that has no end.
+    /// What no fragment has: `;`, and a quote or a comment that has no end.
     Breaks,
     /// Any other token.
     Plain,
@@ -173,14 +173,14 @@ fn symbol_role(sign: u8) -> Role
 
 // The role of a token.
 #[inline(always)]
-fn role_of(token: lexer::Token<'_>) -> Role
-    ensures { (defined : Token) → StandsFor token.entry defined → HasRole result defined }
+fn role_of(token: tokenizer::Token<'_>) -> Role
+    ensures { (defined : Token) → Represents token.entry defined → HasRole result defined }
 {
     match token {
-        lexer::Token::Word(word) => word_role(word),
-        lexer::Token::Symbol(sign) => symbol_role(sign),
-        lexer::Token::Open => Role::Breaks,
-        lexer::Token::Quoted => Role::Plain,
+        tokenizer::Token::Word(word) => word_role(word),
+        tokenizer::Token::Symbol(sign) => symbol_role(sign),
+        tokenizer::Token::Open => Role::Breaks,
+        tokenizer::Token::Quoted => Role::Plain,
     }
 }
 
@@ -191,7 +191,7 @@ pub(crate) fn first_role(text: &str) -> Option<(Role, &str)>
         (λ found. (token : Token) × HasRole found.0 token × (tokens text.now ≡ token ∷ tokens found.1.now)) }
     ensures shorter { IfSome result (λ found. length found.1.now < length text.now) }
 {
-    match lexer::first_token(text) {
+    match tokenizer::first_token(text) {
         Some((token, behind)) => Some((role_of(token), behind)),
         None => None,
     }

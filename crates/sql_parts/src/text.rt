@@ -7,10 +7,10 @@ ghost use Rattle.sql_parts.specs.Error.{FailsOnlyByMemory};
 ghost use Rattle.sql_parts.specs.Like.{escape_character, like_escaped};
 ghost use Rattle.sql_parts.specs.Text.{bool_text, decimal_text, number_text, optional_text, texts};
 
+pub use crate::delimiters::Quotes;
 use crate::error::SqlBuilderError;
 pub use crate::like::LikeEscape;
 use crate::like::push_like_escaped;
-pub use crate::quotes::Quotes;
 use std::alloc::{AllocError, Global};
 use std::borrow::CowStr;
 
@@ -184,28 +184,28 @@ impl ToText for char {
 }
 
 // Decimal texts of numbers. Each takes its number by value, so that its range is known.
-#[tactic(auto, using(crate::proofs::Decimal::unsigned_text))]
+#[tactic(auto, using(crate::proofs::texts::DecimalFacts::unsigned_text))]
 fn u64_text(alloc: Global, number: u64) -> Result<String, AllocError>
     ensures { IfOk result (λ s. string_bytes s ≡ decimal_text number) }
 {
     number.to_string(alloc)
 }
 
-#[tactic(auto, using(crate::proofs::Decimal::signed_text))]
+#[tactic(auto, using(crate::proofs::texts::DecimalFacts::signed_text))]
 fn i64_text(alloc: Global, number: i64) -> Result<String, AllocError>
     ensures { IfOk result (λ s. string_bytes s ≡ number_text number) }
 {
     number.to_string(alloc)
 }
 
-#[tactic(auto, using(crate::proofs::Decimal::unsigned_text))]
+#[tactic(auto, using(crate::proofs::texts::DecimalFacts::unsigned_text))]
 fn u128_text(alloc: Global, number: u128) -> Result<String, AllocError>
     ensures { IfOk result (λ s. string_bytes s ≡ decimal_text number) }
 {
     number.to_string(alloc)
 }
 
-#[tactic(auto, using(crate::proofs::Decimal::signed_text))]
+#[tactic(auto, using(crate::proofs::texts::DecimalFacts::signed_text))]
 fn i128_text(alloc: Global, number: i128) -> Result<String, AllocError>
     ensures { IfOk result (λ s. string_bytes s ≡ number_text number) }
 {

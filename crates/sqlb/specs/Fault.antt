@@ -18,7 +18,7 @@ reason_text NoStatement = codes "no statement"
 reason_text StatementOpen = codes "statement open"
 reason_text NoEnd = codes "no end"
 reason_text NotUtf8 = codes "not UTF-8"
-reason_text (Builder refusal) = message_text refusal
+reason_text (Builder error) = message_text error
 
 -- a fault's text
 abbrev pub fault_text : Fault → List ℕ
@@ -27,14 +27,14 @@ fault_text Memory = codes "Out of memory"
 fault_text Read = codes "read failed"
 fault_text Write = codes "write failed"
 
--- 1 for what an input or memory did not allow, 2 for a device that failed
+-- 1 for what an input or memory did not allow, 2 for a reader or a writer that failed
 abbrev pub fault_status : Fault → ℕ
 fault_status (At line reason) = 1
 fault_status Memory = 1
 fault_status Read = 2
 fault_status Write = 2
 
--- a refusal of the builder as what a line answers: want of memory is no reason of a line
-abbrev pub refused_by : SqlBuilderError → LineError
-refused_by (builder.Memory error) = line.Memory
-refused_by refusal = line.Refused (Builder refusal)
+-- an error of the builder as an error of a line: out of memory is no reason of a line
+abbrev pub line_error : SqlBuilderError → LineError
+line_error (builder.Memory error) = line.Memory
+line_error error = line.Rejected (Builder error)

@@ -1,13 +1,10 @@
-pub mod Device
-pub mod Endings
+pub mod Arguments
 pub mod Fault
 pub mod Lines
 pub mod Names
 pub mod Output
-pub mod Parts
-pub mod Ran
+pub mod RunResults
 pub mod Script
-pub mod Tables
-pub mod Text
+pub mod Streams
 pub mod Utf8
-pub mod Watch
+pub mod Watched

@@ -4,12 +4,11 @@ use Rattle.std.specs.List.{slice_split}
 use Rattle.std.specs.Str.{is_utf8}
 use Rattle.sql_builder.specs.Calls as call
 use Rattle.sql_builder.specs.Calls.{StartText, CallText, FinishText}
-use Rattle.sqlb.specs.Endings.{condition_of}
-use Rattle.sqlb.specs.Names.{meaning_of}
+use Rattle.sqlb.specs.Names.{condition_of, meaning_of}
 use Rattle.sqlb.specs.declared.fault.Reason.{Reason}
 use Rattle.sqlb.specs.declared.fault.Reason.TheVariants.{NotUtf8, UnknownCall, WrongArguments}
 use Rattle.sqlb.specs.declared.names.Meaning.{Meaning}
-use Rattle.sqlb.specs.declared.names.Meaning.TheVariants as takes
+use Rattle.sqlb.specs.declared.names.Meaning.TheVariants as means
 use Rattle.sqlb.specs.declared.names.Nullary.{Nullary}
 use Rattle.sqlb.specs.declared.names.Nullary.TheVariants as nullary
 use Rattle.sqlb.specs.declared.names.Unary.{Unary}
@@ -42,7 +41,7 @@ pub data CommandText : Type 0 where
   Calls : CallText → CommandText
   Finishes : FinishText → CommandText
 
--- what a line says, or why it is refused
+-- what a line says, or why it is rejected
 abbrev pub CommandResult : Type 0
 CommandResult = Result CommandText Reason
 
@@ -112,13 +111,13 @@ flag_in text =
 
 -- what a name says of its arguments, if they fit
 abbrev pub command : Meaning → List (List ℕ) → Option CommandText
-command (takes.Nullary meaning) [] = Some (nullary_command meaning)
-command (takes.Unary meaning) (argument ∷ []) = Some (unary_command meaning argument)
-command (takes.Binary meaning) (first ∷ second ∷ []) = Some (binary_command meaning first second)
-command (takes.Flagged meaning) (argument ∷ flag ∷ []) =
+command (means.Nullary meaning) [] = Some (nullary_command meaning)
+command (means.Unary meaning) (argument ∷ []) = Some (unary_command meaning argument)
+command (means.Binary meaning) (first ∷ second ∷ []) = Some (binary_command meaning first second)
+command (means.Flagged meaning) (argument ∷ flag ∷ []) =
     option_map (flagged_command meaning argument) (flag_in flag)
-command (takes.Variadic meaning) arguments = Some (variadic_command meaning arguments)
-command (takes.Where family ending) arguments = option_map (λ made. Calls (call.Cond family made)) (condition_of ending arguments)
+command (means.Variadic meaning) arguments = Some (variadic_command meaning arguments)
+command (means.Where family ending) arguments = option_map (λ made. Calls (call.Cond family made)) (condition_of ending arguments)
 command _ _ = None
 
 -- the checks of a line by itself, in their order: its name is known, and its arguments fit

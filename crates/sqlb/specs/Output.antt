@@ -1,5 +1,6 @@
 -- What a whole input says to print, and where it stops.
-use Rattle.std.specs.Prelude.{ℕ, ◌-◌, List, [], ◌∷◌, ◌++◌, Bool, true, false, Option, Some, None, Result, Ok, Err, if◌then◌else◌, take, map, filter_map, flat_map, length, codes, is_err, is_some, option_map}
+use Rattle.std.specs.Prelude.{ℕ, ◌-◌, List, [], ◌∷◌, ◌++◌, Bool, true, false, Option, Some, None, Result, Ok, Err, if◌then◌else◌, take, map, filter_map}
+use Rattle.std.specs.Prelude.{flat_map, length, codes, is_err, is_some, option_map}
 use Rattle.std.specs.List.{enumerate_from}
 use Rattle.sql_builder.specs.Calls.{StartText, CallText}
 use Rattle.sql_builder.specs.Filters.{any_unfollowed, since, until}
@@ -53,14 +54,17 @@ open_statement_in commands =
 unfoldable pub open_statement : List CommandResult → Option OpenStatement
 open_statement before = if is_inside before then open_statement_in (since is_start before) else None
 
--- a finished statement's text, or why it is refused
-abbrev pub finish_answer : Result (List ℕ) SqlBuilderError → Result (Option (List ℕ)) Reason
-finish_answer (Ok text) = Ok (Some text)
-finish_answer (Err refusal) = Err (Builder refusal)
+-- what a line answers: the text that it finishes, if it finishes one, or the first check that it fails
+abbrev pub Answer : Type 0
+Answer = Result (Option (List ℕ)) Reason
 
--- what a line answers, by the statement that it is inside of: the first check that it fails, or the text that it
--- finishes, if it finishes one
-abbrev pub answer : Option OpenStatement → CommandResult → Result (Option (List ℕ)) Reason
+-- a finished statement's text, or why there is none
+abbrev pub finish_answer : Result (List ℕ) SqlBuilderError → Answer
+finish_answer (Ok text) = Ok (Some text)
+finish_answer (Err error) = Err (Builder error)
+
+-- what a line answers, by the statement that it is inside of
+abbrev pub answer : Option OpenStatement → CommandResult → Answer
 answer inside (Err reason) = Err reason
 answer None (Ok (Starts start)) = Ok None
 answer (Some inside) (Ok (Starts start)) = Err StatementOpen
@@ -70,15 +74,15 @@ answer None (Ok (Finishes finish)) = Err NoStatement
 answer (Some inside) (Ok (Finishes finish)) = finish_answer (statement inside.start inside.calls finish)
 
 -- what line n answers, counted from 1
-abbrev pub answer_at : List CommandResult → ℕ × CommandResult → Result (Option (List ℕ)) Reason
+abbrev pub answer_at : List CommandResult → ℕ × CommandResult → Answer
 answer_at commands (n, line) = answer (open_statement (take (n - 1) commands)) line
 
 -- what each line answers
-abbrev pub answers : List CommandResult → List (Result (Option (List ℕ)) Reason)
+abbrev pub answers : List CommandResult → List (Answer)
 answers commands = map (answer_at commands) (enumerate_from 1 commands)
 
 -- a line's fault, with its number
-abbrev pub fault_at : ℕ × Result (Option (List ℕ)) Reason → Option (ℕ × Reason)
+abbrev pub fault_at : ℕ × Answer → Option (ℕ × Reason)
 fault_at (n, Ok text) = None
 fault_at (n, Err reason) = Some (n, reason)
 
@@ -87,11 +91,11 @@ abbrev pub end_fault : List CommandResult → List (ℕ × Reason)
 end_fault commands = if is_some (open_statement commands) then (length commands, NoEnd) ∷ [] else []
 
 -- the answers of an input's lines before the first that fails a check
-unfoldable pub accepted_answers : List ℕ → List (Result (Option (List ℕ)) Reason)
+unfoldable pub accepted_answers : List ℕ → List (Answer)
 accepted_answers input = until is_err (answers (map command_of (lines input)))
 
 -- the text that a line finishes, with a line feed
-abbrev pub printed_line : Result (Option (List ℕ)) Reason → Option (List ℕ)
+abbrev pub printed_line : Answer → Option (List ℕ)
 printed_line (Ok (Some text)) = Some (text ++ codes "\n")
 printed_line _ = None
 

@@ -20,7 +20,7 @@ pub enum Reason {
     NoEnd,
     /// It is not UTF-8.
     NotUtf8,
-    /// It is a finish, and the statement is refused; never out of memory.
+    /// It is a finish, and the builder fails with this error; never out of memory.
     Builder(SqlBuilderError),
 }
 
@@ -41,19 +41,19 @@ pub enum Fault {
 #[derive(Drop)]
 pub(crate) enum LineError {
     /// It is not accepted.
-    Refused(Reason),
+    Rejected(Reason),
     /// Memory ran out.
     Memory,
 }
 
 impl From<Reason> for LineError {
     ghost use Rattle.std.specs.Prelude.{◌≡◌};
-    ghost use Rattle.sqlb.specs.declared.fault.LineError.TheVariants.{Refused};
+    ghost use Rattle.sqlb.specs.declared.fault.LineError.TheVariants.{Rejected};
 
-    ghost from_gives = { λ reason error. error ≡ Refused reason };
+    ghost from_gives = { λ reason error. error ≡ Rejected reason };
 
     fn from(reason: Reason) -> LineError {
-        LineError::Refused(reason)
+        LineError::Rejected(reason)
     }
 }
 
@@ -70,14 +70,14 @@ impl From<AllocError> for LineError {
 
 impl From<SqlBuilderError> for LineError {
     ghost use Rattle.std.specs.Prelude.{◌≡◌};
-    ghost use Rattle.sqlb.specs.Fault.{refused_by};
+    ghost use Rattle.sqlb.specs.Fault.{line_error};
 
-    ghost from_gives = { λ refusal error. error ≡ refused_by refusal };
+    ghost from_gives = { λ error line. line ≡ line_error error };
 
-    fn from(refusal: SqlBuilderError) -> LineError {
-        match refusal {
+    fn from(error: SqlBuilderError) -> LineError {
+        match error {
             SqlBuilderError::Memory(_) => LineError::Memory,
-            refusal => LineError::Refused(Reason::Builder(refusal)),
+            error => LineError::Rejected(Reason::Builder(error)),
         }
     }
 }
@@ -94,13 +94,13 @@ impl Reason {
             Reason::StatementOpen => "statement open",
             Reason::NoEnd => "no end",
             Reason::NotUtf8 => "not UTF-8",
-            Reason::Builder(refusal) => refusal.message(),
+            Reason::Builder(error) => error.message(),
         }
     }
 }
 
 impl Fault {
-    /// The exit status: 1 for a line or for memory, 2 for a device that failed.
+    /// The exit status: 1 for a line or for memory, 2 for a reader or a writer that failed.
     pub fn status(&self) -> u8
         ensures status { result ≡ fault_status self.now }
     {

@@ -1,13 +1,13 @@
 //! What each line makes of the open statement.
 ghost use Rattle.std.specs.Prelude.{◌≡◌, List, Ok, OnErr, OnOk, Some, ok_or, string_bytes, ℕ};
 ghost use Rattle.sqlb.specs.Lines.{binary_command, command_in_parts, command_with, flag_in, nullary_command, unary_command, variadic_command};
-ghost use Rattle.sqlb.specs.Parts.{IsTaken};
-ghost use Rattle.sqlb.specs.Script.{Answers, Checks, Runs, printed_if, told_after, told_answer};
+ghost use Rattle.sqlb.specs.Arguments.{IsTaken};
+ghost use Rattle.sqlb.specs.Script.{Answers, Checks, Runs, printed_if, given_after, given_answer};
 ghost use Rattle.sqlb.specs.declared.fault.Reason.TheVariants.{WrongArguments};
 
+use crate::arguments::Arguments;
 use crate::fault::{LineError, Reason};
 use crate::names::{Binary, Flagged, Meaning, Nullary, Unary, Variadic};
-use crate::parts::Parts;
 use crate::script::Script;
 use sql_builder::calls::{BinaryClause, Call, Finish, TableStart, UnaryClause, VariadicClause};
 
@@ -26,25 +26,25 @@ impl Script {
     /// runs out in it, the same statement stays open.
     pub(crate) fn take_line(
         &mut self,
-        parts: &mut Parts<'_>,
+        arguments: &mut Arguments<'_>,
         statement: &mut String,
     ) -> Result<bool, LineError>
         ensures answer { Answers (printed_if (string_bytes statement.new)) result
-            (told_answer self.old (command_in_parts parts.old.parts)) }
+            (given_answer self.old (command_in_parts arguments.old.parts)) }
         ensures after { OnOk result
-            (self.new ≡ told_after self.old (command_in_parts parts.old.parts)) }
+            (self.new ≡ given_after self.old (command_in_parts arguments.old.parts)) }
         ensures err { OnErr result (self.new ≡ self.old) }
-        ensures taken { OnOk result (IsTaken parts.old parts.new) }
+        ensures taken { OnOk result (IsTaken arguments.old arguments.new) }
     {
-        let name = parts.next().ok_or(Reason::UnknownCall)?;
+        let name = arguments.next().ok_or(Reason::UnknownCall)?;
         let meaning = Meaning::of(name).ok_or(Reason::UnknownCall)?;
-        self.take(meaning, parts, statement)
+        self.take(meaning, arguments, statement)
     }
 
     fn take(
         &mut self,
         meaning: Meaning,
-        arguments: &mut Parts<'_>,
+        arguments: &mut Arguments<'_>,
         statement: &mut String,
     ) -> Result<bool, LineError>
         ensures ran { Runs result self.old self.new (string_bytes statement.new)
@@ -63,11 +63,11 @@ impl Script {
             }
             Meaning::Flagged(Flagged::OrderBy) => {
                 let (field, flag) = arguments.two()?;
-                self.tell_order(field, read_flag(flag)?)
+                self.add_order(field, read_flag(flag)?)
             }
             Meaning::Variadic(meaning) => self.take_variadic(meaning, arguments.others()),
             Meaning::Where(family, ending) => {
-                self.tell_condition(family, ending.condition(arguments)?)
+                self.add_condition(family, ending.condition(arguments)?)
             }
         }
     }
@@ -77,15 +77,15 @@ impl Script {
             (Ok (nullary_command meaning)) }
     {
         match meaning {
-            Nullary::Natural => self.tell(&Call::Natural),
-            Nullary::Left => self.tell(&Call::Left),
-            Nullary::LeftOuter => self.tell(&Call::LeftOuter),
-            Nullary::Right => self.tell(&Call::Right),
-            Nullary::RightOuter => self.tell(&Call::RightOuter),
-            Nullary::Inner => self.tell(&Call::Inner),
-            Nullary::Cross => self.tell(&Call::Cross),
-            Nullary::Distinct => self.tell(&Call::Distinct),
-            Nullary::ReturningId => self.tell(&Call::ReturningId),
+            Nullary::Natural => self.add_call(&Call::Natural),
+            Nullary::Left => self.add_call(&Call::Left),
+            Nullary::LeftOuter => self.add_call(&Call::LeftOuter),
+            Nullary::Right => self.add_call(&Call::Right),
+            Nullary::RightOuter => self.add_call(&Call::RightOuter),
+            Nullary::Inner => self.add_call(&Call::Inner),
+            Nullary::Cross => self.add_call(&Call::Cross),
+            Nullary::Distinct => self.add_call(&Call::Distinct),
+            Nullary::ReturningId => self.add_call(&Call::ReturningId),
             Nullary::Sql => self.finish(&Finish::Sql, statement),
             Nullary::Query => self.finish(&Finish::Query, statement),
             Nullary::QueryValues => self.finish(&Finish::QueryValues, statement),
@@ -107,22 +107,22 @@ impl Script {
             Unary::InsertInto => self.start_on(TableStart::InsertInto, text),
             Unary::UpdateTable => self.start_on(TableStart::UpdateTable, text),
             Unary::DeleteFrom => self.start_on(TableStart::DeleteFrom, text),
-            Unary::AndTable => self.tell_unary(UnaryClause::AndTable, text),
-            Unary::Join => self.tell_unary(UnaryClause::Join, text),
-            Unary::On => self.tell_unary(UnaryClause::On, text),
-            Unary::Field => self.tell_unary(UnaryClause::Field, text),
-            Unary::SetField => self.tell_unary(UnaryClause::SetField, text),
-            Unary::Count => self.tell_unary(UnaryClause::Count, text),
-            Unary::Select => self.tell_unary(UnaryClause::Select, text),
-            Unary::Returning => self.tell_unary(UnaryClause::Returning, text),
-            Unary::GroupBy => self.tell_unary(UnaryClause::GroupBy, text),
-            Unary::Having => self.tell_unary(UnaryClause::Having, text),
-            Unary::Union => self.tell_unary(UnaryClause::Union, text),
-            Unary::UnionAll => self.tell_unary(UnaryClause::UnionAll, text),
-            Unary::OrderAsc => self.tell_unary(UnaryClause::OrderAsc, text),
-            Unary::OrderDesc => self.tell_unary(UnaryClause::OrderDesc, text),
-            Unary::Limit => self.tell_unary(UnaryClause::Limit, text),
-            Unary::Offset => self.tell_unary(UnaryClause::Offset, text),
+            Unary::AndTable => self.add_unary(UnaryClause::AndTable, text),
+            Unary::Join => self.add_unary(UnaryClause::Join, text),
+            Unary::On => self.add_unary(UnaryClause::On, text),
+            Unary::Field => self.add_unary(UnaryClause::Field, text),
+            Unary::SetField => self.add_unary(UnaryClause::SetField, text),
+            Unary::Count => self.add_unary(UnaryClause::Count, text),
+            Unary::Select => self.add_unary(UnaryClause::Select, text),
+            Unary::Returning => self.add_unary(UnaryClause::Returning, text),
+            Unary::GroupBy => self.add_unary(UnaryClause::GroupBy, text),
+            Unary::Having => self.add_unary(UnaryClause::Having, text),
+            Unary::Union => self.add_unary(UnaryClause::Union, text),
+            Unary::UnionAll => self.add_unary(UnaryClause::UnionAll, text),
+            Unary::OrderAsc => self.add_unary(UnaryClause::OrderAsc, text),
+            Unary::OrderDesc => self.add_unary(UnaryClause::OrderDesc, text),
+            Unary::Limit => self.add_unary(UnaryClause::Limit, text),
+            Unary::Offset => self.add_unary(UnaryClause::Offset, text),
             Unary::SubqueryAs => self.finish_as(text, statement),
         }
     }
@@ -137,22 +137,22 @@ impl Script {
             (Ok (binary_command meaning first.now second.now)) }
     {
         match meaning {
-            Binary::OnEq => self.tell_binary(BinaryClause::OnEq, first, second),
-            Binary::CountAs => self.tell_binary(BinaryClause::CountAs, first, second),
-            Binary::SetTo => self.tell_binary(BinaryClause::SetTo, first, second),
-            Binary::SetStr => self.tell_binary(BinaryClause::SetStr, first, second),
+            Binary::OnEq => self.add_binary(BinaryClause::OnEq, first, second),
+            Binary::CountAs => self.add_binary(BinaryClause::CountAs, first, second),
+            Binary::SetTo => self.add_binary(BinaryClause::SetTo, first, second),
+            Binary::SetStr => self.add_binary(BinaryClause::SetStr, first, second),
         }
     }
 
-    fn take_variadic(&mut self, meaning: Variadic, texts: Parts<'_>) -> Result<bool, LineError>
+    fn take_variadic(&mut self, meaning: Variadic, texts: Arguments<'_>) -> Result<bool, LineError>
         ensures { (printed : List ℕ) → Runs result self.old self.new printed
             (Ok (variadic_command meaning texts.entry.parts)) }
     {
         match meaning {
             Variadic::SelectValues => self.start_values(texts),
-            Variadic::Fields => self.tell_variadic(VariadicClause::Fields, texts),
-            Variadic::SetFields => self.tell_variadic(VariadicClause::SetFields, texts),
-            Variadic::Values => self.tell_variadic(VariadicClause::Values, texts),
+            Variadic::Fields => self.add_variadic(VariadicClause::Fields, texts),
+            Variadic::SetFields => self.add_variadic(VariadicClause::SetFields, texts),
+            Variadic::Values => self.add_variadic(VariadicClause::Values, texts),
         }
     }
 }

@@ -1,15 +1,12 @@
 //! Reads lines of calls from standard input, and prints the statements that they make.
 #![tactic(auto)]
 
-#[cfg(test)]
-mod device_tests;
-mod endings;
+mod arguments;
 mod fault;
 mod input;
 mod lines;
 mod names;
 mod output;
-mod parts;
 mod run;
 mod scan;
 mod script;
@@ -19,6 +16,8 @@ mod tests;
 mod text;
 mod utf8;
 mod watched;
+#[cfg(test)]
+mod write_error_tests;
 
 use crate::streams::run_streams;
 use crate::watched::Watched;

@@ -2,7 +2,7 @@
 ghost use Rattle.std.specs.Prelude.{◌≡◌, ◌≤◌, ℕ, List, ◌++◌};
 ghost use Rattle.std.specs.Prelude.{codes, decimal, drop, false, flat_map};
 ghost use Rattle.std.specs.Io.KnownBytes.{Appends};
-ghost use Rattle.sqlb.specs.Device.{Wrote};
+ghost use Rattle.sqlb.specs.Streams.{WritesOrFails};
 ghost use Rattle.sqlb.specs.Fault.{fault_text};
 
 use crate::fault::Fault;
@@ -13,11 +13,11 @@ use std::io::Write;
 pub(crate) fn write_all<W: Write>(writer: &mut Watched<W>, bytes: &[u8]) -> Result<(), Fault>
     requires not_failed { writer.old.failed ≡ false }
     ensures wrote { (written : List ℕ) × Appends (W.contents writer.old.inner)
-        (W.contents writer.new.inner) written × Wrote result written bytes.now writer.new.failed }
+        (W.contents writer.new.inner) written × WritesOrFails result written bytes.now writer.new.failed }
     ensures ended { writer.new.ended ≡ writer.old.ended }
 {
     let mut rest = bytes;
-    'pieces: while !rest.is_empty() {
+    'writes: while !rest.is_empty() {
         match writer.write_on(rest) {
             Ok(0) | Err(_) => return Err(Fault::Write),
             Ok(n) => rest = &rest[n..],
@@ -31,7 +31,7 @@ pub(crate) fn write_parts<W: Write>(writer: &mut Watched<W>, parts: &[&[u8]]) ->
     requires not_failed { writer.old.failed ≡ false }
     ensures wrote { (written : List ℕ) × Appends (W.contents writer.old.inner)
         (W.contents writer.new.inner) written
-        × Wrote result written (flat_map (λ part. part.now) parts.now) writer.new.failed }
+        × WritesOrFails result written (flat_map (λ part. part.now) parts.now) writer.new.failed }
     ensures ended { writer.new.ended ≡ writer.old.ended }
 {
     for part in parts {
@@ -45,7 +45,7 @@ pub(crate) fn write_line<W: Write>(writer: &mut Watched<W>, text: &str) -> Resul
     requires not_failed { writer.old.failed ≡ false }
     ensures wrote { (written : List ℕ) × Appends (W.contents writer.old.inner)
         (W.contents writer.new.inner) written
-        × Wrote result written (text.now ++ codes "\n") writer.new.failed }
+        × WritesOrFails result written (text.now ++ codes "\n") writer.new.failed }
     ensures ended { writer.new.ended ≡ writer.old.ended }
 {
     write_parts(writer, &[text.as_bytes(), b"\n"])
@@ -78,7 +78,7 @@ pub fn write_fault<W: Write>(fault: &Fault, writer: &mut Watched<W>) -> Result<(
     requires not_failed { writer.old.failed ≡ false }
     ensures wrote { (written : List ℕ) × Appends (W.contents writer.old.inner)
         (W.contents writer.new.inner) written
-        × Wrote result written (fault_text fault.now ++ codes "\n") writer.new.failed }
+        × WritesOrFails result written (fault_text fault.now ++ codes "\n") writer.new.failed }
     ensures ended { writer.new.ended ≡ writer.old.ended }
 {
     match fault {

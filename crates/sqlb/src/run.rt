@@ -3,13 +3,13 @@ ghost use Rattle.std.specs.Prelude.{◌≡◌, ◌↔◌, ℕ, List, None, true,
 ghost use Rattle.std.specs.Io.KnownBytes.{Appends, Consumes, IsAtEnd};
 ghost use Rattle.std.specs.Io.Buffered.{writer_contents};
 ghost use Rattle.sqlb.specs.Output.{output};
-ghost use Rattle.sqlb.specs.Ran.{EndsUnlessStopped, FailsOnlyToWrite, NamesNoMemory, RunsOutInLine};
-ghost use Rattle.sqlb.specs.Ran.{Ran, RanFlushed};
+ghost use Rattle.sqlb.specs.RunResults.{EndsUnlessStopped, FailsOnlyToWrite, NamesNoMemory, MemoryRunsOutInLine};
+ghost use Rattle.sqlb.specs.RunResults.{AgreesWithOutput, RunsBuffered};
 
+use crate::arguments::Arguments;
 use crate::fault::{Fault, LineError, Reason};
 use crate::input::read_all;
 use crate::output::write_line;
-use crate::parts::Parts;
 use crate::script::Script;
 use crate::text::lines_of_text;
 use crate::watched::Watched;
@@ -28,29 +28,29 @@ fn run_lines<W: Write>(
     requires none_open { script ≡ None }
     requires not_failed { writer.old.failed ≡ false }
     ensures ran { (written : List ℕ) × Appends (W.contents writer.old.inner)
-        (W.contents writer.new.inner) written × Ran result written (output input.now)
-        × RunsOutInLine result written input.now }
+        (W.contents writer.new.inner) written × AgreesWithOutput result written (output input.now)
+        × MemoryRunsOutInLine result written input.now }
     ensures failed { FailsOnlyToWrite result writer.new.failed }
     ensures no_memory { IfErr result NamesNoMemory }
     ensures ended { writer.new.ended ≡ writer.old.ended }
 {
-    let (text, is_cut) = lines_of_text(input);
+    let (text, has_invalid_line) = lines_of_text(input);
     let mut statement = String::new(alloc);
     let mut number = 0;
-    let mut parts = Parts::of(text);
-    'lines: while parts.next_line() {
+    let mut arguments = Arguments::of(text);
+    'lines: while arguments.next_line() {
         number += 1;
-        match script.take_line(&mut parts, &mut statement) {
+        match script.take_line(&mut arguments, &mut statement) {
             Ok(true) => write_line(writer, &statement)?,
             Ok(false) => {}
-            Err(LineError::Refused(reason)) => return Err(Fault::At(number, reason)),
+            Err(LineError::Rejected(reason)) => return Err(Fault::At(number, reason)),
             Err(LineError::Memory) => return Err(Fault::Memory),
         }
     }
     let is_open = script.is_open();
     // The process ends soon: to drop a million conditions before takes a fifth of a run.
     forget(script);
-    if is_cut {
+    if has_invalid_line {
         return Err(Fault::At(number + 1, Reason::NotUtf8));
     }
     if is_open {
@@ -76,15 +76,15 @@ pub fn run_input<R: Read, W: Write>(
     ensures ran { (taken : List ℕ) × (written : List ℕ)
         × Consumes (R.remaining reader.old.inner) (R.remaining reader.new.inner) taken
         × Appends (W.contents writer.old.inner) (W.contents writer.new.inner) written
-        × Ran result written (output taken)
+        × AgreesWithOutput result written (output taken)
         × EndsUnlessStopped result written reader.new.ended
-        × (reader.new.ended ≡ true → RunsOutInLine result written taken) }
+        × (reader.new.ended ≡ true → MemoryRunsOutInLine result written taken) }
     ensures end { reader.new.ended ≡ true → IsAtEnd (R.remaining reader.new.inner) }
 
     // No call of the writer is made before the reader has ended.
     ensures unwritten { reader.new.ended ≡ false → writer.new ≡ writer.old }
 
-    // A device's fault is answered exactly where that device has failed.
+    // `Read` and `Write` are answered exactly where the reader and the writer have failed.
     ensures read { IsErrOf result Fault.Read ↔ (reader.new.failed ≡ true) }
     ensures write { IsErrOf result Fault.Write ↔ (writer.new.failed ≡ true) }
 
@@ -98,7 +98,7 @@ pub fn run_input<R: Read, W: Write>(
 
 /// Runs an input as `run_input` does, flushes the buffer before it answers, and gives the writer
 /// below it back. Where a write has failed, nothing more is written or flushed; a flush that fails
-/// is the fault `Write`, unless a read has failed. What is still held back then is lost.
+/// is the fault `Write`, unless a read has failed. What is still in the buffer then is lost.
 pub(crate) fn run_flushed<R: Read, W: Write + Drop>(
     alloc: Global,
     reader: &mut Watched<R>,
@@ -107,7 +107,7 @@ pub(crate) fn run_flushed<R: Read, W: Write + Drop>(
     requires reader_not_failed { reader.old.failed ≡ false }
     requires reader_not_ended { reader.old.ended ≡ false }
 
-    ensures ran { RanFlushed result.1 (R.remaining reader.old.inner) (R.remaining reader.new.inner)
+    ensures ran { RunsBuffered result.1 (R.remaining reader.old.inner) (R.remaining reader.new.inner)
         reader.new.ended (writer_contents W.contents writer) (W.contents result.0.inner) }
     ensures read { IsErrOf result.1 Fault.Read ↔ (reader.new.failed ≡ true) }
 

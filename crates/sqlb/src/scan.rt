@@ -1,30 +1,30 @@
 //! Scans of sixteen bytes at a time.
 ghost use Rattle.std.specs.Prelude.{◌≡◌, ◌+◌, ◌≤◌, drop, length, position, take};
 ghost use Rattle.std.specs.List.{position_or_len};
-ghost use Rattle.sqlb.specs.Parts.{ends_part};
+ghost use Rattle.sqlb.specs.Arguments.{is_separator};
 
 use std::simd::prelude::*;
 
 const LANES: usize = 16;
 
-// How many of the next sixteen bytes stand before the first TAB or line feed.
+// How many of the next sixteen bytes come before the first TAB or line feed.
 #[inline(always)]
 fn run_in_block(text: &[u8], at: usize) -> usize
     requires { at + LANES ≤ length text.now }
-    ensures { result ≡ position_or_len ends_part (take LANES (drop at text.now)) }
+    ensures { result ≡ position_or_len is_separator (take LANES (drop at text.now)) }
 {
     let block = u8x16::from_slice(&text[at..]);
-    let marks = block.simd_eq(u8x16::splat(b'\t')) | block.simd_eq(u8x16::splat(b'\n'));
-    let marks = marks.to_bitmask();
-    if marks == 0 {
+    let ends = block.simd_eq(u8x16::splat(b'\t')) | block.simd_eq(u8x16::splat(b'\n'));
+    let ends = ends.to_bitmask();
+    if ends == 0 {
         LANES
     } else {
-        marks.trailing_zeros() as usize
+        ends.trailing_zeros() as usize
     }
 }
 
 fn find_end(text: &[u8]) -> Option<usize>
-    ensures { result ≡ position ends_part text.now }
+    ensures { result ≡ position is_separator text.now }
 {
     text.iter()
         .position(|byte| *byte == b'\t' || *byte == b'\n')
@@ -34,7 +34,7 @@ fn find_end(text: &[u8]) -> Option<usize>
 #[inline(never)]
 fn end_in_rest(text: &[u8], from: usize) -> usize
     requires { from ≤ length text.now }
-    ensures { result ≡ from + position_or_len ends_part (drop from text.now) }
+    ensures { result ≡ from + position_or_len is_separator (drop from text.now) }
 {
     match find_end(&text[from..]) {
         Some(count) => from + count,
@@ -42,11 +42,11 @@ fn end_in_rest(text: &[u8], from: usize) -> usize
     }
 }
 
-/// Where the next TAB or line feed stands, or the end of the text.
+/// The place of the next TAB or line feed, or the end of the text.
 #[inline(always)]
 pub(crate) fn end_of_part(text: &[u8], from: usize) -> usize
     requires { from ≤ length text.now }
-    ensures { result ≡ from + position_or_len ends_part (drop from text.now) }
+    ensures { result ≡ from + position_or_len is_separator (drop from text.now) }
 {
     let mut at = from;
     while text.len() - at >= LANES {

@@ -1,21 +1,19 @@
 //! The statement that is open, and what the lines do to it. Each answers whether the line finished the
 //! statement.
 ghost use Rattle.std.specs.Prelude.{◌≡◌, IfErr, IfOk, IfSome, IsErrOf, IsSome, None, Ok, OnOk, is_some, string_bytes};
-ghost use Rattle.sql_builder.specs.Builder.{HasJoin, with_condition, with_order};
-ghost use Rattle.sql_builder.specs.Calls.{SelectValues, SubqueryAs};
+ghost use Rattle.sql_builder.specs.Builder.{HasJoin, with_condition, with_order, MayTakeMemory, with_binary, with_call, with_unary, with_variadic};
+ghost use Rattle.sql_builder.specs.Calls.{SelectValues, SubqueryAs, call_view, finish_view, start_on};
 ghost use Rattle.sql_builder.specs.Condition.{borrowed_view};
-ghost use Rattle.sql_builder.specs.Steps.{MayTakeMemory, with_binary, with_call, with_unary, with_variadic};
-ghost use Rattle.sql_builder.specs.Views.{call_view, finish_view, start_on};
 ghost use Rattle.sql_builder.specs.declared.steps.BinaryClause.TheVariants.{OnEq};
 ghost use Rattle.sql_builder.specs.declared.steps.UnaryClause.TheVariants.{On};
 ghost use Rattle.sqlb.specs.Lines.{Finishes};
-ghost use Rattle.sqlb.specs.Script.{Opens, Runs, Tells};
+ghost use Rattle.sqlb.specs.Script.{Opens, Runs, Adds};
 ghost use Rattle.sqlb.specs.declared.fault.Fault.TheVariants.{Memory};
 ghost use Rattle.sqlb.specs.declared.fault.LineError.TheVariants as out;
 ghost use Rattle.sqlb.specs.declared.fault.Reason.TheVariants.{NoStatement, StatementOpen};
 
+use crate::arguments::Arguments;
 use crate::fault::{Fault, LineError, Reason};
-use crate::parts::Parts;
 use sql_builder::SqlBuilder;
 use sql_builder::calls::{
     BinaryClause, BorrowedCondition, Call, Family, Finish, TableStart, UnaryClause, VariadicClause,
@@ -100,7 +98,7 @@ impl Script {
 
     /// Opens a statement of values, where none is open.
     #[inline(never)]
-    pub(crate) fn start_values(&mut self, values: Parts<'_>) -> Result<bool, LineError>
+    pub(crate) fn start_values(&mut self, values: Arguments<'_>) -> Result<bool, LineError>
         ensures { Opens result self.old self.new (SelectValues values.entry.parts) }
     {
         self.check_closed()?;
@@ -110,8 +108,8 @@ impl Script {
     }
 
     /// Makes a call of the open statement.
-    pub(crate) fn tell(&mut self, call: &Call) -> Result<bool, LineError>
-        ensures told { Tells result self.old self.new (with_call (call_view call.now)) }
+    pub(crate) fn add_call(&mut self, call: &Call) -> Result<bool, LineError>
+        ensures given { Adds result self.old self.new (with_call (call_view call.now)) }
         ensures memory { IsErrOf result out.Memory
             → IfSome self.old (MayTakeMemory (call_view call.now)) }
     {
@@ -121,8 +119,8 @@ impl Script {
     }
 
     /// Makes a call of the open statement with one text.
-    pub(crate) fn tell_unary(&mut self, clause: UnaryClause, text: &str) -> Result<bool, LineError>
-        ensures told { Tells result self.old self.new (with_unary clause text.now) }
+    pub(crate) fn add_unary(&mut self, clause: UnaryClause, text: &str) -> Result<bool, LineError>
+        ensures given { Adds result self.old self.new (with_unary clause text.now) }
         ensures memory { IsErrOf result out.Memory
             → IfSome self.old (λ r. clause ≡ On → HasJoin r) }
     {
@@ -132,13 +130,13 @@ impl Script {
     }
 
     /// Makes a call of the open statement with two texts.
-    pub(crate) fn tell_binary<'a>(
+    pub(crate) fn add_binary<'a>(
         &mut self,
         clause: BinaryClause,
         first: &'a str,
         second: &'a str,
     ) -> Result<bool, LineError>
-        ensures told { Tells result self.old self.new (with_binary clause first.now second.now) }
+        ensures given { Adds result self.old self.new (with_binary clause first.now second.now) }
         ensures memory { IsErrOf result out.Memory
             → IfSome self.old (λ r. clause ≡ OnEq → HasJoin r) }
     {
@@ -148,8 +146,8 @@ impl Script {
     }
 
     /// Orders the open statement by a field.
-    pub(crate) fn tell_order(&mut self, field: &str, descending: bool) -> Result<bool, LineError>
-        ensures { Tells result self.old self.new (with_order descending field.now) }
+    pub(crate) fn add_order(&mut self, field: &str, descending: bool) -> Result<bool, LineError>
+        ensures { Adds result self.old self.new (with_order descending field.now) }
     {
         self.check_open()?;
         make_order(&mut self.builder, field, descending)?;
@@ -157,12 +155,12 @@ impl Script {
     }
 
     /// Makes a call of the open statement with a list of texts.
-    pub(crate) fn tell_variadic(
+    pub(crate) fn add_variadic(
         &mut self,
         clause: VariadicClause,
-        texts: Parts<'_>,
+        texts: Arguments<'_>,
     ) -> Result<bool, LineError>
-        ensures { Tells result self.old self.new (with_variadic clause texts.entry.parts) }
+        ensures { Adds result self.old self.new (with_variadic clause texts.entry.parts) }
     {
         self.check_open()?;
         make_variadic(&mut self.builder, clause, texts)?;
@@ -170,12 +168,12 @@ impl Script {
     }
 
     /// Adds a condition to the open statement.
-    pub(crate) fn tell_condition<'a>(
+    pub(crate) fn add_condition<'a>(
         &mut self,
         family: Family,
-        condition: BorrowedCondition<'a, Parts<'a>>,
+        condition: BorrowedCondition<'a, Arguments<'a>>,
     ) -> Result<bool, LineError>
-        ensures { Tells result self.old self.new
+        ensures { Adds result self.old self.new
             (with_condition family (borrowed_view (λ left. left.parts) condition.entry)) }
     {
         self.check_open()?;

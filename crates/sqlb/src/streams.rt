@@ -1,9 +1,9 @@
 //! Runs the program over its three streams.
 ghost use Rattle.std.specs.Prelude.{◌≡◌, ◌↔◌, ◌++◌, ℕ, List, Err, codes, false, true, IfErr, IfSome, IsErrOf, IsNone, IsSomeAnd, OnOk};
 ghost use Rattle.std.specs.Io.KnownBytes.{Appends};
-ghost use Rattle.sqlb.specs.Device.{IsWrittenUnless};
+ghost use Rattle.sqlb.specs.Streams.{IsWrittenUnless};
 ghost use Rattle.sqlb.specs.Fault.{fault_text};
-ghost use Rattle.sqlb.specs.Ran.{NamesNoMemory, RanFlushed, status_of};
+ghost use Rattle.sqlb.specs.RunResults.{NamesNoMemory, RunsBuffered, status_of};
 
 use crate::fault::Fault;
 use crate::output::write_fault;
@@ -12,8 +12,8 @@ use crate::watched::Watched;
 use std::alloc::Global;
 use std::io::{BufWriter, Read, Write};
 
-/// How much output is held back before it is written.
-const HELD_BACK: usize = 65536;
+/// How much output is buffered before it is written.
+const BUFFER_SIZE: usize = 65536;
 
 /// How a run of the program has ended.
 #[derive(Drop)]
@@ -56,7 +56,7 @@ pub(crate) fn run_streams<R: Read, W: Write + Drop, E: Write>(
     requires reader_not_failed { reader.old.failed ≡ false }
     requires reader_not_ended { reader.old.ended ≡ false }
     requires errors_not_failed { errors.old.failed ≡ false }
-    ensures ran { IfSome result.writer (λ below. RanFlushed result.answer
+    ensures ran { IfSome result.writer (λ below. RunsBuffered result.answer
         (R.remaining reader.old.inner) (R.remaining reader.new.inner) reader.new.ended
         (W.contents writer) (W.contents below.inner)) }
     ensures not_run { IsNone result.writer
@@ -75,7 +75,7 @@ pub(crate) fn run_streams<R: Read, W: Write + Drop, E: Write>(
         × IsWrittenUnless errors.new.failed (fault_text fault ++ codes "\n") written) }
     ensures status { result.status ≡ status_of result.answer }
 {
-    let (writer, answer) = match BufWriter::with_capacity(alloc, HELD_BACK, writer) {
+    let (writer, answer) = match BufWriter::with_capacity(alloc, BUFFER_SIZE, writer) {
         Ok(writer) => {
             let (below, answer) = run_flushed(alloc, reader, writer);
             (Some(below), answer)

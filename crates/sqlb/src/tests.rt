@@ -113,17 +113,17 @@ impl Write for Small {
     }
 }
 
-/// Notes how often it is called and how long a slice it is handed, and answers what it is to give.
+/// Records how often it is called and how long a slice it is given, and answers what it is to give.
 #[derive(Drop)]
-struct Noting {
+struct Recorder {
     calls: usize,
     len: usize,
     gives: Option<usize>,
 }
 
-impl Noting {
+impl Recorder {
     fn new(gives: Option<usize>) -> Self {
-        Noting {
+        Recorder {
             calls: 0,
             len: 0,
             gives,
@@ -142,13 +142,13 @@ impl Noting {
     }
 }
 
-impl Read for Noting {
+impl Read for Recorder {
     fn read(&mut self, buf: &mut [u8]) -> io::Result<usize> {
         self.note(buf.len())
     }
 }
 
-impl Write for Noting {
+impl Write for Recorder {
     fn write(&mut self, buf: &[u8]) -> io::Result<usize> {
         self.note(buf.len())
     }
@@ -212,7 +212,7 @@ const ROWS: [Row; 32] = [
         b"",
         0,
     ),
-    // Each kind of statement is refused for its own reason.
+    // Each kind of statement fails for its own reason.
     (b"select_values\nsql\n", b"", b"line 2: No values\n", 1),
     (
         b"update_table\tt\nsql\n",
@@ -319,10 +319,10 @@ fn fault_line(alloc: Global, answer: Result<(), Fault>) -> (Vec<u8>, u8) {
     (line.into_inner(), status)
 }
 
-/// What a run came to: the devices, whether the reader ended, whether the reader failed and whether
+/// What came of a run: the reader and the writer, whether the reader ended, whether the reader failed and whether
 /// the writer did, the line of the fault and the exit status.
 #[derive(Drop)]
-pub(crate) struct Came<R> {
+pub(crate) struct Outcome<R> {
     reader: R,
     pub(crate) writer: Small,
     ended: bool,
@@ -332,13 +332,13 @@ pub(crate) struct Came<R> {
 }
 
 /// Runs what a reader gives into a writer.
-pub(crate) fn run_over<R: Read>(alloc: Global, reader: R, writer: Small) -> Came<R> {
+pub(crate) fn run_over<R: Read>(alloc: Global, reader: R, writer: Small) -> Outcome<R> {
     let mut reader = Watched::new(reader);
     let mut writer = Watched::new(writer);
     let answer = run_input(alloc, &mut reader, &mut writer);
     let (ended, failed) = (reader.ended(), (reader.failed(), writer.failed()));
     let (line, exit) = fault_line(alloc, answer);
-    Came {
+    Outcome {
         reader: reader.into_inner(),
         writer: writer.into_inner(),
         ended,
@@ -507,7 +507,7 @@ const STORED_TWICE_PRINTS: &[u8] = b"SELECT id, name FROM company WHERE salary >
     SELECT id, name FROM company WHERE salary > 25000;\n";
 
 /// Shows what a run has written into a few places, and its fault, on standard output.
-/// `tests/growths` runs it with each of its growths refused, and reads what is shown.
+/// `tests/allocations` runs it with each of its allocations failing, and reads what is shown.
 #[test]
 fn shows_what_is_written_into_places(rt: HostRuntime) -> Result<(), Fail> {
     let mut reader = Watched::new(STORED_TWICE);
@@ -595,8 +595,8 @@ fn flags<T>(watched: &Watched<T>) -> (bool, bool) {
 fn watched_hands_on_the_whole_slice(rt: HostRuntime) -> Result<(), Fail> {
     let mut buf = [0; 1000];
     for gives in [Some(1000), Some(3), Some(0), None] {
-        let mut reader = Watched::new(Noting::new(gives));
-        let mut writer = Watched::new(Noting::new(gives));
+        let mut reader = Watched::new(Recorder::new(gives));
+        let mut writer = Watched::new(Recorder::new(gives));
         let read = kind(reader.read(&mut buf));
         let written = kind(writer.write(&buf));
         let read_of = reader.into_inner();
@@ -622,7 +622,7 @@ fn a_watched_reader_gives_the_answers_of_what_it_holds(rt: HostRuntime) -> Resul
     let mut reader = Watched::new(Slow::new(b"abcdef", 3, 2));
     assert_eq!(rt; flags(&reader), (false, false));
     let first = (kind(reader.read(&mut buf)), flags(&reader));
-    let begun = buf;
+    let chain_start = buf;
     let second = (kind(reader.read(&mut buf)), flags(&reader));
     // No room is no end, and the flags stay as they are.
     let third = (kind(reader.read(&mut [])), flags(&reader));
@@ -638,7 +638,7 @@ fn a_watched_reader_gives_the_answers_of_what_it_holds(rt: HostRuntime) -> Resul
             (Ok(0), (true, true)),
         ]
     );
-    assert!(rt; begun.starts_with(b"abc"));
+    assert!(rt; chain_start.starts_with(b"abc"));
     Ok(())
 }
 

@@ -1,7 +1,7 @@
 //! Finds how much of an input is text.
 ghost use Rattle.std.specs.Prelude.{◌≡◌, ◌≢◌, ◌-◌, ◌<◌, ◌≤◌, ℕ, false, length, slice_index, IsTrue};
 ghost use Rattle.std.specs.Str.{IsValidUpTo};
-ghost use Rattle.sqlb.specs.Text.{IsCut};
+ghost use Rattle.sqlb.specs.Utf8.{EndsBeforeInvalidLine};
 
 use crate::utf8::from_utf8;
 
@@ -22,7 +22,7 @@ fn end_of_lines(text: &[u8]) -> usize
 #[inline(never)]
 fn lines_before(input: &[u8], valid: usize) -> &str
     requires { IsValidUpTo input.now valid }
-    ensures { IsCut input.now result.now }
+    ensures { EndsBeforeInvalidLine input.now result.now }
 {
     let end = end_of_lines(&input[..valid]);
     match from_utf8(&input[..end]) {
@@ -34,7 +34,7 @@ fn lines_before(input: &[u8], valid: usize) -> &str
 /// The lines of an input before the first that isn't UTF-8, and whether there is such a line.
 pub(crate) fn lines_of_text(input: &[u8]) -> (&str, bool)
     ensures whole { result.1 ≡ false → result.0.now ≡ input.now }
-    ensures cut { IsTrue result.1 → IsCut input.now result.0.now }
+    ensures cut { IsTrue result.1 → EndsBeforeInvalidLine input.now result.0.now }
 {
     match from_utf8(input) {
         Ok(text) => (text, false),

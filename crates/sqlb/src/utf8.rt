@@ -30,7 +30,7 @@ fn is_ascii(block: u8x64) -> bool
 }
 
 // Whether a block begins a text. Of one with a character of four bytes the answer is no, and of one
-// with 0xe0 or 0xed, behind which only some of the tails may stand.
+// with 0xe0 or 0xed, after which only some of the tails may follow.
 #[inline(always)]
 fn begins_text(block: u8x64) -> bool
     ensures { IsTrue result → BeginsText block }
@@ -125,7 +125,7 @@ fn stretch_prefix(bytes: &[u8]) -> usize
     }
 }
 
-// How many bytes at the front are text. What is behind them begins with a fault.
+// How many bytes at the front are text. What follows them begins with a fault.
 fn text_prefix(bytes: &[u8]) -> usize
     ensures within { result ≤ length bytes.now }
     ensures text { IsUtf8 (take result bytes.now) }
@@ -142,7 +142,7 @@ fn text_prefix(bytes: &[u8]) -> usize
     at
 }
 
-/// As `str::from_utf8`, but of a fault it says only where it stands.
+/// As `str::from_utf8`, but of a fault it gives only the place.
 pub(crate) fn from_utf8(bytes: &[u8]) -> Result<&str, usize>
     ensures { MatchResult result (λ text. text.now ≡ bytes.now)
         (λ valid. IsValidUpTo bytes.now valid) }
@@ -195,7 +195,7 @@ mod tests {
         (b"\xff", false),
     ];
 
-    /// What stands behind a sample, to fill the blocks.
+    /// What follows a sample, to fill the blocks.
     const FILLS: [&str; 5] = ["", "a", "é", "中", "🙂"];
 
     fn placed(

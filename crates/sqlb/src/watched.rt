@@ -3,7 +3,7 @@ ghost use Rattle.std.specs.Prelude.{◌≡◌, ◌||◌, [], false, is_err, OnOk
 ghost use Rattle.std.specs.Io.{ReadsAtMost, WritesAtMost};
 ghost use Rattle.std.specs.Io.Buffered.{writer_buffer, writer_contents, writer_inner};
 ghost use Rattle.std.specs.Io.KnownBytes.{Keeps, ReadConsumes, WriteAppends};
-ghost use Rattle.sqlb.specs.Watch.{fails_to_write, gives_end};
+ghost use Rattle.sqlb.specs.Watched.{fails_to_write, gives_end};
 
 use std::io;
 use std::io::{BufWriter, Read, Write};
@@ -19,7 +19,7 @@ pub struct Watched<T> {
 }
 
 impl<T> Model for Watched<T> {
-    ghost use Rattle.sqlb.specs.Watch.{Watch};
+    ghost use Rattle.sqlb.specs.Watched.{Watch};
 
     ghost Value = { Watch T };
 

@@ -4,13 +4,13 @@ use Rattle.sql_builder.specs.Condition.{Compare}
 use Rattle.sql_builder.specs.declared.condition.Family.TheVariants.{And}
 use Rattle.sql_builder.specs.declared.condition.Relation.TheVariants.{Lt}
 use Rattle.sql_parts.specs.Text.{decimal_text}
-use Rattle.sql_builder.proofs.Callers.{and_call, begun, chain_text}
+use Rattle.sql_builder.proofs.for_callers.ChainLemmas.{chain_call, chain_start, chain_text}
 use Rattle.callers.proofs.chains.repriced.Goals as goal
 
 pub returns-clause-text : goal.returns-clause-text
 returns-clause-text c =
-    let told = and_call (Cond And (Compare Lt (codes "price") (decimal_text c.args.most))) c.in_ok-and_where_lt.ensures.changed.1.0.0
-    (and_call (SetTo (codes "price") (decimal_text c.args.price)) c.in_ok-set.ensures.changed.1.0
-    (and_call (SetStr (codes "title") c.args.title.now) c.in_ok-set_str.ensures.changed.1.0
-    (begun (UpdateTable (codes "books")) c.in_ok-update_table.ensures.made))) in
-    chain_text Sql c.sql.result told c.sql.ensures.text refl
+    let made = chain_call (Cond And (Compare Lt (codes "price") (decimal_text c.args.most))) c.in_ok-and_where_lt.ensures.changed.1
+    (chain_call (SetTo (codes "price") (decimal_text c.args.price)) c.in_ok-set.ensures.changed.1
+    (chain_call (SetStr (codes "title") c.args.title.now) c.in_ok-set_str.ensures.changed.1
+    (chain_start (UpdateTable (codes "books")) c.in_ok-update_table.ensures.made))) in
+    chain_text Sql c.sql.result made c.sql.ensures.text refl

@@ -1,11 +1,10 @@
 use Rattle.std.proofs.Common.{◌∙◌, [], ◌∷◌, List, ℕ, codes, false, refl}
 use Rattle.sql_builder.specs.Calls.{CallText, Cond, SetStr, Sql, UpdateTable}
 use Rattle.sql_builder.specs.Condition.{Like}
-use Rattle.sql_parts.specs.Blanks.{outline}
+use Rattle.sql_parts.specs.StringTexts.{outline}
 use Rattle.sql_builder.specs.declared.condition.Family.TheVariants.{And}
 use Rattle.sql_builder.specs.declared.condition.Percent.TheVariants.{Any}
-use Rattle.sql_builder.proofs.Callers.{and_call, begun, chain_statement}
-use Rattle.sql_builder.proofs.ChainAnswers.{chain_answer}
+use Rattle.sql_builder.proofs.for_callers.ChainLemmas.{chain_answer, chain_call, chain_start, chain_statement}
 use Rattle.callers.proofs.interference.remarked.Goals as goal
 
 abbrev calls : List ℕ → List ℕ → List CallText
@@ -13,17 +12,17 @@ calls word remark = SetStr (codes "remark") remark ∷ Cond And (Like false Any 
 
 pub returns-clause-statement : goal.returns-clause-statement
 returns-clause-statement c =
-    let told = and_call (Cond And (Like false Any (codes "title") c.args.word.now)) c.in_ok-and_where_like_any.ensures.changed.1.0.0
-    (and_call (SetStr (codes "remark") c.args.remark.now) c.in_ok-set_str.ensures.changed.1.0
-    (begun (UpdateTable (codes "books")) c.in_ok-update_table.ensures.made)) in
-    chain_statement Sql c.sql.result told c.sql.ensures.text c.sql.ensures.refused
+    let made = chain_call (Cond And (Like false Any (codes "title") c.args.word.now)) c.in_ok-and_where_like_any.ensures.changed.1
+    (chain_call (SetStr (codes "remark") c.args.remark.now) c.in_ok-set_str.ensures.changed.1
+    (chain_start (UpdateTable (codes "books")) c.in_ok-update_table.ensures.made)) in
+    chain_statement Sql c.sql.result made c.sql.ensures.text c.sql.ensures.error
 
 pub returns-clause-same : goal.returns-clause-same
 returns-clause-same c =
     let word = c.args.word.now in
     let remark = c.args.remark.now in
-    let told = and_call (Cond And (Like false Any (codes "title") word)) c.in_ok-and_where_like_any.ensures.changed.1.0.0
-    (and_call (SetStr (codes "remark") remark) c.in_ok-set_str.ensures.changed.1.0
-    (begun (UpdateTable (codes "books")) c.in_ok-update_table.ensures.made)) in
-    chain_answer Sql c.sql.result told c.sql.ensures.text c.sql.ensures.refused outline
+    let made = chain_call (Cond And (Like false Any (codes "title") word)) c.in_ok-and_where_like_any.ensures.changed.1
+    (chain_call (SetStr (codes "remark") remark) c.in_ok-set_str.ensures.changed.1
+    (chain_start (UpdateTable (codes "books")) c.in_ok-update_table.ensures.made)) in
+    chain_answer Sql c.sql.result made c.sql.ensures.text c.sql.ensures.error outline
     (c.quoted_texts_do_not_interfere.ensures.outline (UpdateTable (codes "books")) (calls word remark) (calls [] []) Sql refl refl ∙ refl)

@@ -1,11 +1,10 @@
-use Rattle.sql_builder.specs.Handed.{Bare, is_fit}
+use Rattle.sql_builder.specs.RawTexts.{Bare, is_fit}
 use Rattle.std.proofs.Common.{◌≡◌, refl, sym, ◌∙◌, ap, subst, List, [], ◌∷◌, ℕ, Bool, true, false, not, codes, map, string_bytes, append-nil}
 use Rattle.std.proofs.lemmas.Bool.{and_from}
 use Rattle.sql_parts.specs.Fragments.{balanced, has_clause_word}
-use Rattle.sql_builder.specs.Views.{call_view}
-use Rattle.sql_builder.specs.Calls.{Cond, SelectFrom, Sql}
+use Rattle.sql_builder.specs.Calls.{Cond, SelectFrom, Sql, call_view}
 use Rattle.sql_builder.specs.Condition.{Raw}
-use Rattle.sql_builder.specs.Fitting.{has_fit_texts}
+use Rattle.sql_builder.specs.FitFragments.{has_fit_texts}
 use Rattle.sql_builder.specs.Meaning.{HasTruthOf, condition_groups}
 use Rattle.sql_builder.specs.declared.condition.Family.TheVariants.{And}
 use Rattle.sql_parts.specs.Tokens.{tokens}
@@ -28,12 +27,21 @@ returns-clause-truth c =
     let one = c.args.one.now in
     let other = c.args.other.now in
     let calls : map call_view c.deref.result.now ≡ Cond And (Raw one) ∷ Cond And (Raw other) ∷ [] =
-    rw (c.deref.ensures.value, c.in_ok-push-2.ensures.items, c.in_ok-push.ensures.items, c.new-calls.ensures.items, c.in_ok-from_str-2.ensures.ok, c.in_ok-from_str-3.ensures.ok) refl in
-    let first = asked one c.is_balanced.result c.has_clause_word.result c.is_balanced.ensures c.if-not-is_balanced.false c.has_clause_word.ensures c.if-has_clause_word.false in
-    let second = asked other c.is_balanced-else-has_clause_word.result c.has_clause_word-else-not-is_balanced-2.result c.is_balanced-else-has_clause_word.ensures c.if-not-is_balanced-2.false c.has_clause_word-else-not-is_balanced-2.ensures c.if-has_clause_word-2.false in
+    rw (
+      c.deref.ensures.value,
+      c.in_ok-push-2.ensures.items,
+      c.in_ok-push.ensures.items,
+      c.new-calls.ensures.items,
+      c.in_ok-from_str-2.ensures.ok,
+      c.in_ok-from_str-3.ensures.ok,
+    ) refl in
+    let first = asked one c.is_balanced.result c.has_clause_word.result c.is_balanced.ensures c.if-not-is_balanced.false c.has_clause_word.ensures
+    c.if-has_clause_word.false in
+    let second = asked other c.is_balanced-else-has_clause_word.result c.has_clause_word-else-not-is_balanced-2.result
+    c.is_balanced-else-has_clause_word.ensures c.if-not-is_balanced-2.false c.has_clause_word-else-not-is_balanced-2.ensures c.if-has_clause_word-2.false in
     let fit = (λ i. has_fit_texts (SelectFrom (c.in_ok-from_str.ensures.ok i)) (calls i) Sql) ∙ texts_fit one other first second in
     let start = SelectFrom (string_bytes c.in_ok-from_str.field-0) in
-    let told = map call_view c.deref.result.now in
+    let made = map call_view c.deref.result.now in
     let law = c.fit_texts_make_fit_fragments.ensures in
     subst (λ groups. HasTruthOf groups (string_bytes c.in_ok-run.field-0)) (ap condition_groups calls ∙ groups_are one other)
-    (c.in_ok-run.ensures.truth refl (law.fragments start told Sql refl fit) (law.conditions start told Sql fit))
+    (c.in_ok-run.ensures.truth refl (law.fragments start made Sql refl fit) (law.conditions start made Sql fit))

@@ -3,12 +3,11 @@ use Rattle.std.proofs.lemmas.Bool.{and_from}
 use Rattle.sql_parts.specs.Operands.{ServesAsOperand}
 use Rattle.sql_parts.specs.Text.{decimal_text}
 use Rattle.sql_parts.specs.Tokens.{Str, tokens}
-use Rattle.sql_builder.specs.Calls.{CallText, Cond, SelectFrom, Sql}
+use Rattle.sql_builder.specs.Calls.{CallText, Cond, SelectFrom, Sql, call_view}
 use Rattle.sql_builder.specs.Condition.{Compare}
-use Rattle.sql_builder.specs.Fitting.{has_fit_texts}
-use Rattle.sql_builder.specs.Handed.{Bare, is_fit}
+use Rattle.sql_builder.specs.FitFragments.{has_fit_texts}
+use Rattle.sql_builder.specs.RawTexts.{Bare, is_fit}
 use Rattle.sql_builder.specs.Meaning.{HasTruthOf, condition_groups}
-use Rattle.sql_builder.specs.Views.{call_view}
 use Rattle.sql_builder.specs.declared.condition.Family.TheVariants.{And}
 use Rattle.sql_builder.specs.declared.condition.Relation.TheVariants.{Eq, Gt}
 use Rattle.callers.proofs.lists.titled_above.Goals as goal
@@ -17,7 +16,7 @@ use Rattle.callers.proofs.lists.titled_above.Goals as goal
 abbrev asked : List ℕ → List ℕ → List CallText
 asked title price = Cond And (Compare Eq (codes "title") title) ∷ Cond And (Compare Gt (codes "price") price) ∷ []
 
--- an operand is fit to be handed in
+-- an operand is a fit text
 fit : (text : List ℕ) → ServesAsOperand text → is_fit (Bare text) ≡ true
 fit text serves = and_from _ _ serves.is_balanced serves.no_clause_word
 
@@ -42,8 +41,8 @@ returns-clause-truth c =
     let fits = (λ i. has_fit_texts (SelectFrom (c.in_ok-from_str.ensures.ok i)) (calls i) Sql)
     ∙ texts_fit title price quoted (fit price (law.numbers (pos c.args.price))) in
     let start = SelectFrom (string_bytes c.in_ok-from_str.field-0) in
-    let told = map call_view c.deref.result.now in
+    let made = map call_view c.deref.result.now in
     let texts = c.fit_texts_make_fit_fragments.ensures in
     subst (λ groups. IfOk c.run.result (λ s. HasTruthOf groups (string_bytes s)))
     (ap condition_groups calls ∙ groups_are c.args.title.now title price c.in_ok-quote.ensures.token)
-    (c.run.ensures.truth refl (texts.fragments start told Sql refl fits) (texts.conditions start told Sql fits))
+    (c.run.ensures.truth refl (texts.fragments start made Sql refl fits) (texts.conditions start made Sql fits))

@@ -3,9 +3,10 @@ use Rattle.sql_parts.specs.Literal.{whole, words}
 use Rattle.sql_builder.specs.Calls.{Cond, Field, SelectFrom, Sql}
 use Rattle.sql_builder.specs.declared.condition.Family.TheVariants.{And}
 use Rattle.sql_builder.specs.declared.condition.Relation.TheVariants.{Eq, Ge}
-use Rattle.sql_builder.proofs.Callers.{made_statement}
-use Rattle.sql_builder.proofs.SoundCalls.{Sound, asked_sound, compared_sound, given_sound, one_sound, sound_allowed, sound_closed, sound_ends, sound_truth, then_sound}
-use Rattle.sql_builder.proofs.StatementLaws.{of_statement, statements_are_closed}
+use Rattle.sql_builder.proofs.for_callers.ChainLemmas.{made_statement}
+use Rattle.sql_builder.proofs.for_callers.SoundCallLemmas.{Sound, asked_sound, compared_sound, given_sound, one_sound, sound_allowed, sound_closed, sound_ends}
+use Rattle.sql_builder.proofs.for_callers.SoundCallLemmas.{sound_truth, then_sound}
+use Rattle.sql_builder.proofs.statements.StatementLaws.{of_statement, statements_are_closed}
 use Rattle.callers.specs.Searches.{calls, priced_from, stocked, titled, written_by}
 use Rattle.callers.specs.declared.searches.Search.{Search}
 use Rattle.callers.proofs.searches.search_printed.Goals as goal
@@ -25,7 +26,7 @@ all-sound search =
 pub returns-clause-statement : goal.returns-clause-statement
 returns-clause-statement c =
     made_statement (SelectFrom (codes "books")) (calls c.args.search.now) Sql c.sql.result
-    c.in_ok-builder.ensures.told c.sql.ensures.text c.sql.ensures.refused
+    c.in_ok-builder.ensures.made c.sql.ensures.text c.sql.ensures.error
 
 pub returns-clause-closed : goal.returns-clause-closed
 returns-clause-closed c =
@@ -49,4 +50,4 @@ returns-clause-truth c =
 pub returns-clause-memory : goal.returns-clause-memory
 returns-clause-memory c =
     c.sql.ensures.memory
-    (rw c.in_ok-builder.ensures.told (sound_allowed (codes "books") (calls c.args.search.now) refl (all-sound c.args.search.now)))
+    (rw c.in_ok-builder.ensures.made (sound_allowed (codes "books") (calls c.args.search.now) refl (all-sound c.args.search.now)))

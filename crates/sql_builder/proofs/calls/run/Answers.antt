@@ -1,22 +1,28 @@
 use Rattle.std.proofs.Common.{map}
-use Rattle.sql_builder.specs.Views.{call_view, finish_view, start_view}
-use Rattle.sql_builder.specs.Calls.{clauses}
-use Rattle.sql_builder.proofs.Runs.{statement_printed, statement_refused}
-use Rattle.sql_builder.proofs.StatementLaws.{of_statement, statements_are_closed, statements_have_truth, statements_keep_tokens, statements_nest, statements_read_back}
-use Rattle.sql_builder.proofs.Tables.{subqueries_nest}
+use Rattle.sql_builder.specs.Calls.{clauses, call_view, finish_view, start_view}
+use Rattle.sql_builder.proofs.statements.RunLemmas.{statement_printed, statement_error}
+use Rattle.sql_builder.proofs.statements.StatementLaws.{
+  of_statement,
+  statements_are_closed,
+  statements_have_truth,
+  statements_keep_tokens,
+  statements_nest,
+  statements_read_back,
+}
+use Rattle.sql_builder.proofs.reading.SubqueryLemmas.{subqueries_nest}
 use Rattle.sql_builder.proofs.calls.run.Goals as goal
 
 pub returns-clause-text : goal.returns-clause-text
 returns-clause-text c =
     let made = c.in_ok-builder.ensures.made in
     statement_printed (finish_view c.args.finish.now) (clauses (start_view c.args.start.now) (map call_view c.args.calls.now)) c.print.result
-    (rw made at c.print.ensures.text) (rw made at c.print.ensures.refused)
+    (rw made at c.print.ensures.text) (rw made at c.print.ensures.error)
 
-pub returns-clause-refused : goal.returns-clause-refused
-returns-clause-refused c =
+pub returns-clause-error : goal.returns-clause-error
+returns-clause-error c =
     let made = c.in_ok-builder.ensures.made in
-    statement_refused (finish_view c.args.finish.now) (clauses (start_view c.args.start.now) (map call_view c.args.calls.now)) c.print.result
-    (rw made at c.print.ensures.refused) (rw made at c.print.ensures.memory)
+    statement_error (finish_view c.args.finish.now) (clauses (start_view c.args.start.now) (map call_view c.args.calls.now)) c.print.result
+    (rw made at c.print.ensures.error) (rw made at c.print.ensures.memory)
 
 -- the other clauses are laws of the statement
 pub returns-clause-shape : goal.returns-clause-shape

@@ -2,18 +2,18 @@ use Rattle.std.specs.List.{count_by, list_any}
 use Rattle.std.proofs.Common.{length, not, refl}
 use Rattle.std.proofs.lemmas.List.{length-map}
 use Rattle.sql_parts.specs.Fragments.{has_outer, is_balanced, is_clause_word, is_dangling, is_operand}
-use Rattle.sql_parts.specs.Blanks.{blank, blank_token}
+use Rattle.sql_parts.specs.StringTexts.{blank, blank_token}
 use Rattle.sql_parts.specs.Tokens.{is_open, is_semicolon}
-use Rattle.sql_parts.proofs.Blanks.{any-blank, count-blank, has_outer-blank, ignores, is_balanced-blank, is_dangling-blank, is_operand-blank}
+use Rattle.sql_parts.proofs.fragments.StringTextFacts.{any-blank, count-blank, has_outer-blank, ignores, is_balanced-blank, is_dangling-blank, is_operand-blank}
 use Rattle.sql_builder.specs.Interference.{blank_clauses}
-use Rattle.sql_builder.proofs.BlankClauses.{blank_clauses-ignore}
-use Rattle.sql_builder.proofs.QuotedTexts.{quoted_places-kept, quoted_texts-apart, quoted_texts-ignored, quoted_texts-strings}
+use Rattle.sql_builder.proofs.interference.BlankClauseLemmas.{blank_clauses-ignore}
+use Rattle.sql_builder.proofs.interference.QuotedTextLemmas.{quoted_places-same, quoted_texts-apart, quoted_texts-ignored, quoted_texts-strings}
 use Rattle.sql_builder.proofs.laws.quoted_texts_do_not_interfere.Goals as goal
 
 pub returns : goal.returns
 returns c = record {
   tokens = λ start one other finish differ is. quoted_texts-apart start one other finish differ is;
-  places = λ start one other finish differ. quoted_places-kept start one other finish differ;
+  places = λ start one other finish differ. quoted_places-same start one other finish differ;
   strings = quoted_texts-strings;
   outline = quoted_texts-ignored blank (λ one other same. same);
   count = quoted_texts-ignored length (ignores length (λ ts. length-map ts blank_token));

@@ -5,4 +5,5 @@ use Rattle.sql_builder.proofs.printing.push_joins.Given as goal
 
 abbrev pub invariant-loop-join : goal.invariant-loop-join
 invariant-loop-join l =
-    (string_bytes l.out ≡ string_bytes l.initial.out ++ join_bytes (texts (take l.join-index l.joins))) × (string_capacity l.initial.out ≤ string_capacity l.out)
+    (string_bytes l.out ≡ string_bytes l.initial.out ++ join_bytes (texts (take l.join-index l.joins)))
+    × (string_capacity l.initial.out ≤ string_capacity l.out)

@@ -2,7 +2,7 @@ use Rattle.std.proofs.Common.{◌∙◌, Some, ap, arith}
 use Rattle.std.proofs.lemmas.List.{take_all}
 use Rattle.std.proofs.lemmas.Map.Text.{hash_map_updates_str}
 use Rattle.sql_parts.specs.Pairs.{last_value}
-use Rattle.sql_parts.proofs.LastPairs.{places-more}
+use Rattle.sql_parts.proofs.templates.PairLemmas.{places-more}
 use Rattle.sql_parts.proofs.bind_names.places_of.Goals as goal
 
 pub loop-place-preserved : goal.loop-place-preserved

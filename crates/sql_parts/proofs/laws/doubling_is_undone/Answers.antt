@@ -1,4 +1,4 @@
-use Rattle.sql_parts.proofs.TemplateLaws.{names-doubled, nums-doubled}
+use Rattle.sql_parts.proofs.templates.UnchangedTextFacts.{names-doubled, nums-doubled}
 use Rattle.sql_parts.proofs.laws.doubling_is_undone.Goals as goal
 
 pub returns : goal.returns

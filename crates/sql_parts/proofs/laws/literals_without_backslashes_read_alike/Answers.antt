@@ -1,4 +1,4 @@
-use Rattle.sql_parts.proofs.Backslashes.{inside-same, literal-quoted}
+use Rattle.sql_parts.proofs.tokens.BackslashFacts.{inside-same, literal-quoted}
 use Rattle.sql_parts.proofs.laws.literals_without_backslashes_read_alike.Goals as goal
 
 pub returns : goal.returns

@@ -1,5 +1,5 @@
-use Rattle.sql_parts.specs.declared.quotes.Quotes.TheVariants.{Single, Back, Square, Double}
-use Rattle.sql_parts.proofs.Operands.{between-serves, quoted-name-serves, safe-name-serves}
+use Rattle.sql_parts.specs.declared.delimiters.Quotes.TheVariants.{Single, Back, Square, Double}
+use Rattle.sql_parts.proofs.fragments.OperandFacts.{between-serves, quoted-name-serves, safe-name-serves}
 use Rattle.sql_parts.proofs.laws.quoted_names_are_operands.Goals as goal
 
 pub returns : goal.returns

@@ -2,9 +2,10 @@ use Rattle.std.specs.List.{count_by, list_any}
 use Rattle.std.proofs.Common.{length, not, refl}
 use Rattle.std.proofs.lemmas.List.{length-map}
 use Rattle.sql_parts.specs.Fragments.{has_outer, is_balanced, is_clause_word, is_dangling, is_operand}
-use Rattle.sql_parts.specs.Blanks.{blank_token}
+use Rattle.sql_parts.specs.StringTexts.{blank_token}
 use Rattle.sql_parts.specs.Tokens.{is_open, is_semicolon}
-use Rattle.sql_parts.proofs.Blanks.{any-blank, count-blank, has_outer-blank, ignores, is_balanced-blank, is_dangling-blank, is_operand-blank, somewhere}
+use Rattle.sql_parts.proofs.fragments.StringTextFacts.{any-blank, count-blank, has_outer-blank, ignores, is_balanced-blank, is_dangling-blank, is_operand-blank}
+use Rattle.sql_parts.proofs.fragments.StringTextFacts.{somewhere}
 use Rattle.sql_parts.proofs.laws.string_texts_decide_nothing.Goals as goal
 
 pub returns : goal.returns

@@ -1,4 +1,4 @@
-use Rattle.sql_parts.proofs.TokenLaws.{closed-seam, seam}
+use Rattle.sql_parts.proofs.tokens.TokenFacts.{closed-seam, seam}
 use Rattle.sql_parts.proofs.laws.tokens_join_at_edges.Goals as goal
 
 pub returns : goal.returns

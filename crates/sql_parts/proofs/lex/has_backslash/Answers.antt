@@ -1,5 +1,5 @@
 use Rattle.std.proofs.Common.{◌∙◌}
-use Rattle.sql_parts.proofs.Backslashes.{found-backslash}
+use Rattle.sql_parts.proofs.tokens.BackslashFacts.{found-backslash}
 use Rattle.sql_parts.proofs.lex.has_backslash.Goals as goal
 
 pub returns : goal.returns

@@ -3,15 +3,15 @@ use denote.Text.{Utf8}
 use Rattle.std.proofs.Common.{◌≡◌, ◌+◌, ◌≤◌, length}
 use Rattle.sql_parts.specs.Fragments.{has_clause_word, is_clause_word}
 use Rattle.sql_parts.specs.Tokens.{tokens}
-use Rattle.sql_parts.proofs.LevelCounts.{outer_from}
+use Rattle.sql_parts.proofs.fragments.DepthCountLemmas.{outer_from}
 use Rattle.sql_parts.proofs.lex.has_clause_word.Given as goal
 
 abbrev pub invariant-loop-role : goal.invariant-loop-role
 invariant-loop-role l = record {
   text : shadow (Utf8 l.rest);
-  raised : l.level.raised + length l.rest ≤ length l.fn.text;
-  lowered : l.level.lowered + length l.rest ≤ length l.fn.text;
-  same : outer_from is_clause_word l.level.raised l.level.lowered (tokens l.rest) ≡ has_clause_word l.text;
+  raised : l.depth.raised + length l.rest ≤ length l.fn.text;
+  lowered : l.depth.lowered + length l.rest ≤ length l.fn.text;
+  same : outer_from is_clause_word l.depth.raised l.depth.lowered (tokens l.rest) ≡ has_clause_word l.text;
 }
 
 abbrev pub decreases-loop-role : goal.decreases-loop-role

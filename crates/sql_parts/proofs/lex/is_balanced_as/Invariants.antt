@@ -3,16 +3,18 @@ use denote.Text.{Utf8}
 use Rattle.std.proofs.Common.{◌≡◌, ◌+◌, ◌≤◌, ◌&&◌, length, not, codes}
 use Rattle.sql_parts.specs.Fragments.{has_outer, is_balanced, is_joining, is_word}
 use Rattle.sql_parts.specs.Tokens.{begins_with, tokens}
-use Rattle.sql_parts.proofs.LevelCounts.{balances_from}
+use Rattle.sql_parts.proofs.fragments.DepthCountLemmas.{balances_from}
 use Rattle.sql_parts.proofs.lex.is_balanced_as.Given as goal
 
 abbrev pub invariant-loop-role : goal.invariant-loop-role
 invariant-loop-role l = record {
   text : shadow (Utf8 l.rest);
-  raised : l.level.raised + length l.rest ≤ length l.fn.text;
-  lowered : l.level.lowered + length l.rest ≤ length l.fn.text;
-  same : balances_from (λ token. l.operand && is_joining token) (λ token. l.operand && is_word (codes "NOT") token) l.is_empty l.level.raised l.level.lowered (tokens l.rest)
-      ≡ (is_balanced (tokens l.text) && not (has_outer (λ token. l.operand && is_joining token) (tokens l.text)) && not (begins_with (λ token. l.operand && is_word (codes "NOT") token) (tokens l.text)));
+  raised : l.depth.raised + length l.rest ≤ length l.fn.text;
+  lowered : l.depth.lowered + length l.rest ≤ length l.fn.text;
+  same : balances_from (λ token. l.operand && is_joining token) (λ token. l.operand && is_word (codes "NOT") token) l.is_empty l.depth.raised l.depth.lowered
+      (tokens l.rest)
+      ≡ (is_balanced (tokens l.text) && not (has_outer (λ token. l.operand && is_joining token) (tokens l.text))
+      && not (begins_with (λ token. l.operand && is_word (codes "NOT") token) (tokens l.text)));
 }
 
 abbrev pub decreases-loop-role : goal.decreases-loop-role

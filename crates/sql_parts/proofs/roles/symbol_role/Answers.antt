@@ -1,5 +1,5 @@
 use Rattle.std.proofs.Common.{refl, rules}
-use Rattle.sql_parts.proofs.Keywords.{sign-plain, sign-role}
+use Rattle.sql_parts.proofs.fragments.KeywordLemmas.{sign-plain, sign-role}
 use Rattle.sql_parts.specs.declared.roles.Role.TheVariants as role
 use Rattle.sql_parts.proofs.roles.symbol_role.Goals as goal
 

@@ -1,5 +1,5 @@
 use Rattle.std.proofs.lemmas.Result.{err_from_is_err_and}
-use Rattle.sqlb.proofs.Pieces.{fails_after, parts_at}
+use Rattle.sqlb.proofs.bytes.StreamFacts.{fails_after, parts_at}
 use Rattle.sqlb.proofs.output.write_parts.Goals as goal
 
 pub returns-in_err-write_all-clause-wrote : goal.returns-in_err-write_all-clause-wrote

@@ -1,5 +1,5 @@
 use Rattle.std.proofs.Common.{◌≡◌, ◌+◌, ◌^◌, ◌<◌, ◌++◌, List, ℕ, [], false, length}
-use Rattle.sqlb.proofs.SoFar.{SoFar, Unread}
+use Rattle.sqlb.proofs.runs.ProgressFacts.{Progress, UnreadLines}
 use Rattle.sqlb.specs.Lines.{lines}
 use Rattle.sqlb.proofs.run.run_lines.Given as goal
 
@@ -7,11 +7,11 @@ abbrev pub invariant-lines : goal.invariant-lines
 invariant-lines g l = record {
   not_failed : l.writer.failed ≡ false;
   ended : l.writer.ended ≡ l.initial.writer.ended;
-  counted : l.number + length l.parts.behind < 2 ^ 63;
-  taken : l.parts.parts ≡ [];
-  ahead : (unread : List (List ℕ)) × Unread l.is_cut unread
-      × SoFar (g.W.Write.contents l.initial.writer.inner) (g.W.Write.contents l.writer.inner) l.input l.number l.script (lines l.parts.behind ++ unread);
+  counted : l.number + length l.arguments.behind < 2 ^ 63;
+  taken : l.arguments.parts ≡ [];
+  ahead : (unread : List (List ℕ)) × UnreadLines l.has_invalid_line unread
+      × Progress (g.W.Write.contents l.initial.writer.inner) (g.W.Write.contents l.writer.inner) l.input l.number l.script (lines l.arguments.behind ++ unread);
 }
 
 abbrev pub decreases-lines : goal.decreases-lines
-decreases-lines g l = length l.parts.behind
+decreases-lines g l = length l.arguments.behind

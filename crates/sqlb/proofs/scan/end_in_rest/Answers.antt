@@ -1,6 +1,6 @@
 use Rattle.std.proofs.Common.{◌+◌, ◌∙◌, arith, ap, sym, drop, length-drop}
-use Rattle.sqlb.proofs.Blocks.{found_end, no_end}
-use Rattle.sqlb.proofs.Pieces.{take_rest}
+use Rattle.sqlb.proofs.bytes.ScanFacts.{found_end, no_end}
+use Rattle.sqlb.proofs.bytes.StreamFacts.{take_rest}
 use Rattle.sqlb.proofs.scan.end_in_rest.Goals as goal
 
 pub returns-in-Some : goal.returns-in-Some

@@ -1,8 +1,8 @@
-use Rattle.sqlb.proofs.Blocks.{run_marked, run_unmarked}
+use Rattle.sqlb.proofs.bytes.ScanFacts.{run_to_end, run_without_end}
 use Rattle.sqlb.proofs.scan.run_in_block.Goals as goal
 
-pub returns-then-marks-eq0 : goal.returns-then-marks-eq0
-returns-then-marks-eq0 c = run_unmarked c.args.text.now c.args.at c.requires c.if-marks-eq0.true
+pub returns-then-ends-eq0 : goal.returns-then-ends-eq0
+returns-then-ends-eq0 c = run_without_end c.args.text.now c.args.at c.requires c.if-ends-eq0.true
 
-pub returns-else-marks-eq0 : goal.returns-else-marks-eq0
-returns-else-marks-eq0 c = run_marked c.args.text.now c.args.at c.requires c.if-marks-eq0.false
+pub returns-else-ends-eq0 : goal.returns-else-ends-eq0
+returns-else-ends-eq0 c = run_to_end c.args.text.now c.args.at c.requires c.if-ends-eq0.false

@@ -1,5 +1,5 @@
-use Rattle.sqlb.proofs.Cuts.{is_cut, text_utf8}
-use Rattle.sqlb.proofs.TextFronts.{no_fault}
+use Rattle.sqlb.proofs.bytes.LineFacts.{ends_before_invalid_line, text_utf8}
+use Rattle.sqlb.proofs.bytes.Utf8Facts.{no_fault}
 use Rattle.sqlb.proofs.text.lines_before.Goals as goal
 
 pub unreachable-requires : goal.unreachable-requires
@@ -10,4 +10,4 @@ unreachable-requires c =
 pub returns : goal.returns
 returns c =
     let found = c.end_of_lines-end.ensures in
-    rw c.in-Ok.ensures (is_cut c.args.input.now c.end_of_lines-end.result c.args.valid c.requires found.within found.feed found.last)
+    rw c.in-Ok.ensures (ends_before_invalid_line c.args.input.now c.end_of_lines-end.result c.args.valid c.requires found.within found.feed found.last)

@@ -1,5 +1,5 @@
 use Rattle.std.proofs.Common.{◌≡◌, ◌+◌, arith}
-use Rattle.sqlb.proofs.TextFronts.{text_more}
+use Rattle.sqlb.proofs.bytes.Utf8Facts.{text_more}
 use Rattle.sqlb.proofs.utf8.ascii_prefix.Goals as goal
 
 pub loop-at-preserved : goal.loop-at-preserved

@@ -1,5 +1,5 @@
 use Rattle.std.proofs.lemmas.List.{take_rest}
-use Rattle.sqlb.proofs.TextFronts.{fault_after, whole_text}
+use Rattle.sqlb.proofs.bytes.Utf8Facts.{fault_after, whole_text}
 use Rattle.sqlb.proofs.utf8.from_utf8.Goals as goal
 
 pub from_utf8_unchecked-requires : goal.from_utf8_unchecked-requires

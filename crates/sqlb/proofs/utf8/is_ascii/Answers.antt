@@ -1,5 +1,5 @@
 use Rattle.std.proofs.Common.{arith, eqb-true}
-use Rattle.sqlb.proofs.ShortChars.{ascii}
+use Rattle.sqlb.proofs.bytes.Utf8Facts.{ascii}
 use Rattle.sqlb.proofs.utf8.is_ascii.Goals as goal
 
 pub returns : goal.returns

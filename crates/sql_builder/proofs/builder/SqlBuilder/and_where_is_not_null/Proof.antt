@@ -1,6 +1,6 @@
-use Rattle.sql_parts.proofs.Walking.{refl}
-use Rattle.sql_builder.proofs.Constants as constants
-use Rattle.sql_builder.proofs.Methods.{adds_unary}
+use Rattle.sql_parts.proofs.chains.Prelude.{refl}
+use Rattle.sql_builder.proofs.chains.ConstantFacts as constants
+use Rattle.sql_builder.proofs.chains.MethodLemmas.{adds_unary}
 use Rattle.sql_builder.specs.Condition.{IsNotNull}
 use Rattle.sql_builder.specs.contracts.builder.SqlBuilder.and_where_is_not_null.Key.{name as #self}
 use Rattle.sql_builder.specs.contracts.builder.SqlBuilder.hold_is_not_null as step
@@ -14,4 +14,4 @@ and_where_is_not_null_spec 𝓤 𝓛 𝓜 𝓡 w S LS s d d' ms md =
     adds_unary 𝓤 𝓛 𝓜 𝓡 constants.family-and IsNotNull code.function #self symbol.name S LS s d d'
     (λ κs a. (step.clauses S s d d' 𝓛 𝓜.mem 𝓡.returns κs a).requires tt)
     (met 𝓤 𝓛 𝓜 𝓡 (code.calls-sql_builder::builder::SqlBuilder::hold_is_not_null 𝓡.env w) S LS s d d' ms md)
-    (refl, refl) (code.unfolded 𝓤 𝓛.H 𝓜 𝓡 w (S, tt) d d') (code.calls-sql_parts::lending::release 𝓡.env w)
+    (refl, refl) (code.unfolded 𝓤 𝓛.H 𝓜 𝓡 w (S, tt) d d') (code.calls-sql_parts::loan::release 𝓡.env w)

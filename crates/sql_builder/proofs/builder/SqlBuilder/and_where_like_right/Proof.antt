@@ -1,6 +1,6 @@
-use Rattle.sql_parts.proofs.Walking.{refl}
-use Rattle.sql_builder.proofs.Constants as constants
-use Rattle.sql_builder.proofs.Methods.{adds_chosen_binary}
+use Rattle.sql_parts.proofs.chains.Prelude.{refl}
+use Rattle.sql_builder.proofs.chains.ConstantFacts as constants
+use Rattle.sql_builder.proofs.chains.MethodLemmas.{adds_chosen_binary}
 use Rattle.std.specs.Prelude.{false}
 use Rattle.sql_builder.specs.Condition.{Like}
 use Rattle.sql_builder.specs.contracts.builder.SqlBuilder.and_where_like_right.Key.{name as #self}
@@ -15,4 +15,4 @@ and_where_like_right_spec 𝓤 𝓛 𝓜 𝓡 w S T LS LT s d t e d' e' ms mt md
     adds_chosen_binary 𝓤 𝓛 𝓜 𝓡 constants.family-and constants.percent-right (Like false) code.function #self symbol.name S T LS LT s t d e d' e'
     (λ κs a. (step.clauses S T s d t e d' e' 𝓛 𝓜.mem 𝓡.returns κs a).requires tt)
     (met 𝓤 𝓛 𝓜 𝓡 (code.calls-sql_builder::builder::SqlBuilder::hold_like 𝓡.env w) S T LS LT s d t e d' e' ms mt md me)
-    (refl, refl) (code.unfolded 𝓤 𝓛.H 𝓜 𝓡 w (S, (T, tt)) d e d' e') (code.calls-sql_parts::lending::release 𝓡.env w)
+    (refl, refl) (code.unfolded 𝓤 𝓛.H 𝓜 𝓡 w (S, (T, tt)) d e d' e') (code.calls-sql_parts::loan::release 𝓡.env w)

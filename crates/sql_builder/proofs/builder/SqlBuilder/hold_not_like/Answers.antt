@@ -1,7 +1,7 @@
 use Rattle.std.proofs.Common.{◌≡◌, rules, string_bytes, true, ap, ◌∙◌}
 use Rattle.sql_builder.specs.Builder.{with_condition, with_condition_bytes}
 use Rattle.sql_builder.specs.Condition.{Like, condition_bytes}
-use Rattle.sql_builder.proofs.ConditionAtoms.{adds_condition_sealed}
+use Rattle.sql_builder.proofs.pieces.ClauseShapeLemmas.{adds_condition_opaque}
 use Rattle.sql_builder.proofs.builder.SqlBuilder.hold_not_like.Goals as goal
 
 pub returns : goal.returns
@@ -11,4 +11,4 @@ returns g c =
     rw (c.as_str.ensures.value, c.in_ok-field.ensures.text, c.as_str-2.ensures.value, c.in_ok-mask.ensures.text) at c.in_ok-text.ensures.made in
     let added : c.push_condition.new.self ≡ with_condition c.args.family condition c.args.self.now =
     c.in_ok-push_condition.ensures ∙ ap (λ bytes. with_condition_bytes c.args.family bytes c.args.self.now) text in
-    search (rules, adds_condition_sealed c.args.family condition c.args.self.now c.push_condition.new.self added)
+    search (rules, adds_condition_opaque c.args.family condition c.args.self.now c.push_condition.new.self added)

@@ -1,15 +1,15 @@
 use Rattle.std.proofs.Common.{◌++◌, codes}
 use Rattle.sql_builder.specs.contracts.builder.SqlBuilder.{the_view}
 use Rattle.sql_builder.specs.Printed.{optional_bytes, where_bytes}
-use Rattle.sql_builder.proofs.Printed.{delete_is}
-use Rattle.sql_builder.proofs.Room.{writes_both}
+use Rattle.sql_builder.proofs.output.PrintingLemmas.{delete_is}
+use Rattle.sql_builder.proofs.output.LoopFacts.{writes_both}
 use Rattle.sql_builder.proofs.builder.SqlBuilder.push_delete.Goals as goal
 
 pub returns : goal.returns
 returns c =
     let r = the_view c.self.inside in
     rw (← c.self.view_is) (rw (delete_is r)
-    (writes_both (codes "DELETE FROM " ++ r.table) _ c.args.out.now c.push_behind.new.out c.push_optional.new.out
-    (rw (c.as_str.ensures.value) at c.push_behind.ensures)
-    (writes_both (where_bytes r.groups) (optional_bytes (codes " RETURNING ") r.returning) c.push_behind.new.out c.push_where.new.out c.push_optional.new.out
+    (writes_both (codes "DELETE FROM " ++ r.table) _ c.args.out.now c.push_clause.new.out c.push_optional.new.out
+    (rw (c.as_str.ensures.value) at c.push_clause.ensures)
+    (writes_both (where_bytes r.groups) (optional_bytes (codes " RETURNING ") r.returning) c.push_clause.new.out c.push_where.new.out c.push_optional.new.out
     (rw (c.deref.ensures.value) at c.push_where.ensures) c.push_optional.ensures)))

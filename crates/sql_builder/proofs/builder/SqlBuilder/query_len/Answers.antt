@@ -1,6 +1,6 @@
 use Rattle.std.proofs.Common.{arith, ap, length, length-append}
 use Rattle.sql_builder.specs.contracts.builder.SqlBuilder.{the_view}
-use Rattle.sql_builder.proofs.Printed.{query_is}
+use Rattle.sql_builder.proofs.output.PrintingLemmas.{query_is}
 use Rattle.sql_builder.proofs.builder.SqlBuilder.query_len.Goals as goal
 
 pub returns : goal.returns

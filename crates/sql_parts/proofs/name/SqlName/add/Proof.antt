@@ -1,11 +1,11 @@
-use Rattle.sql_parts.proofs.Walking.{refl}
-use Rattle.sql_parts.proofs.Names.{part, by_told}
+use Rattle.sql_parts.proofs.chains.Prelude.{refl}
+use Rattle.sql_parts.proofs.chains.NameCallLemmas.{part, by_change}
 use Rattle.sql_parts.specs.contracts.name.SqlName.add.Key.{name as #self}
 use Rattle.sql_parts.proofs.name.SqlName.add.Statement.{statement}
 use Rattle.sql_parts.proofs.name.SqlName.add.Code as code
 
 pub add_spec : {M : Type 1} → statement M
 add_spec 𝓤 𝓛 𝓜 𝓡 w S LS s d d' ms md =
-    by_told 𝓤 𝓛 𝓜 𝓡 part code.function #self S LS s d d' ms md
+    by_change 𝓤 𝓛 𝓜 𝓡 part code.function #self S LS s d d' ms md
     (refl, refl) (code.unfolded 𝓤 𝓛.H 𝓜 𝓡 w (S, tt) d d')
-    (code.calls-sql_parts::name::SqlName::hold 𝓡.env w) (code.calls-sql_parts::lending::release 𝓡.env w)
+    (code.calls-sql_parts::name::SqlName::hold 𝓡.env w) (code.calls-sql_parts::loan::release 𝓡.env w)

@@ -1,0 +1,2 @@
+pub mod ConstantFacts
+pub mod MethodLemmas

@@ -1,0 +1,354 @@
+-- Texts that are fit, one by one, make fragments that are fit.
+use Rattle.sql_builder.specs.RawTexts.{RawText, Bare, Enclosed, is_fit}
+use Rattle.sql_builder.specs.TextTests.{all_pass, raw_text}
+use Rattle.sql_builder.proofs.conditions.ConditionLemmas.{condition-preserved}
+use Rattle.sql_builder.proofs.fragments.PropertyLemmas.{
+  Each,
+  PreservedByAppend,
+  PreservedByCalls,
+  listed,
+  neutral-append,
+  neutral-brackets,
+  neutral-none,
+  neutral-raw,
+  Passes,
+}
+use Rattle.std.proofs.Common.{
+  ◌≡◌,
+  refl,
+  sym,
+  ◌∙◌,
+  ap,
+  subst,
+  ℕ,
+  suc,
+  ℤ,
+  Bool,
+  true,
+  false,
+  not,
+  ◌&&◌,
+  List,
+  [],
+  ◌∷◌,
+  ◌++◌,
+  Option,
+  None,
+  Some,
+  IfOk,
+  map,
+  pos,
+  codes,
+}
+use Rattle.std.specs.Prelude.{IsTrue}
+use Rattle.std.specs.List.{list_all}
+use Rattle.std.proofs.lemmas.Bool.{and_parts, and_from, false≢true}
+use Rattle.sql_parts.specs.Fragments.{balanced, has_clause_word, is_clause_word}
+use Rattle.sql_parts.specs.Tokens.{Token, tokens}
+use Rattle.sql_parts.specs.declared.error.SqlBuilderError.{SqlBuilderError}
+use Rattle.sql_parts.proofs.fragments.DepthFacts.{at_end, has_outer-is, is_balanced, is_balanced-is, is_zero}
+use Rattle.sql_builder.specs.Calls.{
+  CallText,
+  FinishText,
+  StartText,
+  SelectFrom,
+  SelectValues,
+  InsertInto,
+  UpdateTable,
+  DeleteFrom,
+  Sql,
+  Query,
+  QueryValues,
+  Subquery,
+  SubqueryAs,
+  Cond,
+  SetFields,
+  clauses,
+  start_fields,
+  call_raw_texts,
+  finish_raw_texts,
+  start_raw_texts,
+}
+use Rattle.sql_builder.specs.Clauses.{Clauses}
+use Rattle.sql_builder.specs.Condition.{not_text, condition_pieces}
+use Rattle.sql_builder.specs.Filters.{until}
+use Rattle.sql_builder.specs.FitFragments.{
+  are_fit,
+  has_fit_fragments,
+  begins_union,
+  encloses_fields,
+  has_balanced_fragments,
+  has_fit_conditions,
+  has_fit_texts,
+  own,
+  own_tokens,
+}
+use Rattle.sql_builder.specs.BuilderLaws.{FitTextsMakeBalancedFragments, FitTextsMakeFitConditions, FitTextsMakeFitFragments}
+use Rattle.sql_builder.specs.Layout.{Section, concat_sections}
+use Rattle.sql_builder.specs.Meaning.{is_unenclosed}
+use Rattle.sql_builder.specs.Phrases.{comma_list, in_brackets}
+use Rattle.sql_builder.specs.Statement.{unless_error}
+use Rattle.sql_builder.specs.Pieces as printed
+use Rattle.sql_builder.specs.Pieces.{Piece, Pieces, fixed_piece, quoted_piece, raw_piece}
+use Rattle.sql_builder.proofs.tokens.BalancedFacts.{is_even-append}
+use Rattle.sql_builder.proofs.lists.AllFacts.{all-weaker}
+use Rattle.sql_builder.proofs.fragments.ClauseFacts.{PartsAre}
+use Rattle.sql_builder.proofs.fragments.PreservationLemmas.{clauses-preserved, clauses-parts}
+use Rattle.sql_builder.proofs.reading.ClauseWordLemmas.{are_fit-is, are_fit_from, even-ends, or_so}
+use Rattle.sql_builder.proofs.reading.LayoutLemmas.{PreservedByLayout, Split, bare_query-split, bare_values-split, sql-split, insert-split}
+use Rattle.sql_builder.proofs.reading.SectionLemmas.{AllOpen, Neutral, Opens, section_pieces, sections-front, until-after, ending-semicolon}
+use Rattle.sql_builder.proofs.reading.ClauseWordLemmas as own_words
+use Rattle.sql_builder.proofs.tokens.DepthFacts.{at_end-append}
+use Rattle.sql_builder.proofs.reading.ReadBackLemmas.{layout}
+use Rattle.sql_builder.proofs.tokens.WhereWords.{has_clause}
+use Rattle.sql_builder.proofs.fragments.PassLemmas.{printed-passes}
+use Rattle.sql_builder.proofs.pieces.LayoutShapeLemmas as layouts
+
+fit-both : (l : ℤ) (x y : Pieces) → are_fit_from l x ≡ true → are_fit_from (at_end l (own x)) y ≡ true → are_fit_from l (x ++ y) ≡ true
+fit-both l [] y one other = other
+fit-both l (piece ∷ x) y one other =
+    let both = and_parts (own_words.is_fit l piece) (are_fit_from (at_end l (own_tokens piece)) x) one in
+    and_from _ _ both.0 (fit-both (at_end l (own_tokens piece)) x y both.1
+    (subst (λ k. are_fit_from k y ≡ true) (at_end-append l (own_tokens piece) (own x)) other))
+
+-- fit from each depth that `at` gives
+pub record FitAt (at : ℕ → ℕ) (ps : Pieces) : Type 0 where
+  pub neutral : Neutral ps
+  pub fits : (n : ℕ) → are_fit_from (pos (at n)) ps ≡ true
+
+-- fit anywhere, and fit between brackets
+abbrev pub Fit : Pieces → Type 0
+Fit ps = FitAt (λ n. n) ps
+
+abbrev pub Inner : Pieces → Type 0
+Inner ps = FitAt suc ps
+
+pub fit-joins : (at : ℕ → ℕ) → PreservedByAppend (FitAt at)
+fit-joins at = record {
+  none = record { neutral = neutral-none; fits = λ n. refl };
+  append = λ x y one other. record {
+    neutral = neutral-append x y one.neutral other.neutral;
+    fits = λ n. fit-both (pos (at n)) x y (one.fits n) (subst (λ l. are_fit_from l y ≡ true) (sym (even-ends (at n) (own x) one.neutral.even)) (other.fits n));
+  };
+  words = λ words neutral. record { neutral = neutral; fits = λ n. refl };
+}
+
+balanced_tokens : (text : List ℕ) → balanced text ≡ true → is_balanced (tokens text) ≡ true
+balanced_tokens text h = sym (is_balanced-is (tokens text)) ∙ h
+
+without_clause_tokens : (text : List ℕ) → not (has_clause_word text) ≡ true → not (has_clause (tokens text)) ≡ true
+without_clause_tokens text h = (λ i. not (sym (has_outer-is is_clause_word (tokens text)) i)) ∙ h
+
+bare-at : (n : ℕ) (text : List ℕ) → is_fit (Bare text) ≡ true → own_words.is_fit (pos n) (printed.Raw text) ≡ true
+bare-at n text h =
+    let both = and_parts (balanced text) (not (has_clause_word text)) h in
+    and_from _ _ (balanced_tokens text both.0) (or_so (not (is_zero (pos n))) _ (without_clause_tokens text both.1))
+
+inner-at : (n : ℕ) (text : List ℕ) → balanced text ≡ true → own_words.is_fit (pos (suc n)) (printed.Raw text) ≡ true
+inner-at n text h = and_from _ _ (balanced_tokens text h) refl
+
+inner-text : (text : List ℕ) → balanced text ≡ true → Inner (raw_piece text)
+inner-text text h = record { neutral = neutral-raw text; fits = λ n. and_from _ _ (inner-at n text h) refl }
+
+inner-all : (values : List (List ℕ)) → list_all is_fit (map Enclosed values) ≡ true → Each Inner (map raw_piece values)
+inner-all [] all = tt
+inner-all (value ∷ values) all =
+    let both = and_parts (balanced value) (list_all is_fit (map Enclosed values)) all in
+    (inner-text value both.0, inner-all values both.1)
+
+quoted-all : (values : List (List ℕ)) → Each Inner (map quoted_piece values)
+quoted-all [] = tt
+quoted-all (value ∷ values) = (record { neutral = record { even = refl; no_word = refl }; fits = λ n. refl }, quoted-all values)
+
+-- brackets make fit what is fit between brackets
+enclosed : (x : Pieces) → Inner x → Fit (in_brackets fixed_piece x)
+enclosed x inner = record { neutral = neutral-brackets x inner.neutral; fits = λ n. fit-both (pos (suc n)) x (fixed_piece (codes ")")) (inner.fits n) refl }
+
+in-enclosed : (negated : Bool) (x : Pieces) → Inner x → Fit (fixed_piece (not_text negated ++ codes " IN (") ++ (x ++ fixed_piece (codes ")")))
+in-enclosed true x inner = let made = enclosed x inner in
+    record { neutral = record { even = made.neutral.even; no_word = made.neutral.no_word }; fits = made.fits }
+in-enclosed false x inner = let made = enclosed x inner in
+    record { neutral = record { even = made.neutral.even; no_word = made.neutral.no_word }; fits = made.fits }
+
+fit-preserved : PreservedByCalls false is_fit Fit Fit Neutral
+fit-preserved = record {
+  joins = fit-joins (λ n. n);
+  bare = λ text h. record { neutral = neutral-raw text; fits = λ n. and_from _ _ (bare-at n text h) refl };
+  quoted = λ text. record { neutral = record { even = refl; no_word = refl }; fits = λ n. refl };
+  row = λ values all. enclosed (comma_list fixed_piece (map raw_piece values)) (listed Inner (fit-joins suc) (map raw_piece values) (inner-all values all));
+  in_list = λ negated values all. in-enclosed negated (comma_list fixed_piece (map raw_piece values))
+      (listed Inner (fit-joins suc) (map raw_piece values) (inner-all values all));
+  in_quoted = λ negated values. in-enclosed negated (comma_list fixed_piece (map quoted_piece values))
+      (listed Inner (fit-joins suc) (map quoted_piece values) (quoted-all values));
+  in_query = λ negated query h. in-enclosed negated (raw_piece query) (inner-text query h);
+  field = λ field h. record { neutral = neutral-raw field; fits = λ n. and_from _ _ (bare-at n field h) refl };
+  count = λ field h. record { neutral = record { even = refl; no_word = refl }; fits = λ n. and_from _ _ (inner-at n field h) refl };
+  count_as = λ field name h k. record {
+    neutral = record { even = refl; no_word = refl };
+    fits =
+        λ n. and_from _ _ (inner-at n field h) (and_from _ _ (bare-at n name k) refl);
+  };
+  union = λ query h. neutral-raw query;
+}
+
+-- the same, of an INSERT
+pub insert_fit-preserved : PreservedByCalls true is_fit Fit Inner Neutral
+insert_fit-preserved = record {
+  joins = fit-preserved.joins;
+  bare = fit-preserved.bare;
+  quoted = fit-preserved.quoted;
+  row = fit-preserved.row;
+  in_list = fit-preserved.in_list;
+  in_quoted = fit-preserved.in_quoted;
+  in_query = fit-preserved.in_query;
+  field = inner-text;
+  count = λ field h. record { neutral = record { even = refl; no_word = refl }; fits = λ n. and_from _ _ (inner-at (suc n) field h) refl };
+  count_as = λ field name h k. record {
+    neutral = record { even = refl; no_word = refl };
+    fits =
+        λ n. and_from _ _ (inner-at (suc n) field h) (and_from _ _ (inner-at n name k) refl);
+  };
+  union = fit-preserved.union;
+}
+
+inner-of : (x : Pieces) → Fit x → Inner x
+inner-of x fit = record { neutral = fit.neutral; fits = λ n. fit.fits (suc n) }
+
+pub target : (x : Pieces) → Inner x → Fit (fixed_piece (codes " (") ++ (x ++ fixed_piece (codes ")")))
+target x inner = let made = enclosed x inner in record { neutral = record { even = made.neutral.even; no_word = made.neutral.no_word }; fits = made.fits }
+
+pub fit-layout : PreservedByLayout Fit
+fit-layout = record {
+  joins = fit-joins (λ n. n);
+  brackets = λ x fit. enclosed x (inner-of x fit);
+  target = λ x fit. target x (inner-of x fit);
+  neutral =
+      λ x fit. fit.neutral;
+}
+
+-- ---- what is printed up to the first UNION
+
+section-ends : (s : Section Piece) → Opens Fit s → at_end (pos 0) (own (section_pieces s)) ≡ pos 0
+section-ends s opens = even-ends 0 (own (section_pieces s)) (is_even-append (tokens s.opening) (own s.body) opens.front.even opens.neutral.even)
+
+sections-fit : (sections : List (Section Piece)) → AllOpen Fit sections → are_fit_from (pos 0) (concat_sections fixed_piece sections) ≡ true
+sections-fit [] all = refl
+sections-fit (s ∷ sections) all =
+    let rest = concat_sections fixed_piece sections in
+    fit-both (pos 0) (section_pieces s) rest
+    (subst (λ l. are_fit_from l s.body ≡ true) (sym (even-ends 0 (tokens s.opening) all.0.front.even)) (all.0.body.fits 0))
+    (subst (λ l. are_fit_from l rest ≡ true) (sym (section-ends s all.0)) (sections-fit sections all.1))
+
+split-fits : {printed : Pieces} {bodies : List (List Token)} → Split Fit printed bodies → has_fit_fragments printed ≡ true
+split-fits split =
+    let front = concat_sections fixed_piece split.front in
+    ap has_fit_fragments split.is
+    ∙ ap are_fit (until-after front split.rest (sections-front Fit split.front split.laid.opens).no_union)
+    ∙ are_fit-is (front ++ until begins_union split.rest)
+    ∙ fit-both (pos 0) front (until begins_union split.rest) (sections-fit split.front split.laid.opens) (split.ending.until_fits (at_end (pos 0) (own front)))
+
+layout-fits : (finish : FinishText) (r : Clauses Pieces) → PartsAre Fit Fit Neutral r → layouts.InsideParts r → is_unenclosed finish ≡ true
+    → has_fit_fragments (layout finish r) ≡ true
+layout-fits Sql r parts inside_parts bare = split-fits (sql-split Fit fit-layout r parts inside_parts)
+layout-fits Query r parts inside_parts bare = split-fits (bare_query-split Fit fit-layout r parts inside_parts)
+layout-fits QueryValues r parts inside_parts bare = split-fits (bare_values-split Fit fit-layout r parts inside_parts)
+layout-fits Subquery r parts inside_parts bare = absurd (false≢true bare)
+layout-fits (SubqueryAs name) r parts inside_parts bare = absurd (false≢true bare)
+
+-- ---- all that is printed is balanced
+
+fit-balanced : (raw : RawText) → is_fit raw ≡ true → balanced (raw_text raw) ≡ true
+fit-balanced (Bare text) h = (and_parts (balanced text) (not (has_clause_word text)) h).0
+fit-balanced (Enclosed text) h = h
+
+all-balanced : (raw : List RawText) → list_all is_fit raw ≡ true → all_pass balanced raw ≡ true
+all-balanced raw all = all-weaker is_fit (λ h. balanced (raw_text h)) fit-balanced raw all
+
+calls-balanced : (enclosed : Bool) (calls : List CallText) → list_all (λ c. list_all is_fit (call_raw_texts enclosed c)) calls ≡ true
+    → list_all (λ c. all_pass balanced (call_raw_texts enclosed c)) calls ≡ true
+calls-balanced enclosed calls all =
+    all-weaker (λ (c : CallText). list_all is_fit (call_raw_texts enclosed c)) (λ (c : CallText). all_pass balanced (call_raw_texts enclosed c))
+    (λ c. all-balanced (call_raw_texts enclosed c)) calls all
+
+-- ---- what raw texts make
+
+conditions-fit : (enclosed : Bool) (calls : List CallText) → list_all (λ c. list_all is_fit (call_raw_texts enclosed c)) calls ≡ true
+    → has_fit_conditions calls ≡ true
+conditions-fit enclosed [] all = refl
+conditions-fit enclosed (c ∷ calls) all =
+    let both = and_parts (list_all is_fit (call_raw_texts enclosed c)) (list_all (λ (d : CallText). list_all is_fit (call_raw_texts enclosed d)) calls) all in
+    by c both.0 (conditions-fit enclosed calls both.1)
+  where
+    by : (c : CallText) → list_all is_fit (call_raw_texts enclosed c) ≡ true → has_fit_conditions calls ≡ true → has_fit_conditions (c ∷ calls) ≡ true
+    by (Cond family condition) here rest =
+        and_from _ _ (are_fit-is (condition_pieces condition) ∙ (condition-preserved false is_fit Fit Fit Neutral fit-preserved condition here).fits 0) rest
+    by _ here rest = rest
+
+-- the start's fields, which an INSERT doesn't have
+first-fields : (start : StartText) (finish : FinishText) → list_all is_fit (start_raw_texts start) ≡ true
+    → list_all is_fit (call_raw_texts (encloses_fields start finish) (SetFields (start_fields start))) ≡ true
+first-fields (SelectFrom table) finish all = refl
+first-fields (SelectValues values) finish all = all
+first-fields (InsertInto table) finish all = refl
+first-fields (UpdateTable table) finish all = refl
+first-fields (DeleteFrom table) finish all = refl
+
+module _ (start : StartText) (calls : List CallText) (finish : FinishText) (all : has_fit_texts start calls finish ≡ true) where
+  abbrev calls_fit : Bool
+  calls_fit = list_all (λ (c : CallText). list_all is_fit (call_raw_texts (encloses_fields start finish) c)) calls
+
+  fit_parts : (list_all is_fit (start_raw_texts start) ≡ true) × (calls_fit ≡ true) × (list_all is_fit (finish_raw_texts finish) ≡ true)
+  fit_parts =
+      let both = and_parts (list_all is_fit (start_raw_texts start) && calls_fit) (list_all is_fit (finish_raw_texts finish)) all in
+      let first = and_parts (list_all is_fit (start_raw_texts start)) calls_fit both.0 in
+      (first.0, first.1, both.1)
+
+  printed-balanced : Passes balanced (layout finish (clauses start calls))
+  printed-balanced =
+      let enclosed = encloses_fields start finish in
+      printed-passes balanced enclosed start calls finish (all-balanced (start_raw_texts start) fit_parts.0) (calls-balanced enclosed calls fit_parts.1)
+      (all-balanced (finish_raw_texts finish) fit_parts.2)
+
+-- fields that nothing encloses
+bare-fit : (start : StartText) (calls : List CallText) (finish : FinishText) → encloses_fields start finish ≡ false → has_fit_texts start calls finish ≡ true
+    → is_unenclosed finish ≡ true
+    → has_fit_fragments (layout finish (clauses start calls)) ≡ true
+bare-fit start calls finish plain all bare =
+    let facts = fit_parts start calls finish all in
+    layout-fits finish (clauses start calls)
+    (clauses-preserved false is_fit Fit Fit Neutral fit-preserved start calls facts.0
+    (ap (λ (b : Bool). list_all is_fit (call_raw_texts b (SetFields (start_fields start)))) (sym plain) ∙ first-fields start finish facts.0)
+    (ap (λ (b : Bool). list_all (λ (c : CallText). list_all is_fit (call_raw_texts b c)) calls) (sym plain) ∙ facts.1))
+    (clauses-parts start calls) bare
+
+all-fit : (start : StartText) (calls : List CallText) (finish : FinishText) → has_fit_texts start calls finish ≡ true → is_unenclosed finish ≡ true
+    → has_fit_fragments (layout finish (clauses start calls)) ≡ true
+all-fit (SelectFrom table) calls finish all bare = bare-fit (SelectFrom table) calls finish refl all bare
+all-fit (SelectValues values) calls finish all bare = bare-fit (SelectValues values) calls finish refl all bare
+all-fit (UpdateTable table) calls finish all bare = bare-fit (UpdateTable table) calls finish refl all bare
+all-fit (DeleteFrom table) calls finish all bare = bare-fit (DeleteFrom table) calls finish refl all bare
+all-fit (InsertInto table) calls Sql all bare =
+    let start = InsertInto table in
+    let facts = fit_parts start calls Sql all in
+    let parts = clauses-preserved true is_fit Fit Inner Neutral insert_fit-preserved start calls facts.0 refl facts.1 in
+    let inside_parts = clauses-parts start calls in
+    split-fits (insert-split Fit Inner fit-layout (fit-joins suc) target (fixed_piece (codes ";")) (clauses start calls).query (clauses start calls) parts
+    parts.query inside_parts inside_parts.query ending-semicolon)
+all-fit (InsertInto table) calls Query all bare = bare-fit (InsertInto table) calls Query refl all bare
+all-fit (InsertInto table) calls QueryValues all bare = bare-fit (InsertInto table) calls QueryValues refl all bare
+all-fit (InsertInto table) calls Subquery all bare = absurd (false≢true bare)
+all-fit (InsertInto table) calls (SubqueryAs name) all bare = absurd (false≢true bare)
+
+pub unless : (error : Option SqlBuilderError) (printed : Pieces) (test : Pieces → Bool) → test printed ≡ true
+    → IfOk (unless_error error printed) (λ ps. IsTrue (test ps))
+unless None printed test h = h
+unless (Some error) printed test h = tt
+
+pub fit_fragments : FitTextsMakeFitFragments
+fit_fragments start calls finish bare all = unless _ (layout finish (clauses start calls)) has_fit_fragments (all-fit start calls finish all bare)
+
+pub fit_conditions : FitTextsMakeFitConditions
+fit_conditions start calls finish all = conditions-fit (encloses_fields start finish) calls (fit_parts start calls finish all).1
+
+pub balanced_fragments : FitTextsMakeBalancedFragments
+balanced_fragments start calls finish h = unless _ (layout finish (clauses start calls)) has_balanced_fragments (printed-balanced start calls finish h)

@@ -1,0 +1,160 @@
+-- What tests of each raw text make of the statement.
+use Rattle.std.proofs.Common.{
+  ◌≡◌,
+  refl,
+  ◌∙◌,
+  ap,
+  ℕ,
+  Bool,
+  true,
+  false,
+  not,
+  ◌&&◌,
+  ◌||◌,
+  if◌then◌else◌,
+  List,
+  [],
+  ◌∷◌,
+  ◌++◌,
+  Option,
+  None,
+  Some,
+  map,
+  option_map,
+}
+use Rattle.std.specs.Prelude.{IsTrue, filter_map, flat_map, is_some}
+use Rattle.std.specs.List.{cons_option, last_or, list_all, list_any}
+use Rattle.std.proofs.lemmas.Bool.{and_parts, false≢true}
+use Rattle.std.proofs.lemmas.List.Folds.{list_all-append}
+use Rattle.std.proofs.lemmas.Result.{IfOk-weaker}
+use Rattle.sql_parts.specs.Tokens.{closed, is_empty, tokens}
+use Rattle.sql_parts.specs.declared.error.SqlBuilderError.TheVariants.{NoGroupBy}
+use Rattle.sql_builder.specs.Calls.{
+  CallText,
+  FinishText,
+  StartText,
+  Sql,
+  clauses,
+  group_fields_in,
+  having_in,
+  call_raw_texts,
+  finish_raw_texts,
+  start_raw_texts,
+}
+use Rattle.sql_builder.specs.Filters.{last_given}
+use Rattle.sql_builder.specs.FitFragments.{encloses_fields, has_balanced_fragments}
+use Rattle.sql_builder.specs.RawTexts.{is_fit}
+use Rattle.sql_builder.specs.TextTests.{
+  ClosedTextsMakeClosedFragments,
+  FitTextsMakeClosedFragments,
+  PlainTextsEndInOneSemicolon,
+  PlainTextsMakePlainFragments,
+  SelectsNeedGroupBy,
+  TextsAreFitCallByCall,
+  TextsPassCallByCall,
+  all_pass,
+  call_passes,
+  is_group_by,
+  is_having,
+  is_plain,
+  texts_pass,
+}
+use Rattle.sql_builder.specs.Layout.{no_group_by_error}
+use Rattle.sql_builder.specs.Shape.{EndsInOneSemicolon, has_closed_fragments, has_no_semicolons}
+use Rattle.sql_builder.specs.Statement.{pieces}
+use Rattle.sql_builder.specs.Pieces.{Pieces, pieces_text}
+use Rattle.sql_builder.proofs.fragments.PreservationLemmas.{clauses-parts}
+use Rattle.sql_builder.proofs.fragments.FitLemmas.{balanced_fragments, unless}
+use Rattle.sql_builder.proofs.pieces.LayoutShapeLemmas.{sql-semicolon}
+use Rattle.sql_builder.proofs.reading.ClauseWordLemmas.{fragments_closed}
+use Rattle.sql_builder.proofs.fragments.PassLemmas.{printed-passes}
+use Rattle.sql_builder.proofs.fragments.PropertyLemmas.{Passes}
+use Rattle.sql_builder.proofs.reading.ReadBackLemmas.{layout}
+use Rattle.sql_builder.proofs.statements.StatementLaws.{of_pieces}
+
+-- ---- one call after another
+
+last_first : (start calls finish more : Bool) → ((start && (calls && more)) && finish) ≡ (((start && calls) && finish) && more)
+last_first false calls finish more = refl
+last_first true false finish more = refl
+last_first true true true true = refl
+last_first true true true false = refl
+last_first true true false true = refl
+last_first true true false false = refl
+
+pub texts_pass_call_by_call : TextsPassCallByCall
+texts_pass_call_by_call test start calls more finish =
+    let first = all_pass test (start_raw_texts start) in
+    let last = all_pass test (finish_raw_texts finish) in
+    ap (λ all. (first && all) && last) (list_all-append (call_passes test) calls more)
+    ∙ last_first first (list_all (call_passes test) calls) last (list_all (call_passes test) more)
+
+pub texts_are_fit_call_by_call : TextsAreFitCallByCall
+texts_are_fit_call_by_call start calls more finish =
+    let fit = λ (c : CallText). list_all is_fit (call_raw_texts (encloses_fields start finish) c) in
+    let first = list_all is_fit (start_raw_texts start) in
+    let last = list_all is_fit (finish_raw_texts finish) in
+    ap (λ all. (first && all) && last) (list_all-append fit calls more) ∙ last_first first (list_all fit calls) last (list_all fit more)
+
+-- ---- fragments
+
+module _ (test : List ℕ → Bool) (start : StartText) (calls : List CallText) (finish : FinishText) where
+  fragments-pass : texts_pass test start calls finish ≡ true → Passes test (layout finish (clauses start calls))
+  fragments-pass all =
+      let both = and_parts (all_pass test (start_raw_texts start) && list_all (call_passes test) calls) (all_pass test (finish_raw_texts finish)) all in
+      let first = and_parts (all_pass test (start_raw_texts start)) (list_all (call_passes test) calls) both.0 in
+      printed-passes test false start calls finish first.0 first.1 both.1
+
+pub closed_texts : ClosedTextsMakeClosedFragments
+closed_texts start calls finish all = unless _ (layout finish (clauses start calls)) has_closed_fragments (fragments-pass closed start calls finish all)
+
+pub fit_texts_are_closed : FitTextsMakeClosedFragments
+fit_texts_are_closed start calls finish all =
+    IfOk-weaker (pieces start calls finish) (λ printed. IsTrue (has_balanced_fragments printed))
+    (λ printed. IsTrue (has_closed_fragments printed)) fragments_closed
+    (balanced_fragments start calls finish all)
+
+pub plain_texts : PlainTextsMakePlainFragments
+plain_texts start calls finish all = unless _ (layout finish (clauses start calls)) has_no_semicolons (fragments-pass is_plain start calls finish all)
+
+pub plain_texts_end : PlainTextsEndInOneSemicolon
+plain_texts_end start calls all plain =
+    of_pieces start calls Sql (λ printed. IsTrue (has_closed_fragments printed)) (λ printed text. EndsInOneSemicolon (tokens text))
+    (λ is. sql-semicolon (clauses start calls) (clauses-parts start calls) is (fragments-pass is_plain start calls Sql plain)) all
+
+-- ---- the error of a SELECT
+
+having_given : (calls : List CallText) (before : Option Pieces)
+    → is_some (last_or before (filter_map having_in calls)) ≡ (is_some before || list_any is_having calls)
+having_given [] None = refl
+having_given [] (Some printed) = refl
+having_given (c ∷ calls) before = by (having_in c) before (having_given calls)
+  where
+    by : (found before : Option Pieces)
+        → ((next : Option Pieces) → is_some (last_or next (filter_map having_in calls)) ≡ (is_some next || list_any is_having calls))
+        → is_some (last_or before (cons_option found (filter_map having_in calls))) ≡ (is_some before || (is_some found || list_any is_having calls))
+    by None before rest = rest before
+    by (Some printed) None rest = rest (Some printed)
+    by (Some printed) (Some other) rest = rest (Some printed)
+
+grouped : (calls : List CallText) → not (is_empty (flat_map group_fields_in calls)) ≡ list_any is_group_by calls
+grouped [] = refl
+grouped (c ∷ calls) = by (group_fields_in c) (grouped calls)
+  where
+    by : (found : List Pieces) → not (is_empty (flat_map group_fields_in calls)) ≡ list_any is_group_by calls
+        → not (is_empty (found ++ flat_map group_fields_in calls)) ≡ (not (is_empty found) || list_any is_group_by calls)
+    by [] rest = rest
+    by (field ∷ fields) rest = refl
+
+refused : (having : Option Pieces) (fields : List Pieces)
+    → no_group_by_error (option_map pieces_text having) (map pieces_text fields)
+    ≡ (if is_some having && not (not (is_empty fields)) then Some NoGroupBy else None)
+refused None fields = refl
+refused (Some condition) [] = refl
+refused (Some condition) (field ∷ fields) = refl
+
+pub selects_need_group_by : SelectsNeedGroupBy
+selects_need_group_by [] calls some = absurd (false≢true some)
+selects_need_group_by (byte ∷ bytes) calls some =
+    refused (last_given having_in calls) (flat_map group_fields_in calls)
+    ∙ (λ i. if having_given calls None i && not (grouped calls i) then Some NoGroupBy else None)

@@ -1,0 +1,3 @@
+pub mod BlankClauseLemmas
+pub mod OutlineLemmas
+pub mod QuotedTextLemmas

@@ -1,0 +1,3 @@
+pub mod AllFacts
+pub mod GroupLemmas
+pub mod PushLemmas

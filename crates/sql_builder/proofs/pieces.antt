@@ -1,0 +1,4 @@
+pub mod ClauseShapeLemmas
+pub mod LayoutMapLemmas
+pub mod LayoutShapeLemmas
+pub mod ShapeLemmas

@@ -1,0 +1,306 @@
+-- Pieces of a statement keep their tokens side by side, since the product's words between them end and begin with edges.
+use Rattle.std.proofs.Common.{◌≡◌, ℕ, Bool, true, false, not, List, [], ◌∷◌, ◌++◌, codes, refl, sym, ap, ◌∙◌, subst, inl, inr, ◌⊎◌, append_assoc, map}
+use Rattle.std.proofs.lemmas.List.{append-nil}
+use Rattle.std.proofs.lemmas.Grind.{flat_map-append}
+use Rattle.std.proofs.lemmas.Bool.{and_parts, not-true, or_from, or_left, or_right}
+use Rattle.std.proofs.lemmas.List.Folds.{list_all-append, list_any-append}
+use Rattle.std.specs.Prelude.{flat_map}
+use Rattle.std.specs.List.{AllByRecursion, list_all, list_any}
+use Rattle.sql_parts.specs.Quoting.{quoted}
+use Rattle.sql_parts.specs.Text.{join_with}
+use Rattle.sql_parts.specs.Tokens.{Symbol, Token, begins_with, clean, closed, ends_with, has_semicolon, is_edge, is_empty, is_open, is_semicolon, tokens}
+use Rattle.sql_parts.specs.declared.delimiters.Quotes.TheVariants.{Single}
+use Rattle.sql_parts.proofs.tokens.JoinFacts.{Edged, begins-append, clean-behind}
+use Rattle.sql_parts.proofs.tokens.TokenFacts.{between-tokens, between_closed, closed-shut, seam}
+use Rattle.sql_builder.specs.Phrases.{in_brackets, comma_list}
+use Rattle.sql_builder.specs.Shape.{
+  EndsInOneSemicolon,
+  has_closed_fragments,
+  has_no_semicolons,
+  is_closed_piece,
+  is_without_semicolon,
+  piece_tokens,
+  pieces_tokens,
+}
+use Rattle.sql_builder.specs.Pieces.{Piece, Pieces, Fixed, Quoted, Raw, fixed_piece, piece_text, pieces_text, quoted_piece, raw_piece}
+use Rattle.sql_builder.specs.WhereTokens as where_tokens
+
+abbrev pub has_open : List Token → Bool
+has_open all = list_any is_open all
+
+-- what may follow a fragment: nothing, or what begins with an edge
+abbrev pub Follows : List ℕ → Type 0
+Follows text = (text ≡ []) ⊎ (begins_with is_edge text ≡ true)
+
+-- where each piece passes, no token of the pieces is of a kind
+pub record Free (passes : Piece → Bool) (kind : Token → Bool) (ps : Pieces) : Type 0 where
+  pub none : list_all passes ps ≡ true → list_any kind (pieces_tokens ps) ≡ false
+
+abbrev pub NoOpen : Pieces → Type 0
+NoOpen ps = Free is_closed_piece is_open ps
+
+abbrev pub Plain : Pieces → Type 0
+Plain ps = Free is_without_semicolon is_semicolon ps
+
+-- pieces whose tokens are theirs before whatever may follow a fragment
+pub record Inside (ps : Pieces) : Type 0 where
+  pub reads : has_closed_fragments ps ≡ true → (text : List ℕ) → Follows text → tokens (pieces_text ps ++ text) ≡ pieces_tokens ps ++ tokens text
+  pub no_open : NoOpen ps
+  pub plain : Plain ps
+
+-- pieces whose tokens are theirs before any text
+pub record Ended (ps : Pieces) : Type 0 where
+  pub reads : has_closed_fragments ps ≡ true → (text : List ℕ) → tokens (pieces_text ps ++ text) ≡ pieces_tokens ps ++ tokens text
+  pub no_open : NoOpen ps
+  pub plain : Plain ps
+
+-- pieces that may follow a fragment
+pub record Following (ps : Pieces) : Type 0 where
+  pub follows : (text : List ℕ) → Follows text → Follows (pieces_text ps ++ text)
+
+pub text-append : (x y : Pieces) → pieces_text (x ++ y) ≡ pieces_text x ++ pieces_text y
+text-append x y = flat_map-append piece_text x y
+
+pub pieces_tokens-append : (x y : Pieces) → pieces_tokens (x ++ y) ≡ pieces_tokens x ++ pieces_tokens y
+pieces_tokens-append x y = flat_map-append piece_tokens x y
+
+pub pieces_tokens-brackets : (x : Pieces) → pieces_tokens (in_brackets fixed_piece x) ≡ where_tokens.in_brackets (pieces_tokens x)
+unfolding where_tokens.in_brackets
+pieces_tokens-brackets x = ap (λ ts. Symbol 40 ∷ ts) (pieces_tokens-append x (fixed_piece (codes ")")))
+
+both-closed : (x y : Pieces) → has_closed_fragments (x ++ y) ≡ true → (has_closed_fragments x ≡ true) × (has_closed_fragments y ≡ true)
+both-closed x y is = and_parts _ _ (sym (list_all-append is_closed_piece x y) ∙ is)
+
+both-free : {passes : Piece → Bool} {kind : Token → Bool} (x y : Pieces) → Free passes kind x → Free passes kind y → Free passes kind (x ++ y)
+both-free {passes = passes} {kind = kind} x y one other = record {
+  none = λ is. let both = and_parts _ _ (sym (list_all-append passes x y) ∙ is) in
+      ap (list_any kind) (pieces_tokens-append x y) ∙ list_any-append kind (pieces_tokens x) (pieces_tokens y)
+      ∙ or_from _ _ (one.none both.0) (other.none both.1);
+}
+
+-- pieces before others
+reads-both : (x y : Pieces) (text : List ℕ) → tokens (pieces_text x ++ (pieces_text y ++ text)) ≡ pieces_tokens x ++ tokens (pieces_text y ++ text)
+    → tokens (pieces_text y ++ text) ≡ pieces_tokens y ++ tokens text → tokens (pieces_text (x ++ y) ++ text) ≡ pieces_tokens (x ++ y) ++ tokens text
+reads-both x y text one other =
+    ap (λ t. tokens (t ++ text)) (text-append x y) ∙ ap tokens (append_assoc (pieces_text x) (pieces_text y) text)
+    ∙ one ∙ ap (λ ts. pieces_tokens x ++ ts) other ∙ sym (append_assoc (pieces_tokens x) (pieces_tokens y) (tokens text))
+    ∙ ap (λ ts. ts ++ tokens text) (sym (pieces_tokens-append x y))
+
+pub ended-inside : (x y : Pieces) → Ended x → Inside y → Inside (x ++ y)
+ended-inside x y one other = record {
+  reads = λ is text follows. let both = both-closed x y is in reads-both x y text (one.reads both.0 (pieces_text y ++ text)) (other.reads both.1 text follows);
+  no_open = both-free x y one.no_open other.no_open;
+  plain = both-free x y one.plain other.plain;
+}
+
+pub ended-ended : (x y : Pieces) → Ended x → Ended y → Ended (x ++ y)
+ended-ended x y one other = record {
+  reads = λ is text. let both = both-closed x y is in reads-both x y text (one.reads both.0 (pieces_text y ++ text)) (other.reads both.1 text);
+  no_open = both-free x y one.no_open other.no_open;
+  plain = both-free x y one.plain other.plain;
+}
+
+pub inside-inside : (x y : Pieces) → Inside x → Following y → Inside y → Inside (x ++ y)
+inside-inside x y one behind other = record {
+  reads = λ is text follows. let both = both-closed x y is in
+      reads-both x y text (one.reads both.0 (pieces_text y ++ text) (behind.follows text follows)) (other.reads both.1 text follows);
+  no_open = both-free x y one.no_open other.no_open;
+  plain = both-free x y one.plain other.plain;
+}
+
+-- the product's words
+pub record Whole (words : List ℕ) : Type 0 where
+  pub is_closed : closed words ≡ true
+  pub plain : has_semicolon words ≡ false
+
+pub whole : {words : List ℕ} → Edged words → Whole words
+whole edged = record { is_closed = edged.is_closed; plain = edged.plain }
+
+word-free : {passes : Piece → Bool} {kind : Token → Bool} (words : List ℕ) → list_any kind (tokens words) ≡ false → Free passes kind (fixed_piece words)
+word-free {kind = kind} words none = record { none = λ is. ap (list_any kind) (append-nil (tokens words)) ∙ none }
+
+alone : (piece : Piece) (text : List ℕ) → tokens (piece_text piece ++ text) ≡ piece_tokens piece ++ tokens text
+    → tokens (pieces_text (piece ∷ []) ++ text) ≡ pieces_tokens (piece ∷ []) ++ tokens text
+alone piece text is = ap (λ t. tokens (t ++ text)) (append-nil (piece_text piece)) ∙ is ∙ ap (λ ts. ts ++ tokens text) (sym (append-nil (piece_tokens piece)))
+
+follows-clean : (one text : List ℕ) → Follows text → clean one text ≡ true
+follows-clean one text (inl none) = subst (λ t. clean one t ≡ true) (sym none) (or_left _ _ (or_left _ _ (or_right (is_empty one) true refl)))
+follows-clean one text (inr begins) = or_right _ _ begins
+
+pub words-ended : (words : List ℕ) → Whole words → ends_with is_edge words ≡ true → Ended (fixed_piece words)
+words-ended words is ends = record {
+  reads = λ all text. alone (Fixed words) text (seam words text is.is_closed (clean-behind words text ends));
+  no_open = word-free words (closed-shut words is.is_closed);
+  plain = word-free words is.plain;
+}
+
+pub words-inside : (words : List ℕ) → Whole words → Inside (fixed_piece words)
+words-inside words is = record {
+  reads = λ all text follows. alone (Fixed words) text (seam words text is.is_closed (follows-clean words text follows));
+  no_open = word-free words (closed-shut words is.is_closed);
+  plain = word-free words is.plain;
+}
+
+pub words-following : (words : List ℕ) (ps : Pieces) → begins_with is_edge words ≡ true → Following (fixed_piece words ++ ps)
+words-following words ps begins = record {
+  follows =
+      λ text follows. inr (begins-append is_edge (words ++ pieces_text ps) text (begins-append is_edge words (pieces_text ps) begins));
+}
+
+-- a fragment and a quoted text
+pub raw-inside : (text : List ℕ) → Inside (raw_piece text)
+raw-inside one = record {
+  reads = λ is text follows. alone (Raw one) text (seam one text (and_parts (closed one) true is).0 (follows-clean one text follows));
+  no_open = record { none = λ is. ap has_open (append-nil (tokens one)) ∙ closed-shut one (and_parts (closed one) true is).0 };
+  plain = record {
+    none = λ is. ap (list_any is_semicolon) (append-nil (tokens one))
+        ∙ not-true (has_semicolon one) (and_parts (not (has_semicolon one)) true is).0;
+  };
+}
+
+pub quoted-inside : (text : List ℕ) → Inside (quoted_piece text)
+quoted-inside one = record {
+  reads = λ is text follows. alone (Quoted one) text (seam (quoted one) text (between_closed Single one _ refl) (follows-clean (quoted one) text follows)
+      ∙ ap (λ ts. ts ++ tokens text) (between-tokens Single one));
+  no_open = record { none = λ is. refl };
+  plain = record { none = λ is. refl };
+}
+
+pub none-inside : Inside []
+none-inside = record { reads = λ is text follows. refl; no_open = record { none = λ is. refl }; plain = record { none = λ is. refl } }
+
+pub none-following : Following []
+none-following = record { follows = λ text follows. follows }
+
+pub ended-is_inside : (x : Pieces) → Ended x → Inside x
+ended-is_inside x one = record { reads = λ is text follows. one.reads is text; no_open = one.no_open; plain = one.plain }
+
+pub inside-words : (x : Pieces) (words : List ℕ) → Inside x → Edged words → Ended (x ++ fixed_piece words)
+inside-words x words one edged =
+    let end = words-ended words (whole edged) edged.ends in
+    record {
+      reads = λ is text. let both = both-closed x (fixed_piece words) is in
+          reads-both x (fixed_piece words) text
+          (one.reads both.0 (pieces_text (fixed_piece words) ++ text)
+          (inr (begins-append is_edge (pieces_text (fixed_piece words)) text (begins-append is_edge words [] edged.begins))))
+          (end.reads both.1 text);
+      no_open = both-free x (fixed_piece words) one.no_open end.no_open;
+      plain = both-free x (fixed_piece words) one.plain end.plain;
+    }
+
+pub following-append : (x y : Pieces) → Following x → Following y → Following (x ++ y)
+following-append x y one other = record {
+  follows = λ text follows. subst Follows (sym (ap (λ t. t ++ text) (text-append x y) ∙ append_assoc (pieces_text x) (pieces_text y) text))
+      (one.follows (pieces_text y ++ text) (other.follows text follows));
+}
+
+-- each of many
+pub all-flat : {X : Type 0} (f : X → Pieces) → ((x : X) → Inside (f x)) → ((x : X) → Following (f x)) → (xs : List X) → Inside (flat_map f xs)
+    × Following (flat_map f xs)
+all-flat f inside behind [] = (none-inside, none-following)
+all-flat f inside behind (x ∷ xs) =
+    let rest = all-flat f inside behind xs in
+    (inside-inside (f x) (flat_map f xs) (inside x) rest.1 rest.0, following-append (f x) (flat_map f xs) (behind x) rest.1)
+
+abbrev pub AllInside : List Pieces → Type 0
+AllInside items = AllByRecursion Inside items
+
+-- words before an item
+pub words-item : (words : List ℕ) (item : Pieces) → Edged words → Inside item → Inside (fixed_piece words ++ item)
+words-item words item edged inside = ended-inside (fixed_piece words) item (words-ended words (whole edged) edged.ends) inside
+
+-- items with words before each
+pub before-each : (words : List ℕ) → Edged words → (items : List Pieces) → AllInside items
+    → Inside (flat_map (λ item. fixed_piece words ++ item) items) × Following (flat_map (λ item. fixed_piece words ++ item) items)
+before-each words edged [] all = (none-inside, none-following)
+before-each words edged (item ∷ items) all =
+    let here = words-item words item edged all.0 in
+    let more = flat_map (λ (i : Pieces). fixed_piece words ++ i) items in
+    let rest = before-each words edged items all.1 in (
+      inside-inside (fixed_piece words ++ item) more here rest.1 rest.0,
+      following-append (fixed_piece words ++ item) more
+          (words-following words item edged.begins) rest.1,
+    )
+
+pub joined-inside : (words : List ℕ) → Edged words → (items : List Pieces) → AllInside items → Inside (join_with (fixed_piece words) items)
+joined-inside words edged [] all = none-inside
+joined-inside words edged (item ∷ items) all = let rest = before-each words edged items all.1 in inside-inside item _ all.0 rest.1 rest.0
+
+opening : Edged (codes "(")
+opening = record { is_closed = refl; plain = refl; begins = refl; ends = refl }
+
+closing : Edged (codes ")")
+closing = record { is_closed = refl; plain = refl; begins = refl; ends = refl }
+
+pub comma : Edged (codes ", ")
+comma = record { is_closed = refl; plain = refl; begins = refl; ends = refl }
+
+pub brackets-ended : (x : Pieces) → Inside x → Ended (in_brackets fixed_piece x)
+brackets-ended x one = ended-ended (fixed_piece (codes "(")) (x ++ fixed_piece (codes ")")) (words-ended (codes "(") (whole opening) refl)
+    (inside-words x (codes ")") one closing)
+
+pub brackets-inside : (x : Pieces) → Inside x → Inside (in_brackets fixed_piece x)
+brackets-inside x one = ended-is_inside (in_brackets fixed_piece x) (brackets-ended x one)
+
+-- what holds of pieces by themselves
+pub record Shaped (ps : Pieces) : Type 0 where
+  pub shape_is : has_closed_fragments ps ≡ true → tokens (pieces_text ps) ≡ pieces_tokens ps
+  pub no_open : NoOpen ps
+
+pub shaped : (ps : Pieces) → Inside ps → Shaped ps
+shaped ps inside = record {
+  shape_is = λ is. ap tokens (sym (append-nil (pieces_text ps))) ∙ inside.reads is [] (inl refl) ∙ append-nil (pieces_tokens ps);
+  no_open = inside.no_open;
+}
+
+pub shape_closed : (ps : Pieces) → Shaped ps → has_closed_fragments ps ≡ true → closed (pieces_text ps) ≡ true
+shape_closed ps inside is = ap (λ all. not (has_open all)) (inside.shape_is is) ∙ ap not (inside.no_open.none is)
+
+-- a statement, and the `;` behind it
+abbrev with_semicolon : Pieces → Pieces
+with_semicolon ps = ps ++ fixed_piece (codes ";")
+
+shape-semicolon : (ps : Pieces) → pieces_tokens (with_semicolon ps) ≡ pieces_tokens ps ++ Symbol 59 ∷ []
+shape-semicolon ps = pieces_tokens-append ps (fixed_piece (codes ";"))
+
+pub statement-shaped : (ps : Pieces) → Inside ps → Shaped (with_semicolon ps)
+statement-shaped ps inside = record {
+  shape_is = λ is.
+      let both = both-closed ps (fixed_piece (codes ";")) is in
+      ap tokens (text-append ps (fixed_piece (codes ";"))) ∙ inside.reads both.0 (codes ";") (inr refl) ∙ sym (shape-semicolon ps);
+  no_open = both-free ps (fixed_piece (codes ";")) inside.no_open (word-free (codes ";") refl);
+}
+
+pub ends_in_semicolon : (ps : Pieces) → Inside ps → has_closed_fragments (with_semicolon ps) ≡ true → has_no_semicolons (with_semicolon ps) ≡ true
+    → EndsInOneSemicolon (tokens (pieces_text (with_semicolon ps)))
+ends_in_semicolon ps inside is plain =
+    let both = and_parts _ _ (sym (list_all-append is_without_semicolon ps (fixed_piece (codes ";"))) ∙ plain) in
+    (pieces_tokens ps, (statement-shaped ps inside).shape_is is ∙ shape-semicolon ps, inside.plain.none both.0)
+
+-- ---- phrases
+
+pub words-between : (words : List ℕ) (one other : Pieces) → Edged words → Inside one → Inside other → Inside (one ++ (fixed_piece words ++ other))
+words-between words one other edged first last =
+    inside-inside one (fixed_piece words ++ other) first (words-following words other edged.begins)
+    (ended-inside (fixed_piece words) other (words-ended words (whole edged) edged.ends) last)
+
+pub words-last : (words : List ℕ) (one : Pieces) → Whole words → Following (fixed_piece words ++ []) → Inside one → Inside (one ++ fixed_piece words)
+words-last words one is behind first = inside-inside one (fixed_piece words) first behind (words-inside words is)
+
+pub closing-last : (one : Pieces) → Inside one → Inside (one ++ fixed_piece (codes ")"))
+closing-last one first = words-last (codes ")") one (record { is_closed = refl; plain = refl }) (words-following (codes ")") [] refl) first
+
+pub words-first : (words : List ℕ) (one : Pieces) → Whole words → ends_with is_edge words ≡ true → Inside one → Inside (fixed_piece words ++ one)
+words-first words one is ends last = ended-inside (fixed_piece words) one (words-ended words is ends) last
+
+pub items-inside : (items : List Pieces) → AllInside items → Inside (comma_list fixed_piece items)
+items-inside items all = joined-inside (codes ", ") comma items all
+
+pub raw-all : (texts : List (List ℕ)) → AllInside (map raw_piece texts)
+raw-all [] = tt
+raw-all (text ∷ texts) = (raw-inside text, raw-all texts)
+
+-- the texts of fragments
+pub texts_of_raw : (ts : List (List ℕ)) → map pieces_text (map raw_piece ts) ≡ ts
+texts_of_raw [] = refl
+texts_of_raw (t ∷ ts) = simp (append-nil, texts_of_raw ts)

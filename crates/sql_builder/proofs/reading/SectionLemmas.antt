@@ -1,0 +1,353 @@
+-- Pieces whose own words are laid as those of a statement are read back as their clauses.
+use Rattle.std.proofs.Common.{
+  ◌≡◌,
+  refl,
+  sym,
+  ◌∙◌,
+  ap,
+  subst,
+  ℕ,
+  Bool,
+  true,
+  false,
+  not,
+  ◌&&◌,
+  ◌||◌,
+  List,
+  [],
+  ◌∷◌,
+  ◌++◌,
+  map,
+  ℤ,
+  pos,
+  codes,
+  append-nil,
+  inl,
+  inr,
+}
+use Rattle.std.specs.Prelude.{flat_map}
+use Rattle.std.specs.List.{AllByRecursion, list_all, list_any}
+use Rattle.std.proofs.lemmas.Bool.{and_parts, and_from, or_parts, or_from, false≢true, not-true}
+use Rattle.std.proofs.lemmas.Grind.{flat_map-append}
+use Rattle.std.proofs.lemmas.List.Folds.{list_any-append}
+use Rattle.sql_parts.specs.Tokens.{Token, Word, is_open, is_semicolon, tokens, begins_with}
+use Rattle.sql_builder.specs.Filters.{until}
+use Rattle.sql_builder.specs.Layout.{Section, concat_sections, union_opening}
+use Rattle.sql_builder.specs.Shape.{pieces_tokens}
+use Rattle.sql_builder.specs.Pieces.{Piece, Pieces, Fixed, Quoted, Raw, fixed_piece, pieces_text}
+use Rattle.sql_builder.proofs.tokens.BalancedFacts.{even_closes, is_even-append}
+use Rattle.sql_builder.proofs.truth.ConnectiveLemmas.{placed-then}
+use Rattle.sql_builder.specs.FitFragments.{own, begins_union, has_fit_fragments, own_tokens}
+use Rattle.sql_builder.proofs.reading.ClauseWordLemmas.{
+  fit-balanced,
+  fit-flags,
+  laid-both,
+  laid-plain,
+  laid_from,
+  Flagged,
+  flags,
+  own-append,
+  same-parts,
+  shape-even,
+  stays-closes,
+  are_fit_from,
+  is_fit,
+  are_fit-is,
+  fragments_closed,
+}
+use Rattle.sql_builder.proofs.tokens.DepthFacts.{at_end-closes}
+use Rattle.sql_builder.proofs.tokens.PartFacts.{not_union, semicolon-later, semicolon-none, semicolon-one, none-inner, parts-none}
+use Rattle.sql_builder.proofs.pieces.ShapeLemmas.{Follows, Inside, text-append}
+use Rattle.sql_builder.specs.TokenParts.{Parts, before_outer, parts_at, with_front}
+use Rattle.sql_builder.specs.Reading.{Clause, piece_clauses, ends_clauses, is_union, own_placed, read, without_semicolon}
+use Rattle.sql_parts.proofs.fragments.DepthFacts.{at_end, closes_from, has_outer, is_even, placed, placed-is}
+use Rattle.sql_parts.specs.Fragments.{Inner, Outer, Placed, is_clause_word, is_outer, is_whole, token_of}
+use Rattle.sql_parts.specs.Fragments as fragments
+
+-- the product's own words before the first UNION
+pub record Front (ts : List Token) : Type 0 where
+  pub laid : laid_from (pos 0) ts ≡ true
+  pub even : is_even ts ≡ true
+  pub no_union : list_any is_union ts ≡ false
+
+-- own words that are balanced or none, without a clause word
+pub record Neutral (ps : Pieces) : Type 0 where
+  pub even : is_even (own ps) ≡ true
+  pub no_word : list_any is_clause_word (own ps) ≡ false
+
+pub front-append : (a b : List Token) → Front a → Front b → Front (a ++ b)
+front-append a b one other = record {
+  laid = laid-both (pos 0) a b one.laid (subst (λ l. laid_from l b ≡ true) (sym (at_end-closes (pos 0) a (even_closes a one.even))) other.laid);
+  even = is_even-append a b one.even other.even;
+  no_union = list_any-append is_union a b ∙ or_from _ _ one.no_union other.no_union;
+}
+
+none_narrow : (ts : List Token) → list_any is_clause_word ts ≡ false → list_any is_union ts ≡ false
+none_narrow [] none = refl
+none_narrow (t ∷ ts) none =
+    let both = or_parts (is_clause_word t) (list_any is_clause_word ts) none in
+    or_from _ _ (not_union t both.0) (none_narrow ts both.1)
+
+pub neutral-front : (ps : Pieces) → Neutral ps → Front (own ps)
+neutral-front ps neutral = record {
+  laid = laid-plain (pos 0) (own ps) (stays-closes (pos 0) (own ps) (even_closes (own ps) neutral.even)) neutral.no_word;
+  even = neutral.even;
+  no_union = none_narrow (own ps) neutral.no_word;
+}
+
+-- ---- outer tokens of the product's own
+
+outer-all : (test : Token → Bool) (ts : List Token) → list_any (is_outer test) (map Outer ts) ≡ list_any test ts
+outer-all test [] = refl
+outer-all test (t ∷ ts) = ap (λ (b : Bool). test t || b) (outer-all test ts)
+
+pub own-outer : (test : Token → Bool) (ps : Pieces) → list_any (is_outer test) (flat_map own_placed ps) ≡ list_any test (own ps)
+own-outer test [] = refl
+own-outer test (Fixed text ∷ ps) =
+    list_any-append (is_outer test) (map Outer (tokens text)) (flat_map own_placed ps)
+    ∙ ap (λ (b : Bool). b || list_any (is_outer test) (flat_map own_placed ps)) (outer-all test (tokens text))
+    ∙ ap (λ (b : Bool). list_any test (tokens text) || b) (own-outer test ps)
+    ∙ sym (list_any-append test (tokens text) (own ps))
+own-outer test (Quoted text ∷ ps) = own-outer test ps
+own-outer test (Raw text ∷ ps) =
+    list_any-append (is_outer test) (map Inner (tokens text)) (flat_map own_placed ps)
+    ∙ ap (λ (b : Bool). b || list_any (is_outer test) (flat_map own_placed ps)) (none-inner test (tokens text))
+    ∙ own-outer test ps
+
+back-outer : (ts : List Token) → map token_of (map Outer ts) ≡ ts
+back-outer [] = refl
+back-outer (t ∷ ts) = ap (λ us. t ∷ us) (back-outer ts)
+
+back-inner : (ts : List Token) → map token_of (map Inner ts) ≡ ts
+back-inner [] = refl
+back-inner (t ∷ ts) = ap (λ us. t ∷ us) (back-inner ts)
+
+map-both : (a b : List Placed) → map token_of (a ++ b) ≡ map token_of a ++ map token_of b
+map-both [] b = refl
+map-both (m ∷ a) b = ap (λ us. token_of m ∷ us) (map-both a b)
+
+-- and all tokens
+pub own-shape : (ps : Pieces) → map token_of (flat_map own_placed ps) ≡ pieces_tokens ps
+own-shape [] = refl
+own-shape (Fixed text ∷ ps) = map-both (map Outer (tokens text)) (flat_map own_placed ps) ∙ cc (back-outer (tokens text), own-shape ps)
+own-shape (Quoted text ∷ ps) = ap (λ us. Token.Str text ∷ us) (own-shape ps)
+own-shape (Raw text ∷ ps) = map-both (map Inner (tokens text)) (flat_map own_placed ps) ∙ cc (back-inner (tokens text), own-shape ps)
+
+-- ---- UNION
+
+narrow : (clause union : Bool) → (clause ≡ false → union ≡ false) → union ≡ (clause && union)
+narrow true union h = refl
+narrow false union h = h refl
+
+pub union-flag : (m : Placed) → is_outer is_union m ≡ (is_outer is_clause_word m && is_union (token_of m))
+union-flag (Outer t) = narrow (is_clause_word t) (is_union t) (not_union t)
+union-flag (Inner t) = refl
+
+abbrev pub any_union : List Flagged → Bool
+any_union ms = list_any (λ (m : Flagged). m.0 && is_union m.1) ms
+
+pub union-flags : (ms : List Placed) → list_any (is_outer is_union) ms ≡ any_union (flags ms)
+union-flags [] = refl
+union-flags (m ∷ ms) = cc (union-flag m, union-flags ms)
+
+pub before-append : (test : Token → Bool) (a b : List Placed) → list_any (is_outer test) a ≡ false → before_outer test (a ++ b) ≡ a ++ before_outer test b
+before-append test [] b none = refl
+before-append test (m ∷ a) b none =
+    let both = or_parts (is_outer test m) (list_any (is_outer test) a) none in
+    rw both.0 (ap (λ ms. m ∷ ms) (before-append test a b both.1))
+
+none-ends : (ts : List Token) → list_all is_whole ts ≡ true → list_any is_union ts ≡ false → list_any ends_clauses ts ≡ false
+none-ends [] whole none = refl
+none-ends (t ∷ ts) whole none =
+    let here = and_parts (is_whole t) (list_all is_whole ts) whole in
+    let both = or_parts (is_union t) (list_any is_union ts) none in
+    or_from _ _ (or_from _ _ both.0 (not-true _ (and_parts (not (is_open t)) (not (is_semicolon t)) here.0).1)) (none-ends ts here.1 both.1)
+
+fit-left : (l : ℤ) (a b : Pieces) → are_fit_from l (a ++ b) ≡ true → are_fit_from l a ≡ true
+fit-left l [] b fit = refl
+fit-left l (p ∷ a) b fit =
+    let both = and_parts (is_fit l p) (are_fit_from (at_end l (own_tokens p)) (a ++ b)) fit in
+    and_from _ _ both.0 (fit-left (at_end l (own_tokens p)) a b both.1)
+
+pub until-after : (a b : Pieces) → list_any is_union (own a) ≡ false → until begins_union (a ++ b) ≡ a ++ until begins_union b
+until-after [] b none = refl
+until-after (Fixed text ∷ a) b none =
+    let both = or_parts (list_any is_union (tokens text)) (list_any is_union (own a)) (sym (list_any-append is_union (tokens text) (own a)) ∙ none) in
+    rw both.0 (ap (λ ps. Fixed text ∷ ps) (until-after a b both.1))
+until-after (Quoted text ∷ a) b none = ap (λ ps. Quoted text ∷ ps) (until-after a b none)
+until-after (Raw text ∷ a) b none = ap (λ ps. Raw text ∷ ps) (until-after a b none)
+
+-- what follows the clauses that are read: nothing, the `;`, or a UNION and whatever follows it
+pub record Ending (rest : Pieces) : Type 0 where
+  pub follows : Follows (pieces_text rest)
+  pub cut : (a : List Token) → list_all is_whole a ≡ true → (r : List Token) × (without_semicolon (a ++ tokens (pieces_text rest)) ≡ a ++ r)
+      × (before_outer is_union (placed r) ≡ [])
+  pub ends : before_outer ends_clauses (flat_map own_placed rest) ≡ []
+  pub until_fits : (l : ℤ) → are_fit_from l (until begins_union rest) ≡ true
+
+pub ending-none : Ending []
+ending-none = record {
+  follows = inl refl;
+  cut = λ a whole. ([], ap without_semicolon (append-nil a) ∙ semicolon-none a whole ∙ sym (append-nil a), refl);
+  ends = refl;
+  until_fits = λ l. refl;
+}
+
+pub ending-semicolon : Ending (fixed_piece (codes ";"))
+ending-semicolon = record {
+  follows = inr refl;
+  cut = λ a whole. ([], semicolon-one a ∙ sym (append-nil a), refl);
+  ends = refl;
+  until_fits = λ l. refl;
+}
+
+pub ending-union : (all : Bool) (more : Pieces) → Ending (Fixed (union_opening all) ∷ more)
+ending-union true more = record {
+  follows = inr refl;
+  cut = λ a whole. let found = semicolon-later a (Word (codes "UNION")) (Word (codes "ALL") ∷ tokens (pieces_text more)) refl in
+      (Word (codes "UNION") ∷ found.0, found.1, refl);
+  ends = refl;
+  until_fits = λ l. refl;
+}
+ending-union false more = record {
+  follows = inr refl;
+  cut = λ a whole. let found = semicolon-later a (Word (codes "UNION")) (tokens (pieces_text more)) refl in (Word (codes "UNION") ∷ found.0, found.1, refl);
+  ends = refl;
+  until_fits = λ l. refl;
+}
+
+-- the clauses of pieces that no UNION and no `;` ends
+abbrev pub clauses_in : Pieces → List Clause
+clauses_in ps = (parts_at is_clause_word (flat_map own_placed ps)).rest
+
+module _ (front rest : Pieces) (is : Front (own front)) (ending : Ending rest) where
+  pub list-back : piece_clauses (front ++ rest) ≡ clauses_in front
+  unfolding piece_clauses
+  list-back =
+      let whole = (and_parts (list_all is_whole (own front)) (closes_from (pos 0) (own front)) is.even).0 in
+      ap (λ ms. (parts_at is_clause_word (before_outer ends_clauses ms)).rest) (flat_map-append own_placed front rest)
+      ∙ ap (λ ms. (parts_at is_clause_word ms).rest)
+      (before-append ends_clauses (flat_map own_placed front) (flat_map own_placed rest)
+      (own-outer ends_clauses front ∙ none-ends (own front) whole is.no_union)
+      ∙ ap (λ ms. flat_map own_placed front ++ ms) ending.ends ∙ append-nil (flat_map own_placed front))
+
+  fit-front : has_fit_fragments (front ++ rest) ≡ true → are_fit_from (pos 0) front ≡ true
+  fit-front fit =
+      fit-left (pos 0) front (until begins_union rest)
+      (ap (are_fit_from (pos 0)) (sym (until-after front rest is.no_union)) ∙ sym (are_fit-is (until begins_union (front ++ rest))) ∙ fit)
+
+  read-front : are_fit_from (pos 0) front ≡ true → read (pieces_tokens front ++ tokens (pieces_text rest)) ≡ clauses_in front
+  unfolding read
+  read-front fit =
+      let same = fit-flags (pos 0) front refl fit is.laid in
+      let even = shape-even front (fit-balanced (pos 0) front fit) is.even in
+      let both = and_parts (list_all is_whole (pieces_tokens front)) (closes_from (pos 0) (pieces_tokens front)) even in
+      let found = ending.cut (pieces_tokens front) both.0 in
+      let no_union : has_outer is_union (pieces_tokens front) ≡ false = union-flags (placed (pieces_tokens front)) ∙ ap any_union same
+      ∙ sym (union-flags (flat_map own_placed front)) ∙ own-outer is_union front ∙ is.no_union in
+      ap (λ us. (parts_at is_clause_word (before_outer is_union (fragments.placed us))).rest) found.1
+      ∙ ap (λ ms. (parts_at is_clause_word (before_outer is_union ms)).rest) (placed-is (pieces_tokens front ++ found.0))
+      ∙ ap (λ ms. (parts_at is_clause_word (before_outer is_union ms)).rest)
+      (placed-then (pieces_tokens front) found.0 (at_end-closes (pos 0) (pieces_tokens front) both.1))
+      ∙ ap (λ ms. (parts_at is_clause_word ms).rest)
+      (before-append is_union (placed (pieces_tokens front)) (placed found.0) no_union
+      ∙ ap (λ ms. placed (pieces_tokens front) ++ ms) found.2 ∙ append-nil (placed (pieces_tokens front)))
+      ∙ ap (λ (ps : Parts). ps.rest) (same-parts (placed (pieces_tokens front)) (flat_map own_placed front) same)
+
+  -- what is printed reads back as its clauses
+  pub read-back : Inside front → has_fit_fragments (front ++ rest) ≡ true → read (tokens (pieces_text (front ++ rest))) ≡ piece_clauses (front ++ rest)
+  read-back inside fit =
+      let fits = fit-front fit in
+      let no_open = fragments_closed front (fit-balanced (pos 0) front fits) in
+      ap read (ap tokens (text-append front rest) ∙ inside.reads no_open (pieces_text rest) ending.follows) ∙ read-front fits ∙ sym list-back
+
+-- ---- sections
+
+-- a section that clause words of its own open, and whose body has a property, and no clause word of the builder's
+pub record Opens (P : Pieces → Type 0) (s : Section Piece) : Type 0 where
+  pub front : Front (tokens s.opening)
+  pub starts : begins_with is_clause_word (tokens s.opening) ≡ true
+  pub neutral : Neutral s.body
+  pub body : P s.body
+
+abbrev pub AllOpen : (Pieces → Type 0) → List (Section Piece) → Type 0
+AllOpen P sections = AllByRecursion (Opens P) sections
+
+-- the pieces of a section
+abbrev pub section_pieces : Section Piece → Pieces
+section_pieces s = fixed_piece s.opening ++ s.body
+
+pub sections-front : (P : Pieces → Type 0) (sections : List (Section Piece)) → AllOpen P sections → Front (own (concat_sections fixed_piece sections))
+sections-front P [] all = record { laid = refl; even = refl; no_union = refl }
+sections-front P (s ∷ sections) all =
+    subst Front (sym (own-append (section_pieces s) (concat_sections fixed_piece sections)))
+    (front-append (tokens s.opening ++ own s.body) (own (concat_sections fixed_piece sections))
+    (front-append (tokens s.opening) (own s.body) all.0.front (neutral-front s.body all.0.neutral)) (sections-front P sections all.1))
+
+-- the clauses of sections are those of each
+parts-cut : (test : Token → Bool) (a b : List Placed) → (parts_at test b).lead ≡ [] → (parts_at test (a ++ b)).rest ≡ (parts_at test a).rest
+    ++ (parts_at test b).rest
+parts-cut test a b none = ap (λ (ps : Parts). ps.rest) (cut a)
+  where
+    step : (is : Bool) (t : Token) (one : Parts) (more : List Clause) → with_front is t (record { lead = one.lead; rest = one.rest ++ more })
+        ≡ record { lead = (with_front is t one).lead; rest = (with_front is t one).rest ++ more }
+    step true t one more = refl
+    step false t one more = refl
+
+    cut : (c : List Placed) → parts_at test (c ++ b) ≡ record { lead = (parts_at test c).lead; rest = (parts_at test c).rest ++ (parts_at test b).rest }
+    cut [] = λ i. record { lead = none i; rest = (parts_at test b).rest }
+    cut (m ∷ c) = ap (with_front (is_outer test m) (token_of m)) (cut c) ∙ step (is_outer test m) (token_of m) (parts_at test c) (parts_at test b).rest
+
+pub starts-lead : (ts : List Token) (ms : List Placed) → begins_with is_clause_word ts ≡ true → (parts_at is_clause_word (map Outer ts ++ ms)).lead ≡ []
+starts-lead [] ms h = absurd (false≢true h)
+starts-lead (t ∷ ts) ms h = ap (λ b. (with_front b t (parts_at is_clause_word (map Outer ts ++ ms))).lead) h
+
+sections-lead : (P : Pieces → Type 0) (sections : List (Section Piece)) → AllOpen P sections
+    → (parts_at is_clause_word (flat_map own_placed (concat_sections fixed_piece sections))).lead ≡ []
+sections-lead P [] all = refl
+sections-lead P (s ∷ sections) all = starts-lead (tokens s.opening) (flat_map own_placed (s.body ++ concat_sections fixed_piece sections)) all.0.starts
+
+pub clauses-sections : (P : Pieces → Type 0) (sections : List (Section Piece)) → AllOpen P sections → clauses_in (concat_sections fixed_piece sections)
+    ≡ flat_map (λ s. clauses_in (section_pieces s)) sections
+clauses-sections P [] all = refl
+clauses-sections P (s ∷ sections) all =
+    let more = concat_sections fixed_piece sections in
+    ap (λ ms. (parts_at is_clause_word ms).rest) (flat_map-append own_placed (section_pieces s) more)
+    ∙ parts-cut is_clause_word (flat_map own_placed (section_pieces s)) (flat_map own_placed more) (sections-lead P sections all.1)
+    ∙ ap (λ cs. clauses_in (section_pieces s) ++ cs) (clauses-sections P sections all.1)
+
+-- the last clause goes on
+abbrev pub with_last : List Token → List Clause → List Clause
+with_last ts [] = []
+with_last ts (c ∷ []) = (c.0, c.1 ++ ts) ∷ []
+with_last ts (c ∷ d ∷ cs) = c ∷ with_last ts (d ∷ cs)
+
+abbrev pub lead_on : List Token → List Token → List Clause → List Token
+lead_on ts lead [] = lead ++ ts
+lead_on ts lead (c ∷ cs) = lead
+
+abbrev on : List Token → Parts → Parts
+on ts one = record { lead = lead_on ts one.lead one.rest; rest = with_last ts one.rest }
+
+on-front : (is : Bool) (t : Token) (ts lead : List Token) (rest : List Clause) → with_front is t (on ts (record { lead = lead; rest = rest }))
+    ≡ on ts (with_front is t (record { lead = lead; rest = rest }))
+on-front true t ts lead [] = refl
+on-front true t ts lead (c ∷ cs) = refl
+on-front false t ts lead [] = refl
+on-front false t ts lead (c ∷ cs) = refl
+
+parts-on : (test : Token → Bool) (a b : List Placed) → list_any (is_outer test) b ≡ false → parts_at test (a ++ b) ≡ on (map token_of b) (parts_at test a)
+parts-on test [] b none = parts-none test b none
+parts-on test (m ∷ a) b none =
+    ap (with_front (is_outer test m) (token_of m)) (parts-on test a b none)
+    ∙ on-front (is_outer test m) (token_of m) (map token_of b) (parts_at test a).lead (parts_at test a).rest
+
+-- the clauses of a section: those of its opening words, the last with the body
+abbrev pub opening_clauses : List ℕ → List Clause
+opening_clauses opening = (parts_at is_clause_word (map Outer (tokens opening))).rest
+
+pub section-clauses : (s : Section Piece) → Neutral s.body → clauses_in (section_pieces s) ≡ with_last (pieces_tokens s.body) (opening_clauses s.opening)
+section-clauses s neutral =
+    ap (λ (ps : Parts). ps.rest) (parts-on is_clause_word (map Outer (tokens s.opening)) (flat_map own_placed s.body)
+    (own-outer is_clause_word s.body ∙ neutral.no_word))
+    ∙ ap (λ ts. with_last ts (opening_clauses s.opening)) (own-shape s.body)

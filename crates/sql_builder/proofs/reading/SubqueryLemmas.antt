@@ -1,0 +1,79 @@
+-- A query between brackets serves as a table, with a name behind it too.
+use Rattle.std.proofs.Common.{◌≡◌, sym, ◌∙◌, ap, false, true, not, List, [], ◌∷◌, ◌++◌, ℕ}
+use Rattle.std.proofs.Common.{codes, append-nil, append_assoc}
+use Rattle.std.specs.Prelude.{IsTrue}
+use Rattle.std.proofs.lemmas.Bool.{and_parts, and_from, false≢true, not-true, not_from_false, or_from}
+use Rattle.sql_parts.specs.Fragments.{balanced, has_clause_word, is_clause_word}
+use Rattle.sql_parts.specs.Tokens.{Word, Symbol, tokens}
+use Rattle.sql_parts.proofs.fragments.DepthFacts.{has_outer-is}
+use Rattle.sql_builder.specs.Builder.{ClauseTexts}
+use Rattle.sql_builder.specs.Calls.{FinishText, Sql, Query, QueryValues, Subquery, SubqueryAs, clauses}
+use Rattle.sql_builder.specs.Clauses.{Clauses}
+use Rattle.sql_builder.specs.FitFragments.{has_balanced_fragments}
+use Rattle.sql_builder.specs.RawTexts.{Bare, is_fit}
+use Rattle.sql_builder.specs.Layout.{byte_atoms, query, subquery_as}
+use Rattle.sql_builder.specs.Shape.{HasShape, as_fragments, pieces_tokens}
+use Rattle.sql_builder.specs.Statement.{layout_at}
+use Rattle.sql_builder.specs.Subqueries.{NestsAsTable, SubqueriesNestAsTables}
+use Rattle.sql_builder.specs.Pieces.{Pieces, fixed_piece, pieces_text, raw_piece}
+use Rattle.sql_builder.specs.WhereTokens as where_tokens
+use Rattle.sql_builder.proofs.tokens.BalancedFacts.{has_outer-append, is_even-brackets, no_clause-brackets}
+use Rattle.sql_builder.proofs.fragments.NeutralLemmas.{NeutralParts, clauses-neutral, raw-neutral}
+use Rattle.sql_builder.proofs.pieces.ClauseShapeLemmas.{printed-shaped}
+use Rattle.sql_builder.proofs.pieces.LayoutShapeLemmas.{subquery_as_shape}
+use Rattle.sql_builder.proofs.reading.NestingLemmas.{inner-balanced, nests}
+use Rattle.sql_builder.proofs.reading.LayoutLemmas.{query-even}
+use Rattle.sql_builder.proofs.reading.ClauseWordLemmas.{fragments_closed, shape-even}
+use Rattle.sql_builder.proofs.reading.ReadBackLemmas.{layout}
+use Rattle.sql_builder.proofs.pieces.ShapeLemmas.{pieces_tokens-append}
+use Rattle.sql_builder.proofs.statements.StatementLaws.{of_pieces}
+use Rattle.sql_builder.proofs.tokens.WhereWords.{has_clause}
+
+module _ (r : Clauses Pieces) (parts : NeutralParts r) where
+  -- the query in brackets, AS and the name
+  named-tokens : (name : List ℕ)
+      → pieces_tokens (subquery_as fixed_piece (raw_piece name) r)
+      ≡ where_tokens.in_brackets (pieces_tokens (query fixed_piece r)) ++ Word (codes "AS") ∷ tokens name
+  unfolding where_tokens.in_brackets
+  named-tokens name =
+      ap (λ ts. Symbol 40 ∷ ts)
+      (pieces_tokens-append (query fixed_piece r) (fixed_piece (codes ") AS ") ++ raw_piece name)
+      ∙ ap (λ ts. pieces_tokens (query fixed_piece r) ++ Symbol 41 ∷ Word (codes "AS") ∷ ts) (append-nil (tokens name))
+      ∙ sym (append_assoc (pieces_tokens (query fixed_piece r)) (Symbol 41 ∷ []) (Word (codes "AS") ∷ tokens name)))
+
+  named-no_clause : (name : List ℕ) → has_balanced_fragments (subquery_as fixed_piece (raw_piece name) r) ≡ true → has_clause (tokens name) ≡ false
+      → has_clause (pieces_tokens (subquery_as fixed_piece (raw_piece name) r)) ≡ false
+  named-no_clause name all none =
+      let inner = pieces_tokens (query fixed_piece r) in
+      let even = shape-even (query fixed_piece r) (inner-balanced r parts (fixed_piece (codes ") AS ") ++ raw_piece name) all) (query-even r parts) in
+      ap has_clause (named-tokens name)
+      ∙ has_outer-append is_clause_word (where_tokens.in_brackets inner) (Word (codes "AS") ∷ tokens name) (is_even-brackets inner even)
+      ∙ or_from _ _ (no_clause-brackets inner even) none
+
+  pub table : (finish : FinishText) (text : List ℕ) → HasShape (layout_at fixed_piece raw_piece finish r) text
+      → NestsAsTable finish (layout_at fixed_piece raw_piece finish r) text
+  table Sql text shaped = λ makes all. absurd (false≢true makes)
+  table Query text shaped = λ makes all. absurd (false≢true makes)
+  table QueryValues text shaped = λ makes all. absurd (false≢true makes)
+  table Subquery text shaped = λ makes all.
+      let both = and_parts _ (not (has_clause_word text)) (nests r parts Subquery text shaped all) in
+      and_from _ _ (and_parts (balanced text) _ (and_parts _ _ both.0).0).0 both.1
+  table (SubqueryAs name) text shaped = λ makes all.
+      let same = shaped (fragments_closed (subquery_as fixed_piece (raw_piece name) r) all) in
+      let none = sym (has_outer-is is_clause_word (tokens name)) ∙ not-true _ makes in
+      and_from _ _ (nests r parts (SubqueryAs name) text shaped all)
+      (not_from_false _ (has_outer-is is_clause_word (tokens text) ∙ ap has_clause same ∙ named-no_clause name all none))
+
+-- ---- a list of calls
+
+pub subqueries_nest : SubqueriesNestAsTables
+subqueries_nest start calls finish makes =
+    let its_clauses = clauses start calls in
+    of_pieces start calls finish (λ printed. IsTrue (has_balanced_fragments printed)) (λ printed text. IsTrue (is_fit (Bare text)))
+    (table its_clauses (clauses-neutral start calls) finish (pieces_text (layout finish its_clauses)) (printed-shaped start calls finish).shape_is makes)
+
+-- ---- a builder
+
+pub subquery_as_table : (r : ClauseTexts) (text name : List ℕ) → text ≡ subquery_as byte_atoms name r
+    → NestsAsTable (SubqueryAs name) (subquery_as fixed_piece (raw_piece name) (as_fragments r)) text
+subquery_as_table r text name is = table (as_fragments r) (raw-neutral r) (SubqueryAs name) text (subquery_as_shape r text name is)

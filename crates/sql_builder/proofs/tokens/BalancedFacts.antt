@@ -1,0 +1,148 @@
+-- What is made of balanced lists is balanced, and what is made of conditions is a condition.
+use Rattle.std.proofs.Common.{◌≡◌, refl, sym, ◌∙◌, ℕ, ap, zero, suc, Bool, true, false, not, ◌||◌, List, [], ◌∷◌, ◌++◌, pos, ℤ}
+use Rattle.std.proofs.Math.IntN.{suc_ℤ}
+use Rattle.std.proofs.lemmas.Bool.{and_parts, and_from, or_from, false≢true, not-true, not_from_false}
+use Rattle.std.proofs.lemmas.List.Folds.{list_all-append}
+use Rattle.std.specs.List.{list_any, list_all}
+use Rattle.sql_parts.specs.Tokens.{Token, is_empty, tokens, closed, is_open, is_semicolon}
+use Rattle.sql_builder.specs.WhereTokens.{group_tokens, in_brackets, joined}
+use Rattle.sql_builder.proofs.tokens.WhereWords.{is_condition, is_group, has_clause, or_word, right_bracket}
+use Rattle.sql_builder.proofs.tokens.DepthFacts.{closes_from-append, at_end-closes, after-suc}
+use Rattle.sql_builder.proofs.tokens.PartFacts.{none-append, any-append}
+use Rattle.sql_builder.proofs.truth.ConnectiveLemmas.{none-brackets, placed-then}
+use Rattle.sql_parts.proofs.fragments.DepthFacts.{
+  after,
+  closes_from,
+  has_outer,
+  is_at_least_0,
+  is_balanced,
+  is_even,
+  is_operand,
+  placed,
+  placed_from,
+  is_balanced-is,
+}
+use Rattle.sql_parts.specs.Fragments.{is_clause_word, is_joining, is_outer, is_whole, balanced}
+
+whole-append : (a b : List Token) → list_all is_whole a ≡ true → list_all is_whole b ≡ true → list_all is_whole (a ++ b) ≡ true
+whole-append a b h k = list_all-append is_whole a b ∙ and_from _ _ h k
+
+pub is_even-append : (a b : List Token) → is_even a ≡ true → is_even b ≡ true → is_even (a ++ b) ≡ true
+is_even-append a b h k =
+    let ha = and_parts (list_all is_whole a) (closes_from (pos 0) a) h in
+    let hb = and_parts (list_all is_whole b) (closes_from (pos 0) b) k in
+    and_from _ _ (whole-append a b ha.0 hb.0) (closes_from-append (pos 0) a b ha.1 hb.1)
+
+pub is_balanced-append : (a b : List Token) → is_balanced a ≡ true → is_even b ≡ true → is_balanced (a ++ b) ≡ true
+is_balanced-append [] b h k = absurd (false≢true h)
+is_balanced-append (t ∷ a) b h k = is_even-append (t ∷ a) b h k
+
+-- no test finds an outer token in a list that is joined, if in neither
+pub none-joined : (test : Token → Bool) (a b : List Token) → closes_from (pos 0) a ≡ true → has_outer test a ≡ false → has_outer test b ≡ false
+    → has_outer test (a ++ b) ≡ false
+none-joined test a b closes h k = ap (list_any (is_outer test)) (placed-then a b (at_end-closes (pos 0) a closes)) ∙ none-append test (placed a) (placed b) h k
+
+pub high : (l : ℤ) → is_at_least_0 l ≡ true → is_at_least_0 (suc_ℤ l) ≡ true
+high l h = up l h
+  where
+    up : (l : ℤ) → is_at_least_0 l ≡ true → is_at_least_0 (suc_ℤ l) ≡ true
+    up (ℤ.pos n) h = refl
+    up (ℤ.negsuc n) h = absurd (false≢true h)
+
+-- one deeper, and a `)` after it
+closes-suc : (l : ℤ) (ts : List Token) → closes_from l ts ≡ true → closes_from (suc_ℤ l) (ts ++ right_bracket ∷ []) ≡ true
+closes-suc l [] h = at_zero l h
+  where
+    at_zero : (l : ℤ) → closes_from l [] ≡ true → closes_from (suc_ℤ l) (right_bracket ∷ []) ≡ true
+    at_zero (ℤ.pos zero) h = refl
+    at_zero (ℤ.pos (suc n)) h = absurd (false≢true h)
+    at_zero (ℤ.negsuc n) h = absurd (false≢true h)
+closes-suc l (t ∷ ts) h =
+    let both = and_parts (is_at_least_0 (after l t)) (closes_from (after l t) ts) h in
+    rw (after-suc l t, high (after l t) both.0) (closes-suc (after l t) ts both.1)
+
+pub is_even-brackets : (ts : List Token) → is_even ts ≡ true → is_even (in_brackets ts) ≡ true
+unfolding in_brackets
+is_even-brackets ts h =
+    let both = and_parts (list_all is_whole ts) (closes_from (pos 0) ts) h in
+    and_from _ _ (whole-append ts (right_bracket ∷ []) both.0 refl) (closes-suc (pos 0) ts both.1)
+
+pub is_balanced-brackets : (ts : List Token) → is_even ts ≡ true → is_balanced (in_brackets ts) ≡ true
+unfolding in_brackets
+is_balanced-brackets ts h = is_even-brackets ts h
+
+-- whatever is in brackets: the clause words there are not outer
+pub no_clause-brackets : (ts : List Token) → is_even ts ≡ true → has_clause (in_brackets ts) ≡ false
+no_clause-brackets ts h = none-brackets is_clause_word ts refl (and_parts (list_all is_whole ts) (closes_from (pos 0) ts) h).1
+
+-- so a query in brackets is an operand
+pub is_operand-brackets : (ts : List Token) → is_even ts ≡ true → is_operand (in_brackets ts) ≡ true
+unfolding in_brackets
+is_operand-brackets ts h = and_from _ _ (is_balanced-brackets ts h)
+    (and_from _ _ (not_from_false _ (none-brackets is_joining ts refl (and_parts (list_all is_whole ts) (closes_from (pos 0) ts) h).1)) refl)
+
+pub balanced_even : (ts : List Token) → is_balanced ts ≡ true → is_even ts ≡ true
+balanced_even ts h = (and_parts (not (is_empty ts)) (is_even ts) h).1
+
+pub even_closes : (ts : List Token) → is_even ts ≡ true → closes_from (pos 0) ts ≡ true
+even_closes ts h = (and_parts (list_all is_whole ts) (closes_from (pos 0) ts) h).1
+
+-- an outer token of a list that is joined is one of a part
+pub has_outer-append : (test : Token → Bool) (a b : List Token) → is_even a ≡ true → has_outer test (a ++ b) ≡ (has_outer test a || has_outer test b)
+has_outer-append test a b h = ap (list_any (is_outer test)) (placed-then a b (at_end-closes (pos 0) a (even_closes a h)))
+    ∙ any-append test (placed a) (placed b)
+
+-- a condition, and more that is no clause
+pub is_condition-append : (a b : List Token) → is_condition a ≡ true → is_even b ≡ true → has_clause b ≡ false → is_condition (a ++ b) ≡ true
+is_condition-append a b h even none =
+    let ha = and_parts (is_balanced a) (not (has_clause a)) h in
+    and_from _ _ (is_balanced-append a b ha.0 even)
+    (not_from_false _ (has_outer-append is_clause_word a b (balanced_even a ha.0) ∙ or_from _ _ (not-true _ ha.1) none))
+
+-- ---- the same of texts
+
+pub even_text : (text : List ℕ) → balanced text ≡ true → is_even (tokens text) ≡ true
+even_text text h = balanced_even (tokens text) (sym (is_balanced-is (tokens text)) ∙ h)
+
+-- what is balanced is closed
+whole-no_open : (ts : List Token) → list_all is_whole ts ≡ true → list_any is_open ts ≡ false
+whole-no_open [] whole = refl
+whole-no_open (t ∷ ts) whole =
+    let both = and_parts (is_whole t) (list_all is_whole ts) whole in
+    or_from _ _ (not-true _ (and_parts (not (is_open t)) (not (is_semicolon t)) both.0).0) (whole-no_open ts both.1)
+
+pub balanced_closed : (text : List ℕ) → balanced text ≡ true → closed text ≡ true
+balanced_closed text h = not_from_false _ (whole-no_open (tokens text) (and_parts (list_all is_whole (tokens text)) _ (even_text text h)).0)
+
+-- ---- conditions that are joined
+
+-- a separator that is no bracket, no clause word and not `;`
+pub record IsPlain (s : Token) : Type 0 where
+  pub flat : after (pos 0) s ≡ pos 0
+  pub whole : is_whole s ≡ true
+  pub no_clause : is_clause_word s ≡ false
+
+even_after : (s : Token) (ts : List Token) → IsPlain s → is_even ts ≡ true → is_even (s ∷ ts) ≡ true
+even_after s ts plain h =
+    let both = and_parts (list_all is_whole ts) (closes_from (pos 0) ts) h in
+    and_from _ _ (and_from _ _ plain.whole both.0) (and_from _ _ (ap is_at_least_0 plain.flat) (ap (λ l. closes_from l ts) plain.flat ∙ both.1))
+
+no_clause_after : (s : Token) (ts : List Token) → IsPlain s → has_clause ts ≡ false → has_clause (s ∷ ts) ≡ false
+no_clause_after s ts plain h = or_from _ _ plain.no_clause (ap (λ l. list_any (is_outer is_clause_word) (placed_from l ts)) plain.flat ∙ h)
+
+pub is_condition-joined : (s : Token) (c : List Token) (cs : List (List Token)) → IsPlain s → list_all is_condition (c ∷ cs) ≡ true
+    → is_condition (joined s (c ∷ cs)) ≡ true
+is_condition-joined s c [] plain h = (and_parts (is_condition c) true h).0
+is_condition-joined s c (d ∷ cs) plain h =
+    let both = and_parts (is_condition c) (list_all is_condition (d ∷ cs)) h in
+    let more = is_condition-joined s d cs plain both.1 in
+    let parts = and_parts (is_balanced (joined s (d ∷ cs))) (not (has_clause (joined s (d ∷ cs)))) more in
+    is_condition-append c (s ∷ joined s (d ∷ cs)) both.0 (even_after s (joined s (d ∷ cs)) plain (balanced_even (joined s (d ∷ cs)) parts.0))
+    (no_clause_after s (joined s (d ∷ cs)) plain (not-true _ parts.1))
+
+or_plain : IsPlain or_word
+or_plain = record { flat = refl; whole = refl; no_clause = refl }
+
+pub is_condition-group : (g : List (List Token)) → is_group g ≡ true → is_condition (group_tokens g) ≡ true
+is_condition-group [] h = absurd (false≢true h)
+is_condition-group (c ∷ cs) h = is_condition-joined or_word c cs or_plain h

@@ -1,0 +1,54 @@
+-- Depth and places of tokens in lists that are joined.
+use Rattle.std.proofs.Common.{◌≡◌, refl, sym, ◌∙◌, ap, subst, zero, suc, Bool, true, false, cond, List, [], ◌∷◌, ◌++◌, map, ℤ, pos, negsuc}
+use Rattle.std.proofs.lemmas.Bool.{and_parts, and_from, false≢true}
+use Rattle.std.proofs.Math.IntN.{suc_ℤ, pred_ℤ, suc-pred, pred-suc}
+use Rattle.sql_parts.specs.Tokens.{Token}
+use Rattle.sql_parts.proofs.fragments.DepthFacts.{after, at_end, closes_from, is_at_least_0, is_zero, placed_from}
+use Rattle.sql_parts.specs.Fragments.{as_placed, Inner, lowers, raises}
+
+pub placed_from-append : (l : ℤ) (a b : List Token) → placed_from l (a ++ b) ≡ placed_from l a ++ placed_from (at_end l a) b
+placed_from-append l [] b = refl
+placed_from-append l (t ∷ a) b = ap (λ ms. as_placed (is_zero l) t ∷ ms) (placed_from-append (after l t) a b)
+
+pub at_end-append : (l : ℤ) (a b : List Token) → at_end l (a ++ b) ≡ at_end (at_end l a) b
+at_end-append l [] b = refl
+at_end-append l (t ∷ a) b = at_end-append (after l t) a b
+
+-- one deeper
+step_up : (up down : Bool) (l : ℤ) → cond up (suc_ℤ (suc_ℤ l)) (cond down (pred_ℤ (suc_ℤ l)) (suc_ℤ l)) ≡ suc_ℤ (cond up (suc_ℤ l) (cond down (pred_ℤ l) l))
+step_up true down l = refl
+step_up false true l = pred-suc l ∙ sym (suc-pred l)
+step_up false false l = refl
+
+pub after-suc : (l : ℤ) (t : Token) → after (suc_ℤ l) t ≡ suc_ℤ (after l t)
+after-suc l t = step_up (raises t) (lowers t) l
+
+pub at_end-suc : (l : ℤ) (a : List Token) → at_end (suc_ℤ l) a ≡ suc_ℤ (at_end l a)
+at_end-suc l [] = refl
+at_end-suc l (t ∷ a) = ap (λ k. at_end k a) (after-suc l t) ∙ at_end-suc (after l t) a
+
+pub zero_from : (l : ℤ) → is_zero l ≡ true → l ≡ pos 0
+zero_from (pos zero) h = refl
+zero_from (pos (suc n)) h = absurd (false≢true h)
+zero_from (negsuc n) h = absurd (false≢true h)
+
+pub at_end-closes : (l : ℤ) (a : List Token) → closes_from l a ≡ true → at_end l a ≡ pos 0
+at_end-closes l [] h = zero_from l h
+at_end-closes l (t ∷ a) h = at_end-closes (after l t) a (and_parts _ _ h).1
+
+not_outer : (l : ℤ) → is_at_least_0 l ≡ true → is_zero (suc_ℤ l) ≡ false
+not_outer (pos n) h = refl
+not_outer (negsuc n) h = absurd (false≢true h)
+
+-- one deeper no token is outer
+pub placed_from-suc : (l : ℤ) (a : List Token) → is_at_least_0 l ≡ true → closes_from l a ≡ true → placed_from (suc_ℤ l) a ≡ map Inner a
+placed_from-suc l [] high h = refl
+placed_from-suc l (t ∷ a) high h =
+    let parts = and_parts _ _ h in
+    rw (not_outer l high, after-suc l t) (ap (λ ms. Inner t ∷ ms) (placed_from-suc (after l t) a parts.0 parts.1))
+
+pub closes_from-append : (l : ℤ) (a b : List Token) → closes_from l a ≡ true → closes_from (pos 0) b ≡ true → closes_from l (a ++ b) ≡ true
+closes_from-append l [] b h k = subst (λ m. closes_from m b ≡ true) (sym (zero_from l h)) k
+closes_from-append l (t ∷ a) b h k =
+    let both = and_parts (is_at_least_0 (after l t)) (closes_from (after l t) a) h in
+    and_from _ _ both.0 (closes_from-append (after l t) a b both.1 k)

@@ -1,0 +1,193 @@
+-- A WHERE is true as its conditions make it.
+use Rattle.std.proofs.Common.{◌≡◌, refl, sym, ◌∙◌, ap, subst, ℕ, Bool, true, false, not, ◌||◌, List, [], ◌∷◌, ◌++◌, map, pos, codes, append-nil}
+use Rattle.std.specs.Prelude.{filter_map, flat_map}
+use Rattle.std.specs.List.{list_all, list_any}
+use Rattle.std.proofs.lemmas.Bool.{and_parts, and_from, false≢true, not_from_false}
+use Rattle.sql_parts.specs.Text.{join_with}
+use Rattle.sql_parts.specs.Tokens.{Token, tokens, is_empty}
+use Rattle.sql_builder.specs.Builder.{ClauseTexts}
+use Rattle.sql_builder.specs.Calls.{CallText, condition_in, group_pieces, opens_group, conditions_of, groups}
+use Rattle.sql_builder.specs.Condition.{ConditionText, condition_pieces}
+use Rattle.sql_builder.specs.Filters.{Group, cut}
+use Rattle.sql_builder.specs.Phrases.{in_brackets}
+use Rattle.sql_builder.specs.Shape.{pieces_tokens, cond_tokens}
+use Rattle.sql_builder.specs.Pieces as text
+use Rattle.sql_builder.specs.Pieces.{Pieces, Fixed, fixed_piece, raw_piece}
+use Rattle.sql_builder.specs.declared.condition.Family.{Family}
+use Rattle.sql_builder.proofs.fragments.NeutralLemmas.{condition-neutral}
+use Rattle.sql_builder.proofs.fragments.PropertyLemmas.{neutral-raw}
+use Rattle.sql_builder.proofs.reading.LayoutLemmas.{where_bodies, where_body}
+use Rattle.sql_builder.proofs.reading.SectionLemmas.{Neutral, neutral-front, own-outer}
+use Rattle.sql_builder.proofs.reading.ClauseWordLemmas.{Flagged, fit-balanced, fit-flags, flags, shape-even, are_fit_from, is_fit, are_fit-is}
+use Rattle.sql_builder.proofs.pieces.ShapeLemmas.{pieces_tokens-append, pieces_tokens-brackets}
+use Rattle.sql_builder.proofs.truth.WhereLemmas.{truth_where}
+use Rattle.sql_builder.specs.WhereTokens as where_tokens
+use Rattle.sql_builder.specs.WhereTokens.{group_tokens, joined}
+use Rattle.sql_builder.proofs.tokens.WhereWords.{are_groups, is_condition, is_group, and_word, has_clause, or_word}
+use Rattle.sql_builder.specs.FitFragments.{has_fit_conditions, has_fit_groups, are_fit}
+use Rattle.sql_builder.specs.Meaning.{condition_groups, text_groups, where_truths}
+use Rattle.sql_builder.specs.Reading.{own_placed}
+use Rattle.sql_builder.specs.Truths.{truth, Valuation}
+use Rattle.sql_parts.proofs.fragments.DepthFacts.{is_balanced, placed}
+use Rattle.sql_parts.specs.Fragments.{Placed, is_clause_word, is_outer}
+use Rattle.std.proofs.lemmas.List.Folds.{list_all-map}
+use Rattle.sql_builder.proofs.lists.AllFacts.{cut-all}
+use Rattle.sql_builder.proofs.conditions.ConditionLemmas.{begins_raw}
+
+-- ---- one condition
+
+any-flags : (ms : List Placed) → list_any (is_outer is_clause_word) ms ≡ list_any (λ (m : Flagged). m.0) (flags ms)
+any-flags [] = refl
+any-flags (m ∷ ms) = ap (λ (b : Bool). is_outer is_clause_word m || b) (any-flags ms)
+
+-- fit pieces without a clause word of the product's have no outer clause word
+no_clause-tokens : (ps : Pieces) → Neutral ps → are_fit_from (pos 0) ps ≡ true → has_clause (pieces_tokens ps) ≡ false
+no_clause-tokens ps neutral fit =
+    any-flags (placed (pieces_tokens ps))
+    ∙ ap (list_any (λ (m : Flagged). m.0)) (fit-flags (pos 0) ps refl fit (neutral-front ps neutral).laid)
+    ∙ sym (any-flags (flat_map own_placed ps)) ∙ own-outer is_clause_word ps ∙ neutral.no_word
+
+some-append : (a b : List Token) → is_balanced a ≡ true → not (is_empty (a ++ b)) ≡ true
+some-append [] b h = absurd (false≢true h)
+some-append (t ∷ a) b h = refl
+
+-- a fragment first, so that there is a token
+fit-condition : (first : List ℕ) (ps : Pieces) → Neutral (text.Raw first ∷ ps) → are_fit (text.Raw first ∷ ps) ≡ true
+    → is_condition (pieces_tokens (text.Raw first ∷ ps)) ≡ true
+fit-condition first ps neutral are =
+    let all = text.Raw first ∷ ps in
+    let fit = sym (are_fit-is all) ∙ are in
+    let here = and_parts (is_balanced (tokens first)) _ (and_parts (is_fit (pos 0) (text.Raw first)) (are_fit_from (pos 0) ps) fit).0 in
+    and_from _ _ (and_from _ _ (some-append (tokens first) (pieces_tokens ps) here.0) (shape-even all (fit-balanced (pos 0) all fit) neutral.even))
+    (not_from_false _ (no_clause-tokens all neutral fit))
+
+pub condition-fit : (condition : ConditionText) → are_fit (condition_pieces condition) ≡ true → is_condition (cond_tokens condition) ≡ true
+condition-fit condition fit =
+    let begins = begins_raw condition in
+    subst (λ ps. is_condition (pieces_tokens ps) ≡ true) (sym begins.2)
+    (fit-condition begins.0 begins.1 (subst Neutral begins.2 (condition-neutral condition)) (subst (λ ps. are_fit ps ≡ true) begins.2 fit))
+
+-- ---- tokens of what is joined
+
+pieces_tokens-joined : (words : List ℕ) (w : Token) → tokens words ≡ w ∷ [] → (items : List Pieces) → pieces_tokens (join_with (fixed_piece words) items)
+    ≡ joined w (map pieces_tokens items)
+pieces_tokens-joined words w is [] = refl
+pieces_tokens-joined words w is (x ∷ []) = ap pieces_tokens (append-nil x)
+pieces_tokens-joined words w is (x ∷ y ∷ items) =
+    let more = join_with (fixed_piece words) (y ∷ items) in
+    pieces_tokens-append x (Fixed words ∷ more)
+    ∙ ap (λ ts. pieces_tokens x ++ (ts ++ pieces_tokens more)) is
+    ∙ ap (λ ts. pieces_tokens x ++ w ∷ ts) (pieces_tokens-joined words w is (y ∷ items))
+
+-- ---- groups
+
+-- a group's pieces, and its conditions' tokens
+record Grouped (group : Pieces) (conditions : List (List Token)) : Type 0 where
+  is : pieces_tokens group ≡ group_tokens conditions
+  is_group_of : is_group conditions ≡ true
+
+abbrev AllGrouped : List Pieces → List (List (List Token)) → Type 0
+AllGrouped [] [] = Unit {0}
+AllGrouped [] (cs ∷ css) = ⊥
+AllGrouped (g ∷ gs) [] = ⊥
+AllGrouped (g ∷ gs) (cs ∷ css) = Grouped g cs × AllGrouped gs css
+
+brackets-are : (gs : List Pieces) (css : List (List (List Token))) → AllGrouped gs css → map pieces_tokens (map (in_brackets fixed_piece) gs)
+    ≡ map (λ (cs : List (List Token)). where_tokens.in_brackets (group_tokens cs)) css
+brackets-are [] [] all = refl
+brackets-are [] (cs ∷ css) all = absurd all
+brackets-are (g ∷ gs) [] all = absurd all
+brackets-are (g ∷ gs) (cs ∷ css) all = cc (pieces_tokens-brackets g, all.0.is, brackets-are gs css all.1)
+
+are-groups : (gs : List Pieces) (css : List (List (List Token))) → AllGrouped gs css → list_all is_group css ≡ true
+are-groups [] [] all = refl
+are-groups [] (cs ∷ css) all = absurd all
+are-groups (g ∷ gs) [] all = absurd all
+are-groups (g ∷ gs) (cs ∷ css) all = and_from _ _ all.0.is_group_of (are-groups gs css all.1)
+
+body-is : (g : Pieces) (gs : List Pieces) (cs : List (List Token)) (css : List (List (List Token))) → AllGrouped (g ∷ gs) (cs ∷ css)
+    → pieces_tokens (where_body g gs) ≡ where_tokens.where_tokens (cs ∷ css)
+unfolding where_tokens.where_tokens
+body-is g [] cs [] all = all.0.is
+body-is g [] cs (ds ∷ css) all = absurd all.1
+body-is g (h ∷ gs) cs [] all = absurd all.1
+body-is g (h ∷ gs) cs (ds ∷ css) all =
+    pieces_tokens-joined (codes " AND ") and_word refl (map (in_brackets fixed_piece) (g ∷ h ∷ gs))
+    ∙ ap (joined and_word) (brackets-are (g ∷ h ∷ gs) (cs ∷ ds ∷ css) all)
+
+-- the bodies of WHERE, over pieces
+bodies-true : (facts : Valuation) (gs : List Pieces) (css : List (List (List Token))) → AllGrouped gs css → map (truth facts) (where_bodies gs)
+    ≡ where_truths facts css
+unfolding are_groups
+bodies-true facts [] [] all = refl
+bodies-true facts [] (cs ∷ css) all = absurd all
+bodies-true facts (g ∷ gs) [] all = absurd all
+bodies-true facts (g ∷ gs) (cs ∷ css) all =
+    ap (λ ts. truth facts ts ∷ []) (body-is g gs cs css all)
+    ∙ ap (λ t. t ∷ []) (truth_where facts (cs ∷ css) (are-groups (g ∷ gs) (cs ∷ css) all))
+
+-- ---- the groups of calls
+
+abbrev InFamily : Type 0
+InFamily = Family × ConditionText
+
+abbrev fits : ConditionText → Bool
+fits condition = are_fit (condition_pieces condition)
+
+abbrev condition_fits : InFamily → Bool
+condition_fits c = fits c.1
+
+abbrev all_fit : Group InFamily → Bool
+all_fit group = list_all condition_fits (group.0 ∷ group.1)
+
+are-conditions : (cs : List ConditionText) → list_all fits cs ≡ true → list_all is_condition (map cond_tokens cs) ≡ true
+are-conditions [] all = refl
+are-conditions (c ∷ cs) all =
+    let both = and_parts (fits c) (list_all fits cs) all in
+    and_from _ _ (condition-fit c both.0) (are-conditions cs both.1)
+
+tokens-of : (cs : List ConditionText) → map pieces_tokens (map condition_pieces cs) ≡ map cond_tokens cs
+tokens-of [] = refl
+tokens-of (c ∷ cs) = ap (λ ts. cond_tokens c ∷ ts) (tokens-of cs)
+
+group-is : (group : Group ConditionText) → list_all fits (group.0 ∷ group.1) ≡ true → Grouped (group_pieces group) (map cond_tokens (group.0 ∷ group.1))
+group-is group all = record {
+  is = pieces_tokens-joined (codes " OR ") or_word refl (map condition_pieces (group.0 ∷ group.1)) ∙ ap (joined or_word) (tokens-of (group.0 ∷ group.1));
+  is_group_of = are-conditions (group.0 ∷ group.1) all;
+}
+
+without-families : (cs : List InFamily) → list_all condition_fits cs ≡ true → list_all fits (map (λ (c : InFamily). c.1) cs) ≡ true
+without-families cs all = list_all-map fits (λ (c : InFamily). c.1) cs ∙ all
+
+groups-are : (found : List (Group InFamily)) → list_all all_fit found ≡ true
+    → AllGrouped (map group_pieces (map conditions_of found))
+    (map (λ (group : Group ConditionText). map cond_tokens (group.0 ∷ group.1)) (map conditions_of found))
+groups-are [] all = tt
+groups-are (group ∷ found) all =
+    let both = and_parts (all_fit group) (list_all all_fit found) all in
+    (group-is (conditions_of group) (without-families (group.0 ∷ group.1) both.0), groups-are found both.1)
+
+pub calls-true : (facts : Valuation) (calls : List CallText) → has_fit_conditions calls ≡ true
+    → map (truth facts) (where_bodies (map group_pieces (groups calls))) ≡ where_truths facts (condition_groups calls)
+calls-true facts calls fit =
+    bodies-true facts (map group_pieces (groups calls)) (condition_groups calls)
+    (groups-are (cut opens_group (filter_map condition_in calls)) (cut-all condition_fits opens_group (filter_map condition_in calls) fit))
+
+-- ---- the groups of a builder
+
+text-is : (group : List ℕ) → are_fit (raw_piece group) ≡ true → Grouped (raw_piece group) (tokens group ∷ [])
+text-is group fit = record {
+  is = append-nil (tokens group);
+  is_group_of = and_from _ _ (subst (λ ts. is_condition ts ≡ true) (append-nil (tokens group)) (fit-condition group [] (neutral-raw group) fit)) refl;
+}
+
+texts-are : (groups : List (List ℕ)) → list_all (λ (group : List ℕ). are_fit (raw_piece group)) groups ≡ true
+    → AllGrouped (map raw_piece groups) (map (λ (group : List ℕ). tokens group ∷ []) groups)
+texts-are [] all = tt
+texts-are (group ∷ groups) all =
+    let both = and_parts (are_fit (raw_piece group)) (list_all (λ (g : List ℕ). are_fit (raw_piece g)) groups) all in
+    (text-is group both.0, texts-are groups both.1)
+
+pub texts-true : (facts : Valuation) (r : ClauseTexts) → has_fit_groups r ≡ true → map (truth facts) (where_bodies (map raw_piece r.groups))
+    ≡ where_truths facts (text_groups r)
+texts-true facts r fit = bodies-true facts (map raw_piece r.groups) (text_groups r) (texts-are r.groups fit)

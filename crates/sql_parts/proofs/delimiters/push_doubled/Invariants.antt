@@ -1,0 +1,15 @@
+use denote.Shadow.{shadow}
+use denote.Text.{Utf8}
+use Rattle.std.proofs.Common.{◌≡◌, ◌++◌, length}
+use Rattle.std.specs.Io.{StartsWith}
+use Rattle.std.specs.String.{string_bytes}
+use Rattle.sql_parts.specs.Quoting.{doubled}
+use Rattle.sql_parts.proofs.delimiters.push_doubled.Given as goal
+
+abbrev pub invariant-delimiters : goal.invariant-delimiters
+invariant-delimiters l =
+    shadow (Utf8 l.rest) × (string_bytes l.out ++ doubled l.delimiter l.rest ≡ string_bytes l.initial.out ++ doubled l.delimiter l.text)
+    × StartsWith (string_bytes l.out) (string_bytes l.initial.out)
+
+abbrev pub decreases-delimiters : goal.decreases-delimiters
+decreases-delimiters l = length l.rest

@@ -1,0 +1,9 @@
+pub mod BackslashRows
+pub mod BoundTextRows
+pub mod FragmentRows
+pub mod LikeRows
+pub mod LiteralRows
+pub mod NameRows
+pub mod OperandRows
+pub mod TemplateRows
+pub mod TokenRows

@@ -1,0 +1,15 @@
+use Rattle.std.proofs.Common.{◌≡◌, ℕ, ◌-◌, ◌<◌, ◌≤◌, length}
+use Rattle.std.specs.Str.Pattern.{LacksTextAt}
+use Rattle.sql_parts.specs.Search.{front_of}
+use Rattle.sql_parts.proofs.search.split_at_first.Given as goal
+
+abbrev pub invariant-loop-place : goal.invariant-loop-place
+invariant-loop-place l = record {
+  some : 0 < length l.sought;
+  front : l.front ≡ front_of l.sought;
+  within : l.at ≤ length l.bytes;
+  before : (k : ℕ) → k < l.at → LacksTextAt l.sought l.bytes k;
+}
+
+abbrev pub decreases-loop-place : goal.decreases-loop-place
+decreases-loop-place l = length l.bytes - l.at

@@ -1,0 +1,7 @@
+pub mod ApartFacts
+pub mod BoundTextFacts
+pub mod CallerFacts
+pub mod PairLemmas
+pub mod PlaceholderLemmas
+pub mod ResolveLemmas
+pub mod UnchangedTextFacts

@@ -1,0 +1,152 @@
+-- Values that stand apart are tokens of their own.
+use Rattle.std.proofs.Common.{◌≡◌, ℕ, Bool, true, false, not, ◌||◌, ◌⊎◌, List, [], ◌∷◌, ◌++◌, Option, Some, None, option_map, refl, sym, ap, ◌∙◌, subst, inl}
+use Rattle.std.proofs.Common.{inr, append_assoc, append-nil}
+use Rattle.std.specs.Prelude.{◌&&◌, ◌==◌, codes, flat_map}
+use Rattle.std.specs.List.{list_any}
+use Rattle.std.proofs.lemmas.Bool.{and_parts, false≢true, or_cases, or_from, or_left, or_right}
+use Rattle.std.proofs.lemmas.List.Folds.{list_any-append}
+use Rattle.sql_parts.specs.Apart.{HasBoundTokens, IsClosedIfApart, IsSupplied, apart, bound_tokens, literal_tokens, segment_apart, segments_apart}
+use Rattle.sql_parts.specs.Apart.{resolved_apart}
+use Rattle.sql_parts.specs.Literal.{LiteralValue, literal_text}
+use Rattle.sql_parts.specs.Templates.{Marks, Resolved, Value, bound, resolve, resolved_from, written}
+use Rattle.sql_parts.specs.Tokens.{Token, begins_with, clean, closed, ends_with, is_edge, is_empty, is_open, is_separator, tokens}
+use Rattle.sql_parts.proofs.tokens.TokenFacts.{closed-shut, seam}
+use Rattle.sql_parts.proofs.tokens.LiteralFacts.{literal-closed, literal-is, literal-shut}
+
+-- separators are edges
+separator-edge : (byte : ℕ) → is_separator byte ≡ true → is_edge byte ≡ true
+separator-edge byte is = list_any-append (λ other. byte == other) (codes " \t\n\r(),;=<>") (46 ∷ []) ∙ or_left _ _ is
+
+ends-edge : (text : List ℕ) → ends_with is_separator text ≡ true → ends_with is_edge text ≡ true
+ends-edge [] is = is
+ends-edge (byte ∷ []) is = separator-edge byte is
+ends-edge (byte ∷ next ∷ text) is = ends-edge (next ∷ text) is
+
+-- what holds of a segment that is apart
+record Fits (first last : Bool) (segment : List ℕ) : Type 0 where
+  is_closed : closed segment ≡ true
+  behind : last ≡ false → (is_empty segment ≡ true) ⊎ (ends_with is_separator segment ≡ true)
+  before : first ≡ false → ((last ≡ true) × (is_empty segment ≡ true)) ⊎ (begins_with is_separator segment ≡ true)
+
+one_of : (free one other : Bool) → (free || one || other) ≡ true → free ≡ false → (one ≡ true) ⊎ (other ≡ true)
+one_of true one other is isnt = absurd (false≢true (sym isnt))
+one_of false one other is isnt = or_cases one other is
+
+fits : (first last : Bool) (segment : List ℕ) → segment_apart first last segment ≡ true → Fits first last segment
+fits first last segment is =
+    let outer = and_parts (closed segment && (last || first && is_empty segment || ends_with is_separator segment)) _ is in
+    let inner = and_parts (closed segment) _ outer.0 in
+    record {
+      is_closed = inner.0;
+      behind = λ some. elim (one_of last (first && is_empty segment) (ends_with is_separator segment) inner.1 some)
+          [ inl empty ↦ inl (and_parts first _ empty).1 | inr ends ↦ inr ends ];
+      before = λ some. elim (one_of first (last && is_empty segment) (begins_with is_separator segment) outer.1 some)
+          [ inl empty ↦ inl (and_parts last _ empty) | inr begins ↦ inr begins ];
+    }
+
+-- what follows a value is nothing, or begins at an edge
+value-clean : (before segment rest : List ℕ) → (is_empty segment ≡ true → rest ≡ []) → (is_empty segment ≡ true) ⊎ (begins_with is_separator segment ≡ true)
+    → clean before (segment ++ rest) ≡ true
+value-clean before [] rest none (inl empty) = rw (none refl) (or_left _ _ (or_left _ _ (or_right (is_empty before) true refl)))
+value-clean before [] rest none (inr begins) = absurd (false≢true begins)
+value-clean before (byte ∷ segment) rest none (inl empty) = absurd (false≢true empty)
+value-clean before (byte ∷ segment) rest none (inr begins) = or_right _ _ (separator-edge byte begins)
+
+-- a segment that a value is behind ends the tokens before it
+segment-clean : (segment rest : List ℕ) → (is_empty segment ≡ true) ⊎ (ends_with is_separator segment ≡ true) → clean segment rest ≡ true
+segment-clean segment rest (inl empty) = or_left _ _ (or_left _ _ (or_left _ _ empty))
+segment-clean segment rest (inr ends) = or_left _ _ (or_right (is_empty segment || is_empty rest) _ (ends-edge segment ends))
+
+-- the values and the segments behind them
+abbrev Parts : Type 0
+Parts = List (Value × List ℕ)
+
+abbrev part_texts : (Value → LiteralValue) → Parts → List ℕ
+part_texts literals parts = flat_map (λ part. literal_text (literals part.0) ++ part.1) parts
+
+abbrev part_tokens : (Value → LiteralValue) → Parts → List Token
+part_tokens literals parts = flat_map (λ part. literal_tokens (literals part.0) ++ tokens part.1) parts
+
+-- what follows a value
+behind-value : (literals : Value → LiteralValue) (before segment : List ℕ) (parts : Parts) → segments_apart false segment parts ≡ true
+    → clean before (segment ++ part_texts literals parts) ≡ true
+behind-value literals before segment [] is =
+    value-clean before segment [] (λ empty. refl) (elim ((fits false true segment is).before refl) [ inl last ↦ inl last.1 | inr begins ↦ inr begins ])
+behind-value literals before segment (part ∷ parts) is =
+    let begins : begins_with is_separator segment ≡ true =
+    elim ((fits false false segment (and_parts (segment_apart false false segment) _ is).0).before refl)
+    [ inl last ↦ absurd (false≢true last.0) | inr begins ↦ begins ] in
+    value-clean before segment (part_texts literals (part ∷ parts)) (λ empty. absurd (some segment empty begins)) (inr begins)
+  where
+    some : (text : List ℕ) → is_empty text ≡ true → begins_with is_separator text ≡ true → ⊥
+    some [] empty begins = false≢true begins
+    some (byte ∷ text) empty begins = false≢true empty
+
+segments-tokens : (literals : Value → LiteralValue) (first : Bool) (segment : List ℕ) (parts : Parts) → segments_apart first segment parts ≡ true
+    → tokens (segment ++ part_texts literals parts) ≡ tokens segment ++ part_tokens literals parts
+segments-tokens literals first segment [] is = ap tokens (append-nil segment) ∙ sym (append-nil (tokens segment))
+segments-tokens literals first segment (part ∷ parts) is =
+    let both = and_parts (segment_apart first false segment) _ is in
+    let here = fits first false segment both.0 in
+    let text = literal_text (literals part.0) in
+    let rest = part.1 ++ part_texts literals parts in
+    ap (λ more. tokens (segment ++ more)) (append_assoc text part.1 (part_texts literals parts))
+    ∙ seam segment (text ++ rest) here.is_closed (segment-clean segment (text ++ rest) (here.behind refl))
+    ∙ ap (λ more. tokens segment ++ more)
+    (seam text rest (literal-closed (literals part.0)) (behind-value literals text part.1 parts both.1)
+    ∙ ap (λ value. value ++ tokens rest) (literal-is (literals part.0))
+    ∙ ap (λ more. literal_tokens (literals part.0) ++ more) (segments-tokens literals false part.1 parts both.1)
+    ∙ sym (append_assoc (literal_tokens (literals part.0)) (tokens part.1) (part_tokens literals parts)))
+
+resolved-tokens : (literals : Value → LiteralValue) (resolved : Option Resolved) → resolved_apart resolved ≡ true
+    → option_map tokens (option_map (written literals) resolved) ≡ option_map (bound_tokens literals) resolved
+resolved-tokens literals None is = refl
+resolved-tokens literals (Some resolved) is = ap Some (segments-tokens literals true resolved.0 resolved.1 is)
+
+-- the tokens of a bound text
+pub bound-is : (template : List ℕ) (marks : Marks) (literals : Value → LiteralValue) → apart template marks ≡ true
+    → option_map tokens (bound template marks literals) ≡ option_map (bound_tokens literals) (resolve template marks)
+bound-is template marks literals is = resolved-tokens literals (resolve template marks) is
+
+-- none of them is open
+segments-shut : (literals : Value → LiteralValue) (first : Bool) (segment : List ℕ) (parts : Parts) → segments_apart first segment parts ≡ true
+    → list_any is_open (tokens segment ++ part_tokens literals parts) ≡ false
+segments-shut literals first segment [] is = ap (list_any is_open) (append-nil (tokens segment)) ∙ closed-shut segment (fits first true segment is).is_closed
+segments-shut literals first segment (part ∷ parts) is =
+    let both = and_parts (segment_apart first false segment) _ is in
+    let value = literal_tokens (literals part.0) in
+    let more = part_tokens literals parts in
+    list_any-append is_open (tokens segment) ((value ++ tokens part.1) ++ more)
+    ∙ or_from _ _ (closed-shut segment (fits first false segment both.0).is_closed)
+    (ap (list_any is_open) (append_assoc value (tokens part.1) more) ∙ list_any-append is_open value (tokens part.1 ++ more)
+    ∙ or_from _ _ (literal-shut (literals part.0)) (segments-shut literals false part.1 parts both.1))
+
+resolved-closed : (literals : Value → LiteralValue) (text : List ℕ) (resolved : Option Resolved) → resolved_apart resolved ≡ true
+    → option_map (written literals) resolved ≡ Some text → closed text ≡ true
+resolved-closed literals text None is written_is = absurd (false≢true is)
+resolved-closed literals text (Some resolved) is written_is =
+    let same : written literals resolved ≡ text = cc written_is in
+    subst (λ t. closed t ≡ true) same
+    (ap (λ all. not (list_any is_open all)) (segments-tokens literals true resolved.0 resolved.1 is)
+    ∙ ap not (segments-shut literals true resolved.0 resolved.1 is))
+
+-- a bound text is closed
+pub bound-closed : (template text : List ℕ) (marks : Marks) (literals : Value → LiteralValue) → apart template marks ≡ true
+    → bound template marks literals ≡ Some text → closed text ≡ true
+bound-closed template text marks literals is bound_is = resolved-closed literals text (resolve template marks) is bound_is
+
+-- what is known of a text that is a resolved template with literals in it
+is-bound : (template text : List ℕ) (marks : Marks) (literals : Value → LiteralValue) → text ≡ written literals (resolved_from marks 0 0 template)
+    → IsSupplied template marks
+    → bound template marks literals ≡ Some text
+is-bound template text marks literals is supplied = ap (option_map (written literals)) supplied ∙ ap Some (sym is)
+
+pub has_bound_tokens : (template text : List ℕ) (marks : Marks) (literals : Value → LiteralValue) → text ≡ written literals (resolved_from marks 0 0 template)
+    → IsSupplied template marks → HasBoundTokens template marks literals text
+has_bound_tokens template text marks literals is supplied = λ is_apart. ap (option_map tokens) (sym (is-bound template text marks literals is supplied))
+    ∙ bound-is template marks literals is_apart
+
+pub is_closed_if_apart : (template text : List ℕ) (marks : Marks) (literals : Value → LiteralValue) → text ≡ written literals (resolved_from marks 0 0 template)
+    → IsSupplied template marks → IsClosedIfApart template marks text
+is_closed_if_apart template text marks literals is supplied =
+    λ is_apart. bound-closed template text marks literals is_apart (is-bound template text marks literals is supplied)

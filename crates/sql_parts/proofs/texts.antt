@@ -1,0 +1,6 @@
+pub mod DecimalFacts
+pub mod DoublingLemmas
+pub mod EscapingLemmas
+pub mod LaneLemmas
+pub mod MaskFacts
+pub mod SplitLemmas

@@ -1,0 +1,68 @@
+-- Where a text is cut at the first place of another one.
+use Rattle.std.proofs.Common.{◌≡◌, ℕ, ◌+◌, ◌<◌, ◌≤◌, false, List, [], ◌∷◌, ◌++◌, length, get_or, take, drop, refl, sym, ap, ap₂, ◌∙◌, subst, arith}
+use Rattle.std.proofs.Common.{append_assoc, length-append, length-drop}
+use Rattle.std.specs.Prelude.{◌&&◌, nat_eq}
+use Rattle.std.specs.List.{starts_with}
+use Rattle.std.specs.Str.{IsCharBoundary, IsUtf8}
+use Rattle.std.specs.Str.Pattern.{LacksTextAt}
+use Rattle.std.proofs.Math.ListN.{get_or-append}
+use Rattle.std.proofs.Math.Seq.{drop-append_seam}
+use Rattle.std.proofs.lemmas.Bool.{eq-eqb, false≢true}
+use Rattle.std.proofs.lemmas.List.{drop-drop, get_or-drop, take-append-drop}
+use Rattle.std.proofs.lemmas.Str.{IsCharBoundary-from_drop, IsCharBoundary-start, IsUtf8-drop, IsUtf8-past_char}
+use lib.Utf8.{encode, encodes}
+use Rattle.sql_parts.specs.Search.{front_of, gap, has_front}
+use Rattle.sql_parts.proofs.templates.ResolveLemmas.{starts_with-yes}
+
+-- the length of what another text stands in
+room-of : (sought text : List ℕ) (k : ℕ) (rest : List ℕ) → drop k text ≡ sought ++ rest → 0 < length sought → k + length sought ≤ length text
+room-of sought text k rest is some = omega (arith, ap length is, length-drop k text, length-append sought rest)
+
+-- a byte of it
+byte-of : (sought text : List ℕ) (k i : ℕ) (rest : List ℕ) → drop k text ≡ sought ++ rest → i < length sought → get_or text (k + i) 0 ≡ get_or sought i 0
+byte-of sought text k i rest is inside = sym (get_or-drop k text i 0) ∙ ap (λ l. get_or l i 0) is ∙ get_or-append sought rest 0 i inside
+
+first-of : (sought text : List ℕ) (k : ℕ) (rest : List ℕ) → drop k text ≡ sought ++ rest → 0 < length sought → get_or text k 0 ≡ get_or sought 0 0
+first-of sought text k rest is some = let same : k ≡ k + 0 = omega arith in ap (λ n. get_or text n 0) same ∙ byte-of sought text k 0 rest is some
+
+-- where its first two bytes lack, a text lacks
+pub lacks-by-front : (sought text : List ℕ) (k : ℕ) → 0 < length sought → has_front (front_of sought) text k ≡ false → LacksTextAt sought text k
+lacks-by-front sought text k some lacks rest is =
+    let first = eq-eqb _ _ (first-of sought text k rest is some) in
+    let second = eq-eqb _ _ (byte-of sought text k (gap sought) rest is (omega arith)) in
+    false≢true (sym lacks ∙ ap₂ (λ a b. a && b) first second)
+
+-- and where there is no room
+pub lacks-by-room : (sought text : List ℕ) (k : ℕ) → 0 < length sought → length text ≤ k + gap sought → LacksTextAt sought text k
+lacks-by-room sought text k some short rest is = omega (arith, room-of sought text k rest is some)
+
+-- what is behind a text is a text
+utf8-behind : (cs : List ℕ) (bs rest : List ℕ) → IsUtf8 bs → bs ≡ encodes cs ++ rest → IsUtf8 rest
+utf8-behind [] bs rest utf8 is = subst IsUtf8 is utf8
+utf8-behind (c ∷ cs) bs rest utf8 is =
+    utf8-behind cs (encodes cs ++ rest) rest (IsUtf8-past_char bs (encodes cs ++ rest) c utf8 (is ∙ append_assoc (encode c) (encodes cs) rest)) refl
+
+-- a text may be cut before and behind another one that stands in it
+pub cut-before : (sought text : List ℕ) (k : ℕ) (rest : List ℕ) → IsUtf8 sought → 0 < length sought → drop k text ≡ sought ++ rest → IsCharBoundary text k
+cut-before sought text k rest utf8 some is =
+    let first = first-of sought text k rest is some in
+    let room = room-of sought text k rest is some in
+    (omega arith, λ inside. subst (λ byte. 128 ≤ byte → 192 ≤ byte) (sym first) ((IsCharBoundary-start sought utf8).1 some))
+
+pub cut-behind : (sought text : List ℕ) (k : ℕ) (rest : List ℕ) → IsUtf8 text → IsUtf8 sought → 0 < length sought → drop k text ≡ sought ++ rest
+    → IsCharBoundary text (k + length sought)
+cut-behind sought text k rest utf8 own some is =
+    let room = room-of sought text k rest is some in
+    let from = IsUtf8-drop text k utf8 (cut-before sought text k rest own some is) in
+    let behind = utf8-behind own.0 (drop k text) rest from (is ∙ ap (λ s. s ++ rest) (sym own.1.1)) in
+    let same = sym (drop-drop (length sought) k text) ∙ ap (drop (length sought)) is ∙ drop-append_seam sought rest in
+    IsCharBoundary-from_drop text (k + length sought) room (subst IsUtf8 (sym same) behind)
+
+-- the text before it, it, and the text behind it
+pub split-at : (sought text : List ℕ) (k : ℕ) → drop k text ≡ sought ++ drop (length sought) (drop k text) → text ≡ take k text
+    ++ (sought ++ drop (k + length sought) text)
+split-at sought text k is = sym (take-append-drop k text) ∙ ap (λ l. take k text ++ l) (is ∙ ap (λ l. sought ++ l) (drop-drop (length sought) k text))
+
+-- where it doesn't begin what follows, a text lacks
+pub lacks-here : (sought text : List ℕ) (k : ℕ) → starts_with nat_eq (drop k text) sought ≡ false → LacksTextAt sought text k
+lacks-here sought text k differs rest is = false≢true (sym differs ∙ starts_with-yes (drop k text) sought rest is)

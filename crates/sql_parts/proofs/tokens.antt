@@ -1,0 +1,9 @@
+pub mod Automaton
+pub mod AutomatonLemmas
+pub mod BackslashFacts
+pub mod FirstTokenLemmas
+pub mod JoinFacts
+pub mod LiteralFacts
+pub mod NameFacts
+pub mod SeamLemmas
+pub mod TokenFacts

@@ -1,0 +1,24 @@
+//! Mutable borrows that a call returns once it has changed the value, so that calls form a chain.
+ghost use Rattle.std.specs.Prelude.{◌≡◌};
+ghost use Rattle.std.specs.Result.{result_map_both};
+
+use crate::error::SqlBuilderError;
+
+/// The mutable borrow of a value that a step has changed, on its way back to the caller. A call that
+/// returns it is proved to leave the value unchanged on failure only if it comes in a struct.
+#[derive(Drop)]
+pub struct Held<'a, T>(pub &'a mut T);
+
+/// The borrow that a step holds, or the step's error.
+/// `release(Ok(Held(&mut 1)))?` → `1`
+pub fn release<T>(held: Result<Held<'_, T>, SqlBuilderError>) -> Result<&mut T, SqlBuilderError>
+    ensures { result ≡ result_map_both (λ held. held.0) (λ error. error) held.entry }
+{
+    match held {
+        Ok(held) => {
+            let Held(borrowed) = held;
+            Ok(borrowed)
+        }
+        Err(error) => Err(error),
+    }
+}

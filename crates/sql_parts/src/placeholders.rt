@@ -1,0 +1,215 @@
+//! The placeholders of a template: which ones a call binds, and what is read at a place.
+ghost use Rattle.std.specs.Prelude.{◌≡◌, ◌<◌, ◌+◌, ◌*◌, ◌==◌, ℕ, [], IfOk, IfSome, MatchOption, codes, drop, length, not, string_bytes, take};
+ghost use Rattle.std.specs.Char.{is_ascii_digit};
+ghost use Rattle.std.specs.Cow.{cow_str_bytes};
+ghost use Rattle.std.specs.List.{prefix_len};
+ghost use Rattle.std.specs.Str.Parse.{digits_value};
+ghost use Rattle.sql_parts.specs.Error.{FailsOnlyByMemory};
+ghost use Rattle.sql_parts.specs.Placeholders.{IsNumber, RepresentsPlace, marks_of, place_of};
+ghost use Rattle.sql_parts.specs.Search.{front_of};
+ghost use Rattle.sql_parts.specs.Templates as templates;
+ghost use Rattle.sql_parts.specs.Templates.{Writes, counted, followed_by, named, numbered, prefix, place_behind, resolved_from};
+
+use crate::error::SqlBuilderError;
+use crate::search::{Front, split_at_first};
+use crate::text::ToText;
+use std::alloc::Global;
+use std::borrow::CowStr;
+
+/// Which call of binding is meant, and so what a marker is. In contracts it is the `Marks` of
+/// `specs/Templates.antt`, by `marks_of`.
+#[derive(Clone, Copy)]
+pub enum Marks<'a> {
+    /// `bind`: the first `?`.
+    First,
+    /// `binds`: each `?`, with this many arguments.
+    Cycle(usize),
+    /// `bind_num`: `$` and this number, where no ASCII digit follows.
+    Num(u16),
+    /// `bind_nums`: `$` and any number, with this many arguments.
+    Nums(usize),
+    /// `bind_name`: this name between colons.
+    Name(&'a str),
+    /// `bind_names`: any name between colons.
+    Names,
+}
+
+/// What a marker is replaced by.
+#[derive(Clone, Copy)]
+pub(crate) enum Value<'t> {
+    /// The argument with this number, from 0.
+    Argument(usize),
+    /// What this name is bound to.
+    Named(&'t str),
+}
+
+/// What is at a place.
+#[derive(Clone, Copy)]
+pub(crate) enum Place<'t> {
+    /// The prefix itself, as text.
+    Prefix,
+    /// A text, perhaps another than is read there.
+    Writes(&'t str),
+    /// A marker.
+    Holds(Value<'t>),
+}
+
+/// The text before a place, what is there, and the text behind it.
+#[derive(Clone, Copy)]
+pub(crate) struct Found<'t> {
+    pub(crate) segment: &'t str,
+    pub(crate) place: Place<'t>,
+    pub(crate) rest: &'t str,
+}
+
+/// The text that every marker and every escape begins with.
+pub(crate) fn prefix(alloc: Global, marks: Marks<'_>) -> Result<CowStr<'static>, SqlBuilderError>
+    ensures text { IfOk result (λ s. cow_str_bytes s ≡ prefix (marks_of marks.entry)) }
+    ensures memory { FailsOnlyByMemory result }
+{
+    Ok(match marks {
+        Marks::First | Marks::Cycle(_) => CowStr::Borrowed("?"),
+        Marks::Num(number) => CowStr::Owned(number_prefix(alloc, number)?),
+        Marks::Nums(_) => CowStr::Borrowed("$"),
+        Marks::Name(name) => CowStr::Owned(name_prefix(alloc, name)?),
+        Marks::Names => CowStr::Borrowed(":"),
+    })
+}
+
+fn number_prefix(alloc: Global, number: u16) -> Result<String, SqlBuilderError>
+    ensures text { IfOk result (λ s. string_bytes s ≡ prefix (templates.Num number)) }
+    ensures memory { FailsOnlyByMemory result }
+{
+    let mut text = number.to_text(alloc)?;
+    text.insert(0, '$')?;
+    Ok(text)
+}
+
+fn name_prefix(alloc: Global, name: &str) -> Result<String, SqlBuilderError>
+    ensures text { IfOk result (λ s. string_bytes s ≡ prefix (templates.Name name.now)) }
+    ensures memory { FailsOnlyByMemory result }
+{
+    let mut text = String::with_capacity(alloc, name.len().saturating_add(2))?;
+    text.push(':')?;
+    text.push_str(name)?;
+    text.push(':')?;
+    Ok(text)
+}
+
+// The number with one more digit behind it.
+fn with_digit(number: Option<usize>, digit: u8) -> Option<usize>
+    ensures { (n : ℕ) → IsNumber number n → IsNumber result (n * 10 + digit) }
+{
+    number?.checked_mul(10)?.checked_add(usize::from(digit))
+}
+
+// The number that the digits at the front make, where it fits, and the text behind them.
+fn number(text: &str) -> (Option<usize>, &str)
+    ensures number { IsNumber result.0
+        (digits_value 10 (take (prefix_len is_ascii_digit text.now) text.now)) }
+    ensures rest { result.1.now ≡ drop (prefix_len is_ascii_digit text.now) text.now }
+{
+    let bytes = text.as_bytes();
+    let mut number = Some(0);
+    let mut end = 0;
+    while end < bytes.len() && bytes[end].is_ascii_digit() {
+        number = with_digit(number, bytes[end] - b'0');
+        end += 1;
+    }
+    (number, &text[end..])
+}
+
+// What is read at a `$`, where there are so many arguments.
+fn numbered(count: usize, behind: &str) -> (Place<'_>, &str)
+    ensures { RepresentsPlace (codes "$") behind.now result (numbered count behind.now) }
+{
+    let (number, rest) = number(behind);
+    match number {
+        Some(0) => match rest.strip_prefix("$") {
+            Some(rest) => (Place::Writes("$"), rest),
+            None => (Place::Writes(""), rest),
+        },
+        Some(number) if number <= count => (Place::Holds(Value::Argument(number - 1)), rest),
+        _ => (Place::Writes(""), rest),
+    }
+}
+
+// What is read at a `:`.
+fn named(behind: &str) -> (Place<'_>, &str)
+    ensures { RepresentsPlace (codes ":") behind.now result (named behind.now) }
+{
+    match behind.split_once(':') {
+        None => (Place::Writes(":"), behind),
+        Some((name, rest)) => {
+            if name.is_empty() {
+                (Place::Writes(":"), rest)
+            } else {
+                (Place::Holds(Value::Named(name)), rest)
+            }
+        }
+    }
+}
+
+fn begins_with_digit(text: &str) -> bool
+    ensures { result ≡ not (prefix_len is_ascii_digit text.now == 0) }
+{
+    match text.as_bytes().first() {
+        None => false,
+        Some(byte) => byte.is_ascii_digit(),
+    }
+}
+
+// What is read at a prefix, and the text behind it.
+#[inline(always)]
+fn place_behind<'t>(marks: Marks<'_>, seen: usize, behind: &'t str) -> (Place<'t>, &'t str)
+    ensures { RepresentsPlace (prefix (marks_of marks.entry)) behind.now result
+        (place_behind (marks_of marks.entry) seen behind.now) }
+{
+    match marks {
+        Marks::First if seen > 0 => (Place::Prefix, behind),
+        Marks::Num(_) if begins_with_digit(behind) => (Place::Prefix, behind),
+        Marks::First | Marks::Num(_) | Marks::Name(_) => {
+            (Place::Holds(Value::Argument(0)), behind)
+        }
+        Marks::Cycle(count) => {
+            let argument = seen.checked_rem(count).unwrap_or(seen);
+            (Place::Holds(Value::Argument(argument)), behind)
+        }
+        Marks::Nums(count) => numbered(count, behind),
+        Marks::Names => named(behind),
+    }
+}
+
+/// The first prefix of a text and what is read there, where `seen` markers precede the text.
+#[inline(always)]
+pub(crate) fn first_place<'t>(
+    marks: Marks<'_>,
+    prefix: &str,
+    front: Front,
+    seen: usize,
+    text: &'t str,
+) -> Option<Found<'t>>
+    requires prefix { prefix.now ≡ templates.prefix (marks_of marks) }
+    requires front { front ≡ front_of prefix.now }
+    ensures found { MatchOption result
+        (resolved_from (marks_of marks.entry) seen 0 text.now ≡ (text.now, []))
+        (λ f. let place = place_of (templates.prefix (marks_of marks.entry)) f.place in
+        resolved_from (marks_of marks.entry) seen 0 text.now
+        ≡ followed_by (Writes f.segment.now) (followed_by place
+        (resolved_from (marks_of marks.entry) (counted place seen) 0 f.rest.now))) }
+    ensures shorter { IfSome result (λ f. length f.rest.now < length text.now) }
+{
+    match marks {
+        // `bind` has one marker, so the text behind it is copied at once.
+        Marks::First if seen > 0 => None,
+        _ => {
+            let (segment, behind) = split_at_first(text, prefix, front)?;
+            let (place, rest) = place_behind(marks, seen, behind);
+            Some(Found {
+                segment,
+                place,
+                rest,
+            })
+        }
+    }
+}

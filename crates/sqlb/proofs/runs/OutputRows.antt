@@ -1,0 +1,131 @@
+-- Worked rows: what the definitions give, by computing.
+use Rattle.std.specs.Prelude.{◌≡◌, ℕ, List, [], ◌∷◌, Some, None, Ok, Err, codes, is_err, refl, map, Bool, true, false, ◌&&◌, nat_lt}
+use Rattle.std.specs.List.{list_all}
+use Rattle.std.specs.Str.{IsAscii}
+use Rattle.std.proofs.Common.{ap, ap₂, arith, lit<}
+use Rattle.std.proofs.lemmas.Bool.Decides.{nat_tests}
+use Rattle.std.proofs.lemmas.Fmt.{decimal_digit}
+use Rattle.std.proofs.lemmas.Str.{IsUtf8-from_ascii}
+use Rattle.std.proofs.lemmas.Str.Ascii.{IsAscii-nil, IsAscii-cons}
+use Rattle.sql_builder.specs.Filters.{until}
+use Rattle.sql_builder.specs.SqlBuilderError.TheVariants.{NoSetFields, NoTableName, NoValues}
+use Rattle.sqlb.specs.Fault.{fault_text}
+use Rattle.sqlb.specs.Lines.{lines, command_of, command_in}
+use Rattle.sqlb.specs.Names.{comparisons, ending_of, ends, finishes, joins, likes, lists, meaning_of, memberships, other_call, starts}
+use Rattle.sqlb.specs.Output.{Output, accepted_answers, answers, open_statement, output, output_of}
+use Rattle.sqlb.specs.RunResults.{status_of}
+use Rattle.sqlb.specs.declared.fault.Fault.TheVariants.{At, Memory, Read, Write}
+use Rattle.sqlb.specs.declared.fault.Reason.{Reason}
+use Rattle.sqlb.specs.declared.fault.Reason.TheVariants.{UnknownCall, WrongArguments, NoStatement, StatementOpen, NoEnd, NotUtf8, Builder}
+use Rattle.sqlb.proofs.runs.CommandFacts.{command_of-text}
+
+abbrev is_ascii : List ℕ → Bool
+is_ascii text = list_all (λ byte. nat_lt byte 128) text
+
+both : (a b : Bool) → (a && b) ≡ true → (a ≡ true) × (b ≡ true)
+both true true h = (refl, refl)
+both true false h = cc
+both false b h = cc
+
+bytes_below : (text : List ℕ) → is_ascii text ≡ true → IsAscii text
+bytes_below [] ascii = IsAscii-nil
+bytes_below (byte ∷ text) ascii =
+    let parts = both (nat_lt byte 128) (is_ascii text) ascii in
+    IsAscii-cons byte text (grind (arith, nat_tests)) (bytes_below text parts.1)
+
+command_of-ascii : (text : List ℕ) → is_ascii text ≡ true → command_of text ≡ command_in text
+command_of-ascii text ascii = command_of-text text (IsUtf8-from_ascii text (bytes_below text ascii))
+
+-- what each line of an ASCII input says
+commands-ascii : (texts : List (List ℕ)) → list_all is_ascii texts ≡ true → map command_of texts ≡ map command_in texts
+commands-ascii [] ascii = refl
+commands-ascii (text ∷ texts) ascii =
+    let parts = both (is_ascii text) (list_all is_ascii texts) ascii in
+    rw (command_of-ascii text parts.0, commands-ascii texts parts.1) refl
+
+-- what an input says to print where its lines are ASCII, which computes
+abbrev computed : List ℕ → Output
+computed input = output_of (map command_in (lines input))
+
+outputs-computed : (rows : List (List ℕ × Output)) → list_all (λ row. list_all is_ascii (lines row.0)) rows ≡ true
+    → map (λ row. output row.0) rows ≡ map (λ row. computed row.0) rows
+unfolding output
+outputs-computed [] ascii = refl
+outputs-computed (row ∷ rows) ascii =
+    let parts = both (list_all is_ascii (lines row.0)) (list_all (λ other. list_all is_ascii (lines other.0)) rows) ascii in
+    ap₂ (λ (o : Output) (os : List Output). o ∷ os) (ap output_of (commands-ascii (lines row.0) parts.0)) (outputs-computed rows parts.1)
+
+-- these statements, and no fault
+abbrev prints : List (List ℕ) → Output
+prints texts = record { statements = texts; fault = None }
+
+-- these statements, and the fault that stops the run
+abbrev stops : List (List ℕ) → ℕ → Reason → Output
+stops texts line reason = record { statements = texts; fault = Some (line, reason) }
+
+-- each input, and what it says to print
+abbrev rows : List (List ℕ × Output)
+rows = (
+  codes "select_from\tcompany\nfield\tid\nfield\tname\nand_where_gt\tsalary\t25000\nsql\n",
+  prints (codes "SELECT id, name FROM company WHERE salary > 25000;\n" ∷ []),
+) ∷
+    (codes "select_from\tt\nsql\nfrobnicate\n", stops (codes "SELECT * FROM t;\n" ∷ []) 3 UnknownCall) ∷
+    (codes "select_from\tt\n", stops [] 1 NoEnd) ∷
+    (codes "sql\n", stops [] 1 NoStatement) ∷
+    (codes "select_from\ta\nselect_from\tb\n", stops [] 2 StatementOpen) ∷
+    (codes "select_from\t\nsql\n", stops [] 2 (Builder NoTableName)) ∷
+    (codes "limit\n", stops [] 1 WrongArguments) ∷
+    (codes "select_from\tt\norder_by\ta\tmaybe\nsql\n", stops [] 2 WrongArguments) ∷
+    (codes "select_from\tt\norder_by\ta\n", stops [] 2 WrongArguments) ∷
+    (codes "select_from\tt\norder_by\ta\ttrue\norder_by\tb\tfalse\nsql\n", prints (codes "SELECT * FROM t ORDER BY a DESC, b;\n" ∷ [])) ∷ (
+      codes "select_values\t1\t'a'\nquery_values\nselect_from\tt\nlimit\t3\nsubquery_as\ts\n",
+      prints (codes "SELECT 1, 'a'\n" ∷ codes "(SELECT * FROM t LIMIT 3) AS s\n" ∷ []),
+    ) ∷
+    (codes "select_values\nsql\n", stops [] 2 (Builder NoValues)) ∷
+    (codes "update_table\tt\nsql\n", stops [] 2 (Builder NoSetFields)) ∷
+    (codes "field\n", stops [] 1 WrongArguments) ∷
+    (codes "\n", stops [] 1 UnknownCall) ∷
+    (codes "select_from\tt\nand_where\ta\nand_where\tb\nsql\n", prints (codes "SELECT * FROM t WHERE (a) AND (b);\n" ∷ [])) ∷
+    (codes "select_from\tt\nand_where_in\ta\nsql\n", prints (codes "SELECT * FROM t WHERE a IN ();\n" ∷ [])) ∷
+    (codes "select_from\tt\nor_where_in\ta\t1\t2\nsql\n", prints (codes "SELECT * FROM t WHERE a IN (1, 2);\n" ∷ [])) ∷
+    (codes "and_where_in\n", stops [] 1 WrongArguments) ∷
+    (codes "or_where_is_null\ta\tb\n", stops [] 1 WrongArguments) ∷
+    (codes "select_from\tt\nand_where_between\ta\t1\t2\nsql\n", prints (codes "SELECT * FROM t WHERE a BETWEEN 1 AND 2;\n" ∷ [])) ∷
+    (codes "select_from\tt\nfields\nsql\n", prints (codes "SELECT * FROM t;\n" ∷ [])) ∷
+    (codes "select_from\tt\nfields\t\nsql\n", prints (codes "SELECT  FROM t;\n" ∷ [])) ∷
+    (codes "select_from\tt\nsql", prints (codes "SELECT * FROM t;\n" ∷ [])) ∷
+    (codes "", prints []) ∷
+    []
+
+outputs : map (λ row. output row.0) rows ≡ map (λ row. row.1) rows
+unfolding open_statement meaning_of other_call starts joins lists ends finishes ending_of comparisons likes memberships
+outputs = outputs-computed rows refl
+
+not_utf8 : output_of (Err NotUtf8 ∷ []) ≡ stops [] 1 NotUtf8
+unfolding open_statement
+not_utf8 = refl
+
+fault_line : fault_text (At 3 UnknownCall) ≡ codes "line 3: unknown call"
+fault_line = rw (decimal_digit 3 (lit< tt)) refl
+
+error_line : fault_text (At 2 (Builder NoTableName)) ≡ codes "line 2: No table name"
+error_line = rw (decimal_digit 2 (lit< tt)) refl
+
+-- the accepted answers of an ASCII input compute too
+accepted : (input : List ℕ) → list_all is_ascii (lines input) ≡ true → accepted_answers input ≡ until is_err (answers (map command_in (lines input)))
+unfolding accepted_answers
+accepted input ascii = ap (λ commands. until is_err (answers commands)) (commands-ascii (lines input) ascii)
+
+-- memory may run out in the first line or the second, and not in the third, which fails a check
+accepted-unknown : accepted_answers (codes "select_from\tt\nsql\nfrobnicate\n") ≡ Ok None ∷ Ok (Some (codes "SELECT * FROM t;")) ∷ []
+unfolding open_statement meaning_of other_call starts joins lists ends finishes ending_of comparisons likes memberships
+accepted-unknown = accepted _ refl
+
+accepted-first_fails : accepted_answers (codes "sql\n") ≡ []
+unfolding open_statement meaning_of other_call starts joins lists ends finishes ending_of comparisons likes memberships
+accepted-first_fails = accepted _ refl
+
+-- the exit status without a fault, of a line's, and of those that name no line
+statuses : (status_of {T = Unit {0}} (Ok tt) ≡ 0) × (status_of {T = Unit {0}} (Err (At 3 UnknownCall)) ≡ 1) × (status_of {T = Unit {0}} (Err Memory) ≡ 1)
+    × (status_of {T = Unit {0}} (Err Read) ≡ 2) × (status_of {T = Unit {0}} (Err Write) ≡ 2)
+statuses = (refl, refl, refl, refl, refl)

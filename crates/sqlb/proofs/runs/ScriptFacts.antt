@@ -1,0 +1,60 @@
+-- What a builder was given stands for the open statement.
+use Rattle.std.proofs.Common.{◌≡◌, ℕ, List, [], ◌∷◌, ◌++◌, Bool, Option, None, Some, Result, Ok, Err, refl, ap, sym}
+use Rattle.std.specs.Prelude.{is_some, ok_or, option_map}
+use Rattle.sql_builder.specs.Builder.{ClauseTexts, with_call}
+use Rattle.sql_builder.specs.Calls.{CallText, Cond}
+use Rattle.sql_builder.specs.Condition.{ConditionText}
+use Rattle.sql_builder.proofs.statements.RunLemmas.{clauses-push, clauses_start}
+use Rattle.sql_builder.proofs.statements.StatementLaws.{builders_print_statements}
+use Rattle.sqlb.specs.Lines.{CommandResult, Starts, Calls, Finishes}
+use Rattle.sqlb.specs.Output.{OpenStatement, answer, finish_answer}
+use Rattle.sqlb.specs.Script.{Runs, Adds, given, given_after, given_answer}
+use Rattle.sql_builder.specs.declared.condition.Family.{Family}
+use Rattle.sqlb.specs.declared.fault.LineError.{LineError}
+use Rattle.sqlb.specs.declared.fault.LineError.TheVariants.{Memory, Rejected}
+use Rattle.sqlb.specs.declared.fault.Reason.TheVariants.{WrongArguments}
+
+-- the statement that is open after a line, by what was open before it
+abbrev pub open_after : Option OpenStatement → CommandResult → Option OpenStatement
+open_after before (Ok (Starts start)) = Some (record { start = start; calls = [] })
+open_after before (Ok (Calls call)) =
+    option_map (λ open_statement. record { start = open_statement.start; calls = open_statement.calls ++ call ∷ [] })
+    before
+open_after before (Ok (Finishes finish)) = None
+open_after before (Err reason) = before
+
+pub given-answer : (o : Option OpenStatement) (s : CommandResult) → answer o s ≡ given_answer (option_map given o) s
+given-answer o (Err reason) = refl
+given-answer None (Ok (Starts start)) = refl
+given-answer (Some inside) (Ok (Starts start)) = refl
+given-answer None (Ok (Calls call)) = refl
+given-answer (Some inside) (Ok (Calls call)) = refl
+given-answer None (Ok (Finishes finish)) = refl
+given-answer (Some inside) (Ok (Finishes finish)) = ap finish_answer (sym (builders_print_statements inside.start inside.calls finish))
+
+pub given-after : (o : Option OpenStatement) (s : CommandResult) → option_map given (open_after o s) ≡ given_after (option_map given o) s
+given-after o (Err reason) = refl
+given-after o (Ok (Starts start)) = ap (λ r. Some r) (clauses_start start)
+given-after o (Ok (Finishes finish)) = refl
+given-after None (Ok (Calls call)) = refl
+given-after (Some inside) (Ok (Calls call)) = ap (λ r. Some r) (clauses-push inside.start inside.calls call)
+
+pub given-is_some : (o : Option OpenStatement) → is_some (option_map given o) ≡ is_some o
+given-is_some None = refl
+given-is_some (Some inside) = refl
+
+-- a call of the open statement is what a line that makes it does
+pub runs_call : (result : Result Bool LineError) (old new : Option ClauseTexts) (call : CallText) (text : List ℕ)
+    → Adds result old new (with_call call) → Runs result old new text (Ok (Calls call))
+runs_call (Ok finished) None new call text e = absurd e
+runs_call (Ok finished) (Some r) new call text e = (rw e.0 refl, e.1)
+runs_call (Err (Rejected reason)) None new call text e = (ap Err (sym e.0), e.1)
+runs_call (Err (Rejected reason)) (Some r) new call text e = absurd e
+runs_call (Err Memory) None new call text e = absurd e
+runs_call (Err Memory) (Some r) new call text e = (refl, e)
+
+-- the arguments of a condition that fit make its call
+pub makes_condition : (family : Family) (o : Option ConditionText) (condition : ConditionText) → ok_or o WrongArguments ≡ Ok condition
+    → ok_or (option_map (λ made. Calls (Cond family made)) o) WrongArguments ≡ Ok (Calls (Cond family condition))
+makes_condition family None condition e = cc
+makes_condition family (Some made) condition e = cc

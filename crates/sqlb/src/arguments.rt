@@ -1,0 +1,165 @@
+//! The lines of a text, and the parts of a line between TABs: its name and its arguments.
+ghost use Rattle.std.specs.Prelude.{◌≡◌, ◌<◌, [], ◌∷◌, false, IsTrue, MatchOption, OnOk};
+ghost use Rattle.sqlb.specs.Arguments.{IsNextLine, IsTaken, first_of, none_of, one_of, three_of, two_of};
+ghost use Rattle.sqlb.specs.Script.{Checks};
+
+use crate::fault::Reason;
+use crate::scan::end_of_part;
+use sql_builder::SqlBuilderError;
+use sql_builder::text::Texts;
+use std::alloc::Global;
+use std::borrow::CowStr;
+use std::marker::Model;
+
+/// A text that is read line by line, part by part. The first part of a line is its name. Contracts see
+/// what is left of the text.
+#[derive(Drop)]
+pub(crate) struct Arguments<'a> {
+    text: &'a str,
+    // Where what is left begins.
+    at: usize,
+    // Whether that is inside of a line, or the next one is not read yet.
+    in_line: bool,
+}
+
+impl<'a> Model for Arguments<'a> {
+    ghost use Rattle.std.specs.Prelude.{drop};
+    ghost use Rattle.std.specs.Str.{IsCharBoundary};
+    ghost use Rattle.sqlb.specs.Arguments.{Remaining, remaining_of};
+
+    ghost Value = { Remaining };
+
+    ghost view = { λ arguments. remaining_of arguments.in_line
+        (drop arguments.at arguments.text.now) };
+
+    ghost invariant = { λ arguments. IsCharBoundary arguments.text.now arguments.at };
+}
+
+impl<'a> Arguments<'a> {
+    /// A text of which no line is read yet.
+    pub(crate) fn of(text: &'a str) -> Arguments<'a>
+        ensures parts { result.parts ≡ [] }
+        ensures behind { result.behind ≡ text.now }
+    {
+        Arguments {
+            text,
+            at: 0,
+            in_line: false,
+        }
+    }
+
+    /// Goes on to the next line, if there is one. The parts of the line before are taken.
+    pub(crate) fn next_line(&mut self) -> bool
+        requires taken { self.old.parts ≡ [] }
+        ensures line { IsTrue result → IsNextLine self.old.behind self.new }
+        ensures none { result ≡ false → self.old.behind ≡ [] }
+    {
+        self.in_line = self.at < self.text.as_bytes().len();
+        self.in_line
+    }
+
+    /// The next part of the line, which is taken.
+    pub(crate) fn next(&mut self) -> Option<&'a str>
+        ensures next { MatchOption result ((self.old.parts ≡ []) × (self.new.parts ≡ []))
+            (λ part. self.old.parts ≡ part.now ∷ self.new.parts) }
+        ensures behind { self.new.behind ≡ self.old.behind }
+    {
+        if !self.in_line {
+            return None;
+        }
+        let text = self.text;
+        let end = end_of_part(text.as_bytes(), self.at);
+        let part = &text[self.at..end];
+        if end == text.len() {
+            self.in_line = false;
+            self.at = end;
+            return Some(part);
+        }
+        self.in_line = text.as_bytes()[end] == b'\t';
+        self.at = end + 1;
+        Some(part)
+    }
+
+    /// The next part, which is taken, if there is one.
+    pub(crate) fn first(&mut self) -> Result<&'a str, Reason>
+        ensures first { Checks (λ part. (part.now, self.new.parts)) result
+            (first_of self.old.parts) }
+        ensures behind { self.new.behind ≡ self.old.behind }
+    {
+        match self.next() {
+            Some(part) => Ok(part),
+            None => Err(Reason::WrongArguments),
+        }
+    }
+
+    /// Nothing, if there is no part.
+    pub(crate) fn none(&mut self) -> Result<(), Reason>
+        ensures none { Checks (λ done. done) result (none_of self.old.parts) }
+        ensures taken { OnOk result (IsTaken self.old self.new) }
+    {
+        match self.next() {
+            None => Ok(()),
+            Some(_) => Err(Reason::WrongArguments),
+        }
+    }
+
+    /// The one part, if there are no others.
+    pub(crate) fn one(&mut self) -> Result<&'a str, Reason>
+        ensures one { Checks (λ part. part.now) result (one_of self.old.parts) }
+        ensures taken { OnOk result (IsTaken self.old self.new) }
+    {
+        match (self.next(), self.next()) {
+            (Some(part), None) => Ok(part),
+            _ => Err(Reason::WrongArguments),
+        }
+    }
+
+    /// The two parts, if there are no others.
+    pub(crate) fn two(&mut self) -> Result<(&'a str, &'a str), Reason>
+        ensures two { Checks (λ parts. (parts.0.now, parts.1.now)) result
+            (two_of self.old.parts) }
+        ensures taken { OnOk result (IsTaken self.old self.new) }
+    {
+        match (self.next(), self.next(), self.next()) {
+            (Some(first), Some(second), None) => Ok((first, second)),
+            _ => Err(Reason::WrongArguments),
+        }
+    }
+
+    /// The three parts, if there are no others.
+    pub(crate) fn three(&mut self) -> Result<(&'a str, &'a str, &'a str), Reason>
+        ensures three { Checks (λ parts. (parts.0.now, parts.1.now, parts.2.now)) result
+            (three_of self.old.parts) }
+        ensures taken { OnOk result (IsTaken self.old self.new) }
+    {
+        match (self.next(), self.next(), self.next(), self.next()) {
+            (Some(first), Some(second), Some(third), None) => Ok((first, second, third)),
+            _ => Err(Reason::WrongArguments),
+        }
+    }
+
+    /// The parts that are left, all of which are taken.
+    pub(crate) fn others(&mut self) -> Arguments<'a>
+        ensures others { result.parts ≡ self.old.parts }
+        ensures taken { IsTaken self.old self.new }
+    {
+        let others = Arguments {
+            text: self.text,
+            at: self.at,
+            in_line: self.in_line,
+        };
+        'parts: while self.next().is_some() {}
+        others
+    }
+}
+
+impl<'a> Texts<'a> for Arguments<'a> {
+    ghost left = { λ arguments. arguments.parts };
+
+    fn next_text(&mut self, _alloc: Global) -> Result<Option<CowStr<'a>>, SqlBuilderError> {
+        match self.next() {
+            Some(part) => Ok(Some(CowStr::Borrowed(part))),
+            None => Ok(None),
+        }
+    }
+}
