@@ -1,4 +1,4 @@
-"""Reads pages: their blocks of code and their tables; and blocks of Rust as statements with the comments behind them."""
+"""Reads pages: their blocks of code and their tables; and blocks of Rust as statements with the comments after them."""
 
 import re
 from dataclasses import dataclass, field
@@ -11,7 +11,7 @@ TOKEN = re.compile(r"""//[^\n]*|"(?:[^"\\]|\\.)*"|'(?:[^'\\\n]|\\(?:.|u\{[0-9a-f
 
 @dataclass
 class Block:
-    """A block of code: the page and line where it begins, the word behind its fence, and its lines."""
+    """A block of code: the page and line where it begins, the word after its fence, and its lines."""
 
     page: str
     line: int
@@ -41,7 +41,7 @@ class Table:
 
 @dataclass
 class Statement:
-    """A statement: where it begins in its block, its code, and what the comment behind it says, if there is one."""
+    """A statement: where it begins in its block, its code, and what the comment after it says, if there is one."""
 
     line: int
     code: str
@@ -139,7 +139,7 @@ class Page:
 
 
 class Splitter:
-    """Splits a text of Rust into its statements, and gives each the comment behind it: on the line where it ends, or on the lines
+    """Splits a text of Rust into its statements, and gives each the comment after it: on the line where it ends, or on the lines
     right below, where a blank line or the end follows these."""
 
     def __init__(self, text):
@@ -152,7 +152,7 @@ class Splitter:
         self.close_note(self.line + 1)
         self.end()
 
-    def read(self, token, behind):
+    def read(self, token, rest):
         if token.startswith("//"):
             if self.depth == 0 and not self.code.strip():
                 self.take_note(token[2:].strip())
@@ -163,11 +163,11 @@ class Splitter:
                 self.close_note(self.line)
                 self.begin = self.line
             self.code += token
-        if self.depth == 0 and (token == ";" or token == "}" and self.ends_behind_brace(behind)):
+        if self.depth == 0 and (token == ";" or token == "}" and self.ends_after_brace(rest)):
             self.end()
 
-    def ends_behind_brace(self, behind):
-        return not self.code.lstrip().startswith(("let ", "use ")) and not re.match(r"\s*([.?;,)]|else\b)", behind)
+    def ends_after_brace(self, rest):
+        return not self.code.lstrip().startswith(("let ", "use ")) and not re.match(r"\s*([.?;,)]|else\b)", rest)
 
     def end(self):
         if self.code.strip():
@@ -183,7 +183,7 @@ class Splitter:
             self.note_end = self.line
 
     def close_note(self, line):
-        """A comment on lines of its own is of the statement above, unless code stands right below it that the comment may be of."""
+        """A comment on lines of its own is of the statement above, unless code follows that the comment may be of."""
         if self.note and (line > self.note_end + 1 or PRINTED.match(self.note[0])):
             self.found[-1].says = " ".join(self.note)
         self.note, self.note_end = [], 0
@@ -194,7 +194,7 @@ def statements(text):
 
 
 def without_texts(code):
-    """The code without what stands in texts and comments."""
+    """The code without what is in texts and comments."""
     return "".join('""' if it.startswith('"') else "" if it.startswith("//") else it for it in TOKEN.findall(code))
 
 
@@ -212,7 +212,7 @@ def imports(code, before=""):
 
 
 def split_commas(text):
-    """The parts of a text between commas that stand in no brackets."""
+    """The parts of a text between commas outside of brackets."""
     parts, depth = [""], 0
     for token in TOKEN.findall(text):
         depth += (token in "([{") - (token in ")]}") if len(token) == 1 else 0

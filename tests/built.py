@@ -1,0 +1,54 @@
+"""Runs what is built: the program and the tests, also with calls of the C library that fail."""
+
+import os
+import shutil
+import subprocess
+import sys
+from dataclasses import dataclass
+
+TESTS = os.path.dirname(os.path.realpath(__file__))
+CRATES = f"{os.path.dirname(TESTS)}/crates"
+SQLB = f"{CRATES}/sqlb/out/sqlb"
+
+
+@dataclass
+class Ran:
+    """What a program printed, what it said on standard error, its exit status, and what tests/fail.c said."""
+
+    out: bytes
+    err: bytes
+    status: int
+    said: bytes = b""
+
+    def ended(self):
+        return self.out, self.err, self.status
+
+
+def build(crate="sqlb", command="run"):
+    """Proves and builds the program or the tests of a crate, unless an argument is --built."""
+    if "--built" not in sys.argv:
+        ran = subprocess.run(["rt", command], cwd=f"{CRATES}/{crate}", stdin=subprocess.DEVNULL, capture_output=True, text=True)
+        if ran.returncode:
+            sys.exit(f"{ran.stdout}{ran.stderr}{crate} isn't built")
+
+
+def build_failing(folder):
+    """Builds the library by which calls of the C library fail. Gives whether it could."""
+    if not shutil.which("cc"):
+        print("SKIPPED: calls of the C library that fail: there is no C compiler cc")
+        return False
+    subprocess.run(["cc", "-O1", "-shared", "-fPIC", "-o", f"{folder}/fail.so", f"{TESTS}/fail.c"], check=True)
+    return True
+
+
+def run(given=b"", *words, folder=None, **settings):
+    """Runs the program, or a command, on this input. The settings are variables of the library in the folder."""
+    if not settings:
+        done = subprocess.run(words or [SQLB], input=given, capture_output=True)
+        return Ran(done.stdout, done.stderr, done.returncode)
+    # LD_PRELOAD ends a path at a blank, so the library is named from its own folder; the shell and env are without it
+    variables = ["LD_PRELOAD=./fail.so", *(f"{name}={value}" for name, value in settings.items())]
+    shell = ["/bin/sh", "-c", 'exec 3>said; exec env "$@"', "sh"]
+    done = subprocess.run([*shell, *variables, *(words or [SQLB])], cwd=folder, input=given, capture_output=True)
+    with open(f"{folder}/said", "rb") as it:
+        return Ran(done.stdout, done.stderr, done.returncode, it.read())
