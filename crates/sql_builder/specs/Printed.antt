@@ -2,21 +2,8 @@
 use Rattle.std.specs.Prelude.{ℕ, List, [], Option, None, Some, Bool, true, false, codes, if◌then◌else◌, flat_map, ◌++◌}
 use Rattle.sql_builder.specs.Builder.{ClauseTexts}
 use Rattle.sql_builder.specs.Phrases.{comma_list}
-use Rattle.sql_builder.specs.Layout.{
-  byte_atoms,
-  concat_sections,
-  fields_or_star,
-  group_by_sections,
-  insert_sections,
-  optional_section,
-  order_by_sections,
-  select_opening,
-  statement_sections,
-  union_opening,
-  update_sections,
-  delete_sections,
-  where_sections,
-}
+use Rattle.sql_builder.specs.Layout.{byte_atoms, concat_sections, fields_or_star, group_by_sections, insert_sections, optional_section, order_by_sections}
+use Rattle.sql_builder.specs.Layout.{select_opening, statement_sections, union_opening, update_sections, delete_sections, where_sections}
 
 -- a text behind its words, where there is one
 abbrev pub optional_bytes : List ℕ → Option (List ℕ) → List ℕ

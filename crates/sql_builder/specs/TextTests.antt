@@ -3,18 +3,8 @@ use Rattle.std.specs.Prelude.{◌≡◌, ◌&&◌, if◌then◌else◌, Bool, fa
 use Rattle.std.specs.List.{list_all, list_any}
 use Rattle.sql_parts.specs.Tokens.{closed, has_semicolon, is_empty, tokens}
 use Rattle.sql_parts.specs.declared.error.SqlBuilderError.TheVariants.{NoGroupBy}
-use Rattle.sql_builder.specs.Calls.{
-  CallText,
-  FinishText,
-  StartText,
-  SelectFrom,
-  Sql,
-  group_fields_in,
-  having_in,
-  call_raw_texts,
-  finish_raw_texts,
-  start_raw_texts,
-}
+use Rattle.sql_builder.specs.Calls.{CallText, FinishText, StartText, SelectFrom, Sql, group_fields_in, having_in, call_raw_texts, finish_raw_texts}
+use Rattle.sql_builder.specs.Calls.{start_raw_texts}
 use Rattle.sql_builder.specs.FitFragments.{encloses_fields, has_fit_texts}
 use Rattle.sql_builder.specs.RawTexts.{RawText, Bare, Enclosed, is_fit}
 use Rattle.sql_builder.specs.Shape.{EndsInOneSemicolon, HasClosedFragments, has_no_semicolons}

@@ -1,21 +1,7 @@
 -- The chain calls of each step. A chain call's proof is one use of these.
 use Rattle.sql_parts.proofs.chains.Prelude.{◌≡◌, ℕ, List, [], ◌∷◌, MutBor, plain, a_type, dcons, dnil, bounded, inst_fn, Ura, Logic, RattleType, SProp}
-use Rattle.sql_parts.proofs.chains.LoanLemmas.{
-  Argument,
-  Constant,
-  Effect,
-  BorrowedType,
-  Variant,
-  also,
-  boolean,
-  constant,
-  generic,
-  passed_laws,
-  passed_row,
-  release_name,
-  release_triple,
-  slice,
-}
+use Rattle.sql_parts.proofs.chains.LoanLemmas.{Argument, Constant, Effect, BorrowedType, Variant, also, boolean, constant, generic, passed_laws, passed_row}
+use Rattle.sql_parts.proofs.chains.LoanLemmas.{release_name, release_triple, slice}
 use Rattle.sql_builder.proofs.chains.ConstantFacts.{Choice}
 use Rattle.sql_parts.proofs.chains.ChainCallLemmas as calls
 use mir.Syntax.{Args, Callee, Dict, Fn}

@@ -9,25 +9,8 @@ use Rattle.sql_parts.specs.Quoting.{quoted}
 use Rattle.sql_parts.specs.Tokens.{Symbol, tokens}
 use Rattle.sql_parts.proofs.fragments.DepthFacts.{has_outer, is_even, is_operand, is_operand-is}
 use Rattle.sql_parts.proofs.tokens.JoinFacts.{Edged}
-use Rattle.sql_builder.specs.Condition.{
-  ConditionText,
-  Raw,
-  Compare,
-  Like,
-  IsNull,
-  IsNotNull,
-  InList,
-  InQuoted,
-  InQuery,
-  Between,
-  condition_bytes,
-  condition_raw_texts,
-  condition_pieces,
-  has_operands,
-  mask_text,
-  not_text,
-  relation_text,
-}
+use Rattle.sql_builder.specs.Condition.{ConditionText, Raw, Compare, Like, IsNull, IsNotNull, InList, InQuoted, InQuery, Between, condition_bytes}
+use Rattle.sql_builder.specs.Condition.{condition_raw_texts, condition_pieces, has_operands, mask_text, not_text, relation_text}
 use Rattle.sql_builder.specs.FitFragments.{has_balanced_fragments}
 use Rattle.sql_builder.specs.Layout.{byte_atoms}
 use Rattle.sql_builder.specs.Meaning.{IsAtomIfOperands}
@@ -39,53 +22,17 @@ use Rattle.sql_builder.specs.Shape.{cond_tokens, pieces_tokens}
 use Rattle.sql_builder.specs.Truths.{IsAtom}
 use Rattle.sql_builder.specs.declared.condition.Relation.{Relation}
 use Rattle.sql_builder.specs.declared.condition.Relation.TheVariants.{Eq, Ne, Gt, Ge, Lt, Le}
-use Rattle.sql_builder.proofs.fragments.PropertyLemmas.{
-  Each,
-  Passes,
-  PreservedByCalls,
-  between,
-  listed,
-  neutral-list,
-  neutral-quoted,
-  neutral-raw,
-  one,
-  passes-joins,
-  quoteds-pass,
-  raws-pass,
-  within,
-}
+use Rattle.sql_builder.proofs.fragments.PropertyLemmas.{Each, Passes, PreservedByCalls, between, listed, neutral-list, neutral-quoted, neutral-raw, one}
+use Rattle.sql_builder.proofs.fragments.PropertyLemmas.{passes-joins, quoteds-pass, raws-pass, within}
 use Rattle.sql_builder.proofs.lists.AllFacts.{map-all}
 use Rattle.sql_builder.proofs.pieces.LayoutMapLemmas.{joined_in_form}
-use Rattle.sql_builder.proofs.pieces.ShapeLemmas.{
-  AllInside,
-  Inside,
-  closing-last,
-  items-inside,
-  pieces_tokens-brackets,
-  quoted-inside,
-  raw-all,
-  raw-inside,
-  text-append,
-  texts_of_raw,
-  words-following,
-  words-between,
-  words-last,
-}
+use Rattle.sql_builder.proofs.pieces.ShapeLemmas.{AllInside, Inside, closing-last, items-inside, pieces_tokens-brackets, quoted-inside, raw-all, raw-inside}
+use Rattle.sql_builder.proofs.pieces.ShapeLemmas.{text-append, texts_of_raw, words-following, words-between, words-last}
 use Rattle.sql_builder.proofs.reading.ClauseWordLemmas.{shape-even}
 use Rattle.sql_builder.proofs.reading.SectionLemmas.{Neutral}
 use Rattle.sql_builder.proofs.tokens.WhereWords.{and_word, between_word, in_word, not_word}
-use Rattle.sql_builder.proofs.truth.AtomLemmas.{
-  atom_between,
-  atom_in,
-  atom_like,
-  atom_not_between,
-  atom_not_in,
-  atom_not_like,
-  atom_not_null,
-  atom_null,
-  atom_plain,
-  operand_plain,
-}
+use Rattle.sql_builder.proofs.truth.AtomLemmas.{atom_between, atom_in, atom_like, atom_not_between, atom_not_in, atom_not_like, atom_not_null, atom_null}
+use Rattle.sql_builder.proofs.truth.AtomLemmas.{atom_plain, operand_plain}
 
 -- ---- what is printed
 

@@ -2,44 +2,10 @@
 use Rattle.sql_builder.specs.RawTexts.{RawText, Bare, Enclosed, is_fit}
 use Rattle.sql_builder.specs.TextTests.{all_pass, raw_text}
 use Rattle.sql_builder.proofs.conditions.ConditionLemmas.{condition-preserved}
-use Rattle.sql_builder.proofs.fragments.PropertyLemmas.{
-  Each,
-  PreservedByAppend,
-  PreservedByCalls,
-  listed,
-  neutral-append,
-  neutral-brackets,
-  neutral-none,
-  neutral-raw,
-  Passes,
-}
-use Rattle.std.proofs.Common.{
-  ◌≡◌,
-  refl,
-  sym,
-  ◌∙◌,
-  ap,
-  subst,
-  ℕ,
-  suc,
-  ℤ,
-  Bool,
-  true,
-  false,
-  not,
-  ◌&&◌,
-  List,
-  [],
-  ◌∷◌,
-  ◌++◌,
-  Option,
-  None,
-  Some,
-  IfOk,
-  map,
-  pos,
-  codes,
-}
+use Rattle.sql_builder.proofs.fragments.PropertyLemmas.{Each, PreservedByAppend, PreservedByCalls, listed, neutral-append, neutral-brackets, neutral-none}
+use Rattle.sql_builder.proofs.fragments.PropertyLemmas.{neutral-raw, Passes}
+use Rattle.std.proofs.Common.{◌≡◌, refl, sym, ◌∙◌, ap, subst, ℕ, suc, ℤ, Bool, true, false, not, ◌&&◌, List, [], ◌∷◌, ◌++◌, Option, None, Some, IfOk, map, pos}
+use Rattle.std.proofs.Common.{codes}
 use Rattle.std.specs.Prelude.{IsTrue}
 use Rattle.std.specs.List.{list_all}
 use Rattle.std.proofs.lemmas.Bool.{and_parts, and_from, false≢true}
@@ -47,42 +13,13 @@ use Rattle.sql_parts.specs.Fragments.{balanced, has_clause_word, is_clause_word}
 use Rattle.sql_parts.specs.Tokens.{Token, tokens}
 use Rattle.sql_parts.specs.declared.error.SqlBuilderError.{SqlBuilderError}
 use Rattle.sql_parts.proofs.fragments.DepthFacts.{at_end, has_outer-is, is_balanced, is_balanced-is, is_zero}
-use Rattle.sql_builder.specs.Calls.{
-  CallText,
-  FinishText,
-  StartText,
-  SelectFrom,
-  SelectValues,
-  InsertInto,
-  UpdateTable,
-  DeleteFrom,
-  Sql,
-  Query,
-  QueryValues,
-  Subquery,
-  SubqueryAs,
-  Cond,
-  SetFields,
-  clauses,
-  start_fields,
-  call_raw_texts,
-  finish_raw_texts,
-  start_raw_texts,
-}
+use Rattle.sql_builder.specs.Calls.{CallText, FinishText, StartText, SelectFrom, SelectValues, InsertInto, UpdateTable, DeleteFrom, Sql, Query, QueryValues}
+use Rattle.sql_builder.specs.Calls.{Subquery, SubqueryAs, Cond, SetFields, clauses, start_fields, call_raw_texts, finish_raw_texts, start_raw_texts}
 use Rattle.sql_builder.specs.Clauses.{Clauses}
 use Rattle.sql_builder.specs.Condition.{not_text, condition_pieces}
 use Rattle.sql_builder.specs.Filters.{until}
-use Rattle.sql_builder.specs.FitFragments.{
-  are_fit,
-  has_fit_fragments,
-  begins_union,
-  encloses_fields,
-  has_balanced_fragments,
-  has_fit_conditions,
-  has_fit_texts,
-  own,
-  own_tokens,
-}
+use Rattle.sql_builder.specs.FitFragments.{are_fit, has_fit_fragments, begins_union, encloses_fields, has_balanced_fragments, has_fit_conditions, has_fit_texts}
+use Rattle.sql_builder.specs.FitFragments.{own, own_tokens}
 use Rattle.sql_builder.specs.BuilderLaws.{FitTextsMakeBalancedFragments, FitTextsMakeFitConditions, FitTextsMakeFitFragments}
 use Rattle.sql_builder.specs.Layout.{Section, concat_sections}
 use Rattle.sql_builder.specs.Meaning.{is_unenclosed}

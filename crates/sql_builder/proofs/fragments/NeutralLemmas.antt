@@ -1,15 +1,7 @@
 -- What calls write of their own has no clause word, and its brackets close, whatever texts they are given.
 use Rattle.sql_builder.specs.RawTexts.{RawText}
 use Rattle.sql_builder.proofs.conditions.ConditionLemmas.{condition-preserved}
-use Rattle.sql_builder.proofs.fragments.PropertyLemmas.{
-  Each,
-  PreservedByCalls,
-  neutral-brackets,
-  neutral-joins,
-  neutral-list,
-  neutral-quoted,
-  neutral-raw,
-}
+use Rattle.sql_builder.proofs.fragments.PropertyLemmas.{Each, PreservedByCalls, neutral-brackets, neutral-joins, neutral-list, neutral-quoted, neutral-raw}
 use Rattle.std.proofs.Common.{◌≡◌, refl, ℕ, Bool, true, false, List, [], ◌∷◌, ◌++◌, map, codes}
 use Rattle.std.specs.List.{list_all}
 use Rattle.std.proofs.lemmas.Bool.{and_from}

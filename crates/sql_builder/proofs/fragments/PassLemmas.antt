@@ -4,51 +4,15 @@ use Rattle.std.specs.Prelude.{IfSome}
 use Rattle.std.specs.List.{AllByRecursion, list_all}
 use Rattle.std.proofs.lemmas.Bool.{and_parts, and_from}
 use Rattle.std.proofs.lemmas.List.Folds.{list_all-map}
-use Rattle.sql_builder.specs.Calls.{
-  CallText,
-  FinishText,
-  StartText,
-  SelectFrom,
-  SelectValues,
-  InsertInto,
-  UpdateTable,
-  DeleteFrom,
-  Sql,
-  Query,
-  QueryValues,
-  Subquery,
-  SubqueryAs,
-  SetFields,
-  clauses,
-  start_fields,
-  call_raw_texts,
-  field_text,
-  finish_raw_texts,
-  start_raw_texts,
-}
+use Rattle.sql_builder.specs.Calls.{CallText, FinishText, StartText, SelectFrom, SelectValues, InsertInto, UpdateTable, DeleteFrom, Sql, Query, QueryValues}
+use Rattle.sql_builder.specs.Calls.{Subquery, SubqueryAs, SetFields, clauses, start_fields, call_raw_texts, field_text, finish_raw_texts, start_raw_texts}
 use Rattle.sql_builder.specs.Clauses.{Clauses}
 use Rattle.sql_builder.specs.Condition.{not_text}
 use Rattle.sql_builder.specs.RawTexts.{RawText, Bare, Enclosed}
 use Rattle.sql_builder.specs.TextTests.{all_pass, raw_text}
-use Rattle.sql_builder.specs.Layout.{
-  Section,
-  concat_sections,
-  fields_or_star,
-  group_by_sections,
-  insert_sections,
-  insert_target,
-  list_sections,
-  optional_section,
-  order_by_sections,
-  query,
-  query_sections,
-  range_sections,
-  returning_sections,
-  statement_sections,
-  union_sections,
-  values_sections,
-  where_sections,
-}
+use Rattle.sql_builder.specs.Layout.{Section, concat_sections, fields_or_star, group_by_sections, insert_sections, insert_target, list_sections}
+use Rattle.sql_builder.specs.Layout.{optional_section, order_by_sections, query, query_sections, range_sections, returning_sections, statement_sections}
+use Rattle.sql_builder.specs.Layout.{union_sections, values_sections, where_sections}
 use Rattle.sql_builder.specs.Phrases.{comma_list, in_brackets}
 use Rattle.sql_builder.specs.Pieces.{Piece, Pieces, fixed_piece, quoted_piece, raw_piece}
 use Rattle.sql_builder.specs.declared.clauses.Kind.{Kind}
@@ -57,20 +21,8 @@ use Rattle.sql_builder.proofs.fragments.ClauseFacts.{PartsAre}
 use Rattle.sql_builder.proofs.lists.AllFacts.{append-all}
 use Rattle.sql_builder.proofs.fragments.PreservationLemmas.{clauses-preserved}
 use Rattle.sql_builder.proofs.reading.ReadBackLemmas.{layout}
-use Rattle.sql_builder.proofs.fragments.PropertyLemmas.{
-  Each,
-  Passes,
-  PreservedByCalls,
-  before-each,
-  joined,
-  listed,
-  passes-append,
-  passes-joins,
-  quoteds-pass,
-  raw-passes,
-  raws-pass,
-  within,
-}
+use Rattle.sql_builder.proofs.fragments.PropertyLemmas.{Each, Passes, PreservedByCalls, before-each, joined, listed, passes-append, passes-joins, quoteds-pass}
+use Rattle.sql_builder.proofs.fragments.PropertyLemmas.{raw-passes, raws-pass, within}
 
 module _ (test : List ℕ → Bool) where
   -- ---- what calls make

@@ -4,42 +4,10 @@ use Rattle.std.proofs.Common.{◌≡◌, refl, ℕ, Bool, true, false, ◌&&◌,
 use Rattle.std.specs.Prelude.{IfSome, filter_map}
 use Rattle.std.specs.List.{AllByRecursion, cons_option, last_or, list_all, list_any}
 use Rattle.std.proofs.lemmas.Bool.{and_parts, and_from}
-use Rattle.sql_builder.specs.Calls.{
-  CallText,
-  StartText,
-  clauses,
-  condition_in,
-  conditions_of,
-  constraint_in,
-  drops_fields,
-  fields_in,
-  group_fields_in,
-  group_pieces,
-  groups,
-  having_in,
-  is_join,
-  is_select,
-  is_values,
-  join_after,
-  join_in,
-  limit_in,
-  natural_of,
-  offset_in,
-  opens_group,
-  operator_of,
-  order_fields_in,
-  query_in,
-  returning_in,
-  rows_in,
-  sets_in,
-  start_fields,
-  start_table,
-  table_in,
-  unions_in,
-  call_raw_texts,
-  field_text,
-  start_raw_texts,
-}
+use Rattle.sql_builder.specs.Calls.{CallText, StartText, clauses, condition_in, conditions_of, constraint_in, drops_fields, fields_in, group_fields_in}
+use Rattle.sql_builder.specs.Calls.{group_pieces, groups, having_in, is_join, is_select, is_values, join_after, join_in, limit_in, natural_of, offset_in}
+use Rattle.sql_builder.specs.Calls.{opens_group, operator_of, order_fields_in, query_in, returning_in, rows_in, sets_in, start_fields, start_table, table_in}
+use Rattle.sql_builder.specs.Calls.{unions_in, call_raw_texts, field_text, start_raw_texts}
 use Rattle.sql_builder.specs.Condition.{ConditionText, condition_pieces, condition_raw_texts}
 use Rattle.sql_builder.specs.Filters.{Group, cut, in_place, last_given, since, until}
 use Rattle.sql_builder.specs.Phrases.{equation, join_words, order, comma_list, count, count_as}
@@ -55,28 +23,9 @@ use Rattle.sql_builder.proofs.conditions.ConditionLemmas.{condition-preserved, c
 use Rattle.sql_parts.specs.Tokens.{ends_with, is_edge}
 use Rattle.sql_parts.specs.Quoting.{quoted}
 use Rattle.sql_builder.proofs.pieces.LayoutShapeLemmas.{InsideParts}
-use Rattle.sql_builder.proofs.pieces.ShapeLemmas.{
-  AllInside,
-  Following,
-  Inside,
-  Whole,
-  all-flat,
-  brackets-inside,
-  inside-inside,
-  joined-inside,
-  none-following,
-  none-inside,
-  quoted-inside,
-  raw-inside,
-  words-following,
-  words-inside,
-  items-inside,
-  raw-all,
-  closing-last,
-  words-between,
-  words-first,
-  words-last,
-}
+use Rattle.sql_builder.proofs.pieces.ShapeLemmas.{AllInside, Following, Inside, Whole, all-flat, brackets-inside, inside-inside, joined-inside, none-following}
+use Rattle.sql_builder.proofs.pieces.ShapeLemmas.{none-inside, quoted-inside, raw-inside, words-following, words-inside, items-inside, raw-all, closing-last}
+use Rattle.sql_builder.proofs.pieces.ShapeLemmas.{words-between, words-first, words-last}
 use Rattle.sql_builder.specs.Calls as call
 use Rattle.sql_builder.specs.declared.clauses.JoinOperator.TheVariants as operator
 

@@ -1,27 +1,6 @@
 -- What tests of each raw text make of the statement.
-use Rattle.std.proofs.Common.{
-  ◌≡◌,
-  refl,
-  ◌∙◌,
-  ap,
-  ℕ,
-  Bool,
-  true,
-  false,
-  not,
-  ◌&&◌,
-  ◌||◌,
-  if◌then◌else◌,
-  List,
-  [],
-  ◌∷◌,
-  ◌++◌,
-  Option,
-  None,
-  Some,
-  map,
-  option_map,
-}
+use Rattle.std.proofs.Common.{◌≡◌, refl, ◌∙◌, ap, ℕ, Bool, true, false, not, ◌&&◌, ◌||◌, if◌then◌else◌, List, [], ◌∷◌, ◌++◌, Option, None, Some, map}
+use Rattle.std.proofs.Common.{option_map}
 use Rattle.std.specs.Prelude.{IsTrue, filter_map, flat_map, is_some}
 use Rattle.std.specs.List.{cons_option, last_or, list_all, list_any}
 use Rattle.std.proofs.lemmas.Bool.{and_parts, false≢true}
@@ -29,36 +8,14 @@ use Rattle.std.proofs.lemmas.List.Folds.{list_all-append}
 use Rattle.std.proofs.lemmas.Result.{IfOk-weaker}
 use Rattle.sql_parts.specs.Tokens.{closed, is_empty, tokens}
 use Rattle.sql_parts.specs.declared.error.SqlBuilderError.TheVariants.{NoGroupBy}
-use Rattle.sql_builder.specs.Calls.{
-  CallText,
-  FinishText,
-  StartText,
-  Sql,
-  clauses,
-  group_fields_in,
-  having_in,
-  call_raw_texts,
-  finish_raw_texts,
-  start_raw_texts,
-}
+use Rattle.sql_builder.specs.Calls.{CallText, FinishText, StartText, Sql, clauses, group_fields_in, having_in, call_raw_texts, finish_raw_texts}
+use Rattle.sql_builder.specs.Calls.{start_raw_texts}
 use Rattle.sql_builder.specs.Filters.{last_given}
 use Rattle.sql_builder.specs.FitFragments.{encloses_fields, has_balanced_fragments}
 use Rattle.sql_builder.specs.RawTexts.{is_fit}
-use Rattle.sql_builder.specs.TextTests.{
-  ClosedTextsMakeClosedFragments,
-  FitTextsMakeClosedFragments,
-  PlainTextsEndInOneSemicolon,
-  PlainTextsMakePlainFragments,
-  SelectsNeedGroupBy,
-  TextsAreFitCallByCall,
-  TextsPassCallByCall,
-  all_pass,
-  call_passes,
-  is_group_by,
-  is_having,
-  is_plain,
-  texts_pass,
-}
+use Rattle.sql_builder.specs.TextTests.{ClosedTextsMakeClosedFragments, FitTextsMakeClosedFragments, PlainTextsEndInOneSemicolon, PlainTextsMakePlainFragments}
+use Rattle.sql_builder.specs.TextTests.{SelectsNeedGroupBy, TextsAreFitCallByCall, TextsPassCallByCall, all_pass, call_passes, is_group_by, is_having, is_plain}
+use Rattle.sql_builder.specs.TextTests.{texts_pass}
 use Rattle.sql_builder.specs.Layout.{no_group_by_error}
 use Rattle.sql_builder.specs.Shape.{EndsInOneSemicolon, has_closed_fragments, has_no_semicolons}
 use Rattle.sql_builder.specs.Statement.{pieces}

@@ -15,15 +15,8 @@ use Rattle.sql_builder.specs.Builder.{ClauseTexts}
 use Rattle.sql_builder.specs.Calls.{FinishText, clauses}
 use Rattle.sql_builder.specs.Clauses.{Clauses, map_clauses}
 use Rattle.sql_builder.specs.Condition.{condition_pieces}
-use Rattle.sql_builder.specs.Interference.{
-  ConditionsKeepTheirOutline,
-  EquationsKeepTheirOutline,
-  FragmentsDoNotInterfere,
-  OutlinesDecideOutlines,
-  piece_outline,
-  places_in,
-  tokens_but,
-}
+use Rattle.sql_builder.specs.Interference.{ConditionsKeepTheirOutline, EquationsKeepTheirOutline, FragmentsDoNotInterfere, OutlinesDecideOutlines}
+use Rattle.sql_builder.specs.Interference.{piece_outline, places_in, tokens_but}
 use Rattle.sql_builder.specs.Phrases.{equation}
 use Rattle.sql_builder.specs.Shape.{as_fragments, has_closed_fragments, is_closed_piece, piece_tokens, pieces_tokens}
 use Rattle.sql_builder.specs.Statement.{layout_at, error_at, text_at, text_unless_error, unless_error}

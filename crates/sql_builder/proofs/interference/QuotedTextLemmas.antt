@@ -13,17 +13,8 @@ use Rattle.sql_builder.specs.Calls as call
 use Rattle.sql_builder.specs.Calls.{CallText, FinishText, StartText, clauses}
 use Rattle.sql_builder.specs.Clauses.{Clauses, map_clauses}
 use Rattle.sql_builder.specs.Condition.{ConditionText, Like, InQuoted, condition_pieces, not_text, blank_condition}
-use Rattle.sql_builder.specs.Interference.{
-  DifferInQuotedTexts,
-  IgnoresQuotedTexts,
-  QuotedTextsAreStrings,
-  blank_call,
-  answer_of,
-  places_in,
-  places_unless_error,
-  quoted_places,
-  tokens_but,
-}
+use Rattle.sql_builder.specs.Interference.{DifferInQuotedTexts, IgnoresQuotedTexts, QuotedTextsAreStrings, blank_call, answer_of, places_in}
+use Rattle.sql_builder.specs.Interference.{places_unless_error, quoted_places, tokens_but}
 use Rattle.sql_builder.specs.Layout.{error_of, empty_error, no_group_by_error, no_rows_error, no_table_error}
 use Rattle.sql_builder.specs.Phrases.{comma_list, join}
 use Rattle.sql_builder.specs.Shape.{has_closed_fragments, is_closed_piece, pieces_tokens}

@@ -1,28 +1,6 @@
 -- A list in groups: cut before each element that opens a group, the texts of a group's elements joined.
-use Rattle.std.proofs.Common.{
-  ◌≡◌,
-  refl,
-  ap,
-  sym,
-  ◌∙◌,
-  Bool,
-  true,
-  false,
-  List,
-  [],
-  ◌∷◌,
-  ◌++◌,
-  map,
-  flat_map,
-  append_assoc,
-  codes,
-  ℕ,
-  ◌≤◌,
-  ◌||◌,
-  length,
-  arith,
-  string_bytes,
-}
+use Rattle.std.proofs.Common.{◌≡◌, refl, ap, sym, ◌∙◌, Bool, true, false, List, [], ◌∷◌, ◌++◌, map, flat_map, append_assoc, codes, ℕ, ◌≤◌, ◌||◌, length, arith}
+use Rattle.std.proofs.Common.{string_bytes}
 use Rattle.std.specs.List.{list_any}
 use Rattle.std.proofs.lemmas.List.{map-append, append-nil, length-map}
 use Rattle.std.proofs.lemmas.Grind.{flat_map-append}

@@ -1,27 +1,6 @@
 -- One more element at the end, for each way to read a whole list.
-use Rattle.std.proofs.Common.{
-  ◌≡◌,
-  List,
-  [],
-  ◌∷◌,
-  ◌++◌,
-  Option,
-  None,
-  Some,
-  Bool,
-  true,
-  false,
-  ◌||◌,
-  ◌&&◌,
-  not,
-  if◌then◌else◌,
-  flat_map,
-  filter_map,
-  refl,
-  ap,
-  sym,
-  ◌∙◌,
-}
+use Rattle.std.proofs.Common.{◌≡◌, List, [], ◌∷◌, ◌++◌, Option, None, Some, Bool, true, false, ◌||◌, ◌&&◌, not, if◌then◌else◌, flat_map, filter_map, refl, ap}
+use Rattle.std.proofs.Common.{sym, ◌∙◌}
 use Rattle.std.proofs.lemmas.List.{append-nil}
 use Rattle.std.proofs.lemmas.Grind.{flat_map-append}
 use Rattle.std.proofs.lemmas.List.Elements.{filter_map-append}

@@ -4,29 +4,9 @@ use Rattle.std.proofs.lemmas.List.{map-append}
 use Rattle.std.specs.Prelude.{option_map}
 use Rattle.sql_builder.specs.Calls.{FinishText, Sql, Query, QueryValues, Subquery, SubqueryAs}
 use Rattle.sql_builder.specs.Clauses.{Clauses, map_clauses}
-use Rattle.sql_builder.specs.Layout.{
-  concat_sections,
-  fields_or_star,
-  group_by_sections,
-  insert_sections,
-  insert_target,
-  list_sections,
-  optional_section,
-  order_by_sections,
-  query,
-  query_sections,
-  query_values,
-  Section,
-  section,
-  sql,
-  statement_sections,
-  subquery,
-  subquery_as,
-  table_and_joins,
-  union_sections,
-  values_sections,
-  where_sections,
-}
+use Rattle.sql_builder.specs.Layout.{concat_sections, fields_or_star, group_by_sections, insert_sections, insert_target, list_sections, optional_section}
+use Rattle.sql_builder.specs.Layout.{order_by_sections, query, query_sections, query_values, Section, section, sql, statement_sections, subquery, subquery_as}
+use Rattle.sql_builder.specs.Layout.{table_and_joins, union_sections, values_sections, where_sections}
 use Rattle.sql_builder.specs.Phrases.{comma_list, in_brackets, row}
 use Rattle.sql_builder.specs.Statement.{layout_at}
 use Rattle.sql_parts.specs.Text.{join_with}

@@ -6,36 +6,10 @@ use Rattle.std.proofs.lemmas.List.{append-nil}
 use Rattle.sql_parts.specs.Tokens.{closed, ends_with, is_edge, tokens}
 use Rattle.sql_builder.specs.Calls.{FinishText, Sql, Query, QueryValues, Subquery, SubqueryAs}
 use Rattle.sql_builder.specs.Clauses.{Clauses, map_clauses}
-use Rattle.sql_builder.specs.Layout.{
-  Section,
-  byte_atoms,
-  concat_sections,
-  delete_sections,
-  fields_or_star,
-  group_by_sections,
-  insert_sections,
-  insert_target,
-  list_sections,
-  optional_section,
-  order_by_sections,
-  query,
-  query_sections,
-  query_values,
-  range_sections,
-  returning_sections,
-  section,
-  select_opening,
-  sql,
-  statement_sections,
-  subquery,
-  subquery_as,
-  table_and_joins,
-  union_opening,
-  union_sections,
-  update_sections,
-  values_sections,
-  where_sections,
-}
+use Rattle.sql_builder.specs.Layout.{Section, byte_atoms, concat_sections, delete_sections, fields_or_star, group_by_sections, insert_sections, insert_target}
+use Rattle.sql_builder.specs.Layout.{list_sections, optional_section, order_by_sections, query, query_sections, query_values, range_sections}
+use Rattle.sql_builder.specs.Layout.{returning_sections, section, select_opening, sql, statement_sections, subquery, subquery_as, table_and_joins}
+use Rattle.sql_builder.specs.Layout.{union_opening, union_sections, update_sections, values_sections, where_sections}
 use Rattle.sql_builder.specs.Phrases.{comma_list, in_brackets}
 use Rattle.sql_builder.specs.Shape.{EndsInOneSemicolon, has_closed_fragments, has_no_semicolons, HasShape, IsClosedAs, as_fragments}
 use Rattle.sql_builder.specs.Statement.{layout_at, text_at}
@@ -44,31 +18,9 @@ use Rattle.sql_builder.specs.declared.clauses.Kind.{Kind}
 use Rattle.sql_builder.specs.declared.clauses.Kind.TheVariants.{SelectFrom, SelectValues, InsertInto, UpdateTable, DeleteFrom}
 use Rattle.sql_parts.proofs.tokens.JoinFacts.{Edged}
 use Rattle.sql_builder.proofs.fragments.ClauseFacts.{PartsAre, raw-parts}
-use Rattle.sql_builder.proofs.pieces.ShapeLemmas.{
-  AllInside,
-  Following,
-  Inside,
-  Shaped,
-  Whole,
-  before-each,
-  following-append,
-  brackets-inside,
-  ended-inside,
-  ends_in_semicolon,
-  inside-inside,
-  joined-inside,
-  none-following,
-  none-inside,
-  raw-inside,
-  shape_closed,
-  shaped,
-  statement-shaped,
-  words-following,
-  words-ended,
-  words-inside,
-  words-item,
-  items-inside,
-}
+use Rattle.sql_builder.proofs.pieces.ShapeLemmas.{AllInside, Following, Inside, Shaped, Whole, before-each, following-append, brackets-inside, ended-inside}
+use Rattle.sql_builder.proofs.pieces.ShapeLemmas.{ends_in_semicolon, inside-inside, joined-inside, none-following, none-inside, raw-inside, shape_closed}
+use Rattle.sql_builder.proofs.pieces.ShapeLemmas.{shaped, statement-shaped, words-following, words-ended, words-inside, words-item, items-inside}
 use Rattle.sql_builder.proofs.statements.RunLemmas.{text_of_layout}
 
 -- each clause is made of such pieces

@@ -1,30 +1,6 @@
 -- Fragments that are fit leave the nesting depth, and the outer clause words, to the builder's own words.
-use Rattle.std.proofs.Common.{
-  ◌≡◌,
-  refl,
-  sym,
-  ◌∙◌,
-  ap,
-  subst,
-  ℕ,
-  zero,
-  suc,
-  Bool,
-  true,
-  false,
-  not,
-  ◌&&◌,
-  ◌||◌,
-  List,
-  [],
-  ◌∷◌,
-  ◌++◌,
-  map,
-  ℤ,
-  pos,
-  negsuc,
-  append-nil,
-}
+use Rattle.std.proofs.Common.{◌≡◌, refl, sym, ◌∙◌, ap, subst, ℕ, zero, suc, Bool, true, false, not, ◌&&◌, ◌||◌, List, [], ◌∷◌, ◌++◌, map, ℤ, pos, negsuc}
+use Rattle.std.proofs.Common.{append-nil}
 use Rattle.std.specs.Prelude.{flat_map}
 use Rattle.std.specs.List.{list_all, list_any}
 use Rattle.std.proofs.lemmas.Bool.{and_parts, and_from, or_parts, false≢true, not-true, not_from_false}
@@ -41,20 +17,8 @@ use Rattle.sql_builder.proofs.tokens.WhereWords.{has_clause}
 use Rattle.sql_builder.specs.FitFragments.{is_balanced_piece, own_tokens, are_fit, are_fit_after, is_fit_after, own, has_balanced_fragments}
 use Rattle.sql_builder.specs.TokenParts.{Parts, parts_at, with_front}
 use Rattle.sql_builder.specs.Reading.{own_placed}
-use Rattle.sql_parts.proofs.fragments.DepthFacts.{
-  after,
-  at_end,
-  closes_from,
-  is_at_least_0,
-  is_balanced,
-  is_even,
-  is_zero,
-  placed,
-  placed_from,
-  end-is,
-  has_outer-is,
-  is_balanced-is,
-}
+use Rattle.sql_parts.proofs.fragments.DepthFacts.{after, at_end, closes_from, is_at_least_0, is_balanced, is_even, is_zero, placed, placed_from, end-is}
+use Rattle.sql_parts.proofs.fragments.DepthFacts.{has_outer-is, is_balanced-is}
 use Rattle.sql_parts.specs.Fragments.{as_placed, Inner, Outer, Placed, is_clause_word, is_outer, is_whole, token_of, balanced}
 
 pub own-append : (x y : Pieces) → own (x ++ y) ≡ own x ++ own y

@@ -1,30 +1,6 @@
 -- The builder's own words in each statement: what parses back, and the bodies of WHERE.
-use Rattle.std.proofs.Common.{
-  ◌≡◌,
-  refl,
-  sym,
-  ◌∙◌,
-  ap,
-  subst,
-  ℕ,
-  Bool,
-  true,
-  false,
-  List,
-  [],
-  ◌∷◌,
-  ◌++◌,
-  Option,
-  None,
-  Some,
-  map,
-  codes,
-  append-nil,
-  append_assoc,
-  not,
-  ◌&&◌,
-  pos,
-}
+use Rattle.std.proofs.Common.{◌≡◌, refl, sym, ◌∙◌, ap, subst, ℕ, Bool, true, false, List, [], ◌∷◌, ◌++◌, Option, None, Some, map, codes, append-nil}
+use Rattle.std.proofs.Common.{append_assoc, not, ◌&&◌, pos}
 use Rattle.sql_builder.proofs.fragments.PropertyLemmas.{Each, PreservedByAppend, before-each, joined, listed, neutral-brackets, neutral-joins}
 use Rattle.std.specs.Prelude.{IfSome, flat_map}
 use Rattle.std.specs.List.{AllByRecursion, list_any}
@@ -33,57 +9,18 @@ use Rattle.std.proofs.lemmas.Grind.{flat_map-append}
 use Rattle.sql_parts.specs.Text.{join_with}
 use Rattle.sql_parts.specs.Tokens.{Token, tokens, begins_with}
 use Rattle.sql_builder.specs.Clauses.{Clauses}
-use Rattle.sql_builder.specs.Layout.{
-  Section,
-  concat_sections,
-  delete_sections,
-  fields_or_star,
-  group_by_sections,
-  insert_sections,
-  insert_target,
-  list_sections,
-  optional_section,
-  order_by_sections,
-  query,
-  query_sections,
-  query_values,
-  range_sections,
-  returning_sections,
-  section,
-  select_opening,
-  sql,
-  statement_sections,
-  table_and_joins,
-  union_opening,
-  union_sections,
-  update_sections,
-  values_sections,
-  where_sections,
-}
+use Rattle.sql_builder.specs.Layout.{Section, concat_sections, delete_sections, fields_or_star, group_by_sections, insert_sections, insert_target}
+use Rattle.sql_builder.specs.Layout.{list_sections, optional_section, order_by_sections, query, query_sections, query_values, range_sections}
+use Rattle.sql_builder.specs.Layout.{returning_sections, section, select_opening, sql, statement_sections, table_and_joins, union_opening, union_sections}
+use Rattle.sql_builder.specs.Layout.{update_sections, values_sections, where_sections}
 use Rattle.sql_builder.specs.Phrases.{comma_list, in_brackets}
 use Rattle.sql_builder.specs.Shape.{pieces_tokens}
 use Rattle.sql_builder.specs.Pieces.{Piece, Pieces, Fixed, fixed_piece, pieces_text}
 use Rattle.sql_builder.specs.declared.clauses.Kind.{Kind}
 use Rattle.sql_builder.specs.declared.clauses.Kind.TheVariants.{SelectFrom, SelectValues, InsertInto, UpdateTable, DeleteFrom}
 use Rattle.sql_builder.proofs.tokens.BalancedFacts.{is_even-append}
-use Rattle.sql_builder.proofs.reading.SectionLemmas.{
-  AllOpen,
-  Neutral,
-  Ending,
-  Front,
-  clauses_in,
-  clauses-sections,
-  ending-none,
-  ending-semicolon,
-  ending-union,
-  list-back,
-  opening_clauses,
-  read-back,
-  section-clauses,
-  section_pieces,
-  sections-front,
-  with_last,
-}
+use Rattle.sql_builder.proofs.reading.SectionLemmas.{AllOpen, Neutral, Ending, Front, clauses_in, clauses-sections, ending-none, ending-semicolon, ending-union}
+use Rattle.sql_builder.proofs.reading.SectionLemmas.{list-back, opening_clauses, read-back, section-clauses, section_pieces, sections-front, with_last}
 use Rattle.sql_builder.proofs.reading.ClauseWordLemmas.{own-append, laid_from}
 use Rattle.sql_builder.specs.FitFragments.{own, has_fit_fragments}
 use Rattle.sql_builder.specs.Reading.{Clause, piece_clauses, read, clause_bodies, is_union}

@@ -12,16 +12,8 @@ use Rattle.sql_builder.specs.declared.clauses.Kind.{Kind}
 use Rattle.sql_builder.specs.declared.clauses.Kind.TheVariants.{SelectFrom, SelectValues, InsertInto, UpdateTable, DeleteFrom}
 use Rattle.sql_builder.proofs.pieces.LayoutShapeLemmas.{query_shape, subquery_as_shape, subquery_shape, fragments-printed, raw-inside-parts}
 use Rattle.sql_builder.proofs.fragments.NeutralLemmas.{raw-neutral, NeutralParts}
-use Rattle.sql_builder.proofs.reading.LayoutLemmas.{
-  neutral-layout,
-  bare_query-split,
-  bare_values-split,
-  kind_bodies,
-  split-reads,
-  split-wheres,
-  sql-split,
-  where_bodies,
-}
+use Rattle.sql_builder.proofs.reading.LayoutLemmas.{neutral-layout, bare_query-split, bare_values-split, kind_bodies, split-reads, split-wheres, sql-split}
+use Rattle.sql_builder.proofs.reading.LayoutLemmas.{where_bodies}
 use Rattle.sql_builder.proofs.truth.ConditionGroupLemmas.{texts-true}
 use Rattle.sql_builder.specs.FitFragments.{has_fit_fragments}
 use Rattle.sql_builder.specs.Meaning.{HasTruthOfGroups, is_unenclosed, prints_where, Nests, ReadsBack}

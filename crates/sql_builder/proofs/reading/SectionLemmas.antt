@@ -1,30 +1,6 @@
 -- Pieces whose own words are laid as those of a statement are read back as their clauses.
-use Rattle.std.proofs.Common.{
-  ◌≡◌,
-  refl,
-  sym,
-  ◌∙◌,
-  ap,
-  subst,
-  ℕ,
-  Bool,
-  true,
-  false,
-  not,
-  ◌&&◌,
-  ◌||◌,
-  List,
-  [],
-  ◌∷◌,
-  ◌++◌,
-  map,
-  ℤ,
-  pos,
-  codes,
-  append-nil,
-  inl,
-  inr,
-}
+use Rattle.std.proofs.Common.{◌≡◌, refl, sym, ◌∙◌, ap, subst, ℕ, Bool, true, false, not, ◌&&◌, ◌||◌, List, [], ◌∷◌, ◌++◌, map, ℤ, pos, codes, append-nil, inl}
+use Rattle.std.proofs.Common.{inr}
 use Rattle.std.specs.Prelude.{flat_map}
 use Rattle.std.specs.List.{AllByRecursion, list_all, list_any}
 use Rattle.std.proofs.lemmas.Bool.{and_parts, and_from, or_parts, or_from, false≢true, not-true}
@@ -38,23 +14,8 @@ use Rattle.sql_builder.specs.Pieces.{Piece, Pieces, Fixed, Quoted, Raw, fixed_pi
 use Rattle.sql_builder.proofs.tokens.BalancedFacts.{even_closes, is_even-append}
 use Rattle.sql_builder.proofs.truth.ConnectiveLemmas.{placed-then}
 use Rattle.sql_builder.specs.FitFragments.{own, begins_union, has_fit_fragments, own_tokens}
-use Rattle.sql_builder.proofs.reading.ClauseWordLemmas.{
-  fit-balanced,
-  fit-flags,
-  laid-both,
-  laid-plain,
-  laid_from,
-  Flagged,
-  flags,
-  own-append,
-  same-parts,
-  shape-even,
-  stays-closes,
-  are_fit_from,
-  is_fit,
-  are_fit-is,
-  fragments_closed,
-}
+use Rattle.sql_builder.proofs.reading.ClauseWordLemmas.{fit-balanced, fit-flags, laid-both, laid-plain, laid_from, Flagged, flags, own-append, same-parts}
+use Rattle.sql_builder.proofs.reading.ClauseWordLemmas.{shape-even, stays-closes, are_fit_from, is_fit, are_fit-is, fragments_closed}
 use Rattle.sql_builder.proofs.tokens.DepthFacts.{at_end-closes}
 use Rattle.sql_builder.proofs.tokens.PartFacts.{not_union, semicolon-later, semicolon-none, semicolon-one, none-inner, parts-none}
 use Rattle.sql_builder.proofs.pieces.ShapeLemmas.{Follows, Inside, text-append}

@@ -1,53 +1,10 @@
 -- Worked rows: what the definitions give, by computing.
 use Rattle.std.specs.Prelude.{◌≡◌, [], ◌∷◌, ◌++◌, Ok, Err, codes, refl, true, false}
 use Rattle.sql_parts.specs.declared.error.SqlBuilderError.TheVariants.{NoTableName, NoValues, NoSetFields, NoGroupBy}
-use Rattle.sql_builder.specs.Calls.{
-  SelectFrom,
-  SelectValues,
-  InsertInto,
-  UpdateTable,
-  DeleteFrom,
-  Natural,
-  Left,
-  LeftOuter,
-  Right,
-  RightOuter,
-  Inner,
-  Cross,
-  Distinct,
-  AndTable,
-  Join,
-  On,
-  OnEq,
-  Fields,
-  SetFields,
-  Field,
-  SetField,
-  Count,
-  CountAs,
-  SetTo,
-  SetStr,
-  Values,
-  Select,
-  Returning,
-  ReturningId,
-  GroupBy,
-  Having,
-  Union,
-  UnionAll,
-  OrderBy,
-  OrderAsc,
-  OrderDesc,
-  Limit,
-  Offset,
-  Cond,
-  Sql,
-  Query,
-  QueryValues,
-  Subquery,
-  SubqueryAs,
-  clauses,
-}
+use Rattle.sql_builder.specs.Calls.{SelectFrom, SelectValues, InsertInto, UpdateTable, DeleteFrom, Natural, Left, LeftOuter, Right, RightOuter, Inner, Cross}
+use Rattle.sql_builder.specs.Calls.{Distinct, AndTable, Join, On, OnEq, Fields, SetFields, Field, SetField, Count, CountAs, SetTo, SetStr, Values, Select}
+use Rattle.sql_builder.specs.Calls.{Returning, ReturningId, GroupBy, Having, Union, UnionAll, OrderBy, OrderAsc, OrderDesc, Limit, Offset, Cond, Sql, Query}
+use Rattle.sql_builder.specs.Calls.{QueryValues, Subquery, SubqueryAs, clauses}
 use Rattle.sql_builder.specs.Condition.{Raw, Compare, Like}
 use Rattle.sql_builder.specs.Statement.{pieces, statement}
 use Rattle.sql_parts.specs.Quoting.{quoted}

@@ -3,21 +3,8 @@ use Rattle.std.proofs.Common.{◌≡◌, List, [], ◌∷◌, ◌++◌, Option, 
 use Rattle.std.proofs.lemmas.Bool.{false≢true}
 use Rattle.std.proofs.lemmas.List.{map-append, append-nil}
 use Rattle.std.specs.Prelude.{is_some}
-use Rattle.sql_builder.specs.Calls.{
-  StartText,
-  CallText,
-  Fields,
-  Having,
-  Limit,
-  Offset,
-  Returning,
-  ReturningId,
-  clauses,
-  having_in,
-  limit_in,
-  offset_in,
-  returning_in,
-}
+use Rattle.sql_builder.specs.Calls.{StartText, CallText, Fields, Having, Limit, Offset, Returning, ReturningId, clauses, having_in, limit_in, offset_in}
+use Rattle.sql_builder.specs.Calls.{returning_in}
 use Rattle.sql_builder.specs.Clauses.{Clauses}
 use Rattle.sql_builder.specs.BuilderLaws.{FieldsJoin, OnlyLastCounts}
 use Rattle.sql_builder.specs.Pieces.{Pieces, raw_piece}

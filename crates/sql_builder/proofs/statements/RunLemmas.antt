@@ -1,37 +1,6 @@
 -- A list of calls with one more, and the statement of the calls that were made.
-use Rattle.std.proofs.Common.{
-  ◌≡◌,
-  ℕ,
-  ◌+◌,
-  ◌<◌,
-  List,
-  [],
-  ◌∷◌,
-  ◌++◌,
-  Option,
-  None,
-  Some,
-  true,
-  false,
-  codes,
-  map,
-  take,
-  get_or,
-  length,
-  String,
-  string_bytes,
-  Result,
-  Ok,
-  Err,
-  IfOk,
-  IfErr,
-  refl,
-  ap,
-  sym,
-  ◌∙◌,
-  inl,
-  inr,
-}
+use Rattle.std.proofs.Common.{◌≡◌, ℕ, ◌+◌, ◌<◌, List, [], ◌∷◌, ◌++◌, Option, None, Some, true, false, codes, map, take, get_or, length, String, string_bytes}
+use Rattle.std.proofs.Common.{Result, Ok, Err, IfOk, IfErr, refl, ap, sym, ◌∙◌, inl, inr}
 use Rattle.std.proofs.lemmas.List.{take_more, map-append, append-nil}
 use Rattle.std.specs.Prelude.{IfSome, IsNone, ◌⊎◌}
 use Rattle.sql_builder.specs.Builder.{extend_last, join_last, started, with_call}

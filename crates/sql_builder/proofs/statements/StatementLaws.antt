@@ -13,15 +13,8 @@ use Rattle.sql_builder.specs.Meaning.{HasTruthOf, condition_groups, is_nested}
 use Rattle.sql_builder.specs.Reading.{piece_clauses, read}
 use Rattle.sql_builder.specs.Shape.{has_closed_fragments, pieces_tokens}
 use Rattle.sql_builder.specs.Statement.{pieces, error_at, statement, text_at, text_unless_error, unless_error}
-use Rattle.sql_builder.specs.StatementLaws.{
-  BuildersFollowCalls,
-  BuildersPrintStatements,
-  StatementsAreClosed,
-  StatementsHaveTruth,
-  StatementsKeepTokens,
-  StatementsNest,
-  made_by,
-}
+use Rattle.sql_builder.specs.StatementLaws.{BuildersFollowCalls, BuildersPrintStatements, StatementsAreClosed, StatementsHaveTruth, StatementsKeepTokens}
+use Rattle.sql_builder.specs.StatementLaws.{StatementsNest, made_by}
 use Rattle.sql_builder.specs.Pieces.{Pieces, pieces_text}
 use Rattle.sql_builder.specs.Truths.{truth}
 use Rattle.sql_builder.proofs.fragments.NeutralLemmas.{clauses-neutral}

@@ -10,18 +10,8 @@ use Rattle.sql_builder.proofs.tokens.WhereWords.{is_condition, is_group, has_cla
 use Rattle.sql_builder.proofs.tokens.DepthFacts.{closes_from-append, at_end-closes, after-suc}
 use Rattle.sql_builder.proofs.tokens.PartFacts.{none-append, any-append}
 use Rattle.sql_builder.proofs.truth.ConnectiveLemmas.{none-brackets, placed-then}
-use Rattle.sql_parts.proofs.fragments.DepthFacts.{
-  after,
-  closes_from,
-  has_outer,
-  is_at_least_0,
-  is_balanced,
-  is_even,
-  is_operand,
-  placed,
-  placed_from,
-  is_balanced-is,
-}
+use Rattle.sql_parts.proofs.fragments.DepthFacts.{after, closes_from, has_outer, is_at_least_0, is_balanced, is_even, is_operand, placed, placed_from}
+use Rattle.sql_parts.proofs.fragments.DepthFacts.{is_balanced-is}
 use Rattle.sql_parts.specs.Fragments.{is_clause_word, is_joining, is_outer, is_whole, balanced}
 
 whole-append : (a b : List Token) → list_all is_whole a ≡ true → list_all is_whole b ≡ true → list_all is_whole (a ++ b) ≡ true

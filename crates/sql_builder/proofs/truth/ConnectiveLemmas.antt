@@ -7,41 +7,12 @@ use Rattle.sql_parts.specs.Tokens.{Token}
 use Rattle.sql_builder.specs.WhereTokens.{in_brackets}
 use Rattle.sql_builder.proofs.tokens.WhereWords.{and_word, has_clause, left_bracket, not_word, or_word, right_bracket}
 use Rattle.sql_builder.proofs.tokens.DepthFacts.{placed_from-append, at_end-closes, placed_from-suc, after-suc, at_end-suc, at_end-append}
-use Rattle.sql_builder.proofs.tokens.PartFacts.{
-  but_last-push,
-  ends_with-push,
-  pieces-separator,
-  parts-none,
-  tokens-placed_from,
-  tokens-without_owned,
-  without_owned-plain,
-  none-inner,
-  none-append,
-  none_narrower,
-  without_owned-append,
-}
+use Rattle.sql_builder.proofs.tokens.PartFacts.{but_last-push, ends_with-push, pieces-separator, parts-none, tokens-placed_from, tokens-without_owned}
+use Rattle.sql_builder.proofs.tokens.PartFacts.{without_owned-plain, none-inner, none-append, none_narrower, without_owned-append}
 use Rattle.sql_builder.proofs.truth.FormLemmas.{truth_is, is_bracketed, placed_ands}
 use Rattle.sql_builder.specs.TokenParts.{pieces_at, pieces_of}
-use Rattle.sql_builder.specs.Truths.{
-  False,
-  True,
-  Truth,
-  Unknown,
-  not3,
-  or3,
-  or_all,
-  is_and,
-  is_or,
-  and_all,
-  and3,
-  truth,
-  truth_by,
-  value_in,
-  without_owned,
-  Valuation,
-  is_between,
-  owns_next,
-}
+use Rattle.sql_builder.specs.Truths.{False, True, Truth, Unknown, not3, or3, or_all, is_and, is_or, and_all, and3, truth, truth_by, value_in, without_owned}
+use Rattle.sql_builder.specs.Truths.{Valuation, is_between, owns_next}
 use Rattle.sql_parts.proofs.fragments.DepthFacts.{after, at_end, closes_from, has_outer, is_at_least_0, is_at_least_1, placed, placed_from, stays_inside}
 use Rattle.sql_parts.specs.Fragments.{Inner, Outer, Placed, is_joining, is_outer, is_symbol}
 

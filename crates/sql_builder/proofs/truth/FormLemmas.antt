@@ -1,66 +1,13 @@
 -- Each piece is shorter, so that more steps change no truth.
 use Prim.Native.Char.{code}
-use Rattle.std.proofs.Common.{
-  not,
-  ◌&&◌,
-  ◌≡◌,
-  refl,
-  sym,
-  ◌∙◌,
-  ap,
-  subst,
-  ℕ,
-  zero,
-  suc,
-  ◌+◌,
-  ◌<◌,
-  ◌≤◌,
-  Bool,
-  true,
-  false,
-  cond,
-  List,
-  [],
-  ◌∷◌,
-  map,
-  length,
-  drop,
-  ◌⊎◌,
-  inl,
-  inr,
-  arith,
-  pos,
-  ℤ,
-}
+use Rattle.std.proofs.Common.{not, ◌&&◌, ◌≡◌, refl, sym, ◌∙◌, ap, subst, ℕ, zero, suc, ◌+◌, ◌<◌, ◌≤◌, Bool, true, false, cond, List, [], ◌∷◌, map, length, drop}
+use Rattle.std.proofs.Common.{◌⊎◌, inl, inr, arith, pos, ℤ}
 use Rattle.std.proofs.lemmas.Bool.{or_cases, false≢true}
 use Rattle.std.specs.List.{list_any, AllByRecursion}
 use Rattle.sql_parts.specs.Tokens.{Token, begins_with, ends_with}
 use Rattle.sql_builder.specs.TokenParts.{Parts, but_last, parts_at, pieces_at, with_front}
-use Rattle.sql_builder.specs.Truths.{
-  AllOf,
-  AnyOf,
-  Atom,
-  Bracketed,
-  Fact,
-  Form,
-  Negated,
-  Truth,
-  not3,
-  form,
-  form_of,
-  or_all,
-  inside,
-  is_and,
-  is_between_last,
-  is_not,
-  is_or,
-  and_all,
-  truth,
-  truth_by,
-  truth_within,
-  value_in,
-  without_owned,
-}
+use Rattle.sql_builder.specs.Truths.{AllOf, AnyOf, Atom, Bracketed, Fact, Form, Negated, Truth, not3, form, form_of, or_all, inside, is_and, is_between_last}
+use Rattle.sql_builder.specs.Truths.{is_not, is_or, and_all, truth, truth_by, truth_within, value_in, without_owned}
 use Rattle.std.proofs.Math.Bool.{and_assoc}
 use Rattle.sql_builder.specs.Truths as truths
 use Rattle.sql_parts.proofs.fragments.DepthFacts.{after, has_outer, has_outer-is, inside-is, placed, placed-is, placed_from, stays_inside}

@@ -8,17 +8,8 @@ use Rattle.sql_builder.proofs.tokens.WhereWords.{is_condition, is_group, are_gro
 use Rattle.sql_builder.proofs.tokens.DepthFacts.{at_end-closes}
 use Rattle.sql_builder.proofs.tokens.BalancedFacts.{is_condition-group}
 use Rattle.sql_builder.proofs.tokens.PartFacts.{none-append}
-use Rattle.sql_builder.proofs.truth.ConnectiveLemmas.{
-  truth_or,
-  truth_and,
-  truth_brackets,
-  none-brackets,
-  at_end-brackets,
-  placed-then,
-  or3-False,
-  and3-True,
-  plain-owns,
-}
+use Rattle.sql_builder.proofs.truth.ConnectiveLemmas.{truth_or, truth_and, truth_brackets, none-brackets, at_end-brackets, placed-then, or3-False, and3-True}
+use Rattle.sql_builder.proofs.truth.ConnectiveLemmas.{plain-owns}
 use Rattle.sql_builder.specs.Truths.{Fact, or3, or_all, is_or, and_all, and3, truth}
 use Rattle.sql_parts.proofs.fragments.DepthFacts.{closes_from, has_outer, is_balanced, placed}
 use Rattle.sql_parts.specs.Fragments.{is_joining, is_outer}
