@@ -82,7 +82,7 @@ def proof():
         box("box", left, 40, 150, 56, "src/", "code with contracts"),
         box("box", left, 108, 150, 56, "specs/", "definitions they use"),
         box("box", left, 176, 150, 56, "proofs/", "where it needs help"),
-        box("mutant", left, 288, 150, 56, "must-fail/, mutants/", "mutants of the code"),
+        box("mutant", left, 288, 150, 56, "mutants/", "mutants of the code"),
         box("prover", middle, 92, 84, 88, "prover", "every", "contract,", "every call"),
         box("box", right, 40, 116, 56, "compiler", "only if proved"),
         box("crate", right, 124, 116, 56, "program", "or library"),
