@@ -21,7 +21,6 @@ use Rattle.sql_builder.proofs.reading.SectionLemmas.{Neutral}
 use Rattle.sql_builder.proofs.fragments.PropertyLemmas.{PreservedByCalls, between, one, Each, joined}
 use Rattle.sql_builder.proofs.conditions.ConditionLemmas.{condition-preserved, condition-inside}
 use Rattle.sql_parts.specs.Tokens.{ends_with, is_edge}
-use Rattle.sql_parts.specs.Quoting.{quoted}
 use Rattle.sql_builder.proofs.pieces.LayoutShapeLemmas.{InsideParts}
 use Rattle.sql_builder.proofs.pieces.ShapeLemmas.{AllInside, Following, Inside, Whole, all-flat, brackets-inside, inside-inside, joined-inside, none-following}
 use Rattle.sql_builder.proofs.pieces.ShapeLemmas.{none-inside, quoted-inside, raw-inside, words-following, words-inside, items-inside, raw-all, closing-last}
