@@ -270,7 +270,7 @@ impl SqlBuilder {
     }
 
     // A copy of all clauses is made in four steps, none of which holds more than five copies where
-    // it is refused: the proof of all in one takes long.
+    // it fails: the proof of all in one takes long.
     fn copy_tables(&self) -> Result<(String, Vec<String>), SqlBuilderError>
         ensures tables { IfOk result (λ copy. string_bytes copy.0 ≡ self.now.table) }
         ensures joins { IfOk result (λ copy. texts copy.1.items ≡ self.now.joins) }

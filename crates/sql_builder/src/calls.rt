@@ -374,16 +374,16 @@ pub fn print_to(
 /// Makes the builder, makes the calls in order, and prints: the statement that the whole list
 /// means, or its error. It may run out of memory in place of either.
 ///
-/// The fragments are the texts that it prints as they stand. Where each is closed, the text has
-/// their tokens, and one token for each text that is quoted. Where each before the first UNION is
-/// balanced, and has no outer word that begins a clause unless brackets of the builder's own stand
-/// round it, what `sql`, `query` and `query_values` print reads back, up to that UNION, as the
-/// clauses that the calls say. Where this holds of the fragments of each condition too, by
-/// the condition's own brackets, the truth of the WHERE of a query, and of what `sql` prints of a
-/// SELECT from a table, an UPDATE or a DELETE, is the AND of the groups, each the OR of
-/// its conditions. Where each fragment is balanced, those behind a UNION too, what `query` and
-/// `subquery_as` print is balanced, and what `subquery` prints is an operand without an outer word
-/// that begins a clause; nor has what `subquery_as` prints one, where its name has none.
+/// The fragments are the texts that it prints unchanged. Where each is closed, the text has their
+/// tokens, and one token for each text that is quoted. Where each before the first UNION is
+/// balanced, and has no top-level clause keyword unless brackets of the builder's own are round it,
+/// what `sql`, `query` and `query_values` print parses back, up to that UNION, as the clauses that
+/// the calls say. Where this holds of the fragments of each condition too, by the condition's own
+/// brackets, the truth of the WHERE of a query, and of what `sql` prints of a SELECT from a table,
+/// an UPDATE or a DELETE, is the AND of the groups, each the OR of its conditions. Where each
+/// fragment is balanced, those behind a UNION too, what `query` and `subquery_as` print is
+/// balanced, and what `subquery` prints is an operand without a top-level clause keyword; nor has
+/// what `subquery_as` prints one, where its name has none.
 /// `run(alloc, &Start::SelectFrom(String::from_str(alloc, "t")?), &[Call::Field(String::from_str(alloc, "a")?)], &Finish::Sql)?` →
 /// `SELECT a FROM t;`
 pub fn run(

@@ -41,7 +41,7 @@ impl SqlBuilder {
         release(self.hold_unary(UnaryClause::Join, table))
     }
 
-    /// Adds a constraint to the last join. Without a join it does nothing, and can't be refused.
+    /// Adds a constraint to the last join. Without a join it does nothing, and can't fail.
     /// `SqlBuilder::select_from(alloc, "t")?.join("u")?.on("a = b")?.sql()?` →
     /// `SELECT * FROM t JOIN u ON a = b;`
     pub fn on<S: ToText>(&mut self, constraint: S) -> Result<&mut Self, SqlBuilderError>
@@ -53,7 +53,7 @@ impl SqlBuilder {
     }
 
     /// Adds the constraint `left = right` to the last join. Without a join it does nothing, and
-    /// can't be refused.
+    /// can't fail.
     /// `SqlBuilder::select_from(alloc, "t")?.join("u")?.on_eq("a", "b")?.sql()?` →
     /// `SELECT * FROM t JOIN u ON a = b;`
     pub fn on_eq<S: ToText, T: ToText>(
@@ -236,8 +236,8 @@ impl SqlBuilder {
         release(self.hold_unary(UnaryClause::GroupBy, field))
     }
 
-    /// The condition of HAVING, which stands behind GROUP BY; the last call counts. A query without
-    /// a GROUP BY is then refused as `NoGroupBy` when it is printed.
+    /// The condition of HAVING, which follows GROUP BY; the last call counts. Printing a query
+    /// without a GROUP BY then fails with `NoGroupBy`.
     /// `SqlBuilder::select_from(alloc, "t")?.group_by("a")?.having("b")?.sql()?` →
     /// `SELECT * FROM t GROUP BY a HAVING b;`
     pub fn having<S: ToText>(&mut self, condition: S) -> Result<&mut Self, SqlBuilderError>
@@ -340,7 +340,7 @@ impl SqlBuilder {
     ghost use Rattle.sql_builder.specs.BuilderLoans.{IsSameLoan};
     ghost use Rattle.sql_builder.specs.declared.clauses.JoinOperator.TheVariants.{Left, LeftOuter, Right, RightOuter, Inner, Cross};
 
-    /// The next join is NATURAL. It can't be refused, and gives the builder back.
+    /// The next join is NATURAL. It can't fail, and returns the builder.
     /// `SqlBuilder::select_from(alloc, "t")?.natural().join("u")?.join("v")?.sql()?` →
     /// `SELECT * FROM t NATURAL JOIN u JOIN v;`
     pub fn natural(&mut self) -> &mut Self
@@ -351,8 +351,8 @@ impl SqlBuilder {
         self
     }
 
-    /// The joins to come are LEFT joins, until another operator is chosen. It can't be
-    /// refused, and gives the builder back.
+    /// The joins to come are LEFT joins, until another operator is chosen. It can't fail, and
+    /// returns the builder.
     /// `SqlBuilder::select_from(alloc, "t")?.left().join("u")?.join("v")?.sql()?` →
     /// `SELECT * FROM t LEFT JOIN u LEFT JOIN v;`
     pub fn left(&mut self) -> &mut Self
@@ -363,8 +363,8 @@ impl SqlBuilder {
         self
     }
 
-    /// The joins to come are LEFT OUTER joins, until another operator is chosen. It can't be
-    /// refused, and gives the builder back.
+    /// The joins to come are LEFT OUTER joins, until another operator is chosen. It can't fail, and
+    /// returns the builder.
     /// `SqlBuilder::select_from(alloc, "t")?.left_outer().join("u")?.sql()?` →
     /// `SELECT * FROM t LEFT OUTER JOIN u;`
     pub fn left_outer(&mut self) -> &mut Self
@@ -375,8 +375,8 @@ impl SqlBuilder {
         self
     }
 
-    /// The joins to come are RIGHT joins, until another operator is chosen. It can't be
-    /// refused, and gives the builder back.
+    /// The joins to come are RIGHT joins, until another operator is chosen. It can't fail, and
+    /// returns the builder.
     /// `SqlBuilder::select_from(alloc, "t")?.right().join("u")?.sql()?` →
     /// `SELECT * FROM t RIGHT JOIN u;`
     pub fn right(&mut self) -> &mut Self
@@ -387,8 +387,8 @@ impl SqlBuilder {
         self
     }
 
-    /// The joins to come are RIGHT OUTER joins, until another operator is chosen. It can't be
-    /// refused, and gives the builder back.
+    /// The joins to come are RIGHT OUTER joins, until another operator is chosen. It can't fail,
+    /// and returns the builder.
     /// `SqlBuilder::select_from(alloc, "t")?.right_outer().join("u")?.sql()?` →
     /// `SELECT * FROM t RIGHT OUTER JOIN u;`
     pub fn right_outer(&mut self) -> &mut Self
@@ -399,8 +399,8 @@ impl SqlBuilder {
         self
     }
 
-    /// The joins to come are INNER joins, until another operator is chosen. It can't be
-    /// refused, and gives the builder back.
+    /// The joins to come are INNER joins, until another operator is chosen. It can't fail, and
+    /// returns the builder.
     /// `SqlBuilder::select_from(alloc, "t")?.inner().join("u")?.sql()?` →
     /// `SELECT * FROM t INNER JOIN u;`
     pub fn inner(&mut self) -> &mut Self
@@ -411,8 +411,8 @@ impl SqlBuilder {
         self
     }
 
-    /// The joins to come are CROSS joins, until another operator is chosen. It can't be
-    /// refused, and gives the builder back.
+    /// The joins to come are CROSS joins, until another operator is chosen. It can't fail, and
+    /// returns the builder.
     /// `SqlBuilder::select_from(alloc, "t")?.cross().join("u")?.sql()?` →
     /// `SELECT * FROM t CROSS JOIN u;`
     pub fn cross(&mut self) -> &mut Self
@@ -423,7 +423,7 @@ impl SqlBuilder {
         self
     }
 
-    /// Selects equal rows once. It can't be refused, and gives the builder back.
+    /// Selects equal rows once. It can't fail, and returns the builder.
     /// `SqlBuilder::select_from(alloc, "t")?.distinct().field("a")?.sql()?` →
     /// `SELECT DISTINCT a FROM t;`
     pub fn distinct(&mut self) -> &mut Self

@@ -58,7 +58,7 @@ impl JoinOperator {
 }
 
 impl GroupedCondition {
-    /// What stands in front of it, where it is not the first and several groups stand in brackets.
+    /// What precedes it, where it is not the first and several groups are in brackets.
     pub(crate) fn words(&self) -> &'static str
         ensures { result.now
             ≡ (if self.now.opens_group then codes ") AND (" else codes " OR ") }

@@ -5,7 +5,7 @@ ghost use Rattle.sql_builder.specs.Concat.{HasRoom, Writes, at_most_usize, conca
 
 use std::alloc::{AllocError, Global};
 
-/// A part of a text. Its type lets parts that are borrowed for different times stand in one array.
+/// A part of a text. Its type lets parts that are borrowed for different times be in one array.
 #[derive(Clone, Copy)]
 pub(crate) struct Part<'a>(pub(crate) &'a str);
 

@@ -36,7 +36,7 @@ pub enum Relation {
     Le,
 }
 
-/// Where percent signs stand beside a mask of LIKE.
+/// Where a mask of LIKE has percent signs.
 #[derive(Clone, Copy)]
 pub enum Percent {
     /// Nowhere.
@@ -52,7 +52,7 @@ pub enum Percent {
 /// A condition. A truth value says whether it is the NOT form.
 #[derive(Drop)]
 pub enum Condition {
-    /// A condition as it stands.
+    /// A raw condition, which is printed unchanged.
     Raw(String),
     /// A field compared with a value.
     Compare(Relation, String, String),
@@ -76,7 +76,7 @@ pub enum Condition {
 /// whether it is the NOT form.
 #[derive(Drop)]
 pub enum BorrowedCondition<'a, T> {
-    /// A condition as it stands.
+    /// A raw condition, which is printed unchanged.
     Raw(&'a str),
     /// A field compared with a value.
     Compare(Relation, &'a str, &'a str),

@@ -57,7 +57,7 @@ pub fn added_texts_keep_tokens()
 /// Untrusted texts don't interfere. Of two lists of calls that differ only in texts that `set_str`,
 /// the LIKE calls and the `_in_quoted` calls quote, and whose raw fragments are closed, `run` prints
 /// the same tokens, but for the texts of the string tokens at these places, or returns the same
-/// error, since it answers the statement of which this is said; so does a builder that these calls
+/// error, since it returns the statement of which this is said; so does a builder that these calls
 /// made. Neither the number of tokens nor that of `;`, nor the clauses that are parsed back, nor a
 /// test of fragments depends on texts that calls quote.
 /// `SqlBuilder::update_table(alloc, "t")?.set_str("a", "x', b = 'y")?.sql()?` →
@@ -102,8 +102,8 @@ pub fn string_texts_begin_no_clause()
 {}
 
 /// A condition whose texts are operands, but a raw one, is an atom: its
-/// truth is what is known of its tokens. Of an IN that is asked of its field alone, and of what
-/// stands in its brackets that it is balanced.
+/// truth is what is known of its tokens. Of an IN that is asked of its field alone, and of what is
+/// in its brackets that it is balanced.
 /// `is_operand("a OR b")` → `false`
 #[tactic(auto, using(crate::proofs::conditions::ConditionLemmas::condition_atom))]
 pub fn conditions_are_atoms()
@@ -121,7 +121,7 @@ pub fn only_the_end_is_a_semicolon()
     ensures of_builders { BuildersEndInOneSemicolon }
 {}
 
-/// What `sql`, `query` and `query_values` print of a list of calls reads back as the clauses that
+/// What `sql`, `query` and `query_values` print of a list of calls parses back as the clauses that
 /// the list says, where its fragments before the first UNION are fit.
 /// `has_clause_word("a FROM b")` → `true`
 #[tactic(auto, using(crate::proofs::statements::StatementLaws::statements_read_back))]
@@ -166,9 +166,9 @@ pub fn builders_print_statements()
     ensures printed { BuildersPrintStatements }
 {}
 
-/// Where each text that a list of calls hands in is balanced, and has no outer clause word (which
-/// may stand in what a call puts between brackets, in a field of an INSERT that `sql` prints, and
-/// in a query behind UNION), the fragments that are printed are fit: what `run` asks of them for
+/// Where each text of a list of calls is balanced, and has no top-level clause keyword (which may
+/// be in what a call puts between brackets, in a field of an INSERT that `sql` prints, and in a
+/// query behind UNION), the fragments that are printed are fit: what `run` asks of them for
 /// clauses, for WHERE and for nesting.
 /// `is_balanced("a) OR (b")` → `false`
 #[tactic(auto, using(crate::proofs::fragments::FitLemmas::fit_fragments, crate::proofs::fragments::FitLemmas::fit_conditions, crate::proofs::fragments::FitLemmas::balanced_fragments))]
@@ -178,8 +178,8 @@ pub fn fit_texts_make_fit_fragments()
     ensures nesting { FitTextsMakeBalancedFragments }
 {}
 
-/// Where each text that a list of calls hands in is closed, or each is fit, so is each fragment that
-/// is printed closed. Where no text has a `;`, no fragment has one, and the statement that `sql`
+/// Where each text of a list of calls is closed, or each is fit, so is each fragment that is
+/// printed closed. Where no text has a `;`, no fragment has one, and the statement that `sql`
 /// prints of closed fragments ends in its only `;`.
 /// `SqlBuilder::select_from(alloc, "t")?.and_where("a = ';'")?.sql()?` →
 /// `SELECT * FROM t WHERE a = ';';`
@@ -209,10 +209,11 @@ pub fn selects_need_group_by()
 {}
 
 /// The truth of a condition by how it is made: of an OR whose left side is balanced the OR of both;
-/// of an AND the AND of both, where the left side is balanced, neither side has an outer OR, and no
-/// BETWEEN on the left owns the AND; of a NOT the negation, where no outer OR, AND or BETWEEN is behind
-/// it; of brackets round what is balanced and has no outer clause word that of the inside; of a
-/// WHERE of such conditions the AND of its groups, each the OR of its conditions.
+/// of an AND the AND of both, where the left side is balanced, neither side has a top-level OR, and
+/// no BETWEEN on the left owns the AND; of a NOT the negation, where no top-level OR, AND or
+/// BETWEEN is behind it; of brackets round what is balanced and has no top-level clause keyword
+/// that of the inside; of a WHERE of such conditions the AND of its groups, each the OR of its
+/// conditions.
 /// `SqlBuilder::select_from(alloc, "t")?.and_where("a")?.or_where("b")?.and_where("c")?.sql()?` →
 /// `SELECT * FROM t WHERE (a OR b) AND (c);`
 #[tactic(auto, using(crate::proofs::truth::TruthLaws::of_or, crate::proofs::truth::TruthLaws::of_and, crate::proofs::truth::TruthLaws::of_not, crate::proofs::truth::TruthLaws::of_brackets, crate::proofs::truth::TruthLaws::of_where))]
@@ -224,7 +225,7 @@ pub fn truth_follows_the_form()
     ensures of_where { TruthOfWhere }
 {}
 
-/// What is balanced is an operand between brackets, without an outer clause word, whatever it
+/// What is balanced is an operand between brackets, without a top-level clause keyword, whatever it
 /// holds.
 /// `is_operand("(a OR b)")` → `true`
 #[tactic(auto, using(crate::proofs::truth::TruthLaws::brackets_make_operands))]
@@ -262,17 +263,17 @@ pub fn worked_truths()
 {}
 
 /// Where each fragment of a query is balanced, those behind a UNION too, what `subquery` prints of
-/// it is fit as a table: balanced, and without an outer word that begins a clause;
-/// and so is what `subquery_as` prints, where its name has no such word.
+/// it is fit as a table: balanced, and without a top-level clause keyword; and so is what
+/// `subquery_as` prints, where its name has no such word.
 /// `SqlBuilder::select_from(alloc, "t")?.subquery_as("s")?` → `(SELECT * FROM t) AS s`
 #[tactic(auto, using(crate::proofs::reading::SubqueryLemmas::subqueries_nest))]
 pub fn subqueries_nest_as_tables()
     ensures { SubqueriesNestAsTables }
 {}
 
-/// What `sql` prints of an INSERT of a balanced query reads back as its own clause, then what the
-/// query's tokens read back as, and RETURNING, where its other fragments are fit, which they are
-/// where its texts are; the same of a builder. Behind an outer UNION no RETURNING is read. What
+/// What `sql` prints of an INSERT of a balanced query parses back as its own clause, then what the
+/// query's tokens parse back as, and RETURNING, where its other fragments are fit, which they are
+/// where its texts are; the same of a builder. Behind a top-level UNION no RETURNING is read. What
 /// `query` prints has none, where it has no union and its fragments are fit.
 /// `SqlBuilder::insert_into(alloc, "t")?.field("a")?.select("SELECT b FROM c")?.sql()?` →
 /// `INSERT INTO t (a) SELECT b FROM c;`

@@ -183,7 +183,7 @@ impl SqlBuilder {
         }
     }
 
-    /// How many bytes a finish prints, also where it is refused.
+    /// How many bytes a finish prints, also where it fails.
     pub(crate) fn printed_len(&self, finish: &Finish) -> usize
         ensures { result ≡ at_most_usize (length (text_at (finish_view finish.now) self.now)) }
     {

@@ -1,4 +1,4 @@
-//! Texts that may be missing, whose buffers are kept.
+//! Texts that may be missing, whose buffers are reused.
 ghost use Rattle.std.specs.Prelude.{◌≡◌, IfOk, MatchOption, None, OnErr, OnOk, Some, is_some};
 
 use crate::concat::replace;

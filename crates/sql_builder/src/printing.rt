@@ -162,7 +162,7 @@ fn push_group_by(out: &mut String, fields: &TextList, having: &OptionalText)
     }
 }
 
-// ORDER BY stands only where there is no union.
+// ORDER BY is printed only where there is no union.
 #[tactic(auto, using(crate::proofs::output::PrintingLemmas::ordered))]
 fn push_order_by(out: &mut String, unions: &UnionList, fields: &TextList)
     requires room { HasRoom out.old (order_by_bytes unions.now fields.now) }
@@ -387,15 +387,15 @@ impl SqlBuilder {
         Ok(())
     }
 
-    /// The statement, ended by `;`. It is refused with `NoTableName` where the table text is empty
-    /// and the statement is no SELECT of values; then with `NoValues` where an INSERT has neither
-    /// rows nor a query, or a SELECT of values no value, with `NoSetFields` where an UPDATE sets
+    /// The statement, ended by `;`. It fails with `NoTableName` where the table text is empty and
+    /// the statement is no SELECT of values; then with `NoValues` where an INSERT has neither rows
+    /// nor a query, or a SELECT of values no value, with `NoSetFields` where an UPDATE sets
     /// nothing, and with `NoGroupBy` where a SELECT from a table has a HAVING and no GROUP BY; each
     /// whether there is memory or not, and else only if memory runs out.
     ///
     /// Where the builder's texts before the first UNION are balanced and, but between brackets,
-    /// without an outer word that begins a clause, it reads back as the builder's clauses, and the
-    /// truth of a WHERE is the AND of the builder's groups.
+    /// without a top-level clause keyword, it parses back as the builder's clauses, and the truth
+    /// of a WHERE is the AND of the builder's groups.
     /// `SqlBuilder::select_from(alloc, "t")?.sql()?` → `SELECT * FROM t;`
     /// `SqlBuilder::select_from(alloc, "")?.sql()` fails with `NoTableName`
     #[tactic(auto, using(crate::proofs::pieces::LayoutShapeLemmas::sql_shape, crate::proofs::pieces::LayoutShapeLemmas::sql_closed, crate::proofs::reading::ReadBackLemmas::sql_clauses, crate::proofs::reading::ReadBackLemmas::sql_truth))]
@@ -416,8 +416,8 @@ impl SqlBuilder {
         Ok(statement)
     }
 
-    /// The query, on a builder of any kind. It is refused with `NoGroupBy` where there is a HAVING
-    /// and no GROUP BY, whether there is memory or not, and else only if memory runs out. It reads
+    /// The query, on a builder of any kind. It fails with `NoGroupBy` where there is a HAVING and
+    /// no GROUP BY, whether there is memory or not, and else only if memory runs out. It parses
     /// back, and has the truth of its groups, as what `sql` prints; where the builder's texts are
     /// balanced, also behind UNION, so is the query.
     /// `SqlBuilder::select_from(alloc, "t")?.query()?` → `SELECT * FROM t`
@@ -443,7 +443,7 @@ impl SqlBuilder {
     }
 
     /// `SELECT` and the fields, nothing else, on a builder of any kind. It fails only if memory
-    /// runs out. It reads back as what `sql` prints.
+    /// runs out. It parses back as what `sql` prints.
     /// `SqlBuilder::select_values(alloc, &[1, 2])?.query_values()?` → `SELECT 1, 2`
     #[tactic(auto, using(crate::proofs::pieces::LayoutShapeLemmas::query_values_shape, crate::proofs::pieces::LayoutShapeLemmas::query_values_closed, crate::proofs::reading::ReadBackLemmas::query_values_clauses))]
     pub fn query_values(&self) -> Result<String, SqlBuilderError>
@@ -460,8 +460,8 @@ impl SqlBuilder {
         Ok(query)
     }
 
-    /// The query in brackets: an operand without an outer word that begins a clause, where the
-    /// builder's texts are balanced. It is refused as `query` is.
+    /// The query in brackets: an operand without a top-level clause keyword, where the builder's
+    /// texts are balanced. It fails as `query` does.
     /// `SqlBuilder::select_from(alloc, "t")?.subquery()?` → `(SELECT * FROM t)`
     #[tactic(auto, using(crate::proofs::pieces::LayoutShapeLemmas::subquery_shape, crate::proofs::pieces::LayoutShapeLemmas::subquery_closed, crate::proofs::reading::ReadBackLemmas::subquery_nests))]
     pub fn subquery(&self) -> Result<String, SqlBuilderError>
@@ -480,8 +480,8 @@ impl SqlBuilder {
     }
 
     /// The query in brackets, `AS` and the name: balanced, where the builder's texts and the name
-    /// are, and without an outer word that begins a clause, where the name has none; so it serves
-    /// as a table. It is refused as `query` is.
+    /// are, and without a top-level clause keyword, where the name has none; so it serves as a
+    /// table. It fails as `query` does.
     /// `SqlBuilder::select_from(alloc, "t")?.subquery_as("s")?` → `(SELECT * FROM t) AS s`
     #[tactic(auto, using(crate::proofs::pieces::LayoutShapeLemmas::subquery_as_shape, crate::proofs::pieces::LayoutShapeLemmas::subquery_as_closed, crate::proofs::reading::ReadBackLemmas::subquery_as_nests, crate::proofs::reading::SubqueryLemmas::subquery_as_table))]
     pub fn subquery_as<S: ToText>(&self, name: S) -> Result<String, SqlBuilderError>

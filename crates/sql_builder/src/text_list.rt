@@ -1,4 +1,4 @@
-//! Lists of texts that are kept in one text, with commas between them.
+//! Lists of texts that are stored in one text, with commas between them.
 ghost use Rattle.std.specs.Prelude.{◌≡◌, ◌++◌, [], ◌∷◌, ◌==◌, codes, if◌then◌else◌, length, IfOk, OnErr, OnOk};
 ghost use Rattle.sql_parts.specs.Error.{FailsOnlyByMemory};
 ghost use Rattle.sql_parts.specs.Text.{join_with};
@@ -17,7 +17,7 @@ use std::marker::Model;
 /// How many bytes are asked for at first, so that few short texts take one allocation.
 pub(crate) const FIRST_ROOM: usize = 64;
 
-/// A list of texts, kept in one text with `, ` between each and the next. Contracts see the list.
+/// A list of texts, stored in one text with `, ` between each and the next. Contracts see the list.
 #[derive(Drop)]
 pub(crate) struct TextList {
     text: String,

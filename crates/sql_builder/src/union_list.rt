@@ -1,4 +1,4 @@
-//! The queries that UNION adds, kept in one text as they are printed.
+//! The queries that UNION adds, stored in one text as they are printed.
 ghost use Rattle.std.specs.Prelude.{◌≡◌, ◌++◌, [], ◌∷◌, ◌==◌, flat_map, length, IfOk, OnErr, OnOk};
 ghost use Rattle.sql_builder.specs.Layout.{union_opening};
 
@@ -7,8 +7,8 @@ use crate::ghost_list::{Bytes, GhostList};
 use std::alloc::{AllocError, Global};
 use std::marker::Model;
 
-/// Queries that UNION adds, kept in one text, each behind its words. Contracts see the list of the
-/// queries, each with whether it is UNION ALL.
+/// Queries that UNION adds, stored in one text, each behind its words. Contracts see the list of
+/// the queries, each with whether it is UNION ALL.
 #[derive(Drop)]
 pub(crate) struct UnionList {
     text: String,

@@ -1,4 +1,4 @@
-//! Values in place of the markers of a text.
+//! Values in place of the placeholders of a text.
 ghost use Rattle.std.specs.Prelude.{◌≡◌, Err, IfOk, IsSome, List, None, Some, length, map, string_bytes, ℕ};
 ghost use Rattle.sql_parts.specs.Apart.{HasBoundTokens, IsClosedIfApart};
 ghost use Rattle.sql_parts.specs.Error.{FailsOnlyByMemory};
@@ -14,7 +14,7 @@ use crate::substitution::{Alone, LookedUp, Repeated, bound_text, lacks_arguments
 use crate::text::ToText;
 use std::alloc::Global;
 
-/// A text whose markers can be bound. Each call goes through the text once, from the left, and
+/// A text whose placeholders can be bound. Each call goes through the text once, from the left, and
 /// gives a new one: what is put in is not looked at again, and quotes in the text mean nothing.
 pub trait Bind {
     /// The text, as its bytes.

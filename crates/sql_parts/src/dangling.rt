@@ -76,7 +76,7 @@ impl OpenRanges {
         }
     }
 
-    // Reads the next token. It answers false where a BETWEEN that waits can't have its AND any
+    // Reads the next token. It returns false where a BETWEEN that waits can't have its AND any
     // more.
     pub(crate) fn read(&mut self, role: Role) -> Result<bool, SqlBuilderError>
         ensures reads { (defined : tokens.Token) → HasRole role defined

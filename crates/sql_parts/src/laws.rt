@@ -98,9 +98,9 @@ pub fn bound_texts_keep_the_count()
         → token_count (bound template marks one) ≡ token_count (bound template marks other) }
 {}
 
-/// The text of each literal is an operand, balanced and closed, and has no outer word that begins
-/// a clause; so is that of each number and truth value as `ToText` writes it, and so is what
-/// `quote` gives. It does nothing when it runs.
+/// The text of each literal is an operand, balanced and closed, and has no top-level clause
+/// keyword; so is that of each number and truth value as `ToText` writes it, and so is what `quote`
+/// gives. It does nothing when it runs.
 /// `quote(alloc, "a OR b")?` → `'a OR b'`
 pub fn literals_are_operands()
     ensures literals { (literal : LiteralValue) → ServesAsOperand (literal_text literal) }

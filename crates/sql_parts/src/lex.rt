@@ -43,7 +43,7 @@ fn bars_first(operand: bool, role: Role) -> bool
     operand && role.is_not()
 }
 
-// Whether the token may not be at level 0, where the text is to be an operand.
+// Whether the token may not be at depth 0, where the text is to be an operand.
 fn bars_outer(operand: bool, role: Role) -> bool
     ensures { (defined : tokens.Token) → HasRole role defined → result ≡ (operand && is_joining defined) }
 {
@@ -51,7 +51,7 @@ fn bars_outer(operand: bool, role: Role) -> bool
 }
 
 // Whether the text is balanced and, where it is to be an operand, has no OR, AND or BETWEEN at
-// level 0 and doesn't begin with NOT.
+// depth 0 and doesn't begin with NOT.
 #[inline(always)]
 fn is_balanced_as(text: &str, operand: bool) -> bool
     ensures { result ≡ (is_balanced (tokens.tokens text.now)
@@ -85,7 +85,7 @@ pub fn is_balanced(text: &str) -> bool
     is_balanced_as(text, false)
 }
 
-/// Whether the text is balanced, has no OR, AND or BETWEEN at level 0, and doesn't begin with NOT.
+/// Whether the text is balanced, has no OR, AND or BETWEEN at depth 0, and doesn't begin with NOT.
 /// It can't fail.
 /// `is_operand("a OR b")` → `false`
 pub fn is_operand(text: &str) -> bool
@@ -94,7 +94,7 @@ pub fn is_operand(text: &str) -> bool
     is_balanced_as(text, true)
 }
 
-/// Whether a clause keyword is at level 0 of the text: as many `(` and CASE precede it as `)` and
+/// Whether a clause keyword is at depth 0 of the text: as many `(` and CASE precede it as `)` and
 /// END. It can't fail.
 /// `has_clause_word("a UNION SELECT b")` → `true`
 pub fn has_clause_word(text: &str) -> bool
@@ -113,9 +113,8 @@ pub fn has_clause_word(text: &str) -> bool
 }
 
 /// Whether an OR or AND is the first token of the text or follows a token that opens, an OR, AND or
-/// NOT is the last or precedes one that closes, or a BETWEEN has no AND of
-/// its own level behind it. It fails only if memory runs out, and not where no token raises the
-/// level.
+/// NOT is the last or precedes one that closes, or a BETWEEN has no AND of its own depth behind it.
+/// It fails only if memory runs out, and not where no token raises the depth.
 /// `has_dangling(alloc, "a AND")?` → `true`
 pub fn has_dangling(alloc: Global, text: &str) -> Result<bool, SqlBuilderError>
     ensures dangling { IfOk result (λ b. b ≡ dangling text.now) }

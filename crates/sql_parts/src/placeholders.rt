@@ -16,7 +16,7 @@ use crate::text::ToText;
 use std::alloc::Global;
 use std::borrow::CowStr;
 
-/// Which call of binding is meant, and so what a marker is. In contracts it is the `Marks` of
+/// Which call of binding is meant, and so what a placeholder is. In contracts it is the `Marks` of
 /// `specs/Templates.antt`, by `marks_of`.
 #[derive(Clone, Copy)]
 pub enum Marks<'a> {
@@ -34,7 +34,7 @@ pub enum Marks<'a> {
     Names,
 }
 
-/// What a marker is replaced by.
+/// What a placeholder is replaced by.
 #[derive(Clone, Copy)]
 pub(crate) enum Value<'t> {
     /// The argument with this number, from 0.
@@ -50,7 +50,7 @@ pub(crate) enum Place<'t> {
     Prefix,
     /// A text, perhaps another than is read there.
     Writes(&'t str),
-    /// A marker.
+    /// A placeholder.
     Holds(Value<'t>),
 }
 
@@ -62,7 +62,7 @@ pub(crate) struct Found<'t> {
     pub(crate) rest: &'t str,
 }
 
-/// The text that every marker and every escape begins with.
+/// The text that every placeholder and every escape begins with.
 pub(crate) fn prefix(alloc: Global, marks: Marks<'_>) -> Result<CowStr<'static>, SqlBuilderError>
     ensures text { IfOk result (λ s. cow_str_bytes s ≡ prefix (marks_of marks.entry)) }
     ensures memory { FailsOnlyByMemory result }
@@ -180,7 +180,7 @@ fn place_behind<'t>(marks: Marks<'_>, seen: usize, behind: &'t str) -> (Place<'t
     }
 }
 
-/// The first prefix of a text and what is read there, where `seen` markers precede the text.
+/// The first prefix of a text and what is read there, where `seen` placeholders precede the text.
 #[inline(always)]
 pub(crate) fn first_place<'t>(
     marks: Marks<'_>,
@@ -200,7 +200,7 @@ pub(crate) fn first_place<'t>(
     ensures shorter { IfSome result (λ f. length f.rest.now < length text.now) }
 {
     match marks {
-        // `bind` has one marker, so the text behind it is copied at once.
+        // `bind` has one placeholder, so the text behind it is copied at once.
         Marks::First if seen > 0 => None,
         _ => {
             let (segment, behind) = split_at_first(text, prefix, front)?;

@@ -1,4 +1,4 @@
-//! One pass over a template, which puts literals in place of its markers.
+//! One pass over a template, which puts literals in place of its placeholders.
 ghost use Rattle.std.specs.Prelude.{◌≡◌, ◌<◌, ◌++◌, ⊤, IfOk, None, OnOk, Some, if◌then◌else◌, length, map, string_bytes};
 ghost use Rattle.sql_parts.specs.Apart.{HasBoundTokens, IsClosedIfApart, IsSupplied};
 ghost use Rattle.sql_parts.specs.Error.{FailsOnlyByMemory};
@@ -164,7 +164,7 @@ pub(crate) fn lacks_arguments(template: &str, count: usize) -> bool
     count == 0 && template.contains("?")
 }
 
-// Appends the text before a place. Between markers that touch there is none.
+// Appends the text before a place. Between placeholders that touch there is none.
 #[inline(always)]
 fn push_segment(out: &mut String, segment: &str) -> Result<(), AllocError>
     ensures { OnOk result (string_bytes out.new ≡ string_bytes out.old ++ segment.now) }
@@ -175,8 +175,8 @@ fn push_segment(out: &mut String, segment: &str) -> Result<(), AllocError>
     Ok(())
 }
 
-// Appends the template with literals in place of its markers. Each kind of place appends its segment, so
-// that what a place is need not be stored till then.
+// Appends the template with literals in place of its placeholders. Each kind of place appends its
+// segment, so that what a place is need not be stored till then.
 #[inline(always)]
 fn push_bound<L: Literals>(
     alloc: Global,
@@ -219,7 +219,7 @@ fn push_bound<L: Literals>(
 /// How many bytes most literals have at the most.
 const LITERAL: usize = 32;
 
-/// The template with literals in place of its markers. It fails only if memory runs out.
+/// The template with literals in place of its placeholders. It fails only if memory runs out.
 #[inline(always)]
 #[tactic(auto, using(crate::proofs::templates::ApartFacts::has_bound_tokens, crate::proofs::templates::ApartFacts::is_closed_if_apart))]
 pub(crate) fn bound_text<L: Literals>(

@@ -84,11 +84,11 @@ pub fn run_input<R: Read, W: Write>(
     // No call of the writer is made before the reader has ended.
     ensures unwritten { reader.new.ended ≡ false → writer.new ≡ writer.old }
 
-    // `Read` and `Write` are answered exactly where the reader and the writer have failed.
+    // `Read` and `Write` are returned exactly where the reader and the writer have failed.
     ensures read { IsErrOf result Fault.Read ↔ (reader.new.failed ≡ true) }
     ensures write { IsErrOf result Fault.Write ↔ (writer.new.failed ≡ true) }
 
-    // Out of memory is answered as `Memory`, and never as a line's reason.
+    // Out of memory is returned as `Memory`, and never as a line's reason.
     ensures no_memory { IfErr result NamesNoMemory }
 {
     let script = Script::new(alloc)?;
@@ -96,7 +96,7 @@ pub fn run_input<R: Read, W: Write>(
     run_lines(alloc, &text, script, writer)
 }
 
-/// Runs an input as `run_input` does, flushes the buffer before it answers, and gives the writer
+/// Runs an input as `run_input` does, flushes the buffer before it returns, and gives the writer
 /// below it back. Where a write has failed, nothing more is written or flushed; a flush that fails
 /// is the fault `Write`, unless a read has failed. What is still in the buffer then is lost.
 pub(crate) fn run_flushed<R: Read, W: Write + Drop>(

@@ -1,5 +1,5 @@
-//! The statement that is open, and what the lines do to it. Each answers whether the line finished the
-//! statement.
+//! The statement that is open, and what the lines do to it. Each returns whether the line finished
+//! the statement.
 ghost use Rattle.std.specs.Prelude.{◌≡◌, IfErr, IfOk, IfSome, IsErrOf, IsSome, None, Ok, OnOk, is_some, string_bytes};
 ghost use Rattle.sql_builder.specs.Builder.{HasJoin, with_condition, with_order, MayTakeMemory, with_binary, with_call, with_unary, with_variadic};
 ghost use Rattle.sql_builder.specs.Calls.{SelectValues, SubqueryAs, call_view, finish_view, start_on};

@@ -113,7 +113,7 @@ impl Write for Small {
     }
 }
 
-/// Records how often it is called and how long a slice it is given, and answers what it is to give.
+/// Records how often it is called and how long a slice it is given, and returns what it is to give.
 #[derive(Drop)]
 struct Recorder {
     calls: usize,
@@ -581,7 +581,7 @@ fn prints_a_fault_as_one_line(rt: HostRuntime) -> Result<(), Fail> {
     Ok(())
 }
 
-/// An answer, with the kind of its error alone.
+/// A result, with the kind of its error alone.
 fn kind(answer: io::Result<usize>) -> Result<usize, ErrorKind> {
     answer.map_err(|e| e.kind())
 }

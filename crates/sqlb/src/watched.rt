@@ -9,7 +9,7 @@ use std::io;
 use std::io::{BufWriter, Read, Write};
 use std::marker::Model;
 
-/// A reader or a writer, and what its calls have answered so far. No call takes memory, beyond
+/// A reader or a writer, and what its calls have returned so far. No call takes memory, beyond
 /// what the reader or the writer itself does.
 #[derive(Drop)]
 pub struct Watched<T> {
@@ -63,7 +63,7 @@ impl<T> Watched<T> {
 }
 
 impl<R: Read> Watched<R> {
-    /// One read of the reader, and its answer.
+    /// One read of the reader, and its result.
     pub fn read(&mut self, buf: &mut [u8]) -> io::Result<usize>
         ensures bound { ReadsAtMost result buf.new }
         ensures bytes { ReadConsumes (R.remaining self.old.inner) (R.remaining self.new.inner)
@@ -95,7 +95,7 @@ impl<R: Read> Watched<R> {
 }
 
 impl<W: Write> Watched<W> {
-    /// One write of the writer, and its answer.
+    /// One write of the writer, and its result.
     pub fn write(&mut self, buf: &[u8]) -> io::Result<usize>
         ensures bound { WritesAtMost result buf.now }
         ensures bytes { WriteAppends (W.contents self.old.inner) (W.contents self.new.inner)
