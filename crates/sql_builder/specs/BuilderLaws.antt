@@ -64,23 +64,23 @@ abbrev pub TruthOfOr : Type 0
 TruthOfOr = (facts : Valuation) (one other : List Token) → IsTrue (is_balanced one)
     → truth facts (one ++ Word (codes "OR") ∷ other) ≡ or3 (truth facts one) (truth facts other)
 
--- the truth of `one AND other`, where neither has an outer OR, and no BETWEEN of the one owns the AND
+-- the truth of `one AND other`, where neither has a top-level OR, and no BETWEEN of the one owns the AND
 abbrev pub TruthOfAnd : Type 0
 TruthOfAnd = (facts : Valuation) (one other : List Token) → IsTrue (is_balanced one && not (has_outer is_or one) && not (owns_next false (placed one)))
     → IsTrue (not (has_outer is_or other))
     → truth facts (one ++ Word (codes "AND") ∷ other) ≡ and3 (truth facts one) (truth facts other)
 
--- the truth of `NOT negated`, where what is negated has no outer OR, AND or BETWEEN
+-- the truth of `NOT negated`, where what is negated has no top-level OR, AND or BETWEEN
 abbrev pub TruthOfNot : Type 0
 TruthOfNot = (facts : Valuation) (negated : List Token) → IsTrue (not (has_outer is_joining negated))
     → truth facts (Word (codes "NOT") ∷ negated) ≡ not3 (truth facts negated)
 
--- the truth of what is between brackets, where it is balanced and has no outer clause word
+-- the truth of what is between brackets, where it is balanced and has no top-level clause keyword
 abbrev pub TruthOfBrackets : Type 0
 TruthOfBrackets = (facts : Valuation) (inner : List Token) → IsTrue (is_balanced inner && not (has_outer is_clause_word inner))
     → truth facts (in_brackets inner) ≡ truth facts inner
 
--- a group of conditions: there is one, and each is balanced and has no outer clause word
+-- a group of conditions: there is one, and each is balanced and has no top-level clause keyword
 abbrev pub is_fit_group : List (List Token) → Bool
 is_fit_group conditions = not (is_empty conditions) && list_all (λ ts. is_balanced ts && not (has_outer is_clause_word ts)) conditions
 
@@ -89,7 +89,7 @@ abbrev pub TruthOfWhere : Type 0
 TruthOfWhere = (facts : Valuation) (groups : List (List (List Token))) → IsTrue (not (is_empty groups) && list_all is_fit_group groups)
     → truth facts (where_tokens groups) ≡ and_all (map (λ conditions. or_all (map (truth facts) conditions)) groups)
 
--- what is balanced is an operand without an outer clause word between brackets, whatever it holds
+-- what is balanced is an operand without a top-level clause keyword between brackets, whatever it holds
 abbrev pub BracketsMakeOperands : Type 0
 BracketsMakeOperands = (inner : List Token) → IsTrue (is_balanced inner)
     → IsTrue (is_operand (in_brackets inner) && not (has_outer is_clause_word (in_brackets inner)))
@@ -115,7 +115,7 @@ a_without_c = fact (codes "a") True ∷ fact (codes "c") False ∷ []
 abbrev pub IsValued : Valuation → List ℕ → Truth → Type 0
 IsValued facts text value = truth facts (tokens text) ≡ value
 
--- what `sql`, `query` and `query_values` print of a list of calls reads back as the clauses that it says
+-- what `sql`, `query` and `query_values` print of a list of calls parses back as the clauses that it says
 abbrev pub StatementsReadBack : Type 0
 StatementsReadBack = (start : StartText) (calls : List CallText) (finish : FinishText)
     → IsTrue (is_unenclosed finish) → HasFitFragments start calls finish

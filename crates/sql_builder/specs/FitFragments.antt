@@ -27,7 +27,7 @@ abbrev pub is_bare_after : Pieces → Bool
 is_bare_after before = is_outer_place (own before) (length (own before))
 
 -- A fragment that follows these pieces is balanced; where no bracket of the builder's own is open there, it has no
--- outer clause word.
+-- top-level clause keyword.
 abbrev pub is_fit_after : Pieces → Piece → Bool
 is_fit_after before (text.Raw text) = balanced text && (not (is_bare_after before) || not (has_clause_word text))
 is_fit_after before _ = true
@@ -37,7 +37,7 @@ abbrev pub are_fit_after : Pieces → Pieces → Bool
 are_fit_after before [] = true
 are_fit_after before (piece ∷ pieces) = is_fit_after before piece && are_fit_after (before ++ piece ∷ []) pieces
 
--- each fragment is balanced, and where no bracket of the builder's own is round it has no outer clause word
+-- each fragment is balanced, and where no bracket of the builder's own is round it has no top-level clause keyword
 abbrev pub are_fit : Pieces → Bool
 are_fit pieces = are_fit_after [] pieces
 
@@ -54,7 +54,7 @@ has_fit_fragments printed = are_fit (until begins_union printed)
 abbrev pub has_fit_conditions : List CallText → Bool
 has_fit_conditions calls = list_all (λ c. are_fit (condition_pieces c.1)) (filter_map condition_in calls)
 
--- each group of conditions, as a fragment, is balanced and has no outer clause word
+-- each group of conditions, as a fragment, is balanced and has no top-level clause keyword
 abbrev pub has_fit_groups : ClauseTexts → Bool
 has_fit_groups r = list_all (λ group. are_fit (raw_piece group)) r.groups
 

@@ -1,4 +1,4 @@
--- The clauses of an INSERT of a query, as its tokens read back.
+-- The clauses of an INSERT of a query, as its tokens parse back.
 use Rattle.std.specs.Prelude.{◌≡◌, ℕ, Bool, true, not, ◌&&◌, ◌||◌, IfOk, IsTrue, List, [], ◌∷◌, ◌++◌, Option, None, Some, codes, flat_map, if◌then◌else◌}
 use Rattle.std.specs.List.{list_all}
 use Rattle.sql_parts.specs.Fragments.{balanced, has_outer, is_clause_word, placed}
@@ -18,7 +18,7 @@ use Rattle.sql_builder.specs.Statement.{statement}
 use Rattle.sql_builder.specs.Pieces.{Pieces, fixed_piece, raw_piece}
 use Rattle.sql_builder.specs.declared.clauses.Kind.TheVariants.{InsertInto}
 
--- the tokens before the first outer clause word: none of a query that begins with SELECT
+-- the tokens before the first top-level clause keyword: none of a query that begins with SELECT
 abbrev pub lead_of : List Token → List Token
 lead_of ts = (parts_at is_clause_word (placed ts)).lead
 
@@ -27,7 +27,7 @@ abbrev pub returning_clauses : Option Pieces → List Clause
 returning_clauses None = []
 returning_clauses (Some returned) = (Word (codes "RETURNING"), pieces_tokens returned) ∷ []
 
--- those that are read behind a query: none behind an outer UNION, where a reader ends
+-- those that are read behind a query: none behind a top-level UNION, where a reader ends
 abbrev pub returning_after : List Token → Option Pieces → List Clause
 returning_after query returned = if has_outer is_union query then [] else returning_clauses returned
 
@@ -46,7 +46,7 @@ is_fit_returning (Some returned) = are_fit returned
 abbrev pub has_fit_target : Clauses Pieces → Bool
 has_fit_target r = are_fit (insert_target fixed_piece r) && is_fit_returning r.returning
 
--- what `sql` prints of an INSERT of a balanced query reads back as its clauses with those of the query
+-- what `sql` prints of an INSERT of a balanced query parses back as its clauses with those of the query
 abbrev pub InsertsReadBack : Type 0
 InsertsReadBack = (table : List ℕ) (calls : List CallText) (query : List ℕ)
     → query_of calls ≡ Some (raw_piece query) → IsTrue (balanced query) → IsTrue (has_fit_target (clauses (call.InsertInto table) calls))
@@ -58,7 +58,7 @@ BuildersOfInsertsReadBack = (r : ClauseTexts) (query : List ℕ)
     → r.kind ≡ InsertInto → r.query ≡ Some query → IsTrue (balanced query) → IsTrue (has_fit_target (as_fragments r))
     → read (tokens (sql byte_atoms r)) ≡ insert_clauses (as_fragments r) (tokens query)
 
--- a query that is balanced, and has no outer UNION: RETURNING is read behind it
+-- a query that is balanced, and has no top-level UNION: RETURNING is read behind it
 abbrev pub is_one_query : List ℕ → Bool
 is_one_query query = balanced query && not (has_outer is_union (tokens query))
 

@@ -87,7 +87,7 @@ IgnoresQuotedTexts answer = (start : StartText) (one other : List CallText) (fin
 abbrev pub blank_clause : Clause → Clause
 blank_clause clause = (clause.0, blank clause.1)
 
--- the clauses that tokens read back as, with no text in any string token
+-- the clauses that tokens parse back as, with no text in any string token
 abbrev pub blank_clauses : List Token → List Clause
 blank_clauses ts = map blank_clause (read ts)
 

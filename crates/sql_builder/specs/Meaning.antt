@@ -23,7 +23,7 @@ is_unenclosed Subquery = false
 is_unenclosed (SubqueryAs name) = false
 is_unenclosed _ = true
 
--- where its fragments before the first UNION are fit, a text reads back as the clauses of these pieces
+-- where its fragments before the first UNION are fit, a text parses back as the clauses of these pieces
 abbrev pub ReadsBack : Pieces → List ℕ → Type 0
 ReadsBack printed text = IsTrue (has_fit_fragments printed) → read (tokens text) ≡ piece_clauses printed
 
@@ -67,7 +67,8 @@ HasTruthOfGroups finish r printed text =
 
 -- ---- nesting
 
--- what the text of each finish is as a fragment: of a query balanced, and of a subquery an operand without an outer clause word
+-- what the text of each finish is as a fragment: of a query balanced, and of a subquery an operand without a top-level clause
+-- keyword
 abbrev pub is_nested : FinishText → List ℕ → Bool
 is_nested Query text = balanced text
 is_nested Subquery text = operand text && not (has_clause_word text)

@@ -1,4 +1,4 @@
--- A statement as its clauses: as its tokens read back, and as the builder's own words divide its pieces.
+-- A statement as its clauses: as its tokens parse back, and as the builder's own words divide its pieces.
 use Rattle.std.specs.Prelude.{Bool, Result, ◌||◌, if◌then◌else◌, List, [], ◌∷◌, ℕ, flat_map, map, codes}
 use Rattle.std.specs.Result.{result_map_both}
 use Rattle.sql_parts.specs.declared.error.SqlBuilderError.{SqlBuilderError}
@@ -21,11 +21,11 @@ without_semicolon ts = if ends_with is_semicolon ts then but_last ts else ts
 abbrev pub is_union : Token → Bool
 is_union token = is_word (codes "UNION") token
 
--- each outer clause word with the tokens up to the next, before the first outer UNION and without a last `;`
+-- each top-level clause keyword with the tokens up to the next, before the first top-level UNION and without a last `;`
 unfoldable pub read : List Token → List Clause
 read ts = (parts_at is_clause_word (before_outer is_union (placed (without_semicolon ts)))).rest
 
--- the tokens of a piece: those of a text of the builder's own count as outer, whatever their nesting depth
+-- the tokens of a piece: those of a text of the builder's own count as top-level, whatever their nesting depth
 abbrev pub own_placed : Piece → List Placed
 own_placed (Fixed text) = map Outer (tokens text)
 own_placed (Quoted text) = Inner (Str text) ∷ []

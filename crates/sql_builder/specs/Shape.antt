@@ -12,7 +12,7 @@ use Rattle.sql_builder.specs.Condition.{ConditionText, condition_pieces}
 use Rattle.sql_builder.specs.Statement.{pieces}
 use Rattle.sql_builder.specs.Pieces.{Piece, Pieces, Fixed, Quoted, Raw, raw_piece}
 
--- the tokens of a piece: a text between single quotes is one, which reads back as the text
+-- the tokens of a piece: a text between single quotes is one, which parses back as the text
 abbrev pub piece_tokens : Piece → List Token
 piece_tokens (Fixed text) = tokens text
 piece_tokens (Quoted text) = Str text ∷ []

@@ -8,7 +8,7 @@ use Rattle.sql_builder.specs.Meaning.{HasBalancedFragments}
 use Rattle.sql_builder.specs.Statement.{statement}
 use Rattle.sql_builder.specs.Pieces.{Pieces}
 
--- a finish that prints a query in brackets: alone, or with a name that has no outer clause word
+-- a finish that prints a query in brackets: alone, or with a name that has no top-level clause keyword
 abbrev pub makes_table : FinishText → Bool
 makes_table Subquery = true
 makes_table (SubqueryAs name) = not (has_clause_word name)

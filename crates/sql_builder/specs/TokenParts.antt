@@ -1,4 +1,4 @@
--- A list of tokens, cut at the outer tokens that pass a test.
+-- A list of tokens, cut at the top-level tokens that pass a test.
 use Rattle.std.specs.Prelude.{Bool, true, false, List, [], ◌∷◌, if◌then◌else◌, map}
 use Rattle.sql_parts.specs.Fragments.{Placed, is_outer, token_of}
 use Rattle.sql_parts.specs.Tokens.{Token}
@@ -13,7 +13,7 @@ abbrev pub with_front : Bool → Token → Parts → Parts
 with_front true token parts = record { lead = []; rest = (token, parts.lead) ∷ parts.rest }
 with_front false token parts = record { lead = token ∷ parts.lead; rest = parts.rest }
 
--- the dividers are the outer tokens that pass the test
+-- the dividers are the top-level tokens that pass the test
 abbrev pub parts_at : (Token → Bool) → List Placed → Parts
 parts_at test [] = record { lead = []; rest = [] }
 parts_at test (found ∷ more) = with_front (is_outer test found) (token_of found) (parts_at test more)

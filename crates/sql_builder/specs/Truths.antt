@@ -88,11 +88,11 @@ is_not token = is_word (codes "NOT") token
 abbrev pub is_between : Token → Bool
 is_between token = is_word (codes "BETWEEN") token
 
--- whether the last outer word among BETWEEN, AND and OR is BETWEEN, behind one more
+-- whether the last top-level word among BETWEEN, AND and OR is BETWEEN, behind one more
 abbrev pub is_between_last : Bool → Token → Bool
 is_between_last owned token = if is_between token then true else (if is_and token || is_or token then false else owned)
 
--- The tokens, with each AND made inner that a BETWEEN owns: the last outer word before it among BETWEEN, AND and OR is
+-- The tokens, with each AND made inner that a BETWEEN owns: the last top-level word before it among BETWEEN, AND and OR is
 -- BETWEEN. `owned` says whether it is, so far.
 abbrev pub without_owned : Bool → List Placed → List Placed
 without_owned owned [] = []
@@ -100,7 +100,7 @@ without_owned owned (Inner token ∷ more) = Inner token ∷ without_owned owned
 without_owned owned (Outer token ∷ more) =
     (if owned && is_and token then Inner token else Outer token) ∷ without_owned (is_between_last owned token) more
 
--- whether a BETWEEN would own an outer AND behind these tokens
+-- whether a BETWEEN would own a top-level AND behind these tokens
 abbrev pub owns_next : Bool → List Placed → Bool
 owns_next owned [] = owned
 owns_next owned (Inner token ∷ more) = owns_next owned more
@@ -114,8 +114,8 @@ is_inside ts = list_all (λ place. int_le (pos 1) (level ts (suc place))) (place
 abbrev pub inside : List Token → List Token
 inside ts = but_last (drop 1 ts)
 
--- `(`, an inside and `)`: the nesting depth is at least 1 after each token but the last, and the inside by itself has no outer
--- clause word, so that it is no query
+-- `(`, an inside and `)`: the nesting depth is at least 1 after each token but the last, and the inside by itself has no
+-- top-level clause keyword, so that it is no query
 abbrev pub is_bracketed : List Token → Bool
 is_bracketed ts =
     begins_with (is_symbol (code "(")) ts && ends_with (is_symbol (code ")")) ts && is_inside (but_last ts)

@@ -60,20 +60,20 @@ abbrev pub is_before : (Token → Bool) → List Token → ℕ → Bool
 is_before test ts zero = false
 is_before test ts (suc place) = is_at test ts place
 
--- the place is outer: its depth is 0
+-- the place is at the top level: its depth is 0
 abbrev pub is_outer_place : List Token → ℕ → Bool
 is_outer_place ts place = int_eq (level ts place) (pos 0)
 
--- a token at an outer place passes a test
+-- a token at depth 0 passes a test
 abbrev pub has_outer : (Token → Bool) → List Token → Bool
 has_outer test ts = list_any (is_outer_place ts) (places test ts)
 
--- A token at an outer place, or at another.
+-- A token at depth 0, or at another.
 pub data Placed : Type 0 where
   Outer : Token → Placed
   Inner : Token → Placed
 
--- a token, from whether its place is outer
+-- a token, from whether its place is at the top level
 abbrev pub as_placed : Bool → Token → Placed
 as_placed true token = Outer token
 as_placed false token = Inner token
@@ -87,7 +87,7 @@ abbrev pub token_of : Placed → Token
 token_of (Outer token) = token
 token_of (Inner token) = token
 
--- a token at an outer place passes a test
+-- a token at depth 0 passes a test
 abbrev pub is_outer : (Token → Bool) → Placed → Bool
 is_outer test (Outer token) = test token
 is_outer test (Inner token) = false
@@ -102,7 +102,7 @@ clause_words =
 abbrev pub is_clause_word : Token → Bool
 is_clause_word token = is_word_of clause_words token
 
--- a text has an outer word that begins a clause
+-- a text has a top-level clause keyword
 abbrev pub has_clause_word : List ℕ → Bool
 has_clause_word text = has_outer is_clause_word (tokens text)
 
@@ -131,7 +131,7 @@ joining_words = codes "OR" ∷ codes "AND" ∷ codes "BETWEEN" ∷ []
 abbrev pub is_joining : Token → Bool
 is_joining token = is_word_of joining_words token
 
--- balanced, without an outer OR, AND or BETWEEN, and not beginning with NOT
+-- balanced, without a top-level OR, AND or BETWEEN, and not beginning with NOT
 abbrev pub is_operand : List Token → Bool
 is_operand ts = is_balanced ts && not (has_outer is_joining ts) && not (begins_with (is_word (codes "NOT")) ts)
 

@@ -74,11 +74,11 @@ alias_tokens (Some alias) = Word (codes "AS") ∷ (if is_plain alias then word_t
 abbrev pub name_tokens : (List ℕ → List Token) → Name → List Token
 name_tokens part_tokens name = join_with (Symbol (code ".") ∷ []) (map part_tokens (name_parts name)) ++ alias_tokens name.alias
 
--- one text that reads back as the part
+-- one text that parses back as the part
 abbrev pub str_token : List ℕ → List Token
 str_token part = Str part ∷ []
 
--- one name that reads back as the part
+-- one name that parses back as the part
 abbrev pub name_token : List ℕ → List Token
 name_token part = tokens.Name part ∷ []
 

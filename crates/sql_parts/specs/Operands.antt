@@ -5,23 +5,23 @@ use Rattle.sql_parts.specs.Fragments.{balanced, has_clause_word, operand}
 use Rattle.sql_parts.specs.Name.{Name, is_plain, name_parts, name_text}
 use Rattle.sql_parts.specs.Tokens.{closed}
 
--- A text is an operand, is balanced and closed, and has no outer word that begins a clause.
+-- A text is an operand, is balanced and closed, and has no top-level clause keyword.
 pub record ServesAsOperand (text : List ℕ) : Type 0 where
   pub is_operand : IsTrue (operand text)
   pub is_balanced : IsTrue (balanced text)
   pub is_closed : IsTrue (closed text)
   pub no_clause_word : IsTrue (not (has_clause_word text))
 
--- a text that is written bare is an operand without an outer clause word
+-- a text that is written bare is an operand without a top-level clause keyword
 abbrev pub is_bare_operand : List ℕ → Bool
 is_bare_operand text = operand text && not (has_clause_word text)
 
--- the alias, if there is one, is written between backquotes, or is an operand without an outer clause word
+-- the alias, if there is one, is written between backquotes, or is an operand without a top-level clause keyword
 abbrev pub is_operand_alias : Option (List ℕ) → Bool
 is_operand_alias None = true
 is_operand_alias (Some alias) = not (is_plain alias) || is_bare_operand alias
 
--- the safe form writes each part between backquotes, or each is an operand without an outer clause word
+-- the safe form writes each part between backquotes, or each is an operand without a top-level clause keyword
 abbrev pub has_operand_parts : Name → Bool
 has_operand_parts name = not (list_all is_plain (name_parts name)) || list_all is_bare_operand (name_parts name)
 

@@ -26,7 +26,7 @@ closing Back = code "`"
 closing Square = code "]"
 closing Double = code "\""
 
--- the text between these marks
+-- the text between these quotes
 abbrev pub between : Quotes → List ℕ → List ℕ
 between quotes text = enclosed (opening quotes) (closing quotes) text
 

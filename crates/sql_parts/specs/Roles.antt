@@ -19,7 +19,7 @@ sample role.Clause = Word (codes "SELECT")
 sample role.Breaks = Open
 sample role.Plain = Str []
 
--- A token has a role: no test of fragments tells it from another token that has it.
+-- A token has a role: no test of fragments distinguishes it from another token that has it.
 pub record HasRole (role : Role) (token : Token) : Type 0 where
   pub raising : raises token ≡ raises (sample role)
   pub lowering : lowers token ≡ lowers (sample role)

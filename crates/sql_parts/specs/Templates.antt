@@ -1,4 +1,4 @@
--- Templates: texts whose markers are replaced by values.
+-- Templates: texts whose placeholders are replaced by values.
 use Prim.Native.Char.{code}
 use Rattle.std.specs.Prelude.{ℕ, zero, suc, ◌+◌, ◌-◌, ◌%◌, ◌==◌, nat_eq, nat_le, List, [], ◌∷◌, ◌++◌, length, take, drop, if◌then◌else◌, codes, Option, Some}
 use Rattle.std.specs.Prelude.{None, option_map, flat_map, slice_get, unwrap_or}
@@ -8,8 +8,8 @@ use Rattle.std.specs.Str.Parse.{digits_value}
 use Rattle.sql_parts.specs.Literal.{LiteralValue, literal_text, null}
 use Rattle.sql_parts.specs.Text.{decimal_text}
 
--- What the markers are: the first `?`; each `?`, with so many arguments; `$` and this number; `$` and any
--- number, with so many arguments; this name between colons; any name between colons.
+-- What the placeholders are: the first `?`; each `?`, with so many arguments; `$` and this number; `$` and any number, with so
+-- many arguments; this name between colons; any name between colons.
 pub data Marks : Type 0 where
   First : Marks
   Cycle : ℕ → Marks
@@ -18,7 +18,7 @@ pub data Marks : Type 0 where
   Name : List ℕ → Marks
   Names : Marks
 
--- What a marker is replaced by: an argument, counted from 0, or what a name is bound to.
+-- What a placeholder is replaced by: an argument, counted from 0, or what a name is bound to.
 pub data Value : Type 0 where
   Argument : ℕ → Value
   Named : List ℕ → Value
@@ -28,7 +28,7 @@ pub data Place : Type 0 where
   Writes : List ℕ → Place
   Holds : Value → Place
 
--- the text that every marker and every escape begins with
+-- the text that every placeholder and every escape begins with
 abbrev pub prefix : Marks → List ℕ
 prefix First = codes "?"
 prefix (Cycle count) = codes "?"
@@ -53,12 +53,12 @@ named behind =
     if end == length behind then (Writes (codes ":"), 0)
     else (if end == 0 then (Writes (codes ":"), 1) else (Holds (Named (take end behind)), end + 1))
 
--- `$` and a number: no marker where one more digit follows, and then it is text.
+-- `$` and a number: no placeholder where one more digit follows, and then it is text.
 abbrev pub whole_number : ℕ → List ℕ → Place × ℕ
 whole_number number behind =
     if prefix_len is_ascii_digit behind == 0 then (Holds (Argument 0), 0) else (Writes (prefix (Num number)), 0)
 
--- What is read at a prefix, and how many bytes of the text behind it belong to it, where `seen` markers precede it.
+-- What is read at a prefix, and how many bytes of the text behind it belong to it, where `seen` placeholders precede it.
 abbrev pub place_behind : Marks → ℕ → List ℕ → Place × ℕ
 place_behind First seen behind = if seen == 0 then (Holds (Argument 0), 0) else (Writes (codes "?"), 0)
 place_behind (Cycle count) seen behind = (Holds (Argument (seen % count)), 0)
@@ -83,19 +83,20 @@ abbrev pub followed_by : Place → Resolved → Resolved
 followed_by (Writes text) rest = (text ++ rest.0, rest.1)
 followed_by (Holds value) rest = ([], (value, rest.0) ∷ rest.1)
 
--- how many markers precede what is behind a place
+-- how many placeholders precede what is behind a place
 abbrev pub counted : Place → ℕ → ℕ
 counted (Writes text) seen = seen
 counted (Holds value) seen = suc seen
 
--- A text that `seen` markers precede, without its first `skipped` bytes: what is at its first byte, and then the rest likewise.
+-- A text that `seen` placeholders precede, without its first `skipped` bytes: what is at its first byte, and then the rest
+-- likewise.
 abbrev pub resolved_from : Marks → ℕ → ℕ → List ℕ → Resolved
 resolved_from marks seen skipped [] = ([], [])
 resolved_from marks seen zero (byte ∷ behind) =
     let found = place_at marks seen byte behind in followed_by found.0 (resolved_from marks (counted found.0 seen) found.1 behind)
 resolved_from marks seen (suc skipped) (byte ∷ behind) = resolved_from marks seen skipped behind
 
--- nothing, where there is a marker and no argument to go round with
+-- nothing, where there is a placeholder and no argument to go round with
 abbrev pub supplied : Marks → Resolved → Option Resolved
 supplied (Cycle zero) (segment, value ∷ values) = None
 supplied _ resolved = Some resolved
@@ -108,7 +109,7 @@ resolve template marks = supplied marks (resolved_from marks 0 0 template)
 abbrev pub written : (Value → LiteralValue) → Resolved → List ℕ
 written literals resolved = resolved.0 ++ flat_map (λ part. literal_text (literals part.0) ++ part.1) resolved.1
 
--- The template with a literal in place of each marker.
+-- The template with a literal in place of each placeholder.
 abbrev pub bound : List ℕ → Marks → (Value → LiteralValue) → Option (List ℕ)
 bound template marks literals = option_map (written literals) (resolve template marks)
 

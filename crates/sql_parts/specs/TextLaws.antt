@@ -12,7 +12,7 @@ use Rattle.sql_parts.specs.Templates.{Marks, Value, bound}
 use Rattle.sql_parts.specs.Tokens.{begins_with, inside, tokens}
 use Rattle.sql_parts.specs.declared.like.LikeEscape.{LikeEscape}
 
--- the bytes that markers begin with
+-- the bytes that placeholders begin with
 abbrev pub dollar : ℕ
 dollar = code "$"
 

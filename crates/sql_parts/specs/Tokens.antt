@@ -7,7 +7,7 @@ use Rattle.std.specs.List.{list_any, prefix_len, starts_with}
 use Rattle.sql_parts.specs.declared.delimiters.Quotes.{Quotes}
 use Rattle.sql_parts.specs.declared.delimiters.Quotes.TheVariants.{Single, Back, Square, Double}
 
--- A word, a text or a name between quotes as it reads back, any other byte, or a quote or a comment that has no end.
+-- A word, a text or a name between quotes as it parses back, any other byte, or a quote or a comment that has no end.
 pub data Token : Type 0 where
   Word : List ℕ → Token
   Str : List ℕ → Token
@@ -86,7 +86,7 @@ abbrev pub is_open : Token → Bool
 is_open Open = true
 is_open _ = false
 
--- the token of a text between these marks
+-- the token of a text between these quotes
 abbrev pub quoted_token : Quotes → List ℕ → Token
 quoted_token Single text = Str text
 quoted_token Back text = Name text

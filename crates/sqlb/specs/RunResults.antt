@@ -42,7 +42,7 @@ EndsUnlessStopped (Err Memory) written ended = written ≢ [] → ended ≡ true
 EndsUnlessStopped (Err Read) written ended = ended ≡ false
 EndsUnlessStopped _ written ended = ended ≡ true
 
--- A run that reads nothing answers `Write` exactly where the writer has failed.
+-- A run that reads nothing returns `Write` exactly where the writer has failed.
 abbrev pub FailsOnlyToWrite : {T : Type 0} → Result T Fault → Bool → Type 0
 FailsOnlyToWrite (Err Write) failed = failed ≡ true
 FailsOnlyToWrite (Err Read) failed = ⊥

@@ -1,7 +1,7 @@
--- What contracts see of a watched reader or writer, and the answers that set its flags.
+-- What contracts see of a watched reader or writer, and the results that set its flags.
 use Rattle.std.specs.Prelude.{ℕ, Bool, true, false, ◌&&◌, ◌==◌, not, List, length, Result, Ok, Err}
 
--- A reader or a writer, and what its calls have answered so far.
+-- A reader or a writer, and what its calls have returned so far.
 pub record Watch (T : Type 0) : Type 0 where
   pub inner : T
   pub failed : Bool
@@ -11,12 +11,12 @@ pub record Watch (T : Type 0) : Type 0 where
 abbrev pub is_none_of : ℕ → List ℕ → Bool
 is_none_of n buf = (n == 0) && not (length buf == 0)
 
--- a read answers the end: no byte, into a slice that isn't empty
+-- a read returns the end: no byte, into a slice that isn't empty
 abbrev pub gives_end : {E : Type 0} → Result ℕ E → List ℕ → Bool
 gives_end (Ok n) buf = is_none_of n buf
 gives_end (Err error) buf = false
 
--- a write fails: it answers an error, or takes no byte of a slice that isn't empty
+-- a write fails: it returns an error, or takes no byte of a slice that isn't empty
 abbrev pub fails_to_write : {E : Type 0} → Result ℕ E → List ℕ → Bool
 fails_to_write (Ok n) buf = is_none_of n buf
 fails_to_write (Err error) buf = true

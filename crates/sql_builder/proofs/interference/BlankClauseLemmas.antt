@@ -1,4 +1,4 @@
--- The clauses that tokens read back as, but for the texts of string tokens.
+-- The clauses that tokens parse back as, but for the texts of string tokens.
 use Rattle.std.proofs.Common.{◌≡◌, refl, sym, ◌∙◌, ap, ℤ, Bool, true, false, cond, List, [], ◌∷◌, map, pos}
 use Rattle.std.specs.Prelude.{if◌then◌else◌}
 use Rattle.std.proofs.Math.IntN.{suc_ℤ, pred_ℤ}

@@ -218,7 +218,7 @@ module _ (start : StartText) where
   clauses-blank : (one other : List CallText) → DifferInQuotedTexts one other → blanked (clauses start one) ≡ blanked (clauses start other)
   clauses-blank one other same = each-blank [] one ∙ ap (λ (calls : List CallText). blanked (clauses start calls)) same ∙ sym (each-blank [] other)
 
--- ---- refusals
+-- ---- errors
 
 no_table : (printed : Pieces) (more : Option SqlBuilderError) → no_table_error (pieces_text (blanks printed)) more ≡ no_table_error (pieces_text printed) more
 no_table [] more = refl

@@ -1,4 +1,4 @@
--- Fragments that are fit leave the nesting depth, and the outer clause words, to the builder's own words.
+-- Fragments that are fit leave the nesting depth, and the top-level clause keywords, to the builder's own words.
 use Rattle.std.proofs.Common.{◌≡◌, refl, sym, ◌∙◌, ap, subst, ℕ, zero, suc, Bool, true, false, not, ◌&&◌, ◌||◌, List, [], ◌∷◌, ◌++◌, map, ℤ, pos, negsuc}
 use Rattle.std.proofs.Common.{append-nil}
 use Rattle.std.specs.Prelude.{flat_map}
@@ -100,7 +100,7 @@ zero-suc : (l : ℤ) → is_at_least_0 l ≡ true → is_zero (suc_ℤ l) ≡ fa
 zero-suc (pos n) h = refl
 zero-suc (negsuc n) h = absurd (false≢true h)
 
--- above depth 0 no token is outer
+-- above depth 0 no token is top-level
 pub placed-above : (l : ℤ) (a : List Token) → is_at_least_0 l ≡ true → stays_from l a ≡ true → placed_from (suc_ℤ l) a ≡ map Inner a
 placed-above l [] h stays = refl
 placed-above l (t ∷ a) h stays =
@@ -143,7 +143,7 @@ laid-plain l (t ∷ a) stays none =
     let words = or_parts (is_clause_word t) (list_any is_clause_word a) none in
     and_from _ _ (or_so (is_zero l) _ (not_from_false _ words.0)) (and_from _ _ both.0 (laid-plain (after l t) a both.1 words.1))
 
--- ---- which tokens are outer clause words, and all that the parts at the clause words need
+-- ---- which tokens are top-level clause keywords, and all that the parts at the clause words need
 abbrev pub Flagged : Type 0
 Flagged = Bool × Token
 
@@ -207,7 +207,7 @@ even-ends n a even = ends-up n a (at_end-closes (pos 0) a (and_parts (list_all i
 pub even-stays : (n : ℕ) (a : List Token) → is_even a ≡ true → stays_from (pos n) a ≡ true
 even-stays n a even = stays-up n a (stays-closes (pos 0) a (and_parts (list_all is_whole a) _ even).1)
 
--- where fragments are fit and the builder's clause words are at depth 0, the outer clause words are the builder's
+-- where fragments are fit and the builder's clause words are at depth 0, the top-level clause keywords are the builder's
 pub fit-flags : (l : ℤ) (ps : Pieces) → is_at_least_0 l ≡ true → are_fit_from l ps ≡ true → laid_from l (own ps) ≡ true
     → flags (placed_from l (pieces_tokens ps)) ≡ flags (flat_map own_placed ps)
 fit-flags l [] h fit laid = refl

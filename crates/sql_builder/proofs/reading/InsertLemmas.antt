@@ -1,4 +1,4 @@
--- An INSERT of a query reads back as its own clause, those of the query, and RETURNING.
+-- An INSERT of a query parses back as its own clause, those of the query, and RETURNING.
 use Rattle.std.proofs.Common.{◌≡◌, refl, sym, ◌∙◌, ap, subst, ℕ, Bool, true, false, List, [], ◌∷◌, ◌++◌, Option, None, Some, pos, codes, append-nil}
 use Rattle.std.proofs.Common.{append_assoc, map, ◌&&◌, ◌||◌}
 use Rattle.std.specs.Prelude.{IfSome, IfOk, flat_map, option_map, IsTrue, if◌then◌else◌}
@@ -59,9 +59,9 @@ parts-joined test (m ∷ a) b =
     ap (with_front (is_outer test m) (fragments.token_of m)) (parts-joined test a b)
     ∙ joined-front (is_outer test m) (fragments.token_of m) (parts_at test a).lead (parts_at test a).rest (parts_at test b)
 
--- ---- tokens that have no outer UNION
+-- ---- tokens that have no top-level UNION
 
--- balanced or none, and without an outer UNION
+-- balanced or none, and without a top-level UNION
 record One (ts : List Token) : Type 0 where
   even : is_even ts ≡ true
   no_union : has_outer is_union ts ≡ false
@@ -108,7 +108,7 @@ lead-cut (m ∷ ms) =
         ap (λ (clause : Bool). (with_front clause (fragments.token_of m) (parts_at is_clause_word (before_outer is_union ms))).lead) is
         ∙ ap (λ ts. fragments.token_of m ∷ ts) rest
 
--- tokens are read up to their first outer UNION
+-- tokens are read up to their first top-level UNION
 read-cut : (ts us : List Token) → without_semicolon ts ≡ us → read ts ≡ (parts_at is_clause_word (before_outer is_union (placed us))).rest
 unfolding read
 read-cut ts us is =

@@ -114,7 +114,7 @@ pub record Split (P : Pieces → Type 0) (printed : Pieces) (bodies : List (List
   pub inside : Inside (concat_sections fixed_piece front)
   pub ending : Ending rest
 
--- a statement reads back as its clauses
+-- a statement parses back as its clauses
 pub split-reads : {P : Pieces → Type 0} {printed : Pieces} {bodies : List (List Token)} → Split P printed bodies → has_fit_fragments printed ≡ true
     → read (tokens (pieces_text printed)) ≡ piece_clauses printed
 split-reads {P = P} split fit =

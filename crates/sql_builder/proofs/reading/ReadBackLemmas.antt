@@ -1,4 +1,4 @@
--- What is printed reads back, and its WHERE is true as the conditions make it.
+-- What is printed parses back, and its WHERE is true as the conditions make it.
 use Rattle.std.proofs.Common.{◌≡◌, refl, ◌∙◌, ap, true, List, ℕ, codes, map, sym}
 use Rattle.std.proofs.lemmas.Bool.{false≢true}
 use Rattle.sql_builder.specs.Builder.{ClauseTexts}
@@ -28,7 +28,7 @@ use Rattle.sql_builder.proofs.pieces.LayoutShapeLemmas as layouts
 abbrev pub layout : FinishText → Clauses Pieces → Pieces
 layout finish r = layout_at fixed_piece raw_piece finish r
 
--- they read back as their clauses
+-- they parse back as their clauses
 pub layout-reads : (finish : FinishText) (r : Clauses Pieces) → NeutralParts r → layouts.InsideParts r → is_unenclosed finish ≡ true
     → has_fit_fragments (layout finish r) ≡ true
     → read (tokens (pieces_text (layout finish r))) ≡ piece_clauses (layout finish r)

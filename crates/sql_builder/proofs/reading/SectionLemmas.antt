@@ -1,4 +1,4 @@
--- Pieces whose own words are laid as those of a statement are read back as their clauses.
+-- Pieces whose own words are laid as those of a statement are parsed back as their clauses.
 use Rattle.std.proofs.Common.{◌≡◌, refl, sym, ◌∙◌, ap, subst, ℕ, Bool, true, false, not, ◌&&◌, ◌||◌, List, [], ◌∷◌, ◌++◌, map, ℤ, pos, codes, append-nil, inl}
 use Rattle.std.proofs.Common.{inr}
 use Rattle.std.specs.Prelude.{flat_map}
@@ -56,7 +56,7 @@ neutral-front ps neutral = record {
   no_union = none_narrow (own ps) neutral.no_word;
 }
 
--- ---- outer tokens of the product's own
+-- ---- top-level tokens of the product's own
 
 outer-all : (test : Token → Bool) (ts : List Token) → list_any (is_outer test) (map Outer ts) ≡ list_any test ts
 outer-all test [] = refl
@@ -215,7 +215,7 @@ module _ (front rest : Pieces) (is : Front (own front)) (ending : Ending rest) w
       ∙ ap (λ ms. placed (pieces_tokens front) ++ ms) found.2 ∙ append-nil (placed (pieces_tokens front)))
       ∙ ap (λ (ps : Parts). ps.rest) (same-parts (placed (pieces_tokens front)) (flat_map own_placed front) same)
 
-  -- what is printed reads back as its clauses
+  -- what is printed parses back as its clauses
   pub read-back : Inside front → has_fit_fragments (front ++ rest) ≡ true → read (tokens (pieces_text (front ++ rest))) ≡ piece_clauses (front ++ rest)
   read-back inside fit =
       let fits = fit-front fit in

@@ -1,4 +1,4 @@
--- Worked rows of an INSERT of a query as it reads back: what the definitions give, by computing.
+-- Worked rows of an INSERT of a query as it parses back: what the definitions give, by computing.
 use Rattle.std.specs.Prelude.{◌≡◌, ℕ, List, [], ◌∷◌, Ok, Some, codes, false, refl, true}
 use Rattle.sql_parts.specs.Fragments.{balanced}
 use Rattle.sql_parts.specs.Tokens.{Word, tokens}
@@ -52,7 +52,7 @@ lead-read : read (tokens (codes "INSERT INTO t (a) WITH x AS (SELECT 1) SELECT a
 unfolding read
 lead-read = refl
 
--- a reader ends at the first outer UNION, and finds no RETURNING behind it
+-- a reader ends at the first top-level UNION, and finds no RETURNING behind it
 abbrev united : List ℕ
 united = codes "SELECT c FROM u UNION SELECT d FROM v"
 
@@ -69,7 +69,7 @@ united-clauses : insert_clauses (clauses (call.InsertInto (codes "t")) (call.Fie
 unfolding read
 united-clauses = refl
 
--- between brackets a UNION is no outer one
+-- between brackets a UNION is no top-level one
 inner_union-asked : is_one_query (codes "SELECT c FROM (SELECT d UNION SELECT e) AS s") ≡ true
 inner_union-asked = refl
 

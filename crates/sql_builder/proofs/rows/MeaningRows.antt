@@ -1,4 +1,4 @@
--- Worked rows of clauses that read back and of the truth of WHERE: what the definitions give, by computing.
+-- Worked rows of clauses that parse back and of the truth of WHERE: what the definitions give, by computing.
 use Rattle.std.specs.Prelude.{◌≡◌, [], ◌∷◌, codes, false, refl, true, ℕ, List, map, Ok}
 use Rattle.sql_parts.specs.Tokens.{Word, tokens}
 use Rattle.sql_builder.specs.Calls.{clauses, CallText, Query, SelectFrom, Sql, Subquery, SubqueryAs, Union}
@@ -106,7 +106,7 @@ pub without_brackets : IsValued a_without_c (codes "a OR b AND c") True
 unfolding truth
 without_brackets = refl
 
--- the whole statements, as they read back
+-- the whole statements, as they parse back
 abbrev where_of : Valuation → List ℕ → List Truth
 where_of facts text = map (truth facts) (clause_bodies (codes "WHERE") (read (tokens text)))
 
@@ -147,7 +147,7 @@ in_query-fit = refl
 table-unfit : has_fit_fragments (sql fixed_piece (clauses (call.DeleteFrom (codes "t WHERE b")) [])) ≡ false
 table-unfit = refl
 
--- in the brackets round a group a clause word is no outer one, and the clauses read back; the truth of WHERE asks for more
+-- in the brackets round a group a clause word is no top-level one, and the clauses parse back; the truth of WHERE asks for more
 abbrev queried : Pieces
 queried = sql fixed_piece (clauses (call.DeleteFrom (codes "t")) (call.Cond And (Raw (codes "x FROM y")) ∷ call.Cond And (Raw (codes "p")) ∷ []))
 

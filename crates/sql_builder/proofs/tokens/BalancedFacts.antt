@@ -27,7 +27,7 @@ pub is_balanced-append : (a b : List Token) → is_balanced a ≡ true → is_ev
 is_balanced-append [] b h k = absurd (false≢true h)
 is_balanced-append (t ∷ a) b h k = is_even-append (t ∷ a) b h k
 
--- no test finds an outer token in a list that is joined, if in neither
+-- no test finds a top-level token in a list that is joined, if in neither
 pub none-joined : (test : Token → Bool) (a b : List Token) → closes_from (pos 0) a ≡ true → has_outer test a ≡ false → has_outer test b ≡ false
     → has_outer test (a ++ b) ≡ false
 none-joined test a b closes h k = ap (list_any (is_outer test)) (placed-then a b (at_end-closes (pos 0) a closes)) ∙ none-append test (placed a) (placed b) h k
@@ -61,7 +61,7 @@ pub is_balanced-brackets : (ts : List Token) → is_even ts ≡ true → is_bala
 unfolding in_brackets
 is_balanced-brackets ts h = is_even-brackets ts h
 
--- whatever is in brackets: the clause words there are not outer
+-- whatever is in brackets: the clause words there are not top-level
 pub no_clause-brackets : (ts : List Token) → is_even ts ≡ true → has_clause (in_brackets ts) ≡ false
 no_clause-brackets ts h = none-brackets is_clause_word ts refl (and_parts (list_all is_whole ts) (closes_from (pos 0) ts) h).1
 
@@ -77,7 +77,7 @@ balanced_even ts h = (and_parts (not (is_empty ts)) (is_even ts) h).1
 pub even_closes : (ts : List Token) → is_even ts ≡ true → closes_from (pos 0) ts ≡ true
 even_closes ts h = (and_parts (list_all is_whole ts) (closes_from (pos 0) ts) h).1
 
--- an outer token of a list that is joined is one of a part
+-- a top-level token of a list that is joined is one of a part
 pub has_outer-append : (test : Token → Bool) (a b : List Token) → is_even a ≡ true → has_outer test (a ++ b) ≡ (has_outer test a || has_outer test b)
 has_outer-append test a b h = ap (list_any (is_outer test)) (placed-then a b (at_end-closes (pos 0) a (even_closes a h)))
     ∙ any-append test (placed a) (placed b)

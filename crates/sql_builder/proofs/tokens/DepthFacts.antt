@@ -40,7 +40,7 @@ not_outer : (l : ℤ) → is_at_least_0 l ≡ true → is_zero (suc_ℤ l) ≡ f
 not_outer (pos n) h = refl
 not_outer (negsuc n) h = absurd (false≢true h)
 
--- one deeper no token is outer
+-- one deeper no token is top-level
 pub placed_from-suc : (l : ℤ) (a : List Token) → is_at_least_0 l ≡ true → closes_from l a ≡ true → placed_from (suc_ℤ l) a ≡ map Inner a
 placed_from-suc l [] high h = refl
 placed_from-suc l (t ∷ a) high h =

@@ -1,4 +1,4 @@
--- The parts of a list that is joined, and tests of its outer tokens.
+-- The parts of a list that is joined, and tests of its top-level tokens.
 use Rattle.std.proofs.Common.{◌≡◌, refl, ◌∙◌, ap, Bool, true, false, cond, ◌&&◌, ◌||◌, List, [], ◌∷◌, ◌++◌, map, ℤ, ℕ, codes, take, drop}
 use Rattle.std.proofs.lemmas.Bool.{or_parts, or_from, true≢false, and_parts, not-true, cond-false, cond-true}
 use Rattle.std.specs.List.{list_any, list_all}
@@ -79,7 +79,7 @@ tokens-without_owned owned [] = refl
 tokens-without_owned owned (Inner t ∷ ms) = ap (λ ts. t ∷ ts) (tokens-without_owned owned ms)
 tokens-without_owned owned (Outer t ∷ ms) = cc (token_hidden (owned && is_and t) t, tokens-without_owned (is_between_last owned t) ms)
 
--- where no outer token is OR, AND or BETWEEN, no AND is owned, and what follows is as before
+-- where no top-level token is OR, AND or BETWEEN, no AND is owned, and what follows is as before
 pub without_owned-plain : (owned : Bool) (a b : List Placed) → list_any (is_outer is_joining) a ≡ false → without_owned owned (a ++ b) ≡ a
     ++ without_owned owned b
 without_owned-plain owned [] b h = refl

@@ -39,11 +39,11 @@ right_bracket = Symbol (code ")")
 abbrev pub semicolon : Token
 semicolon = Symbol (code ";")
 
--- an outer word begins a clause
+-- a top-level word begins a clause
 abbrev pub has_clause : List Token → Bool
 has_clause ts = has_outer is_clause_word ts
 
--- balanced, with no outer clause word
+-- balanced, with no top-level clause keyword
 abbrev pub is_condition : List Token → Bool
 is_condition ts = is_balanced ts && not (has_clause ts)
 

@@ -43,7 +43,7 @@ not_bracketed (u ∷ f) t q h =
     (and_right (ends_with (is_symbol 41) whole) _ (and_left (stays_inside (pos 0) (but_last whole)) (not (has_clause (inside whole)))
     (ap (stays_inside (pos 0)) (but_last-append (u ∷ f) t q) ∙ not_inside (pos 0) u f (but_last (t ∷ q)) (operand_ends (u ∷ f) h))))
 
--- behind an operand, what has no outer OR and no outer AND but those of BETWEEN
+-- behind an operand, what has no top-level OR and no top-level AND but those of BETWEEN
 pub atom : (f : List Token) (t : Token) (q : List Token) → is_operand f ≡ true → has_outer is_or (t ∷ q) ≡ false
     → list_any (is_outer is_and) (placed_ands (t ∷ q)) ≡ false → IsAtom (f ++ t ∷ q)
 atom f t q h ors ands facts =
@@ -58,7 +58,7 @@ atom f t q h ors ands facts =
     ∙ cond-false _ _ _ (operand_no_not f (t ∷ q) h)
     ∙ cond-false _ _ _ (not_bracketed f t q h))
 
--- what has no outer OR, AND or BETWEEN
+-- what has no top-level OR, AND or BETWEEN
 pub atom_plain : (f : List Token) (t : Token) (q : List Token) → is_operand f ≡ true → has_outer is_joining (t ∷ q) ≡ false → IsAtom (f ++ t ∷ q)
 atom_plain f t q h plain = atom f t q h (no_or (placed (t ∷ q)) plain) (ap (list_any (is_outer is_and)) (without_owned-all (placed (t ∷ q)) plain)
     ∙ no_and (placed (t ∷ q)) plain)

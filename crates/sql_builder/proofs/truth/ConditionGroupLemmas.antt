@@ -40,7 +40,7 @@ any-flags : (ms : List Placed) → list_any (is_outer is_clause_word) ms ≡ lis
 any-flags [] = refl
 any-flags (m ∷ ms) = ap (λ (b : Bool). is_outer is_clause_word m || b) (any-flags ms)
 
--- fit pieces without a clause word of the product's have no outer clause word
+-- fit pieces without a clause word of the product's have no top-level clause keyword
 no_clause-tokens : (ps : Pieces) → Neutral ps → are_fit_from (pos 0) ps ≡ true → has_clause (pieces_tokens ps) ≡ false
 no_clause-tokens ps neutral fit =
     any-flags (placed (pieces_tokens ps))

@@ -60,7 +60,7 @@ one_piece_and : (ts : List Token) → list_any (is_outer is_and) (placed_ands ts
 one_piece_and ts h = ap pieces_of (parts-none is_and (placed_ands ts) h)
     ∙ ap (λ us. us ∷ []) (tokens-without_owned false (placed ts) ∙ tokens-placed_from (pos 0) ts)
 
--- the OR of the pieces between the outer ORs, also where there is none
+-- the OR of the pieces between the top-level ORs, also where there is none
 pub truth_any : (facts : Valuation) (ts : List Token) → truth facts ts ≡ or_all (map (truth facts) (pieces_at is_or (placed ts)))
 truth_any facts ts = by (has_outer is_or ts) refl
   where
@@ -68,7 +68,7 @@ truth_any facts ts = by (has_outer is_or ts) refl
     by true e = truth_is facts ts ∙ ap (truth_by (truth facts) (value_in facts ts)) (cond-true _ _ _ e)
     by false e = sym (ap (λ ps. or_all (map (truth facts) ps)) (one_piece is_or ts e) ∙ or3-False (truth facts ts))
 
--- the same of the outer ANDs, where there is no outer OR
+-- the same of the top-level ANDs, where there is no top-level OR
 pub truth_all : (facts : Valuation) (ts : List Token) → has_outer is_or ts ≡ false → truth facts ts
     ≡ and_all (map (truth facts) (pieces_at is_and (placed_ands ts)))
 truth_all facts ts h = by (list_any (is_outer is_and) (placed_ands ts)) refl
@@ -91,7 +91,7 @@ truth_or facts a b h =
     ∙ ap (λ x. or3 x (or_all (map (truth facts) (pieces_at is_or (placed b))))) (sym (truth_any facts a))
     ∙ ap (or3 (truth facts a)) (sym (truth_any facts b))
 
--- no outer OR, AND or BETWEEN: no outer OR, and no outer AND
+-- no top-level OR, AND or BETWEEN: no top-level OR, and no top-level AND
 pub no_or : (ms : List Placed) → list_any (is_outer is_joining) ms ≡ false → list_any (is_outer is_or) ms ≡ false
 no_or ms h = none_narrower is_or is_joining (λ t e. (or_parts _ _ e).0) ms h
 
@@ -116,7 +116,7 @@ truth_and facts a b h no_or_a free no_or_b =
     ∙ ap (λ x. and3 x (and_all (map (truth facts) (pieces_at is_and (placed_ands b))))) (sym (truth_all facts a no_or_a))
     ∙ ap (and3 (truth facts a)) (sym (truth_all facts b no_or_b))
 
--- what has no outer OR, AND or BETWEEN owns nothing
+-- what has no top-level OR, AND or BETWEEN owns nothing
 pub plain-owns : (ms : List Placed) → list_any (is_outer is_joining) ms ≡ false → owns_next false ms ≡ false
 plain-owns [] h = refl
 plain-owns (Inner t ∷ ms) h = plain-owns ms h
@@ -129,7 +129,7 @@ plain-owns (Outer t ∷ ms) h =
 
 -- ---- brackets
 
--- in brackets no token but the first is outer
+-- in brackets no token but the first is top-level
 pub placed-brackets : (ts : List Token) → closes_from (pos 0) ts ≡ true → placed (in_brackets ts)
     ≡ Outer left_bracket ∷ (map Inner ts ++ Inner right_bracket ∷ [])
 unfolding in_brackets
@@ -145,7 +145,7 @@ at_end-brackets ts h =
     at_end-append (pos 1) ts (right_bracket ∷ [])
     ∙ ap (λ l. at_end l (right_bracket ∷ [])) (at_end-suc (pos 0) ts ∙ ap suc_ℤ (at_end-closes (pos 0) ts h))
 
--- so no test finds an outer token there, if it does not pass `(`
+-- so no test finds a top-level token there, if it does not pass `(`
 pub none-brackets : (test : Token → Bool) (ts : List Token) → test left_bracket ≡ false → closes_from (pos 0) ts ≡ true → has_outer test (in_brackets ts)
     ≡ false
 none-brackets test ts first h = ap (list_any (is_outer test)) (placed-brackets ts h)

@@ -43,7 +43,7 @@ truth_one : (facts : List Fact) (g : List (List Token)) → is_group g ≡ true 
 truth_one facts g h = truth_brackets facts (group_tokens g) (is_group_closes g h) (condition_no_clause (group_tokens g) (is_condition-group g h))
     ∙ truth_is_group facts g h
 
--- groups in brackets, joined by AND, have no outer OR
+-- groups in brackets, joined by AND, have no top-level OR
 joined_no_or : (g : List (List Token)) (gs : List (List (List Token))) → list_all is_group (g ∷ gs) ≡ true
     → has_outer is_or (joined and_word (bracketed_groups (g ∷ gs))) ≡ false
 joined_no_or g [] h = none-brackets is_or (group_tokens g) refl (is_group_closes g (and_parts (is_group g) true h).0)

@@ -74,7 +74,7 @@ at κ = record { mir = named 0; lft = κ }
 abbrev pub in_a_local : NamedLft
 in_a_local = record { mir = erased; lft = [] }
 
--- a type that is lent: its row and its laws, and that it holds no loan itself
+-- a type that is borrowed: its row and its laws, and that it holds no loan itself
 pub record BorrowedType : Type 2 where
   pub row : RattleType
   pub laws : Laws row
@@ -90,7 +90,7 @@ passed_laws L = arg_laws (raw_type (layout L.row)) no L.row L.laws (raw-raw (lay
 abbrev pub release_name : BorrowedType → Callee
 release_name L = release_code.name (layouts (a_type ∷ []) (passed_row L, tt))
 
--- what a call does: what holds of the value that it leaves where it is not refused, and how it is refused
+-- what a call does: what holds of the value that it leaves where it succeeds, and how it fails
 pub record Effect (D : Type 0) : Type 1 where
   pub leaves : D → Type 0
   pub refuses : SqlBuilderError → Type 0
@@ -140,7 +140,7 @@ module _ {M : Type 1} {𝓤 : Ura M} (𝓛 : Logic 𝓤) where
       pub passed : (r : Holds) (t : Lends) → t ≡ released r → ent 𝓤 (held_says r) (says t)
       passed r t e = subst (λ (u : Lends). ent 𝓤 (held_says r) (says u)) (sym e) (passes r)
 
-    -- what `release` says, at the loan's lifetime and at that of the loans in what is lent
+    -- what `release` says, at the loan's lifetime and at that of the loans in what is borrowed
     abbrev pub release_ended : Ended
     release_ended = record {
       signature = record {

@@ -89,7 +89,7 @@ answered-is up down (token ∷ ts) =
     ∙ (λ i. (is_and token && eqb up down) || ((leb down up && not (is_joining token && eqb up down))
     && answered-is (up + weight raises token) (down + weight lowers token) ts i))
 
--- behind a token that stands before both
+-- behind a token that precedes both
 eq-shift : (w x y x' y' : ℤ) → x' ≡ w +ℤ x → y' ≡ w +ℤ y → int_eq x' y' ≡ int_eq x y
 eq-shift w x y x' y' left right = same_from_decides (int_eq x' y') (int_eq x y) (Decides-int_eq x' y') (
   λ e. let same = (Decides-int_eq x y).0 e in omega (arith, ints, left, right, same),

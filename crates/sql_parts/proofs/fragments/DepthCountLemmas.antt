@@ -13,7 +13,7 @@ use Rattle.std.proofs.Math.Bool.{and_assoc, and-false, and-true}
 use Rattle.sql_parts.specs.Tokens.{Token, begins_with}
 use Rattle.sql_parts.specs.Fragments.{any_token, has_outer, is_balanced, is_level, is_outer_place, is_whole, level, lowers, places, raises, weight}
 
--- the level at a place behind tokens of which so many raised it and so many lowered it
+-- the depth at a place behind tokens of which so many raised it and so many lowered it
 abbrev pub level_from : ℕ → ℕ → List Token → ℕ → ℤ
 level_from up down ts place = pos (up + count_by raises (take place ts)) -ℤ pos (down + count_by lowers (take place ts))
 
@@ -49,7 +49,7 @@ pub is_zero : (up down : ℕ) (l : ℤ) → l ≡ pos up -ℤ pos down → int_e
 is_zero up down l is = same_from_decides (int_eq l (pos 0)) (eqb up down) (Decides-int_eq l (pos 0))
     (λ e. let same = eqb-true up down e in omega (arith, ints, same, is), λ z. eq-eqb up down (omega (arith, ints, is, z)))
 
--- an outer token, where so many tokens before raised the level and so many lowered it
+-- a top-level token, where so many tokens before raised the depth and so many lowered it
 abbrev pub outer_from : (Token → Bool) → ℕ → ℕ → List Token → Bool
 outer_from test up down [] = false
 outer_from test up down (token ∷ ts) = (test token && eqb up down) || outer_from test (up + weight raises token) (down + weight lowers token) ts
@@ -78,7 +78,7 @@ is_at_least_0 up down l is = elim (cases_Bool (leb down up)) [
   | inr e ↦ let more = leb-false down up e in low l (omega (arith, ints, more, is)) ∙ sym e
 ]
 
--- the level never falls under 0 and is 0 at the end, where so many tokens before raised it and so many lowered it
+-- the depth never falls under 0 and is 0 at the end, where so many tokens before raised it and so many lowered it
 abbrev pub is_level_from : ℕ → ℕ → List Token → Bool
 is_level_from up down [] = eqb up down
 is_level_from up down (token ∷ ts) = leb (down + weight lowers token) (up + weight raises token)
@@ -112,8 +112,8 @@ no_places : (ts : List Token) → places (λ token. false) ts ≡ []
 no_places [] = refl
 no_places (token ∷ ts) = ap (map suc) (no_places ts)
 
--- Read from the front: balanced, none of these words outer, and none of those first. So many tokens before raised the
--- level and so many lowered it.
+-- Read from the front: balanced, none of these words top-level, and none of those first. So many tokens before raised the depth
+-- and so many lowered it.
 abbrev pub balances_from : (outer first : Token → Bool) → Bool → ℕ → ℕ → List Token → Bool
 balances_from outer first empty up down [] = not empty && eqb up down
 balances_from outer first empty up down (token ∷ ts) =
@@ -159,7 +159,7 @@ balanced-alone ts =
     (λ i. is_balanced ts && not (list_any (is_outer_place ts) (no_places ts i)) && not (never-first ts i))
     ∙ and-true (is_balanced ts && true) ∙ and-true (is_balanced ts)
 
--- a token that may stand there goes along
+-- a token that may be there goes along
 pub balances-step : (outer first : Token → Bool) (empty : Bool) (up down : ℕ) (token : Token) (ts behind : List Token) → ts ≡ token ∷ behind
     → (empty && first token) ≡ false → (eqb up down && outer token) ≡ false → is_whole token ≡ true
     → ltb (up + weight raises token) (down + weight lowers token) ≡ false

@@ -15,11 +15,11 @@ use Rattle.sql_parts.proofs.fragments.DepthCountLemmas as levels
 use Rattle.sql_parts.proofs.fragments.DepthCountLemmas.{each_place, is_level_from, level_from, level_from-start, level_from-suc, level_from-zero, outer_from}
 use Rattle.sql_parts.proofs.fragments.BetweenLemmas.{raises-alone}
 
--- the level after a token, from the level before it
+-- the depth after a token, from the depth before it
 abbrev pub after : ℤ → Token → ℤ
 after l t = cond (raises t) (suc_ℤ l) (cond (lowers t) (pred_ℤ l) l)
 
--- the level after all tokens
+-- the depth after all tokens
 abbrev pub at_end : ℤ → List Token → ℤ
 at_end l [] = l
 at_end l (t ∷ ts) = at_end (after l t) ts
@@ -38,7 +38,7 @@ is_at_least_1 (pos zero) = false
 is_at_least_1 (pos (suc n)) = true
 is_at_least_1 (negsuc n) = false
 
--- each token with its place, where the first has this level before it
+-- each token with its place, where the first has this depth before it
 abbrev pub placed_from : ℤ → List Token → List Placed
 placed_from l [] = []
 placed_from l (t ∷ ts) = as_placed (is_zero l) t ∷ placed_from (after l t) ts
@@ -49,12 +49,12 @@ placed ts = placed_from (pos 0) ts
 abbrev pub has_outer : (Token → Bool) → List Token → Bool
 has_outer test ts = list_any (is_outer test) (placed ts)
 
--- from level l on, the level is at least 0 after each token, and 0 after the last
+-- from depth l on, the depth is at least 0 after each token, and 0 after the last
 abbrev pub closes_from : ℤ → List Token → Bool
 closes_from l [] = is_zero l
 closes_from l (t ∷ ts) = is_at_least_0 (after l t) && closes_from (after l t) ts
 
--- the level is at least 1 after each token
+-- the depth is at least 1 after each token
 abbrev pub stays_inside : ℤ → List Token → Bool
 stays_inside l [] = true
 stays_inside l (t ∷ ts) = is_at_least_1 (after l t) && stays_inside (after l t) ts
@@ -152,7 +152,7 @@ is_operand-is ts =
     (λ i. is_balanced-is ts i && not (has_outer-is is_joining ts i) && not (begins_with (is_word (codes "NOT")) ts))
     ∙ and_assoc (is_balanced ts) (not (has_outer is_joining ts)) (not (begins_with (is_word (codes "NOT")) ts))
 
--- the level behind the last token
+-- the depth behind the last token
 end-from-is : (l : ℤ) (n m : ℕ) (ts : List Token) → l ≡ pos n -ℤ pos m → int_eq (level_from n m ts (length ts)) (pos 0) ≡ is_zero (at_end l ts)
 end-from-is l n m [] is = levels.is_zero n m _ (level_from-zero n m []) ∙ sym (zero-is l n m is)
 end-from-is l n m (t ∷ ts) is =
@@ -162,7 +162,7 @@ end-from-is l n m (t ∷ ts) is =
 pub end-is : (ts : List Token) → fragments.is_outer_place ts (length ts) ≡ is_zero (at_end (pos 0) ts)
 end-is ts = (λ i. int_eq (sym (level_from-start ts (length ts)) i) (pos 0)) ∙ end-from-is (pos 0) 0 0 ts refl
 
--- the level is at least 1 behind each token
+-- the depth is at least 1 behind each token
 one-yes : (l : ℤ) → pos 1 ≤ℤ l → int_le (pos 1) l ≡ true
 one-yes l h = grind (arith, ints)
 

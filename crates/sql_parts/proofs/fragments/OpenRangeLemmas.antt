@@ -111,7 +111,7 @@ answered-here token ts true joined up down a j = answered-by 0 token ts false fa
 answered-here token ts false true up down a j = answered-by 0 token ts false false false true up down a j
 answered-here token ts false false up down a j = answered-by 0 token ts false false false false up down a j
 
--- all that wait at a level or outside it
+-- all that wait at a depth or outside it
 are-up : (height : ℕ) (open_ranges : List Bool) (token : Token) (ts : List Token) → raises token ≡ true
     → are_answered height open_ranges (token ∷ ts) ≡ are_answered (suc height) open_ranges ts
 are-up height [] token ts up = refl
@@ -192,7 +192,7 @@ pub all-other : (waits : Bool) (outside : List Bool) (token : Token) (ts : List 
     → all_from (waits ∷ outside) (token ∷ ts) ≡ all_from (waits ∷ outside) ts
 all-other waits outside token ts up down a j b = all-flat waits outside token ts false false false up down a j b
 
--- the levels outside, as they are kept: the innermost is last
+-- the depths outside, as they are stored: the innermost is last
 pub pushed : (waits : Bool) (outside more : List Bool) → more ≡ outside ++ waits ∷ [] → reverse more ≡ waits ∷ reverse outside
 pushed waits outside more is = ap reverse is ∙ reverse-append outside (waits ∷ [])
 

@@ -1,4 +1,5 @@
--- Tokens that no test of fragments tells from a text between quotes make an operand: those of literals, and of names between quotes.
+-- Tokens that no test of fragments distinguishes from a text between quotes make an operand: those of literals, and of names
+-- between quotes.
 use Rattle.std.proofs.Common.{◌≡◌, ◌<◌, ℕ, suc, zero, ◌+◌, ◌/◌, ◌%◌, Bool, true, false, not, cond, ◌||◌, List, [], ◌∷◌, ◌++◌, Option, Some, None, map, pos}
 use Rattle.std.proofs.Common.{negsuc, ℤ, refl, sym, ap, ◌∙◌, subst, arith, inl, inr, codes, eqb, leb, ne_eqb}
 use Rattle.std.specs.Prelude.{flat_map, if◌then◌else◌}
@@ -61,7 +62,7 @@ inert-none : (test : Token → Bool) → ((t : Token) → Inert t → test t ≡
 inert-none test none [] all = refl
 inert-none test none (t ∷ ts) all = or_from _ _ (none t all.0) (inert-none test none ts all.1)
 
--- what no token is, no outer token is
+-- what no token is, no top-level token is
 outer-none : (test : Token → Bool) (outer : Bool) (t : Token) → test t ≡ false → is_outer test (as_placed outer t) ≡ false
 outer-none test true t none = none
 outer-none test false t none = refl
@@ -98,7 +99,7 @@ serves text ts are some all shut = record {
 
 -- ---- literals
 
--- what no test of fragments tells from a text between quotes
+-- what no test of fragments distinguishes from a text between quotes
 plain-inert : (t : Token) → HasRole role.Plain t → Inert t
 plain-inert t plain = record {
   raising = plain.raising;

@@ -65,7 +65,7 @@ pub empty-blank : (ts : List Token) → is_empty (blank ts) ≡ is_empty ts
 empty-blank [] = refl
 empty-blank (t ∷ ts) = refl
 
--- ---- levels
+-- ---- depths
 
 raised : (ts : List Token) (place : ℕ) → count_by raises (take place (blank ts)) ≡ count_by raises (take place ts)
 raised ts place = ap (count_by raises) (take-map blank_token place ts) ∙ count-blank raises (λ text. refl) (take place ts)

@@ -80,6 +80,6 @@ case_alias-row = refl
 case_alias-asked : is_operand_alias (with_alias (codes "case") (name_of (codes "a"))).alias ≡ false
 case_alias-asked = refl
 
--- an alias that isn't plain stands between backquotes
+-- an alias that isn't plain is between backquotes
 quoted_alias-row : tests (name_text dquoted (with_alias (codes "FROM") (name_of (codes "a")))) ≡ (true, true, true, false)
 quoted_alias-row = refl

@@ -64,7 +64,7 @@ reads_pushed {I} {A} {Y} {V} {F} {c} {at} {x} {y} {f} {boxes} {more} {values} b 
     b.value made.codes ∙ ap literal is in
     record { read = ap (map f) pushed ∙ map-append f boxes (b ∷ []) ∙ (λ i. reads.read i ++ reads_this i ∷ []) }
 
--- the boxes are lent
+-- the boxes are borrowed
 pub reads_borrowed : {B V : Type 0} {f : B → V} {borrowed boxes : List B} {values : List V} → borrowed ≡ boxes → Reads f boxes values → Reads f borrowed values
 reads_borrowed {f = f} is reads = record { read = ap (map f) is ∙ reads.read }
 

@@ -1,4 +1,4 @@
--- What the methods of a text tell of numbers and names behind a sign.
+-- What the methods of a text say of numbers and names behind a sign.
 use Rattle.std.proofs.Common.{◌≡◌, ℕ, zero, suc, ◌+◌, ◌-◌, ◌*◌, ◌<◌, ◌≤◌, Bool, true, false, List, length, get_or, take, drop, Option, sym, ap, ◌∙◌, subst}
 use Rattle.std.proofs.Common.{arith, ne_eqb, length-take}
 use Rattle.std.specs.Char.{digit_value, is_ascii_digit}

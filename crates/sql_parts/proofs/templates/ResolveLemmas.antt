@@ -105,7 +105,7 @@ resolved_from-split marks seen text segment behind is lacks =
     (ap (drop (length segment)) is ∙ drop-append_seam segment rest)
     ∙ ap (λ front. followed_by (Writes front) resolved) (ap (take (length segment)) is ∙ take-append_seam segment rest)
 
--- behind the first marker of `First` all is text
+-- behind the first placeholder of `First` all is text
 pub resolved_from-after_first : (seen : ℕ) (text : List ℕ) → 0 < seen → resolved_from First seen 0 text ≡ (text, [])
 resolved_from-after_first seen [] some = refl
 resolved_from-after_first seen (byte ∷ text) some =

@@ -14,7 +14,7 @@ use lib.Utf8.{encode, encodes}
 use Rattle.sql_parts.specs.Search.{front_of, gap, has_front}
 use Rattle.sql_parts.proofs.templates.ResolveLemmas.{starts_with-yes}
 
--- the length of what another text stands in
+-- the length of a text that another is in
 room-of : (sought text : List ℕ) (k : ℕ) (rest : List ℕ) → drop k text ≡ sought ++ rest → 0 < length sought → k + length sought ≤ length text
 room-of sought text k rest is some = omega (arith, ap length is, length-drop k text, length-append sought rest)
 
@@ -42,7 +42,7 @@ utf8-behind [] bs rest utf8 is = subst IsUtf8 is utf8
 utf8-behind (c ∷ cs) bs rest utf8 is =
     utf8-behind cs (encodes cs ++ rest) rest (IsUtf8-past_char bs (encodes cs ++ rest) c utf8 (is ∙ append_assoc (encode c) (encodes cs) rest)) refl
 
--- a text may be cut before and behind another one that stands in it
+-- a text may be cut before and behind another one that is in it
 pub cut-before : (sought text : List ℕ) (k : ℕ) (rest : List ℕ) → IsUtf8 sought → 0 < length sought → drop k text ≡ sought ++ rest → IsCharBoundary text k
 cut-before sought text k rest utf8 some is =
     let first = first-of sought text k rest is some in

@@ -8,7 +8,7 @@ use Rattle.sql_parts.specs.declared.delimiters.Quotes.{Quotes}
 use Rattle.sql_parts.specs.declared.delimiters.Quotes.TheVariants.{Single, Back, Square, Double}
 
 -- Where the reader is: between two tokens, in a word, in quotes, behind what may be their closing delimiter, behind what may
--- begin a comment, in a comment, or behind what may end it. What is read of a token is kept.
+-- begin a comment, in a comment, or behind what may end it. What is read of a token is stored.
 pub data Mode : Type 0 where
   Between : Mode
   InWord : List ℕ → Mode

@@ -1,4 +1,4 @@
--- What the methods of a text tell of the tokens at its front.
+-- What the methods of a text say of the tokens at its front.
 use Rattle.std.proofs.Common.{◌≡◌, ◌≢◌, ℕ, zero, suc, ◌+◌, ◌<◌, ◌≤◌, true, false, List, [], ◌∷◌, ◌++◌, length, get_or, take, drop, Option, Some, None, refl}
 use Rattle.std.proofs.Common.{sym, ap, ◌∙◌, arith, ne_eqb, eq-eqb, length-append, length-drop, subst, ◌⊎◌, inl, inr, Bor}
 use Rattle.std.specs.Prelude.{◌==◌, codes, option_map}

@@ -7,7 +7,7 @@ use Rattle.sql_parts.specs.Text.{join_with}
 use Rattle.sql_parts.specs.Tokens.{Token, begins_with, clean, closed, ends_with, has_semicolon, is_edge, is_empty, tokens}
 use Rattle.sql_parts.proofs.tokens.TokenFacts.{closed-seam, seam}
 
--- a text that is closed and stands between edges of its own
+-- a text that is closed and is between edges of its own
 pub record Edged (between : List ℕ) : Type 0 where
   pub is_closed : closed between ≡ true
   pub plain : has_semicolon between ≡ false

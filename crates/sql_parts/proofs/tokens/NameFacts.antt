@@ -49,7 +49,7 @@ written (Between quotes) (part ∷ parts) fits =
     let more = written (Between quotes) parts refl in
     record { each = (between_closed quotes part _ refl, more.each); are = (λ i. between-tokens quotes part i ∷ more.are i) }
 
--- a dot, and what stands before an alias
+-- a dot, and what precedes an alias
 dot : Edged (codes ".")
 dot = record { is_closed = refl; plain = refl; begins = refl; ends = refl }
 

@@ -1,4 +1,4 @@
--- Where an edge stands beside a seam, the tokens on both sides stay what they are.
+-- Where an edge is beside a seam, the tokens on both sides stay what they are.
 use Rattle.std.proofs.Common.{◌≡◌, ℕ, Bool, true, false, cond, ◌||◌, List, [], ◌∷◌, ◌++◌, sym, refl, ap, ◌∙◌, subst, inl, inr, append_assoc, append-nil, ◌⊎◌}
 use Rattle.std.proofs.Common.{ne_eqb, eq-eqb}
 use Rattle.std.specs.Prelude.{◌==◌, codes}
@@ -130,7 +130,7 @@ read-seam one other shut seam =
       ]
     ]
 
--- a doubled text, up to its closing delimiter, reads back as the text
+-- a doubled text, up to its closing delimiter, parses back as the text
 pub read-doubled : (quotes : Quotes) (kept text : List ℕ)
     → read (InQuotes quotes kept) (doubled (closing quotes) text ++ closing quotes ∷ []) ≡ quoted_token quotes (kept ++ text) ∷ []
 read-doubled quotes kept [] = rw (eq-eqb (closing quotes) (closing quotes) refl) (ap (λ t. quoted_token quotes t ∷ []) (sym (append-nil kept)))

@@ -22,7 +22,7 @@ closed-seam one other is too joins =
     not_from_false _ (ap has_open (seam one other is joins) ∙ list_any-append is_open (tokens one) (tokens other)
     ∙ or_from _ _ (closed-shut one is) (closed-shut other too))
 
--- a text between quotes is one token that reads back as the text
+-- a text between quotes is one token that parses back as the text
 pub between-tokens : (quotes : Quotes) (text : List ℕ) → tokens (between quotes text) ≡ quoted_token quotes text ∷ []
 between-tokens Single text = tokens-read (between Single text) ∙ read-doubled Single [] text
 between-tokens Back text = tokens-read (between Back text) ∙ read-doubled Back [] text

@@ -8,7 +8,8 @@ use Rattle.sql_parts.specs.Placeholders.{marks_of}
 use Rattle.sql_parts.specs.Templates.{Marks, resolved_from}
 use Rattle.sql_parts.proofs.lex.segments_apart.Given as goal
 
--- whether the segments of what is left of a text are apart, where so many markers precede it, and this is before it in its first segment
+-- whether the segments of what is left of a text are apart, where so many placeholders precede it, and this is before it in its
+-- first segment
 abbrev pub rest_apart : Marks → ℕ → List ℕ → List ℕ → Bool
 rest_apart marks seen before rest =
     let resolved = resolved_from marks seen 0 rest in segments_apart (seen == 0) (before ++ resolved.0) resolved.1
