@@ -4,7 +4,7 @@ ghost use Rattle.sql_builder.specs.Builder.{started, with_fields, with_limit, wi
 ghost use Rattle.sql_builder.specs.Calls.{Cond, Field, SelectFrom, Sql};
 ghost use Rattle.sql_builder.specs.Condition.{Compare};
 ghost use Rattle.sql_builder.specs.Error.{FailsOnlyByMemory};
-ghost use Rattle.sql_builder.specs.Layout.{byte_atoms, sql};
+ghost use Rattle.sql_builder.specs.Layout.{byte_units, sql};
 ghost use Rattle.sql_builder.specs.Quoting.{quoted};
 ghost use Rattle.sql_builder.specs.Statement.{statement};
 ghost use Rattle.sql_builder.specs.Text.{decimal_text};
@@ -53,7 +53,7 @@ pub fn titles(alloc: Global, most: Option<u64>) -> Result<SqlBuilder, SqlBuilder
 
 /// The same as a statement.
 pub fn titles_printed(alloc: Global, most: Option<u64>) -> Result<String, SqlBuilderError>
-    ensures text { IfOk result (λ s. string_bytes s ≡ sql byte_atoms (limited most
+    ensures text { IfOk result (λ s. string_bytes s ≡ sql byte_units (limited most
         (with_fields (codes "title" ∷ []) (started (SelectFrom (codes "books")))))) }
     ensures memory { FailsOnlyByMemory result }
 {

@@ -2,7 +2,8 @@
 ghost use Rattle.std.specs.Prelude.{◌≡◌, ◌&&◌, ◌⊎◌, [], ◌∷◌, ◌++◌, codes, is_some, map, string_bytes, Err, IfErr, IfOk, IfSome, Ok};
 ghost use Rattle.sql_builder.specs.Calls.{SelectFrom, Sql, call_view};
 ghost use Rattle.sql_builder.specs.Error.{FailsOnlyByMemory, IsMemory};
-ghost use Rattle.sql_builder.specs.RawTexts.{Bare, is_fit};
+ghost use Rattle.sql_builder.specs.RawTexts.{Bare};
+ghost use Rattle.sql_builder.specs.RawFragments.{is_fit};
 ghost use Rattle.sql_builder.specs.Meaning.{HasTruthOf};
 ghost use Rattle.sql_builder.specs.Quoting.{quoted};
 ghost use Rattle.sql_builder.specs.Statement.{statement};

@@ -1,11 +1,11 @@
 //! Untrusted values in statements.
 ghost use Rattle.std.specs.Prelude.{◌≡◌, [], ◌∷◌, ◌++◌, codes, length, map, option_map, string_bytes, IfOk, IfSome, IsTrue, Some};
-ghost use Rattle.sql_builder.specs.Apart.{bound_tokens};
+ghost use Rattle.sql_builder.specs.Templates.{bound_tokens};
 ghost use Rattle.sql_builder.specs.Builder.{started, with_condition};
 ghost use Rattle.sql_builder.specs.Calls.{SelectFrom};
 ghost use Rattle.sql_builder.specs.Condition.{Compare};
 ghost use Rattle.sql_builder.specs.Error.{FailsOnlyByMemory};
-ghost use Rattle.sql_builder.specs.Layout.{byte_atoms, sql};
+ghost use Rattle.sql_builder.specs.Layout.{byte_units, sql};
 ghost use Rattle.sql_builder.specs.Meaning.{HasTruthOf};
 ghost use Rattle.sql_builder.specs.Quoting.{quoted};
 ghost use Rattle.sql_builder.specs.Shape.{EndsInOneSemicolon};
@@ -95,7 +95,7 @@ pub fn sought_printed(
     author: Option<&str>,
 ) -> Result<String, SqlBuilderError>
     ensures text { IfOk result (λ s. string_bytes s
-        ≡ sql byte_atoms (by_author (option_map (λ s. s.now) author.entry)
+        ≡ sql byte_units (by_author (option_map (λ s. s.now) author.entry)
         (with_condition And (Compare Eq (codes "title") (quoted title.now))
         (started (SelectFrom (codes "books")))))) }
     ensures closed { IfOk result (λ s. IsTrue (closed (string_bytes s))) }

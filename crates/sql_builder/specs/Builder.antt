@@ -5,7 +5,7 @@ use Rattle.sql_parts.specs.declared.error.SqlBuilderError.{SqlBuilderError}
 use Rattle.sql_builder.specs.Calls as call
 use Rattle.sql_builder.specs.Calls.{CallText, StartText, binary_call, kind_of, unary_call, variadic_call}
 use Rattle.sql_builder.specs.Clauses.{Clauses, new_clauses}
-use Rattle.sql_builder.specs.Layout.{byte_atoms}
+use Rattle.sql_builder.specs.Layout.{byte_units}
 use Rattle.sql_builder.specs.Phrases.{constraint, count, count_as, equation, further_table, join, order, row}
 use Rattle.sql_builder.specs.declared.condition.Family.{Family}
 use Rattle.sql_builder.specs.declared.condition.Family.TheVariants.{And, Or}
@@ -67,16 +67,16 @@ with_distinct r = record r { distinct = true }
 
 -- a further table
 abbrev pub with_table : List ℕ → ClauseTexts → ClauseTexts
-with_table table r = record r { table = r.table ++ further_table byte_atoms table }
+with_table table r = record r { table = r.table ++ further_table byte_units table }
 
 -- a join as was chosen; it ends a waiting NATURAL
 abbrev pub with_join : List ℕ → ClauseTexts → ClauseTexts
 with_join table r =
-    record r { joins = r.joins ++ join byte_atoms r.natural r.operator table ∷ []; natural = false }
+    record r { joins = r.joins ++ join byte_units r.natural r.operator table ∷ []; natural = false }
 
 -- a constraint of the last join; where there is none, nothing changes
 abbrev pub with_on : List ℕ → ClauseTexts → ClauseTexts
-with_on text r = record r { joins = extend_last (constraint byte_atoms text) r.joins }
+with_on text r = record r { joins = extend_last (constraint byte_units text) r.joins }
 
 -- these fields, after those that are there
 abbrev pub with_fields : List (List ℕ) → ClauseTexts → ClauseTexts
@@ -92,7 +92,7 @@ with_set equation r = record r { sets = r.sets ++ equation ∷ [] }
 
 -- one more row, and no query
 abbrev pub with_row : List (List ℕ) → ClauseTexts → ClauseTexts
-with_row values r = record r { rows = r.rows ++ row byte_atoms values ∷ []; query = None }
+with_row values r = record r { rows = r.rows ++ row byte_units values ∷ []; query = None }
 
 -- a query, and no rows
 abbrev pub with_query : List ℕ → ClauseTexts → ClauseTexts
@@ -117,7 +117,7 @@ with_union all query r = record r { unions = r.unions ++ (all, query) ∷ [] }
 -- one more field to order by, which may be descending
 abbrev pub with_order : Bool → List ℕ → ClauseTexts → ClauseTexts
 with_order descending field r =
-    record r { order_fields = r.order_fields ++ order byte_atoms descending field ∷ [] }
+    record r { order_fields = r.order_fields ++ order byte_units descending field ∷ [] }
 
 -- the limit
 abbrev pub with_limit : List ℕ → ClauseTexts → ClauseTexts
@@ -176,15 +176,15 @@ with_call call.Distinct r = with_distinct r
 with_call (call.AndTable table) r = with_table table r
 with_call (call.Join table) r = with_join table r
 with_call (call.On constraint) r = with_on constraint r
-with_call (call.OnEq left right) r = with_on (equation byte_atoms left right) r
+with_call (call.OnEq left right) r = with_on (equation byte_units left right) r
 with_call (call.Fields fields) r = with_fields fields r
 with_call (call.SetFields fields) r = with_fields_set fields r
 with_call (call.Field field) r = with_fields (field ∷ []) r
 with_call (call.SetField field) r = with_fields_set (field ∷ []) r
-with_call (call.Count field) r = with_fields (count byte_atoms field ∷ []) r
-with_call (call.CountAs field name) r = with_fields (count_as byte_atoms field name ∷ []) r
-with_call (call.SetTo field value) r = with_set (equation byte_atoms field value) r
-with_call (call.SetStr field value) r = with_set (equation byte_atoms field (quoted value)) r
+with_call (call.Count field) r = with_fields (count byte_units field ∷ []) r
+with_call (call.CountAs field name) r = with_fields (count_as byte_units field name ∷ []) r
+with_call (call.SetTo field value) r = with_set (equation byte_units field value) r
+with_call (call.SetStr field value) r = with_set (equation byte_units field (quoted value)) r
 with_call (call.Values values) r = with_row values r
 with_call (call.Select query) r = with_query query r
 with_call (call.Returning fields) r = with_returning fields r

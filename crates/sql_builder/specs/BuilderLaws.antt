@@ -7,11 +7,11 @@ use Rattle.sql_parts.specs.Tokens.{Token, Word, is_empty, tokens}
 use Rattle.sql_builder.specs.Builder.{ClauseTexts}
 use Rattle.sql_builder.specs.Calls.{CallText, Fields, FinishText, StartText, clauses}
 use Rattle.sql_builder.specs.Condition.{ConditionText, condition_bytes, condition_pieces}
-use Rattle.sql_builder.specs.Layout.{byte_atoms, sql}
-use Rattle.sql_builder.specs.FitFragments.{has_fit_conditions, has_fit_texts}
+use Rattle.sql_builder.specs.Layout.{byte_units, sql}
+use Rattle.sql_builder.specs.RawFragments.{has_fit_conditions, has_fit_texts, has_closed_fragments, has_no_semicolons}
 use Rattle.sql_builder.specs.Meaning.{HasBalancedFragments, HasFitFragments, IsAtomIfOperands, is_unenclosed}
 use Rattle.sql_builder.specs.Phrases.{count_as, equation}
-use Rattle.sql_builder.specs.Shape.{EndsInOneSemicolon, KeepsTokens, as_fragments, cond_tokens, has_closed_fragments, has_no_semicolons}
+use Rattle.sql_builder.specs.Shape.{EndsInOneSemicolon, KeepsTokens, as_fragments, cond_tokens}
 use Rattle.sql_builder.specs.Truths.{Fact, False, True, Truth, Valuation, not3, or3, or_all, is_or, and_all, and3, owns_next, truth}
 use Rattle.sql_builder.specs.WhereTokens.{in_brackets, where_tokens}
 use Rattle.sql_builder.specs.Reading.{clause_list, read}
@@ -34,7 +34,7 @@ OnlyLastCounts given = (start : StartText) (before between after : List CallText
 -- the tokens of what `sql` prints of a builder end in its only `;`, where the builder's texts are closed and have none
 abbrev pub BuildersEndInOneSemicolon : Type 0
 BuildersEndInOneSemicolon = (r : ClauseTexts) → IsTrue (has_closed_fragments (sql fixed_piece (as_fragments r)))
-    → IsTrue (has_no_semicolons (sql fixed_piece (as_fragments r))) → EndsInOneSemicolon (tokens (sql byte_atoms r))
+    → IsTrue (has_no_semicolons (sql fixed_piece (as_fragments r))) → EndsInOneSemicolon (tokens (sql byte_units r))
 
 -- where its fragments are closed, what each condition prints has the condition's tokens and is closed
 abbrev pub ConditionsKeepTokens : Type 0
@@ -43,17 +43,17 @@ ConditionsKeepTokens = (condition : ConditionText) → KeepsTokens (condition_pi
 -- the same of `left = right`
 abbrev pub EquationsKeepTokens : Type 0
 EquationsKeepTokens = (left right : List ℕ)
-    → KeepsTokens (equation fixed_piece (raw_piece left) (raw_piece right)) (equation byte_atoms left right)
+    → KeepsTokens (equation fixed_piece (raw_piece left) (raw_piece right)) (equation byte_units left right)
 
 -- the same of `field = 'value'`
 abbrev pub QuotedEquationsKeepTokens : Type 0
 QuotedEquationsKeepTokens = (field value : List ℕ)
-    → KeepsTokens (equation fixed_piece (raw_piece field) (quoted_piece value)) (equation byte_atoms field (quoted value))
+    → KeepsTokens (equation fixed_piece (raw_piece field) (quoted_piece value)) (equation byte_units field (quoted value))
 
 -- the same of `COUNT(field) AS name`
 abbrev pub CountsKeepTokens : Type 0
 CountsKeepTokens = (field name : List ℕ)
-    → KeepsTokens (count_as fixed_piece (raw_piece field) (raw_piece name)) (count_as byte_atoms field name)
+    → KeepsTokens (count_as fixed_piece (raw_piece field) (raw_piece name)) (count_as byte_units field name)
 
 -- each condition whose texts are operands, but a raw one, is an atom
 abbrev pub ConditionsAreAtoms : Type 0

@@ -5,7 +5,7 @@ use Rattle.sql_parts.specs.Fragments.{balanced, operand}
 use Rattle.sql_parts.specs.Quoting.{quoted}
 use Rattle.sql_parts.specs.Text.{texts}
 use Rattle.sql_builder.specs.RawTexts.{RawText, Bare, Enclosed}
-use Rattle.sql_builder.specs.Layout.{byte_atoms}
+use Rattle.sql_builder.specs.Layout.{byte_units}
 use Rattle.sql_builder.specs.Phrases.{comma_list}
 use Rattle.sql_builder.specs.Pieces.{Pieces, fixed_piece, quoted_piece, raw_piece}
 use Rattle.sql_builder.specs.declared.condition.BorrowedCondition.{BorrowedCondition}
@@ -120,7 +120,7 @@ module _ {A : Type 0} (word raw quoted : List ℕ → List A) where
 
 -- a condition's text
 abbrev pub condition_bytes : ConditionText → List ℕ
-condition_bytes condition = condition_layout byte_atoms byte_atoms quoted condition
+condition_bytes condition = condition_layout byte_units byte_units quoted condition
 
 -- a condition's pieces
 abbrev pub condition_pieces : ConditionText → Pieces

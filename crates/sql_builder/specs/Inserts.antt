@@ -7,9 +7,9 @@ use Rattle.sql_builder.specs.Builder.{ClauseTexts}
 use Rattle.sql_builder.specs.Calls.{CallText, StartText, Query, Sql, clauses, is_select, query_of, unions_in, call_raw_texts}
 use Rattle.sql_builder.specs.Calls as call
 use Rattle.sql_builder.specs.Clauses.{Clauses}
-use Rattle.sql_builder.specs.FitFragments.{are_fit, has_fit_fragments}
-use Rattle.sql_builder.specs.RawTexts.{Bare, is_fit}
-use Rattle.sql_builder.specs.Layout.{byte_atoms, insert_target, query, sql}
+use Rattle.sql_builder.specs.RawFragments.{are_fit, has_fit_fragments, is_fit}
+use Rattle.sql_builder.specs.RawTexts.{Bare}
+use Rattle.sql_builder.specs.Layout.{byte_units, insert_target, query, sql}
 use Rattle.sql_builder.specs.Meaning.{HasFitFragments}
 use Rattle.sql_builder.specs.TokenParts.{parts_at}
 use Rattle.sql_builder.specs.Reading.{Clause, is_union, read}
@@ -56,7 +56,7 @@ InsertsReadBack = (table : List ℕ) (calls : List CallText) (query : List ℕ)
 abbrev pub BuildersOfInsertsReadBack : Type 0
 BuildersOfInsertsReadBack = (r : ClauseTexts) (query : List ℕ)
     → r.kind ≡ InsertInto → r.query ≡ Some query → IsTrue (balanced query) → IsTrue (has_fit_target (as_fragments r))
-    → read (tokens (sql byte_atoms r)) ≡ insert_clauses (as_fragments r) (tokens query)
+    → read (tokens (sql byte_units r)) ≡ insert_clauses (as_fragments r) (tokens query)
 
 -- a query that is balanced, and has no top-level UNION: RETURNING is read behind it
 abbrev pub is_one_query : List ℕ → Bool
@@ -70,7 +70,7 @@ QueriesAreOne = (start : StartText) (calls : List CallText)
 -- the same of a builder
 abbrev pub BuildersOfQueriesAreOne : Type 0
 BuildersOfQueriesAreOne = (r : ClauseTexts)
-    → r.unions ≡ [] → IsTrue (has_fit_fragments (query fixed_piece (as_fragments r))) → IsTrue (is_one_query (query byte_atoms r))
+    → r.unions ≡ [] → IsTrue (has_fit_fragments (query fixed_piece (as_fragments r))) → IsTrue (is_one_query (query byte_units r))
 
 -- each raw text is fit, but for queries
 abbrev pub has_fit_insert_texts : List ℕ → List CallText → Bool

@@ -1,7 +1,7 @@
 -- No interference: statements that are the same but for the texts that calls quote.
 use Rattle.std.specs.Prelude.{◌≡◌, ℕ, List, [], ◌∷◌, Bool, true, IfOk, IsTrue, Result, Ok, Err, flat_map, map}
 use Rattle.std.specs.Result.{result_map_both}
-use Rattle.sql_parts.specs.StringTexts.{are_strings, blank, blank_at, nowhere, outline}
+use Rattle.sql_parts.specs.StringTexts.{are_strings, blank, nowhere, outline, tokens_but}
 use Rattle.sql_parts.specs.Quoting.{quoted}
 use Rattle.sql_parts.specs.Tokens.{Token, closed, tokens}
 use Rattle.sql_parts.specs.declared.error.SqlBuilderError.{SqlBuilderError}
@@ -9,10 +9,11 @@ use Rattle.sql_builder.specs.Builder.{ClauseTexts}
 use Rattle.sql_builder.specs.Calls.{CallText, FinishText, StartText, Cond, SetStr}
 use Rattle.sql_builder.specs.Clauses.{map_clauses}
 use Rattle.sql_builder.specs.Condition.{ConditionText, blank_condition, condition_bytes, condition_pieces}
-use Rattle.sql_builder.specs.Layout.{byte_atoms}
+use Rattle.sql_builder.specs.Layout.{byte_units}
 use Rattle.sql_builder.specs.Phrases.{equation}
 use Rattle.sql_builder.specs.Reading.{Clause, read}
-use Rattle.sql_builder.specs.Shape.{HasClosedFragments, as_fragments, has_closed_fragments, piece_tokens}
+use Rattle.sql_builder.specs.Shape.{HasClosedFragments, as_fragments, piece_tokens}
+use Rattle.sql_builder.specs.RawFragments.{has_closed_fragments}
 use Rattle.sql_builder.specs.Statement.{layout_at, pieces, statement, text_at}
 use Rattle.sql_builder.specs.Pieces.{Piece, Pieces, Fixed, Quoted, Raw, fixed_piece, raw_piece}
 
@@ -52,10 +53,6 @@ quoted_places start calls finish = places_unless_error (pieces start calls finis
 -- what holds of a statement, or its error
 abbrev pub answer_of : {X : Type 0} → (List ℕ → X) → StartText → List CallText → FinishText → Result X SqlBuilderError
 answer_of answer start calls finish = result_map_both answer (λ error. error) (statement start calls finish)
-
--- the tokens of a text, blanked at some places
-abbrev pub tokens_but : List Bool → List ℕ → List Token
-tokens_but places text = blank_at places (tokens text)
 
 -- texts that are quoted in place of others are at the same places among the tokens
 abbrev pub QuotedTextsKeepTheirPlaces : Type 0
@@ -126,7 +123,7 @@ ConditionsKeepTheirOutline = (one other : ConditionText) → blank_condition one
 -- where the field is closed, so has `field = 'value'`
 abbrev pub EquationsKeepTheirOutline : Type 0
 EquationsKeepTheirOutline = (field one other : List ℕ) → IsTrue (closed field)
-    → outline (equation byte_atoms field (quoted one)) ≡ outline (equation byte_atoms field (quoted other))
+    → outline (equation byte_units field (quoted one)) ≡ outline (equation byte_units field (quoted other))
 
 -- and so has a text between single quotes
 abbrev pub QuotesKeepTheirOutline : Type 0

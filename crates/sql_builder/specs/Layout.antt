@@ -1,4 +1,4 @@
--- A statement as a list of sections, over any kind of atom A: bytes, or pieces.
+-- A statement as a list of sections, over any kind of unit A: bytes, or pieces.
 use Rattle.std.specs.Prelude.{ℕ, List, [], ◌∷◌, ◌++◌, Option, None, Some, Bool, true, false, map, codes, flat_map}
 use Rattle.sql_parts.specs.declared.error.SqlBuilderError.{SqlBuilderError}
 use Rattle.sql_parts.specs.declared.error.SqlBuilderError.TheVariants.{NoTableName, NoValues, NoSetFields, NoGroupBy}
@@ -44,7 +44,7 @@ union_sections unions = map (λ union. section (union_opening union.0) union.1) 
 abbrev pub range_sections : {A : Type 0} → Clauses (List A) → List (Section A)
 range_sections r = optional_section (codes " LIMIT ") r.limit ++ optional_section (codes " OFFSET ") r.offset
 
--- `word` gives the atoms of a text of the product's own
+-- `word` gives the units of a text of the product's own
 module _ {A : Type 0} (word : List ℕ → List A) where
   -- the sections one after another
   abbrev pub concat_sections : List (Section A) → List A
@@ -181,6 +181,6 @@ error_of DeleteFrom r = no_table_error r.table None
 abbrev pub sql_error : Clauses (List ℕ) → Option SqlBuilderError
 sql_error r = error_of r.kind r
 
--- a text of bytes is its own atoms
-abbrev pub byte_atoms : List ℕ → List ℕ
-byte_atoms text = text
+-- a text of bytes is its own units
+abbrev pub byte_units : List ℕ → List ℕ
+byte_units text = text

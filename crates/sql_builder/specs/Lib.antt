@@ -5,7 +5,7 @@ pub mod Clauses
 pub mod Concat
 pub mod Condition
 pub mod Filters
-pub mod FitFragments
+pub mod RawFragments
 pub mod RawTexts
 pub mod TextTests
 pub mod Inserts
@@ -26,7 +26,6 @@ pub mod Pieces
 pub mod Truths
 pub mod WhereTokens
 -- what the contracts here cite of the library below, for callers that list this one alone
-pub use Rattle.sql_parts.specs.Apart
 pub use Rattle.sql_parts.specs.Backslash
 pub use Rattle.sql_parts.specs.StringTexts
 pub use Rattle.sql_parts.specs.Error

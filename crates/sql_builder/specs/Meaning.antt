@@ -5,7 +5,7 @@ use Rattle.sql_parts.specs.Tokens.{Token, tokens}
 use Rattle.sql_builder.specs.Builder.{ClauseTexts, with_condition_bytes}
 use Rattle.sql_builder.specs.Calls.{CallText, FinishText, StartText, Sql, Query, Subquery, SubqueryAs, groups}
 use Rattle.sql_builder.specs.Condition.{ConditionText, condition_bytes, condition_pieces, has_operands}
-use Rattle.sql_builder.specs.FitFragments.{has_balanced_fragments, has_fit_fragments, has_fit_groups}
+use Rattle.sql_builder.specs.RawFragments.{has_balanced_fragments, has_fit_fragments, has_fit_groups}
 use Rattle.sql_builder.specs.Reading.{piece_clauses, read, clause_bodies}
 use Rattle.sql_builder.specs.Shape.{AddsText, cond_tokens}
 use Rattle.sql_builder.specs.Statement.{pieces}

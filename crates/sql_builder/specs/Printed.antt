@@ -2,12 +2,12 @@
 use Rattle.std.specs.Prelude.{ℕ, List, [], Option, None, Some, Bool, true, false, codes, if◌then◌else◌, flat_map, ◌++◌}
 use Rattle.sql_builder.specs.Builder.{ClauseTexts}
 use Rattle.sql_builder.specs.Phrases.{comma_list}
-use Rattle.sql_builder.specs.Layout.{byte_atoms, concat_sections, fields_or_star, group_by_sections, insert_sections, optional_section, order_by_sections}
+use Rattle.sql_builder.specs.Layout.{byte_units, concat_sections, fields_or_star, group_by_sections, insert_sections, optional_section, order_by_sections}
 use Rattle.sql_builder.specs.Layout.{select_opening, statement_sections, union_opening, update_sections, delete_sections, where_sections}
 
 -- a text behind its words, where there is one
 abbrev pub optional_bytes : List ℕ → Option (List ℕ) → List ℕ
-optional_bytes words text = concat_sections byte_atoms (optional_section words text)
+optional_bytes words text = concat_sections byte_units (optional_section words text)
 
 -- the joins
 abbrev pub join_bytes : List (List ℕ) → List ℕ
@@ -32,19 +32,19 @@ where_end false = []
 
 -- WHERE
 abbrev pub where_bytes : List (List ℕ) → List ℕ
-where_bytes groups = concat_sections byte_atoms (where_sections byte_atoms groups)
+where_bytes groups = concat_sections byte_units (where_sections byte_units groups)
 
 -- GROUP BY, and HAVING behind it
 abbrev pub group_by_bytes : List (List ℕ) → Option (List ℕ) → List ℕ
-group_by_bytes fields having = concat_sections byte_atoms (group_by_sections byte_atoms fields having)
+group_by_bytes fields having = concat_sections byte_units (group_by_sections byte_units fields having)
 
 -- ORDER BY
 abbrev pub order_by_bytes : List (Bool × List ℕ) → List (List ℕ) → List ℕ
-order_by_bytes unions fields = concat_sections byte_atoms (order_by_sections byte_atoms unions fields)
+order_by_bytes unions fields = concat_sections byte_units (order_by_sections byte_units unions fields)
 
 -- what precedes the conditions of a query
 abbrev pub query_start : ClauseTexts → List ℕ
-query_start r = (select_opening r.distinct ++ fields_or_star byte_atoms r.fields) ++ ((codes " FROM " ++ r.table) ++ join_bytes r.joins)
+query_start r = (select_opening r.distinct ++ fields_or_star byte_units r.fields) ++ ((codes " FROM " ++ r.table) ++ join_bytes r.joins)
 
 -- what follows them
 abbrev pub query_end : ClauseTexts → List ℕ
@@ -55,21 +55,21 @@ query_end r = group_by_bytes r.group_fields r.having
 
 -- what an INSERT inserts, its query or its rows, behind the bracket that closes its fields
 abbrev pub inserted_bytes : Option (List ℕ) → List (List ℕ) → List ℕ
-inserted_bytes None rows = codes ") VALUES " ++ comma_list byte_atoms rows
+inserted_bytes None rows = codes ") VALUES " ++ comma_list byte_units rows
 inserted_bytes (Some query) rows = codes ") " ++ query
 
 -- an INSERT
 abbrev pub insert_bytes : ClauseTexts → List ℕ
-insert_bytes r = concat_sections byte_atoms (insert_sections byte_atoms r.query r)
+insert_bytes r = concat_sections byte_units (insert_sections byte_units r.query r)
 
 -- an UPDATE
 abbrev pub update_bytes : ClauseTexts → List ℕ
-update_bytes r = concat_sections byte_atoms (update_sections byte_atoms r)
+update_bytes r = concat_sections byte_units (update_sections byte_units r)
 
 -- a DELETE
 abbrev pub delete_bytes : ClauseTexts → List ℕ
-delete_bytes r = concat_sections byte_atoms (delete_sections byte_atoms r)
+delete_bytes r = concat_sections byte_units (delete_sections byte_units r)
 
 -- the statement, without the semicolon at its end
 abbrev pub statement_bytes : ClauseTexts → List ℕ
-statement_bytes r = concat_sections byte_atoms (statement_sections byte_atoms r.kind r)
+statement_bytes r = concat_sections byte_units (statement_sections byte_units r.kind r)

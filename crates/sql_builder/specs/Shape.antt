@@ -9,6 +9,7 @@ use Rattle.sql_builder.specs.Builder.{ClauseTexts}
 use Rattle.sql_builder.specs.Calls.{CallText, FinishText, StartText}
 use Rattle.sql_builder.specs.Clauses.{Clauses, map_clauses}
 use Rattle.sql_builder.specs.Condition.{ConditionText, condition_pieces}
+use Rattle.sql_builder.specs.RawFragments.{has_closed_fragments}
 use Rattle.sql_builder.specs.Statement.{pieces}
 use Rattle.sql_builder.specs.Pieces.{Piece, Pieces, Fixed, Quoted, Raw, raw_piece}
 
@@ -22,12 +23,6 @@ piece_tokens (Raw text) = tokens text
 abbrev pub pieces_tokens : Pieces → List Token
 pieces_tokens printed = flat_map piece_tokens printed
 
--- a raw fragment is closed; the other pieces are no fragments
-abbrev pub is_closed_piece : Piece → Bool
-is_closed_piece (Fixed text) = true
-is_closed_piece (Quoted text) = true
-is_closed_piece (Raw text) = closed text
-
 -- the tokens of a condition
 abbrev pub cond_tokens : ConditionText → List Token
 cond_tokens condition = pieces_tokens (condition_pieces condition)
@@ -35,20 +30,6 @@ cond_tokens condition = pieces_tokens (condition_pieces condition)
 -- the tokens of the pieces that are printed, or the error
 abbrev pub shape : StartText → List CallText → FinishText → Result (List Token) SqlBuilderError
 shape start calls finish = result_map_both pieces_tokens (λ error. error) (pieces start calls finish)
-
--- each fragment among the pieces is closed
-abbrev pub has_closed_fragments : Pieces → Bool
-has_closed_fragments printed = list_all is_closed_piece printed
-
--- a fragment has no `;` among its tokens
-abbrev pub is_without_semicolon : Piece → Bool
-is_without_semicolon (Fixed text) = true
-is_without_semicolon (Quoted text) = true
-is_without_semicolon (Raw text) = not (has_semicolon text)
-
--- no fragment among the pieces has one
-abbrev pub has_no_semicolons : Pieces → Bool
-has_no_semicolons printed = list_all is_without_semicolon printed
 
 -- the last of the tokens is a `;`, and no other is
 abbrev pub EndsInOneSemicolon : List Token → Type 0

@@ -3,7 +3,7 @@ use Rattle.std.specs.Prelude.{ℕ, List, Option, None, Some, Result, Ok, Err}
 use Rattle.sql_parts.specs.declared.error.SqlBuilderError.{SqlBuilderError}
 use Rattle.sql_builder.specs.Calls.{StartText, CallText, FinishText, Sql, Query, QueryValues, Subquery, SubqueryAs, clauses}
 use Rattle.sql_builder.specs.Clauses.{Clauses, map_clauses}
-use Rattle.sql_builder.specs.Layout.{byte_atoms, query, query_error, query_values, sql_error, sql, subquery, subquery_as}
+use Rattle.sql_builder.specs.Layout.{byte_units, query, query_error, query_values, sql_error, sql, subquery, subquery_as}
 use Rattle.sql_builder.specs.Pieces.{Pieces, fixed_piece, pieces_text, raw_piece}
 
 -- the error where there is one, else the value
@@ -19,7 +19,7 @@ error_at QueryValues r = None
 error_at Subquery r = query_error r
 error_at (SubqueryAs name) r = query_error r
 
--- what a finish lays out: `word` gives the atoms of the product's own texts, `raw` of raw fragments
+-- what a finish lays out: `word` gives the units of the product's own texts, `raw` of raw fragments
 abbrev pub layout_at : {A : Type 0} → (List ℕ → List A) → (List ℕ → List A) → FinishText → Clauses (List A)
     → List A
 layout_at word raw Sql r = sql word r
@@ -35,7 +35,7 @@ pieces_at finish r =
 
 -- the text that a finish prints of the clauses' texts
 abbrev pub text_at : FinishText → Clauses (List ℕ) → List ℕ
-text_at finish r = layout_at byte_atoms byte_atoms finish r
+text_at finish r = layout_at byte_units byte_units finish r
 
 -- the pieces that are printed, or the error
 abbrev pub pieces : StartText → List CallText → FinishText → Result Pieces SqlBuilderError

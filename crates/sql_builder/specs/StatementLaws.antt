@@ -4,7 +4,7 @@ use Rattle.sql_parts.specs.Tokens.{closed, tokens}
 use Rattle.sql_builder.specs.Builder.{ClauseTexts, with_call}
 use Rattle.sql_builder.specs.Calls.{CallText, FinishText, StartText, clauses, kind_of}
 use Rattle.sql_builder.specs.Clauses.{map_clauses}
-use Rattle.sql_builder.specs.FitFragments.{has_fit_conditions}
+use Rattle.sql_builder.specs.RawFragments.{has_fit_conditions}
 use Rattle.sql_builder.specs.Meaning.{HasBalancedFragments, HasFitFragments, HasTruthOf, condition_groups, is_nested, prints_where}
 use Rattle.sql_builder.specs.Shape.{HasClosedFragments, shape}
 use Rattle.sql_builder.specs.Statement.{error_at, statement, text_at, unless_error}

@@ -3,7 +3,7 @@ use Rattle.std.specs.Prelude.{◌≡◌, ℕ, List, [], ◌∷◌, Bool, true, f
 use Rattle.sql_parts.specs.Error.{IsMemory}
 use Rattle.sql_parts.specs.declared.error.SqlBuilderError.{SqlBuilderError}
 use Rattle.sql_builder.specs.Builder.{ClauseTexts, with_fields, with_on, with_set}
-use Rattle.sql_builder.specs.Layout.{byte_atoms}
+use Rattle.sql_builder.specs.Layout.{byte_units}
 use Rattle.sql_builder.specs.Phrases.{count_as, equation}
 use Rattle.sql_parts.specs.Quoting.{quoted}
 use Rattle.sql_builder.specs.Condition.{ConditionText}
@@ -19,16 +19,16 @@ use Rattle.sql_builder.specs.declared.steps.BinaryClause.TheVariants as binary
 -- a call with two texts adds this text, with its tokens, where its fragments are closed; without a join `on_eq` adds nothing
 abbrev pub AddsBinary : BinaryClause → List ℕ → List ℕ → ClauseTexts → ClauseTexts → Type 0
 AddsBinary binary.OnEq left right old =
-    AddsText (λ added. with_on added old) (equation byte_atoms left right)
+    AddsText (λ added. with_on added old) (equation byte_units left right)
     (equation fixed_piece (raw_piece left) (raw_piece right))
 AddsBinary binary.CountAs field name old =
-    AddsText (λ added. with_fields (added ∷ []) old) (count_as byte_atoms field name)
+    AddsText (λ added. with_fields (added ∷ []) old) (count_as byte_units field name)
     (count_as fixed_piece (raw_piece field) (raw_piece name))
 AddsBinary binary.SetTo field value old =
-    AddsText (λ added. with_set added old) (equation byte_atoms field value)
+    AddsText (λ added. with_set added old) (equation byte_units field value)
     (equation fixed_piece (raw_piece field) (raw_piece value))
 AddsBinary binary.SetStr field value old =
-    AddsText (λ added. with_set added old) (equation byte_atoms field (quoted value))
+    AddsText (λ added. with_set added old) (equation byte_units field (quoted value))
     (equation fixed_piece (raw_piece field) (quoted_piece value))
 
 -- a step changes the builder so, or runs out of memory and leaves it as it was

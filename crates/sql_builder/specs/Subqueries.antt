@@ -2,8 +2,8 @@
 use Rattle.std.specs.Prelude.{ℕ, Bool, true, false, not, IfOk, IsTrue, List}
 use Rattle.sql_parts.specs.Fragments.{has_clause_word}
 use Rattle.sql_builder.specs.Calls.{CallText, FinishText, StartText, Subquery, SubqueryAs}
-use Rattle.sql_builder.specs.FitFragments.{has_balanced_fragments}
-use Rattle.sql_builder.specs.RawTexts.{Bare, is_fit}
+use Rattle.sql_builder.specs.RawFragments.{has_balanced_fragments, is_fit}
+use Rattle.sql_builder.specs.RawTexts.{Bare}
 use Rattle.sql_builder.specs.Meaning.{HasBalancedFragments}
 use Rattle.sql_builder.specs.Statement.{statement}
 use Rattle.sql_builder.specs.Pieces.{Pieces}

@@ -5,9 +5,9 @@ use Rattle.sql_parts.specs.Tokens.{closed, has_semicolon, is_empty, tokens}
 use Rattle.sql_parts.specs.declared.error.SqlBuilderError.TheVariants.{NoGroupBy}
 use Rattle.sql_builder.specs.Calls.{CallText, FinishText, StartText, SelectFrom, Sql, group_fields_in, having_in, call_raw_texts, finish_raw_texts}
 use Rattle.sql_builder.specs.Calls.{start_raw_texts}
-use Rattle.sql_builder.specs.FitFragments.{encloses_fields, has_fit_texts}
-use Rattle.sql_builder.specs.RawTexts.{RawText, Bare, Enclosed, is_fit}
-use Rattle.sql_builder.specs.Shape.{EndsInOneSemicolon, HasClosedFragments, has_no_semicolons}
+use Rattle.sql_builder.specs.RawFragments.{encloses_fields, has_fit_texts, has_no_semicolons, is_fit}
+use Rattle.sql_builder.specs.RawTexts.{RawText, Bare, Enclosed}
+use Rattle.sql_builder.specs.Shape.{EndsInOneSemicolon, HasClosedFragments}
 use Rattle.sql_builder.specs.Statement.{pieces, error_at, statement}
 use Rattle.sql_builder.specs.StatementLaws.{made_by}
 

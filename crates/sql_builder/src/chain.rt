@@ -5,7 +5,7 @@ ghost use Rattle.sql_parts.specs.Error.{FailsOnlyByMemory};
 ghost use Rattle.sql_parts.specs.Quoting.{quoted};
 ghost use Rattle.sql_builder.specs.Shape.{AddsText};
 ghost use Rattle.sql_builder.specs.Pieces.{fixed_piece, quoted_piece, raw_piece};
-ghost use Rattle.sql_builder.specs.Layout.{byte_atoms};
+ghost use Rattle.sql_builder.specs.Layout.{byte_units};
 ghost use Rattle.sql_builder.specs.Phrases.{count, count_as, equation};
 
 use crate::builder::SqlBuilder;
@@ -63,7 +63,7 @@ impl SqlBuilder {
     ) -> Result<&mut Self, SqlBuilderError>
         ensures* unchanged { sem 𝓛 (IsUnchangedIfErr self.entry result) }
         ensures changed { IsChangedSoThat self.entry (AddsText (λ added. with_on added self.old)
-            (equation byte_atoms (S.text left) (T.text right))
+            (equation byte_units (S.text left) (T.text right))
             (equation fixed_piece (raw_piece (S.text left)) (raw_piece (T.text right)))) result }
         ensures memory { IfErr result (IsConstraintError self.old) }
     {
@@ -120,7 +120,7 @@ impl SqlBuilder {
     pub fn count<S: ToText>(&mut self, field: S) -> Result<&mut Self, SqlBuilderError>
         ensures* unchanged { sem 𝓛 (IsUnchangedIfErr self.entry result) }
         ensures changed { IsChangedTo self.entry
-            (with_fields (count byte_atoms (S.text field) ∷ []) self.old) result }
+            (with_fields (count byte_units (S.text field) ∷ []) self.old) result }
         ensures memory { FailsOnlyByMemory result }
     {
         release(self.hold_unary(UnaryClause::Count, field))
@@ -137,7 +137,7 @@ impl SqlBuilder {
         ensures* unchanged { sem 𝓛 (IsUnchangedIfErr self.entry result) }
         ensures changed { IsChangedSoThat self.entry
             (AddsText (λ added. with_fields (added ∷ []) self.old)
-            (count_as byte_atoms (S.text field) (T.text name))
+            (count_as byte_units (S.text field) (T.text name))
             (count_as fixed_piece (raw_piece (S.text field)) (raw_piece (T.text name)))) result }
         ensures memory { FailsOnlyByMemory result }
     {
@@ -153,7 +153,7 @@ impl SqlBuilder {
     ) -> Result<&mut Self, SqlBuilderError>
         ensures* unchanged { sem 𝓛 (IsUnchangedIfErr self.entry result) }
         ensures changed { IsChangedSoThat self.entry (AddsText (λ added. with_set added self.old)
-            (equation byte_atoms (S.text field) (T.text value))
+            (equation byte_units (S.text field) (T.text value))
             (equation fixed_piece (raw_piece (S.text field)) (raw_piece (T.text value)))) result }
         ensures memory { FailsOnlyByMemory result }
     {
@@ -171,7 +171,7 @@ impl SqlBuilder {
     ) -> Result<&mut Self, SqlBuilderError>
         ensures* unchanged { sem 𝓛 (IsUnchangedIfErr self.entry result) }
         ensures changed { IsChangedSoThat self.entry (AddsText (λ added. with_set added self.old)
-            (equation byte_atoms (S.text field) (quoted (T.text value)))
+            (equation byte_units (S.text field) (quoted (T.text value)))
             (equation fixed_piece (raw_piece (S.text field)) (quoted_piece (T.text value))))
             result }
         ensures memory { FailsOnlyByMemory result }

@@ -7,7 +7,8 @@ ghost use Rattle.sql_builder.specs.Inserts.{BuildersOfInsertsReadBack, BuildersO
 ghost use Rattle.sql_builder.specs.Interference.{ConditionsKeepTheirOutline, EquationsKeepTheirOutline, FragmentsDoNotInterfere, IgnoresQuotedTexts, OutlinesDecideOutlines, QuotedTextsAreStrings, QuotedTextsDoNotInterfere, QuotedTextsKeepTheirPlaces, QuotesKeepTheirOutline, blank_clauses, clauses_but};
 ghost use Rattle.sql_builder.specs.BuilderLaws.{BuildersEndInOneSemicolon, ConditionsAreAtoms, ConditionsKeepTokens, BracketsMakeOperands, CountsKeepTokens, EquationsKeepTokens, FieldsJoin, FitTextsMakeBalancedFragments, FitTextsMakeFitConditions, FitTextsMakeFitFragments, IsValued, OnlyLastCounts, QuotedEquationsKeepTokens, StatementsReadBack, TruthOfAnd, TruthOfBrackets, TruthOfNot, TruthOfOr, TruthOfWhere, a_without_c, brackets_and_not, range_and_case};
 ghost use Rattle.sql_builder.specs.Truths.{False, True, Unknown};
-ghost use Rattle.sql_builder.specs.Shape.{EndsInOneSemicolon, has_closed_fragments, has_no_semicolons};
+ghost use Rattle.sql_builder.specs.Shape.{EndsInOneSemicolon};
+ghost use Rattle.sql_builder.specs.RawFragments.{has_closed_fragments, has_no_semicolons};
 ghost use Rattle.sql_builder.specs.Statement.{pieces};
 ghost use Rattle.sql_builder.specs.StatementLaws.{BuildersFollowCalls, BuildersPrintStatements, StatementsAreClosed, StatementsHaveTruth, StatementsKeepTokens, StatementsNest};
 ghost use Rattle.sql_builder.specs.Subqueries.{SubqueriesNestAsTables};

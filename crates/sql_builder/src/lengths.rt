@@ -5,7 +5,7 @@ ghost use Rattle.std.specs.List.{sum};
 ghost use Rattle.sql_parts.specs.Text.{texts};
 ghost use Rattle.sql_builder.specs.Builder.{condition_in_group, group_texts};
 ghost use Rattle.sql_builder.specs.Concat.{at_most_usize};
-ghost use Rattle.sql_builder.specs.Layout.{byte_atoms, query, query_values};
+ghost use Rattle.sql_builder.specs.Layout.{byte_units, query, query_values};
 ghost use Rattle.sql_builder.specs.Printed.{delete_bytes, further_bytes, group_by_bytes, insert_bytes, join_bytes, optional_bytes, order_by_bytes, statement_bytes, update_bytes, where_bytes};
 ghost use Rattle.sql_builder.specs.Statement.{text_at};
 ghost use Rattle.sql_builder.specs.Calls.{finish_view};
@@ -109,7 +109,7 @@ fn order_by_len(unions: &UnionList, fields: &TextList) -> usize
 
 impl SqlBuilder {
     fn query_len(&self) -> usize
-        ensures { result ≡ at_most_usize (length (query byte_atoms self.now)) }
+        ensures { result ≡ at_most_usize (length (query byte_units self.now)) }
     {
         sum(&[
             select_words(self.distinct).len(),
@@ -127,7 +127,7 @@ impl SqlBuilder {
     }
 
     fn values_len(&self) -> usize
-        ensures { result ≡ at_most_usize (length (query_values byte_atoms self.now)) }
+        ensures { result ≡ at_most_usize (length (query_values byte_units self.now)) }
     {
         total_len(&[Part("SELECT "), Part(self.fields.as_str())])
     }

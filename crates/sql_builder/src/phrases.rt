@@ -2,7 +2,7 @@
 ghost use Rattle.std.specs.Prelude.{◌≡◌, ◌++◌, OnOk, codes, flat_map, map, string_bytes};
 ghost use Rattle.sql_parts.specs.Error.{FailsOnlyByMemory};
 ghost use Rattle.sql_parts.specs.Quoting.{quoted};
-ghost use Rattle.sql_builder.specs.Layout.{byte_atoms};
+ghost use Rattle.sql_builder.specs.Layout.{byte_units};
 ghost use Rattle.sql_builder.specs.Phrases.{comma_list, row};
 
 use sql_parts::text::Texts;
@@ -33,7 +33,7 @@ pub(crate) fn push_items<'a, T: Texts<'a>>(
     mut texts: T,
 ) -> Result<(), SqlBuilderError>
     ensures pushed { OnOk result (string_bytes out.new
-        ≡ string_bytes out.old ++ comma_list byte_atoms (T.left texts)) }
+        ≡ string_bytes out.old ++ comma_list byte_units (T.left texts)) }
     ensures memory { FailsOnlyByMemory result }
 {
     if let Some(first) = texts.next_text(alloc)? {
@@ -67,7 +67,7 @@ pub(crate) fn push_quoted_items<'a, T: Texts<'a>>(
     mut texts: T,
 ) -> Result<(), SqlBuilderError>
     ensures pushed { OnOk result (string_bytes out.new
-        ≡ string_bytes out.old ++ comma_list byte_atoms (map quoted (T.left texts))) }
+        ≡ string_bytes out.old ++ comma_list byte_units (map quoted (T.left texts))) }
     ensures memory { FailsOnlyByMemory result }
 {
     if let Some(first) = texts.next_text(alloc)? {
@@ -84,7 +84,7 @@ pub(crate) fn push_row<'a, T: Texts<'a>>(
     values: T,
 ) -> Result<(), SqlBuilderError>
     ensures pushed { OnOk result (string_bytes out.new
-        ≡ string_bytes out.old ++ row byte_atoms (T.left values)) }
+        ≡ string_bytes out.old ++ row byte_units (T.left values)) }
     ensures memory { FailsOnlyByMemory result }
 {
     out.push_str("(")?;

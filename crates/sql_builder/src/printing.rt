@@ -7,7 +7,7 @@ ghost use Rattle.sql_parts.specs.Text.{texts};
 ghost use Rattle.sql_builder.specs.Builder.{condition_in_group, group_texts};
 ghost use Rattle.sql_builder.specs.Calls.{Query, Sql, Subquery, SubqueryAs, finish_view};
 ghost use Rattle.sql_builder.specs.Concat.{HasRoom, Writes};
-ghost use Rattle.sql_builder.specs.Layout.{byte_atoms, fields_or_star, query, query_error, query_values, sql_error, select_opening, sql, subquery, subquery_as};
+ghost use Rattle.sql_builder.specs.Layout.{byte_units, fields_or_star, query, query_error, query_values, sql_error, select_opening, sql, subquery, subquery_as};
 ghost use Rattle.sql_builder.specs.Meaning.{HasTruthOfGroups, Nests, ReadsBack};
 ghost use Rattle.sql_builder.specs.Phrases.{comma_list};
 ghost use Rattle.sql_builder.specs.Printed.{delete_bytes, further_bytes, further_condition, group_by_bytes, insert_bytes, inserted_bytes, join_bytes, optional_bytes, order_by_bytes, query_end, query_start, statement_bytes, update_bytes, where_bytes, where_end, where_opening};
@@ -50,8 +50,8 @@ fn push_optional(out: &mut String, words: &str, text: &OptionalText)
 // Words, and a list of texts with commas between them.
 #[inline(always)]
 fn push_list(out: &mut String, words: &str, items: &TextList)
-    requires room { HasRoom out.old (words.now ++ comma_list byte_atoms items.now) }
-    ensures { Writes out.old out.new (words.now ++ comma_list byte_atoms items.now) }
+    requires room { HasRoom out.old (words.now ++ comma_list byte_units items.now) }
+    ensures { Writes out.old out.new (words.now ++ comma_list byte_units items.now) }
 {
     push_clause(out, words, items.as_str());
 }
@@ -70,7 +70,7 @@ pub(crate) fn select_words(distinct: bool) -> &'static str
 /// The fields, or `*` where there are none.
 #[tactic(auto, using(crate::proofs::output::PrintingLemmas::some_fields, crate::proofs::output::PrintingLemmas::no_fields))]
 pub(crate) fn fields_text(fields: &TextList) -> &str
-    ensures { result.now ≡ fields_or_star byte_atoms fields.now }
+    ensures { result.now ≡ fields_or_star byte_units fields.now }
 {
     if fields.is_empty() {
         "*"
@@ -80,8 +80,8 @@ pub(crate) fn fields_text(fields: &TextList) -> &str
 }
 
 fn push_select(out: &mut String, distinct: bool, fields: &TextList)
-    requires room { HasRoom out.old (select_opening distinct ++ fields_or_star byte_atoms fields.now) }
-    ensures { Writes out.old out.new (select_opening distinct ++ fields_or_star byte_atoms fields.now) }
+    requires room { HasRoom out.old (select_opening distinct ++ fields_or_star byte_units fields.now) }
+    ensures { Writes out.old out.new (select_opening distinct ++ fields_or_star byte_units fields.now) }
 {
     push_clause(out, select_words(distinct), fields_text(fields));
 }
@@ -176,8 +176,8 @@ fn push_order_by(out: &mut String, unions: &UnionList, fields: &TextList)
 impl SqlBuilder {
     #[tactic(auto, using(crate::proofs::output::PrintingLemmas::query_is))]
     fn push_query(&self, out: &mut String)
-        requires room { HasRoom out.old (query byte_atoms self.now) }
-        ensures { Writes out.old out.new (query byte_atoms self.now) }
+        requires room { HasRoom out.old (query byte_units self.now) }
+        ensures { Writes out.old out.new (query byte_units self.now) }
     {
         self.push_query_start(out);
         push_where(out, &self.conditions);
@@ -207,8 +207,8 @@ impl SqlBuilder {
     }
 
     fn push_values(&self, out: &mut String)
-        requires room { HasRoom out.old (query_values byte_atoms self.now) }
-        ensures { Writes out.old out.new (query_values byte_atoms self.now) }
+        requires room { HasRoom out.old (query_values byte_units self.now) }
+        ensures { Writes out.old out.new (query_values byte_units self.now) }
     {
         push_list(out, "SELECT ", &self.fields);
     }
@@ -267,16 +267,16 @@ impl SqlBuilder {
     }
 
     fn push_sql(&self, out: &mut String)
-        requires room { HasRoom out.old (sql byte_atoms self.now) }
-        ensures { Writes out.old out.new (sql byte_atoms self.now) }
+        requires room { HasRoom out.old (sql byte_units self.now) }
+        ensures { Writes out.old out.new (sql byte_units self.now) }
     {
         self.push_statement(out);
         push_text(out, ";");
     }
 
     fn push_subquery(&self, out: &mut String)
-        requires room { HasRoom out.old (subquery byte_atoms self.now) }
-        ensures { Writes out.old out.new (subquery byte_atoms self.now) }
+        requires room { HasRoom out.old (subquery byte_units self.now) }
+        ensures { Writes out.old out.new (subquery byte_units self.now) }
     {
         push_text(out, "(");
         self.push_query(out);
@@ -284,8 +284,8 @@ impl SqlBuilder {
     }
 
     fn push_subquery_as(&self, name: &str, out: &mut String)
-        requires room { HasRoom out.old (subquery_as byte_atoms name.now self.now) }
-        ensures { Writes out.old out.new (subquery_as byte_atoms name.now self.now) }
+        requires room { HasRoom out.old (subquery_as byte_units name.now self.now) }
+        ensures { Writes out.old out.new (subquery_as byte_units name.now self.now) }
     {
         push_text(out, "(");
         self.push_query(out);
@@ -400,7 +400,7 @@ impl SqlBuilder {
     /// `SqlBuilder::select_from(alloc, "")?.sql()` fails with `NoTableName`
     #[tactic(auto, using(crate::proofs::pieces::LayoutShapeLemmas::sql_shape, crate::proofs::pieces::LayoutShapeLemmas::sql_closed, crate::proofs::reading::ReadBackLemmas::sql_clauses, crate::proofs::reading::ReadBackLemmas::sql_truth))]
     pub fn sql(&self) -> Result<String, SqlBuilderError>
-        ensures text { IfOk result (λ s. string_bytes s ≡ sql byte_atoms self.now) }
+        ensures text { IfOk result (λ s. string_bytes s ≡ sql byte_units self.now) }
         ensures shape { IfOk result (λ s.
             HasShape (sql fixed_piece (as_fragments self.now)) (string_bytes s)) }
         ensures closed { IfOk result (λ s.
@@ -424,7 +424,7 @@ impl SqlBuilder {
     /// `SqlBuilder::select_from(alloc, "t")?.having("a")?.query()` fails with `NoGroupBy`
     #[tactic(auto, using(crate::proofs::pieces::LayoutShapeLemmas::query_shape, crate::proofs::pieces::LayoutShapeLemmas::query_closed, crate::proofs::reading::ReadBackLemmas::query_clauses, crate::proofs::reading::ReadBackLemmas::query_truth, crate::proofs::reading::ReadBackLemmas::query_nests))]
     pub fn query(&self) -> Result<String, SqlBuilderError>
-        ensures text { IfOk result (λ s. string_bytes s ≡ query byte_atoms self.now) }
+        ensures text { IfOk result (λ s. string_bytes s ≡ query byte_units self.now) }
         ensures shape { IfOk result (λ s.
             HasShape (query fixed_piece (as_fragments self.now)) (string_bytes s)) }
         ensures closed { IfOk result (λ s.
@@ -447,7 +447,7 @@ impl SqlBuilder {
     /// `SqlBuilder::select_values(alloc, &[1, 2])?.query_values()?` → `SELECT 1, 2`
     #[tactic(auto, using(crate::proofs::pieces::LayoutShapeLemmas::query_values_shape, crate::proofs::pieces::LayoutShapeLemmas::query_values_closed, crate::proofs::reading::ReadBackLemmas::query_values_clauses))]
     pub fn query_values(&self) -> Result<String, SqlBuilderError>
-        ensures text { IfOk result (λ s. string_bytes s ≡ query_values byte_atoms self.now) }
+        ensures text { IfOk result (λ s. string_bytes s ≡ query_values byte_units self.now) }
         ensures shape { IfOk result (λ s.
             HasShape (query_values fixed_piece (as_fragments self.now)) (string_bytes s)) }
         ensures closed { IfOk result (λ s.
@@ -465,7 +465,7 @@ impl SqlBuilder {
     /// `SqlBuilder::select_from(alloc, "t")?.subquery()?` → `(SELECT * FROM t)`
     #[tactic(auto, using(crate::proofs::pieces::LayoutShapeLemmas::subquery_shape, crate::proofs::pieces::LayoutShapeLemmas::subquery_closed, crate::proofs::reading::ReadBackLemmas::subquery_nests))]
     pub fn subquery(&self) -> Result<String, SqlBuilderError>
-        ensures text { IfOk result (λ s. string_bytes s ≡ subquery byte_atoms self.now) }
+        ensures text { IfOk result (λ s. string_bytes s ≡ subquery byte_units self.now) }
         ensures shape { IfOk result (λ s.
             HasShape (subquery fixed_piece (as_fragments self.now)) (string_bytes s)) }
         ensures closed { IfOk result (λ s.
@@ -486,7 +486,7 @@ impl SqlBuilder {
     #[tactic(auto, using(crate::proofs::pieces::LayoutShapeLemmas::subquery_as_shape, crate::proofs::pieces::LayoutShapeLemmas::subquery_as_closed, crate::proofs::reading::ReadBackLemmas::subquery_as_nests, crate::proofs::reading::SubqueryLemmas::subquery_as_table))]
     pub fn subquery_as<S: ToText>(&self, name: S) -> Result<String, SqlBuilderError>
         ensures text { IfOk result (λ s. string_bytes s
-            ≡ subquery_as byte_atoms (S.text name) self.now) }
+            ≡ subquery_as byte_units (S.text name) self.now) }
         ensures shape { IfOk result (λ s. HasShape (subquery_as fixed_piece
             (raw_piece (S.text name)) (as_fragments self.now)) (string_bytes s)) }
         ensures closed { IfOk result (λ s. IsClosedAs (subquery_as fixed_piece

@@ -3,7 +3,7 @@ ghost use Rattle.std.specs.Prelude.{◌≡◌, ◌++◌, [], ◌∷◌, ◌==◌
 ghost use Rattle.sql_parts.specs.Error.{FailsOnlyByMemory};
 ghost use Rattle.sql_parts.specs.Text.{join_with};
 ghost use Rattle.sql_builder.specs.Concat.{HasRoom, Writes, concat_bytes};
-ghost use Rattle.sql_builder.specs.Layout.{byte_atoms};
+ghost use Rattle.sql_builder.specs.Layout.{byte_units};
 ghost use Rattle.sql_builder.specs.Phrases.{row};
 
 use crate::concat::{Part, push_all, push_text, total_len};
@@ -165,7 +165,7 @@ impl TextList {
         alloc: Global,
         values: T,
     ) -> Result<(), SqlBuilderError>
-        ensures refilled { OnOk result (self.new ≡ row byte_atoms (T.left values) ∷ []) }
+        ensures refilled { OnOk result (self.new ≡ row byte_units (T.left values) ∷ []) }
         ensures memory { FailsOnlyByMemory result }
     {
         self.clear();

@@ -2,10 +2,9 @@
 use Rattle.std.specs.Prelude.{◌≡◌, ℕ, List, [], ◌∷◌, ◌++◌, Bool, true, false, not, ◌&&◌, ◌||◌, Option, IfSome, IsTrue, flat_map, length, map, option_map}
 use Rattle.std.specs.Prelude.{unwrap_or}
 use Rattle.std.specs.List.{count_by}
-use Rattle.sql_parts.specs.Apart.{apart, literal_tokens}
 use Rattle.sql_parts.specs.TextLaws.{DifferInTexts}
 use Rattle.sql_parts.specs.Literal.{LiteralValue, words}
-use Rattle.sql_parts.specs.Templates.{Marks, Resolved, Value, bound, listed, looked_up, resolve}
+use Rattle.sql_parts.specs.Templates.{Marks, Resolved, Value, bound, listed, looked_up, resolve, apart, literal_tokens}
 use Rattle.sql_parts.specs.Tokens.{Token, Str, is_semicolon, tokens}
 
 -- a string token with no text in it, and any other token as it is
@@ -73,9 +72,9 @@ resolved_places literals resolved =
 abbrev pub bound_places : List ℕ → Marks → (Value → LiteralValue) → List Bool
 bound_places template marks literals = unwrap_or (option_map (resolved_places literals) (resolve template marks)) []
 
--- the tokens of a text, if there is one, blanked at some places
-abbrev pub tokens_but : List Bool → Option (List ℕ) → Option (List Token)
-tokens_but places text = option_map (λ bytes. blank_at places (tokens bytes)) text
+-- the tokens of a text, blanked at some places
+abbrev pub tokens_but : List Bool → List ℕ → List Token
+tokens_but places text = blank_at places (tokens text)
 
 -- texts that are bound in place of other texts are at the same places among the tokens
 abbrev pub BoundTextsKeepTheirPlaces : Type 0
@@ -87,7 +86,7 @@ abbrev pub BoundTextsDoNotInterfere : Type 0
 BoundTextsDoNotInterfere = (template : List ℕ) (marks : Marks) (one other : Value → LiteralValue)
     → IsTrue (apart template marks) → DifferInTexts one other
     → let places = bound_places template marks one in
-    tokens_but places (bound template marks one) ≡ tokens_but places (bound template marks other)
+    option_map (tokens_but places) (bound template marks one) ≡ option_map (tokens_but places) (bound template marks other)
 
 -- at each of the places is a string token
 abbrev pub BoundTextsAreStrings : Type 0

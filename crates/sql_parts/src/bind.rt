@@ -1,9 +1,8 @@
 //! Values in place of the placeholders of a text.
 ghost use Rattle.std.specs.Prelude.{◌≡◌, Err, IfOk, IsSome, List, None, Some, length, map, string_bytes, ℕ};
-ghost use Rattle.sql_parts.specs.Apart.{HasBoundTokens, IsClosedIfApart};
 ghost use Rattle.sql_parts.specs.Error.{FailsOnlyByMemory};
 ghost use Rattle.sql_parts.specs.Templates as templates;
-ghost use Rattle.sql_parts.specs.Templates.{alone, bound, listed, looked_up, resolve};
+ghost use Rattle.sql_parts.specs.Templates.{alone, bound, listed, looked_up, resolve, HasBoundTokens, IsClosedIfApart};
 ghost use Rattle.sql_parts.specs.declared.error.SqlBuilderError.TheVariants.{NoArguments};
 
 use crate::arg::SqlArg;
@@ -46,7 +45,7 @@ pub trait Bind {
             (string_bytes s)) }
         ensures closed { IfOk result (λ s. IsClosedIfApart (template self.now)
             (templates.Cycle (length args.now)) (string_bytes s)) }
-        ensures refused { resolve (template self.now) (templates.Cycle (length args.now)) ≡ None
+        ensures error { resolve (template self.now) (templates.Cycle (length args.now)) ≡ None
             → result ≡ Err NoArguments }
         ensures memory { IsSome (resolve (template self.now) (templates.Cycle (length args.now)))
             → FailsOnlyByMemory result };

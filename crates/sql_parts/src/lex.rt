@@ -1,12 +1,11 @@
 //! Tests of fragments, which read a text as the tokens of SQL.
 ghost use Rattle.std.specs.Prelude.{◌≡◌, ◌&&◌, IfErr, IfOk, codes, not, true};
-ghost use Rattle.sql_parts.specs.Apart.{apart, segment_apart, segments_apart};
 ghost use Rattle.sql_parts.specs.Backslash.{has_backslash};
 ghost use Rattle.sql_parts.specs.Error.{FailsOnlyByMemory};
 ghost use Rattle.sql_parts.specs.Fragments.{IsMemoryForNesting, balanced, dangling, has_clause_word, has_outer, is_balanced, is_joining, is_word, operand};
 ghost use Rattle.sql_parts.specs.Placeholders.{marks_of};
 ghost use Rattle.sql_parts.specs.Roles.{HasRole};
-ghost use Rattle.sql_parts.specs.Templates.{resolved_from};
+ghost use Rattle.sql_parts.specs.Templates.{resolved_from, apart, segment_apart, segments_apart};
 ghost use Rattle.sql_parts.specs.Tokens as tokens;
 ghost use Rattle.sql_parts.specs.Tokens.{begins_with, ends_with, has_semicolon, is_separator};
 

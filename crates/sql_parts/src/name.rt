@@ -129,7 +129,7 @@ impl SqlName {
         change: Change,
         text: S,
     ) -> Result<Held<'_, SqlName>, SqlBuilderError>
-        ensures* refused { sem 𝓛 (IsUnchangedIfHeldErr self.entry result) }
+        ensures* unchanged { sem 𝓛 (IsUnchangedIfHeldErr self.entry result) }
         ensures changed { IsHeldChangedTo self.entry (with_change change (S.text text) self.old) result }
         ensures memory { FailsOnlyByMemory result }
     {
@@ -145,7 +145,7 @@ impl SqlName {
     /// is as it was.
     /// `SqlName::new(alloc, "a")?.add("b")?.safe()?` → `a.b`
     pub fn add<S: ToText>(&mut self, part: S) -> Result<&mut Self, SqlBuilderError>
-        ensures* refused { sem 𝓛 (IsUnchangedIfErr self.entry result) }
+        ensures* unchanged { sem 𝓛 (IsUnchangedIfErr self.entry result) }
         ensures changed { IsChangedTo self.entry (with_part (S.text part) self.old) result }
         ensures memory { FailsOnlyByMemory result }
     {
@@ -156,7 +156,7 @@ impl SqlName {
     /// the name is as it was.
     /// `SqlName::new(alloc, "a")?.alias("b")?.safe()?` → `a AS b`
     pub fn alias<S: ToText>(&mut self, alias: S) -> Result<&mut Self, SqlBuilderError>
-        ensures* refused { sem 𝓛 (IsUnchangedIfErr self.entry result) }
+        ensures* unchanged { sem 𝓛 (IsUnchangedIfErr self.entry result) }
         ensures changed { IsChangedTo self.entry (with_alias (S.text alias) self.old) result }
         ensures memory { FailsOnlyByMemory result }
     {

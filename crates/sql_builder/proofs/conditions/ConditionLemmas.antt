@@ -11,8 +11,8 @@ use Rattle.sql_parts.proofs.fragments.DepthFacts.{has_outer, is_even, is_operand
 use Rattle.sql_parts.proofs.tokens.JoinFacts.{Edged}
 use Rattle.sql_builder.specs.Condition.{ConditionText, Raw, Compare, Like, IsNull, IsNotNull, InList, InQuoted, InQuery, Between, condition_bytes}
 use Rattle.sql_builder.specs.Condition.{condition_raw_texts, condition_pieces, has_operands, mask_text, not_text, relation_text}
-use Rattle.sql_builder.specs.FitFragments.{has_balanced_fragments}
-use Rattle.sql_builder.specs.Layout.{byte_atoms}
+use Rattle.sql_builder.specs.RawFragments.{has_balanced_fragments}
+use Rattle.sql_builder.specs.Layout.{byte_units}
 use Rattle.sql_builder.specs.Meaning.{IsAtomIfOperands}
 use Rattle.sql_builder.specs.Phrases.{comma_list}
 use Rattle.sql_builder.specs.Pieces as text
@@ -36,7 +36,7 @@ use Rattle.sql_builder.proofs.truth.AtomLemmas.{atom_plain, operand_plain}
 
 -- ---- what is printed
 
-map_bytes : (values : List (List ℕ)) → map byte_atoms values ≡ values
+map_bytes : (values : List (List ℕ)) → map byte_units values ≡ values
 map_bytes [] = refl
 map_bytes (value ∷ values) = ap (λ (vs : List (List ℕ)). value ∷ vs) (map_bytes values)
 
@@ -48,23 +48,23 @@ texts_of_quoted (value ∷ values) = simp (append-nil, texts_of_quoted values)
 -- a list of values behind a field and words, printed
 list-printed : (field words : List ℕ) (printed : List Pieces)
     → pieces_text (raw_piece field ++ (fixed_piece words ++ (comma_list fixed_piece printed ++ fixed_piece (codes ")"))))
-    ≡ field ++ (words ++ (comma_list byte_atoms (map pieces_text printed) ++ codes ")"))
+    ≡ field ++ (words ++ (comma_list byte_units (map pieces_text printed) ++ codes ")"))
 list-printed field words printed =
     ap (λ (rest : List ℕ). field ++ (words ++ rest))
     (text-append (comma_list fixed_piece printed) (fixed_piece (codes ")"))
     ∙ ap (λ (list : List ℕ). list ++ codes ")")
-    (joined_in_form fixed_piece byte_atoms pieces_text refl text-append append-nil (codes ", ") printed))
+    (joined_in_form fixed_piece byte_units pieces_text refl text-append append-nil (codes ", ") printed))
 
 pub condition_printed : (c : ConditionText) → pieces_text (condition_pieces c) ≡ condition_bytes c
 condition_printed (Raw condition) = append-nil condition
 condition_printed (InList negated field values) =
     let words = not_text negated ++ codes " IN (" in
     list-printed field words (map raw_piece values)
-    ∙ ap (λ (vs : List (List ℕ)). field ++ (words ++ (comma_list byte_atoms vs ++ codes ")"))) (texts_of_raw values ∙ sym (map_bytes values))
+    ∙ ap (λ (vs : List (List ℕ)). field ++ (words ++ (comma_list byte_units vs ++ codes ")"))) (texts_of_raw values ∙ sym (map_bytes values))
 condition_printed (InQuoted negated field values) =
     let words = not_text negated ++ codes " IN (" in
     list-printed field words (map quoted_piece values)
-    ∙ ap (λ (vs : List (List ℕ)). field ++ (words ++ (comma_list byte_atoms vs ++ codes ")"))) (texts_of_quoted values)
+    ∙ ap (λ (vs : List (List ℕ)). field ++ (words ++ (comma_list byte_units vs ++ codes ")"))) (texts_of_quoted values)
 condition_printed c = simp append-nil
 
 -- ---- tokens

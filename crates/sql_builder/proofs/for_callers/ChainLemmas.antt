@@ -72,9 +72,9 @@ pub chain_next : {start : StartText} {calls : List CallText} {r now : ClauseText
 chain_next {start} {calls} c is chain = record { is = is ∙ ap (with_call c) chain.is ∙ sym (with_calls-push calls c (started start)) }
 
 -- one more call has changed it, as its contract says
-pub chain_call : {start : StartText} {calls : List CallText} {r now : ClauseTexts} (c : CallText) → Changes c r now → Chain start calls r
-    → Chain start (calls ++ c ∷ []) now
-chain_call {start} {calls} {r} {now} c changed chain = chain_next c (changes-call c r now changed) chain
+pub chain_call : {start : StartText} {calls : List CallText} {Same : Type 0} {r now : ClauseTexts} (c : CallText) → Same × Changes c r now
+    → Chain start calls r → Chain start (calls ++ c ∷ []) now
+chain_call {start} {calls} {Same} {r} {now} c changed chain = chain_next c (changes-call c r now changed.1) chain
 
 -- what is printed then: the pieces that the calls make, one after another
 pub chain_text : {Z E : Type 0} {start : StartText} {calls : List CallText} {r : ClauseTexts} {text : List ℕ} (finish : FinishText)

@@ -6,7 +6,7 @@ use Rattle.sql_parts.specs.declared.error.SqlBuilderError.TheVariants.{NoValues,
 use Rattle.sql_builder.specs.Builder.{ClauseTexts, with_call}
 use Rattle.sql_builder.specs.Calls as call
 use Rattle.sql_builder.specs.Calls.{CallText}
-use Rattle.sql_builder.specs.Layout.{byte_atoms, query_error, empty_error, no_group_by_error, no_rows_error, no_table_error, sql_error, error_of}
+use Rattle.sql_builder.specs.Layout.{byte_units, query_error, empty_error, no_group_by_error, no_rows_error, no_table_error, sql_error, error_of}
 use Rattle.sql_builder.specs.Phrases.{further_table}
 use Rattle.sql_builder.specs.declared.clauses.Kind.{Kind}
 use Rattle.sql_builder.specs.declared.clauses.Kind.TheVariants.{SelectFrom, SelectValues, InsertInto, UpdateTable, DeleteFrom}
@@ -69,7 +69,7 @@ abbrev same : {T : Type 0} → T → T
 same h = h
 
 pub call_keeps : (c : CallText) (r : ClauseTexts) → may_cause_error c ≡ false → IsNone (sql_error r) → IsNone (sql_error (with_call c r))
-call_keeps (call.AndTable table) r h = keeps_all r.kind r (with_call (call.AndTable table) r) (longer_table r.table (further_table byte_atoms table)) same
+call_keeps (call.AndTable table) r h = keeps_all r.kind r (with_call (call.AndTable table) r) (longer_table r.table (further_table byte_units table)) same
     same same same
 call_keeps (call.Fields fields) r h = keeps_all r.kind r (with_call (call.Fields fields) r) same (longer NoValues r.fields fields) same same same
 call_keeps (call.SetFields fields) r h = cc

@@ -6,7 +6,7 @@ use Rattle.std.specs.List.{list_all, list_any}
 use Rattle.std.specs.Option.{option_to_list}
 use Rattle.std.proofs.lemmas.Bool.{and_parts, and_from, not-true, or_from}
 use Rattle.std.proofs.lemmas.List.Folds.{list_all-append}
-use Rattle.sql_parts.specs.Apart.{literal_tokens}
+use Rattle.sql_parts.specs.Templates.{literal_tokens}
 use Rattle.sql_parts.specs.Literal.{LiteralValue, literal_text, null, truth, whole, words}
 use Rattle.sql_parts.specs.Tokens.{is_empty, is_semicolon, tokens}
 use Rattle.sql_parts.proofs.fragments.OperandFacts.{literal-serves}
@@ -14,8 +14,8 @@ use Rattle.sql_parts.proofs.tokens.LiteralFacts.{literal-is}
 use Rattle.sql_builder.specs.Builder.{ClauseTexts, started, with_call}
 use Rattle.sql_builder.specs.Calls.{CallText, Cond, SelectFrom, Sql, StartText, call_raw_texts}
 use Rattle.sql_builder.specs.Condition.{Compare}
-use Rattle.sql_builder.specs.FitFragments.{has_fit_texts}
-use Rattle.sql_builder.specs.RawTexts.{Bare, is_fit}
+use Rattle.sql_builder.specs.RawFragments.{has_fit_texts, is_fit}
+use Rattle.sql_builder.specs.RawTexts.{Bare}
 use Rattle.sql_builder.specs.TextTests.{call_passes, is_having, is_plain, texts_pass}
 use Rattle.sql_builder.specs.Layout.{sql_error}
 use Rattle.sql_builder.specs.Meaning.{HasTruthOf, condition_groups}

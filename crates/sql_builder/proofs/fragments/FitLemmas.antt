@@ -1,5 +1,5 @@
 -- Texts that are fit, one by one, make fragments that are fit.
-use Rattle.sql_builder.specs.RawTexts.{RawText, Bare, Enclosed, is_fit}
+use Rattle.sql_builder.specs.RawTexts.{RawText, Bare, Enclosed}
 use Rattle.sql_builder.specs.TextTests.{all_pass, raw_text}
 use Rattle.sql_builder.proofs.conditions.ConditionLemmas.{condition-preserved}
 use Rattle.sql_builder.proofs.fragments.PropertyLemmas.{Each, PreservedByAppend, PreservedByCalls, listed, neutral-append, neutral-brackets, neutral-none}
@@ -18,8 +18,8 @@ use Rattle.sql_builder.specs.Calls.{Subquery, SubqueryAs, Cond, SetFields, claus
 use Rattle.sql_builder.specs.Clauses.{Clauses}
 use Rattle.sql_builder.specs.Condition.{not_text, condition_pieces}
 use Rattle.sql_builder.specs.Filters.{until}
-use Rattle.sql_builder.specs.FitFragments.{are_fit, has_fit_fragments, begins_union, encloses_fields, has_balanced_fragments, has_fit_conditions, has_fit_texts}
-use Rattle.sql_builder.specs.FitFragments.{own, own_tokens}
+use Rattle.sql_builder.specs.RawFragments.{are_fit, has_fit_fragments, begins_union, encloses_fields, has_balanced_fragments, has_fit_conditions, has_fit_texts}
+use Rattle.sql_builder.specs.RawFragments.{own, own_tokens, is_fit}
 use Rattle.sql_builder.specs.BuilderLaws.{FitTextsMakeBalancedFragments, FitTextsMakeFitConditions, FitTextsMakeFitFragments}
 use Rattle.sql_builder.specs.Layout.{Section, concat_sections}
 use Rattle.sql_builder.specs.Meaning.{is_unenclosed}

@@ -6,8 +6,8 @@ use Rattle.std.proofs.lemmas.Bool.{and_from, and_parts}
 use Rattle.sql_builder.specs.Calls as call
 use Rattle.sql_builder.specs.Calls.{CallText, clauses, drops_fields, fields_in, fields_of, is_select, returning_in, table_in, call_raw_texts}
 use Rattle.sql_builder.specs.Filters.{last_given, since}
-use Rattle.sql_builder.specs.FitFragments.{are_fit}
-use Rattle.sql_builder.specs.RawTexts.{Bare, is_fit}
+use Rattle.sql_builder.specs.RawFragments.{are_fit, is_fit}
+use Rattle.sql_builder.specs.RawTexts.{Bare}
 use Rattle.sql_builder.specs.Inserts.{FitTextsMakeFitTargets, is_fit_returning}
 use Rattle.sql_builder.specs.Layout.{insert_target}
 use Rattle.sql_builder.specs.Phrases.{comma_list}

@@ -10,7 +10,7 @@ use Rattle.sql_parts.specs.Tokens.{Token}
 use Rattle.sql_parts.proofs.fragments.DepthFacts.{is_even}
 use Rattle.sql_builder.specs.Calls.{field_text}
 use Rattle.sql_builder.specs.Condition.{not_text}
-use Rattle.sql_builder.specs.FitFragments.{own}
+use Rattle.sql_builder.specs.RawFragments.{own}
 use Rattle.sql_builder.specs.RawTexts.{RawText, Bare, Enclosed}
 use Rattle.sql_builder.specs.Phrases.{comma_list, count, count_as, in_brackets, row}
 use Rattle.sql_builder.specs.Pieces as printed

@@ -11,13 +11,12 @@ use Rattle.sql_parts.specs.declared.error.SqlBuilderError.TheVariants.{NoGroupBy
 use Rattle.sql_builder.specs.Calls.{CallText, FinishText, StartText, Sql, clauses, group_fields_in, having_in, call_raw_texts, finish_raw_texts}
 use Rattle.sql_builder.specs.Calls.{start_raw_texts}
 use Rattle.sql_builder.specs.Filters.{last_given}
-use Rattle.sql_builder.specs.FitFragments.{encloses_fields, has_balanced_fragments}
-use Rattle.sql_builder.specs.RawTexts.{is_fit}
+use Rattle.sql_builder.specs.RawFragments.{encloses_fields, has_balanced_fragments, has_closed_fragments, has_no_semicolons, is_fit}
 use Rattle.sql_builder.specs.TextTests.{ClosedTextsMakeClosedFragments, FitTextsMakeClosedFragments, PlainTextsEndInOneSemicolon, PlainTextsMakePlainFragments}
 use Rattle.sql_builder.specs.TextTests.{SelectsNeedGroupBy, TextsAreFitCallByCall, TextsPassCallByCall, all_pass, call_passes, is_group_by, is_having, is_plain}
 use Rattle.sql_builder.specs.TextTests.{texts_pass}
 use Rattle.sql_builder.specs.Layout.{no_group_by_error}
-use Rattle.sql_builder.specs.Shape.{EndsInOneSemicolon, has_closed_fragments, has_no_semicolons}
+use Rattle.sql_builder.specs.Shape.{EndsInOneSemicolon}
 use Rattle.sql_builder.specs.Statement.{pieces}
 use Rattle.sql_builder.specs.Pieces.{Pieces, pieces_text}
 use Rattle.sql_builder.proofs.fragments.PreservationLemmas.{clauses-parts}

@@ -7,7 +7,7 @@ use Rattle.std.proofs.lemmas.Bool.{and_from, or_parts}
 use Rattle.std.proofs.lemmas.List.Folds.{list_all-map, list_any-append}
 use Rattle.std.proofs.lemmas.List.{map-append}
 use Rattle.std.proofs.lemmas.Simd.{map-map}
-use Rattle.sql_parts.specs.StringTexts.{blank, blank_token, outline}
+use Rattle.sql_parts.specs.StringTexts.{blank, blank_token, outline, tokens_but}
 use Rattle.sql_parts.specs.Tokens.{Token, is_open, tokens}
 use Rattle.sql_parts.specs.declared.error.SqlBuilderError.{SqlBuilderError}
 use Rattle.sql_parts.proofs.fragments.StringTextFacts.{any-blank, somewhere}
@@ -16,9 +16,10 @@ use Rattle.sql_builder.specs.Calls.{FinishText, clauses}
 use Rattle.sql_builder.specs.Clauses.{Clauses, map_clauses}
 use Rattle.sql_builder.specs.Condition.{condition_pieces}
 use Rattle.sql_builder.specs.Interference.{ConditionsKeepTheirOutline, EquationsKeepTheirOutline, FragmentsDoNotInterfere, OutlinesDecideOutlines}
-use Rattle.sql_builder.specs.Interference.{piece_outline, places_in, tokens_but}
+use Rattle.sql_builder.specs.Interference.{piece_outline, places_in}
 use Rattle.sql_builder.specs.Phrases.{equation}
-use Rattle.sql_builder.specs.Shape.{as_fragments, has_closed_fragments, is_closed_piece, piece_tokens, pieces_tokens}
+use Rattle.sql_builder.specs.Shape.{as_fragments, piece_tokens, pieces_tokens}
+use Rattle.sql_builder.specs.RawFragments.{has_closed_fragments, is_closed_piece}
 use Rattle.sql_builder.specs.Statement.{layout_at, error_at, text_at, text_unless_error, unless_error}
 use Rattle.sql_builder.specs.Pieces as text
 use Rattle.sql_builder.specs.Pieces.{Pieces, fixed_piece, pieces_text, quoted_piece, raw_piece}

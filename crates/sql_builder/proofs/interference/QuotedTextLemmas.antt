@@ -4,7 +4,7 @@ use Rattle.std.specs.Option.{option_or}
 use Rattle.std.specs.Prelude.{◌&&◌, IfOk, IsTrue, if◌then◌else◌, option_map}
 use Rattle.std.specs.Result.{result_map_both}
 use Rattle.std.proofs.lemmas.List.{append_assoc, map-append}
-use Rattle.sql_parts.specs.StringTexts.{IgnoresStrings, are_strings, blank_at, nowhere}
+use Rattle.sql_parts.specs.StringTexts.{IgnoresStrings, are_strings, blank_at, nowhere, tokens_but}
 use Rattle.sql_parts.specs.Tokens.{Token, Str, tokens}
 use Rattle.sql_parts.specs.declared.error.SqlBuilderError.{SqlBuilderError}
 use Rattle.sql_parts.proofs.fragments.StringTextFacts.{nowhere-first, somewhere, strings-first}
@@ -14,10 +14,11 @@ use Rattle.sql_builder.specs.Calls.{CallText, FinishText, StartText, clauses}
 use Rattle.sql_builder.specs.Clauses.{Clauses, map_clauses}
 use Rattle.sql_builder.specs.Condition.{ConditionText, Like, InQuoted, condition_pieces, not_text, blank_condition}
 use Rattle.sql_builder.specs.Interference.{DifferInQuotedTexts, IgnoresQuotedTexts, QuotedTextsAreStrings, blank_call, answer_of, places_in}
-use Rattle.sql_builder.specs.Interference.{places_unless_error, quoted_places, tokens_but}
+use Rattle.sql_builder.specs.Interference.{places_unless_error, quoted_places}
 use Rattle.sql_builder.specs.Layout.{error_of, empty_error, no_group_by_error, no_rows_error, no_table_error}
 use Rattle.sql_builder.specs.Phrases.{comma_list, join}
-use Rattle.sql_builder.specs.Shape.{has_closed_fragments, is_closed_piece, pieces_tokens}
+use Rattle.sql_builder.specs.Shape.{pieces_tokens}
+use Rattle.sql_builder.specs.RawFragments.{has_closed_fragments, is_closed_piece}
 use Rattle.sql_builder.specs.Statement.{layout_at, pieces, error_at, statement, text_unless_error, unless_error}
 use Rattle.sql_builder.specs.Pieces as text
 use Rattle.sql_builder.specs.Pieces.{Piece, Pieces, fixed_piece, pieces_text, quoted_piece, raw_piece}

@@ -6,7 +6,7 @@ use Rattle.std.proofs.lemmas.List.{map-append, append-nil, length-map}
 use Rattle.std.proofs.lemmas.Grind.{flat_map-append}
 use Rattle.sql_parts.specs.Text.{join_with}
 use Rattle.sql_builder.specs.Builder.{condition_in_group, extend_last, group_texts, join_last}
-use Rattle.sql_builder.specs.Layout.{byte_atoms, concat_sections, where_sections}
+use Rattle.sql_builder.specs.Layout.{byte_units, concat_sections, where_sections}
 use Rattle.sql_builder.specs.Printed.{further_bytes, further_condition, where_bytes, where_end, where_opening}
 use Rattle.sql_builder.proofs.output.PrintingLemmas.{several}
 use Rattle.sql_builder.specs.declared.clauses.GroupedCondition.{GroupedCondition}
@@ -90,12 +90,12 @@ any-map (x ∷ xs) = ap (λ (b : Bool). x.opens_group || b) (any-map xs)
 
 -- the WHERE of a first condition and others, where no other opens a group
 pub one_group : (first : GroupedCondition) (further : List GroupedCondition) → list_any (λ c. c.opens_group) further ≡ false
-    → concat_sections byte_atoms (where_sections byte_atoms (group_texts (first ∷ further)))
+    → concat_sections byte_units (where_sections byte_units (group_texts (first ∷ further)))
     ≡ codes " WHERE " ++ (string_bytes first.text ++ flat_map further_condition (map condition_in_group further))
 one_group first further none =
     let further_in_group = map condition_in_group further in
     let no_more = no_more_groups further_in_group (sym (any-map further) ∙ none) in
-    ap (λ gs. concat_sections byte_atoms (where_sections byte_atoms
+    ap (λ gs. concat_sections byte_units (where_sections byte_units
     (group_of (λ (c : InGroup). c.0) (λ c. c.1) (codes " OR ") (condition_in_group first, (lead_and_groups (λ (c : InGroup). c.0) further_in_group).0)
     ∷ map (group_of (λ (c : InGroup). c.0) (λ c. c.1) (codes " OR ")) gs))) no_more
     ∙ ap (λ t. codes " WHERE " ++ t) (append-nil _)
@@ -106,7 +106,7 @@ one_group first further none =
 
 -- and where another does
 pub several_groups : (first : GroupedCondition) (further : List GroupedCondition) → list_any (λ c. c.opens_group) further ≡ true
-    → concat_sections byte_atoms (where_sections byte_atoms (group_texts (first ∷ further)))
+    → concat_sections byte_units (where_sections byte_units (group_texts (first ∷ further)))
     ≡ codes " WHERE (" ++ ((string_bytes first.text ++ flat_map further_condition (map condition_in_group further)) ++ codes ")")
 several_groups first further some =
     let further_in_group = map condition_in_group further in

@@ -5,13 +5,14 @@ use Rattle.sql_builder.specs.Builder.{ClauseTexts, with_binary, with_condition, 
 use Rattle.sql_parts.specs.Tokens.{closed, tokens}
 use Rattle.sql_parts.specs.declared.error.SqlBuilderError.{SqlBuilderError}
 use Rattle.sql_parts.specs.Quoting.{quoted}
-use Rattle.sql_builder.specs.Layout.{byte_atoms, sql}
+use Rattle.sql_builder.specs.Layout.{byte_units, sql}
 use Rattle.sql_builder.specs.Calls.{StartText, CallText, FinishText, clauses}
 use Rattle.sql_builder.specs.Calls as call
 use Rattle.sql_builder.specs.Condition.{ConditionText, condition_bytes, condition_pieces}
 use Rattle.sql_builder.specs.Phrases.{count_as, equation}
 use Rattle.sql_builder.specs.Clauses.{Clauses, map_clauses}
-use Rattle.sql_builder.specs.Shape.{EndsInOneSemicolon, has_closed_fragments, has_no_semicolons, AddsText, KeepsTokens, as_fragments}
+use Rattle.sql_builder.specs.Shape.{EndsInOneSemicolon, AddsText, KeepsTokens, as_fragments}
+use Rattle.sql_builder.specs.RawFragments.{has_closed_fragments, has_no_semicolons}
 use Rattle.sql_builder.specs.Statement.{layout_at, pieces, error_at, unless_error}
 use Rattle.sql_builder.specs.Pieces.{Pieces, fixed_piece, pieces_text, quoted_piece, raw_piece}
 use Rattle.sql_builder.specs.Meaning.{AddsCondition, IsAtomIfOperands}
@@ -39,17 +40,17 @@ keeps printed text inside is =
 pub condition_keeps : (condition : ConditionText) → KeepsTokens (condition_pieces condition) (condition_bytes condition)
 condition_keeps condition = keeps (condition_pieces condition) (condition_bytes condition) (condition-inside condition) (condition_printed condition)
 
-pub equation_keeps : (left right : List ℕ) → KeepsTokens (equation fixed_piece (raw_piece left) (raw_piece right)) (equation byte_atoms left right)
-equation_keeps left right = keeps (equation fixed_piece (raw_piece left) (raw_piece right)) (equation byte_atoms left right)
+pub equation_keeps : (left right : List ℕ) → KeepsTokens (equation fixed_piece (raw_piece left) (raw_piece right)) (equation byte_units left right)
+equation_keeps left right = keeps (equation fixed_piece (raw_piece left) (raw_piece right)) (equation byte_units left right)
     (equation-inside (raw_piece left) (raw_piece right) (raw-inside left) (raw-inside right)) (simp append-nil)
 
 pub quoted_equation_keeps : (field value : List ℕ)
-    → KeepsTokens (equation fixed_piece (raw_piece field) (quoted_piece value)) (equation byte_atoms field (quoted value))
-quoted_equation_keeps field value = keeps (equation fixed_piece (raw_piece field) (quoted_piece value)) (equation byte_atoms field (quoted value))
+    → KeepsTokens (equation fixed_piece (raw_piece field) (quoted_piece value)) (equation byte_units field (quoted value))
+quoted_equation_keeps field value = keeps (equation fixed_piece (raw_piece field) (quoted_piece value)) (equation byte_units field (quoted value))
     (equation-inside (raw_piece field) (quoted_piece value) (raw-inside field) (quoted-inside value)) (simp append-nil)
 
-pub count_as_keeps : (field name : List ℕ) → KeepsTokens (count_as fixed_piece (raw_piece field) (raw_piece name)) (count_as byte_atoms field name)
-count_as_keeps field name = keeps (count_as fixed_piece (raw_piece field) (raw_piece name)) (count_as byte_atoms field name) (count_as-inside field name)
+pub count_as_keeps : (field name : List ℕ) → KeepsTokens (count_as fixed_piece (raw_piece field) (raw_piece name)) (count_as byte_units field name)
+count_as_keeps field name = keeps (count_as fixed_piece (raw_piece field) (raw_piece name)) (count_as byte_units field name) (count_as-inside field name)
     (simp append-nil)
 
 -- a record that has a text added has its tokens added
@@ -60,16 +61,16 @@ adds adding text printed new keeps is = (is, keeps.0, keeps.1)
 pub adds_binary : (clause : BinaryClause) (one other : List ℕ) (old new : ClauseTexts) → new ≡ with_binary clause one other old
     → AddsBinary clause one other old new
 adds_binary binary.OnEq left right old new is =
-    adds (λ added. with_on added old) (equation byte_atoms left right) (equation fixed_piece (raw_piece left) (raw_piece right)) new
+    adds (λ added. with_on added old) (equation byte_units left right) (equation fixed_piece (raw_piece left) (raw_piece right)) new
     (equation_keeps left right) is
 adds_binary binary.CountAs field name old new is =
-    adds (λ added. with_fields (added ∷ []) old) (count_as byte_atoms field name) (count_as fixed_piece (raw_piece field) (raw_piece name)) new
+    adds (λ added. with_fields (added ∷ []) old) (count_as byte_units field name) (count_as fixed_piece (raw_piece field) (raw_piece name)) new
     (count_as_keeps field name) is
 adds_binary binary.SetTo field value old new is =
-    adds (λ added. with_set added old) (equation byte_atoms field value) (equation fixed_piece (raw_piece field) (raw_piece value)) new
+    adds (λ added. with_set added old) (equation byte_units field value) (equation fixed_piece (raw_piece field) (raw_piece value)) new
     (equation_keeps field value) is
 adds_binary binary.SetStr field value old new is =
-    adds (λ added. with_set added old) (equation byte_atoms field (quoted value)) (equation fixed_piece (raw_piece field) (quoted_piece value)) new
+    adds (λ added. with_set added old) (equation byte_units field (quoted value)) (equation fixed_piece (raw_piece field) (quoted_piece value)) new
     (quoted_equation_keeps field value) is
 
 -- a condition that is added
@@ -93,7 +94,7 @@ adds_condition_opaque family condition old new is = adds_condition family condit
 
 -- the `;` of what a builder prints
 pub builder_semicolon : (r : Clauses (List ℕ)) → IsTrue (has_closed_fragments (sql fixed_piece (as_fragments r)))
-    → IsTrue (has_no_semicolons (sql fixed_piece (as_fragments r))) → EndsInOneSemicolon (tokens (sql byte_atoms r))
+    → IsTrue (has_no_semicolons (sql fixed_piece (as_fragments r))) → EndsInOneSemicolon (tokens (sql byte_units r))
 builder_semicolon r is plain =
     subst (λ text. EndsInOneSemicolon (tokens text)) (fragments-printed call.Sql r) (sql-semicolon (as_fragments r) (raw-inside-parts r) is plain)
 

@@ -6,12 +6,13 @@ use Rattle.std.proofs.lemmas.List.{append-nil}
 use Rattle.sql_parts.specs.Tokens.{closed, ends_with, is_edge, tokens}
 use Rattle.sql_builder.specs.Calls.{FinishText, Sql, Query, QueryValues, Subquery, SubqueryAs}
 use Rattle.sql_builder.specs.Clauses.{Clauses, map_clauses}
-use Rattle.sql_builder.specs.Layout.{Section, byte_atoms, concat_sections, delete_sections, fields_or_star, group_by_sections, insert_sections, insert_target}
+use Rattle.sql_builder.specs.Layout.{Section, byte_units, concat_sections, delete_sections, fields_or_star, group_by_sections, insert_sections, insert_target}
 use Rattle.sql_builder.specs.Layout.{list_sections, optional_section, order_by_sections, query, query_sections, query_values, range_sections}
 use Rattle.sql_builder.specs.Layout.{returning_sections, section, select_opening, sql, statement_sections, subquery, subquery_as, table_and_joins}
 use Rattle.sql_builder.specs.Layout.{union_opening, union_sections, update_sections, values_sections, where_sections}
 use Rattle.sql_builder.specs.Phrases.{comma_list, in_brackets}
-use Rattle.sql_builder.specs.Shape.{EndsInOneSemicolon, has_closed_fragments, has_no_semicolons, HasShape, IsClosedAs, as_fragments}
+use Rattle.sql_builder.specs.Shape.{EndsInOneSemicolon, HasShape, IsClosedAs, as_fragments}
+use Rattle.sql_builder.specs.RawFragments.{has_closed_fragments, has_no_semicolons}
 use Rattle.sql_builder.specs.Statement.{layout_at, text_at}
 use Rattle.sql_builder.specs.Pieces.{Piece, Pieces, fixed_piece, pieces_text, raw_piece}
 use Rattle.sql_builder.specs.declared.clauses.Kind.{Kind}
@@ -273,32 +274,32 @@ builder-closed finish r text is = λ all.
     ∙ shape_closed (layout_at fixed_piece raw_piece finish (as_fragments r)) (layout-shaped finish (as_fragments r) (raw-inside-parts r)) all
 
 module _ (r : Clauses (List ℕ)) (text : List ℕ) where
-  pub sql_shape : text ≡ sql byte_atoms r → HasShape (sql fixed_piece (as_fragments r)) text
+  pub sql_shape : text ≡ sql byte_units r → HasShape (sql fixed_piece (as_fragments r)) text
   sql_shape is = builder-shape Sql r text is
 
-  pub sql_closed : text ≡ sql byte_atoms r → IsClosedAs (sql fixed_piece (as_fragments r)) text
+  pub sql_closed : text ≡ sql byte_units r → IsClosedAs (sql fixed_piece (as_fragments r)) text
   sql_closed is = builder-closed Sql r text is
 
-  pub query_shape : text ≡ query byte_atoms r → HasShape (query fixed_piece (as_fragments r)) text
+  pub query_shape : text ≡ query byte_units r → HasShape (query fixed_piece (as_fragments r)) text
   query_shape is = builder-shape Query r text is
 
-  pub query_closed : text ≡ query byte_atoms r → IsClosedAs (query fixed_piece (as_fragments r)) text
+  pub query_closed : text ≡ query byte_units r → IsClosedAs (query fixed_piece (as_fragments r)) text
   query_closed is = builder-closed Query r text is
 
-  pub query_values_shape : text ≡ query_values byte_atoms r → HasShape (query_values fixed_piece (as_fragments r)) text
+  pub query_values_shape : text ≡ query_values byte_units r → HasShape (query_values fixed_piece (as_fragments r)) text
   query_values_shape is = builder-shape QueryValues r text is
 
-  pub query_values_closed : text ≡ query_values byte_atoms r → IsClosedAs (query_values fixed_piece (as_fragments r)) text
+  pub query_values_closed : text ≡ query_values byte_units r → IsClosedAs (query_values fixed_piece (as_fragments r)) text
   query_values_closed is = builder-closed QueryValues r text is
 
-  pub subquery_shape : text ≡ subquery byte_atoms r → HasShape (subquery fixed_piece (as_fragments r)) text
+  pub subquery_shape : text ≡ subquery byte_units r → HasShape (subquery fixed_piece (as_fragments r)) text
   subquery_shape is = builder-shape Subquery r text is
 
-  pub subquery_closed : text ≡ subquery byte_atoms r → IsClosedAs (subquery fixed_piece (as_fragments r)) text
+  pub subquery_closed : text ≡ subquery byte_units r → IsClosedAs (subquery fixed_piece (as_fragments r)) text
   subquery_closed is = builder-closed Subquery r text is
 
-  pub subquery_as_shape : (name : List ℕ) → text ≡ subquery_as byte_atoms name r → HasShape (subquery_as fixed_piece (raw_piece name) (as_fragments r)) text
+  pub subquery_as_shape : (name : List ℕ) → text ≡ subquery_as byte_units name r → HasShape (subquery_as fixed_piece (raw_piece name) (as_fragments r)) text
   subquery_as_shape name is = builder-shape (SubqueryAs name) r text is
 
-  pub subquery_as_closed : (name : List ℕ) → text ≡ subquery_as byte_atoms name r → IsClosedAs (subquery_as fixed_piece (raw_piece name) (as_fragments r)) text
+  pub subquery_as_closed : (name : List ℕ) → text ≡ subquery_as byte_units name r → IsClosedAs (subquery_as fixed_piece (raw_piece name) (as_fragments r)) text
   subquery_as_closed name is = builder-closed (SubqueryAs name) r text is

@@ -13,7 +13,8 @@ use Rattle.sql_parts.specs.declared.delimiters.Quotes.TheVariants.{Single}
 use Rattle.sql_parts.proofs.tokens.JoinFacts.{Edged, begins-append, clean-behind}
 use Rattle.sql_parts.proofs.tokens.TokenFacts.{between-tokens, between_closed, closed-shut, seam}
 use Rattle.sql_builder.specs.Phrases.{in_brackets, comma_list}
-use Rattle.sql_builder.specs.Shape.{EndsInOneSemicolon, has_closed_fragments, has_no_semicolons, is_closed_piece, is_without_semicolon, piece_tokens}
+use Rattle.sql_builder.specs.Shape.{EndsInOneSemicolon, piece_tokens}
+use Rattle.sql_builder.specs.RawFragments.{has_closed_fragments, has_no_semicolons, is_closed_piece, is_without_semicolon}
 use Rattle.sql_builder.specs.Shape.{pieces_tokens}
 use Rattle.sql_builder.specs.Pieces.{Piece, Pieces, Fixed, Quoted, Raw, fixed_piece, piece_text, pieces_text, quoted_piece, raw_piece}
 use Rattle.sql_builder.specs.WhereTokens as where_tokens

@@ -8,13 +8,14 @@ use Rattle.std.proofs.lemmas.Grind.{flat_map-append}
 use Rattle.std.proofs.lemmas.List.Folds.{list_all-append}
 use Rattle.std.proofs.Math.IntN.{suc_ℤ}
 use Rattle.sql_parts.specs.Tokens.{Token, Str, tokens}
-use Rattle.sql_builder.specs.Shape.{pieces_tokens, has_closed_fragments}
+use Rattle.sql_builder.specs.Shape.{pieces_tokens}
+use Rattle.sql_builder.specs.RawFragments.{has_closed_fragments}
 use Rattle.sql_builder.specs.Pieces.{Pieces, Fixed, Quoted, Raw, Piece}
 use Rattle.sql_builder.proofs.tokens.DepthFacts.{after-suc, at_end-append, at_end-closes, at_end-suc, placed_from-append}
 use Rattle.sql_builder.proofs.tokens.PartFacts.{tokens-placed_from}
 use Rattle.sql_builder.proofs.tokens.BalancedFacts.{high, balanced_even, even_text, balanced_closed}
 use Rattle.sql_builder.proofs.tokens.WhereWords.{has_clause}
-use Rattle.sql_builder.specs.FitFragments.{is_balanced_piece, own_tokens, are_fit, are_fit_after, is_fit_after, own, has_balanced_fragments}
+use Rattle.sql_builder.specs.RawFragments.{is_balanced_piece, own_tokens, are_fit, are_fit_after, is_fit_after, own, has_balanced_fragments}
 use Rattle.sql_builder.specs.TokenParts.{Parts, parts_at, with_front}
 use Rattle.sql_builder.specs.Reading.{own_placed}
 use Rattle.sql_parts.proofs.fragments.DepthFacts.{after, at_end, closes_from, is_at_least_0, is_balanced, is_even, is_zero, placed, placed_from, end-is}

@@ -12,10 +12,10 @@ use Rattle.sql_parts.specs.declared.error.SqlBuilderError.{SqlBuilderError}
 use Rattle.sql_builder.specs.Calls as call
 use Rattle.sql_builder.specs.Calls.{Sql, clauses, query_of, Query}
 use Rattle.sql_builder.specs.Clauses.{Clauses}
-use Rattle.sql_builder.specs.FitFragments.{are_fit, has_balanced_fragments, own, begins_union, has_fit_fragments}
+use Rattle.sql_builder.specs.RawFragments.{are_fit, has_balanced_fragments, own, begins_union, has_fit_fragments}
 use Rattle.sql_builder.specs.Inserts.{BuildersOfInsertsReadBack, InsertsReadBack, has_fit_target, insert_clauses, is_fit_returning, lead_of, is_one_query}
 use Rattle.sql_builder.specs.Inserts.{returning_clauses, BuildersOfQueriesAreOne, QueriesAreOne, returning_after}
-use Rattle.sql_builder.specs.Layout.{byte_atoms, insert_sections, concat_sections, insert_target, optional_section, returning_sections, section, sql}
+use Rattle.sql_builder.specs.Layout.{byte_units, insert_sections, concat_sections, insert_target, optional_section, returning_sections, section, sql}
 use Rattle.sql_builder.specs.Layout.{statement_sections, query, query_sections}
 use Rattle.sql_builder.specs.TokenParts.{Parts, parts_at, before_outer, with_front}
 use Rattle.sql_builder.specs.Phrases.{comma_list}
@@ -362,7 +362,7 @@ inserts_read_back table calls query given is fit = by (error_at Sql (made_by (ca
 
 pub builders_of_inserts_read_back : BuildersOfInsertsReadBack
 builders_of_inserts_read_back r query kind given is fit =
-    let text = sql byte_atoms r in
+    let text = sql byte_units r in
     let same : sql fixed_piece (as_fragments r) ≡ inserted (Some (raw_piece query)) (as_fragments r) =
     ap (λ k. concat_sections fixed_piece (statement_sections fixed_piece k (as_fragments r)) ++ fixed_piece (codes ";")) kind
     ∙ ap (λ q. inserted (option_map raw_piece q) (as_fragments r)) given in
@@ -379,5 +379,5 @@ queries_are_one start calls none =
 
 pub builders_of_queries_are_one : BuildersOfQueriesAreOne
 builders_of_queries_are_one r none fit =
-    one-query (as_fragments r) (raw-neutral r) (ap (map (λ (union : Bool × List ℕ). (union.0, raw_piece union.1))) none) fit (query byte_atoms r)
-    (query_shape r (query byte_atoms r) refl)
+    one-query (as_fragments r) (raw-neutral r) (ap (map (λ (union : Bool × List ℕ). (union.0, raw_piece union.1))) none) fit (query byte_units r)
+    (query_shape r (query byte_units r) refl)

@@ -22,7 +22,7 @@ use Rattle.sql_builder.proofs.tokens.BalancedFacts.{is_even-append}
 use Rattle.sql_builder.proofs.reading.SectionLemmas.{AllOpen, Neutral, Ending, Front, clauses_in, clauses-sections, ending-none, ending-semicolon, ending-union}
 use Rattle.sql_builder.proofs.reading.SectionLemmas.{list-back, opening_clauses, read-back, section-clauses, section_pieces, sections-front, with_last}
 use Rattle.sql_builder.proofs.reading.ClauseWordLemmas.{own-append, laid_from}
-use Rattle.sql_builder.specs.FitFragments.{own, has_fit_fragments}
+use Rattle.sql_builder.specs.RawFragments.{own, has_fit_fragments}
 use Rattle.sql_builder.specs.Reading.{Clause, piece_clauses, read, clause_bodies, is_union}
 use Rattle.sql_parts.proofs.fragments.DepthFacts.{is_even}
 use Rattle.sql_parts.specs.Fragments.{is_clause_word}

@@ -11,7 +11,7 @@ use Rattle.sql_builder.specs.Statement.{layout_at}
 use Rattle.sql_builder.specs.Pieces.{Pieces, fixed_piece, raw_piece}
 use Rattle.sql_builder.proofs.tokens.BalancedFacts.{is_even-append, is_even-brackets, is_operand-brackets, no_clause-brackets}
 use Rattle.sql_builder.proofs.reading.LayoutLemmas.{query-even}
-use Rattle.sql_builder.specs.FitFragments.{own, has_balanced_fragments, is_balanced_piece}
+use Rattle.sql_builder.specs.RawFragments.{own, has_balanced_fragments, is_balanced_piece}
 use Rattle.sql_builder.proofs.reading.ClauseWordLemmas.{own-append, shape-even, fragments_closed}
 use Rattle.sql_builder.proofs.pieces.ShapeLemmas.{pieces_tokens-brackets}
 use Rattle.sql_builder.specs.WhereTokens as where_tokens

@@ -4,7 +4,7 @@ use Rattle.std.proofs.lemmas.Bool.{false≢true}
 use Rattle.sql_builder.specs.Builder.{ClauseTexts}
 use Rattle.sql_builder.specs.Calls.{FinishText, Sql, Query, QueryValues, Subquery, SubqueryAs}
 use Rattle.sql_builder.specs.Clauses.{Clauses}
-use Rattle.sql_builder.specs.Layout.{byte_atoms, query, query_values, sql, subquery, subquery_as}
+use Rattle.sql_builder.specs.Layout.{byte_units, query, query_values, sql, subquery, subquery_as}
 use Rattle.sql_builder.specs.Shape.{as_fragments}
 use Rattle.sql_builder.specs.Statement.{layout_at, text_at}
 use Rattle.sql_builder.specs.Pieces.{Pieces, fixed_piece, pieces_text, raw_piece}
@@ -15,7 +15,7 @@ use Rattle.sql_builder.proofs.fragments.NeutralLemmas.{raw-neutral, NeutralParts
 use Rattle.sql_builder.proofs.reading.LayoutLemmas.{neutral-layout, bare_query-split, bare_values-split, kind_bodies, split-reads, split-wheres, sql-split}
 use Rattle.sql_builder.proofs.reading.LayoutLemmas.{where_bodies}
 use Rattle.sql_builder.proofs.truth.ConditionGroupLemmas.{texts-true}
-use Rattle.sql_builder.specs.FitFragments.{has_fit_fragments}
+use Rattle.sql_builder.specs.RawFragments.{has_fit_fragments}
 use Rattle.sql_builder.specs.Meaning.{HasTruthOfGroups, is_unenclosed, prints_where, Nests, ReadsBack}
 use Rattle.sql_builder.specs.Reading.{piece_clauses, read, clause_bodies}
 use Rattle.sql_builder.specs.Truths.{truth}
@@ -90,27 +90,27 @@ module _ (r : ClauseTexts) (text : List ℕ) where
       ap (map (truth facts)) (text-wheres finish (as_fragments r) (raw-neutral r) (raw-inside-parts r) text (builder-is finish is) prints fit)
       ∙ texts-true facts r fit_groups
 
-  pub sql_clauses : text ≡ sql byte_atoms r → ReadsBack (sql fixed_piece (as_fragments r)) text
+  pub sql_clauses : text ≡ sql byte_units r → ReadsBack (sql fixed_piece (as_fragments r)) text
   sql_clauses is = builder-reads Sql refl is
 
-  pub sql_truth : text ≡ sql byte_atoms r → HasTruthOfGroups Sql r (sql fixed_piece (as_fragments r)) text
+  pub sql_truth : text ≡ sql byte_units r → HasTruthOfGroups Sql r (sql fixed_piece (as_fragments r)) text
   sql_truth is = builder-true Sql is
 
-  pub query_clauses : text ≡ query byte_atoms r → ReadsBack (query fixed_piece (as_fragments r)) text
+  pub query_clauses : text ≡ query byte_units r → ReadsBack (query fixed_piece (as_fragments r)) text
   query_clauses is = builder-reads Query refl is
 
-  pub query_truth : text ≡ query byte_atoms r → HasTruthOfGroups Query r (query fixed_piece (as_fragments r)) text
+  pub query_truth : text ≡ query byte_units r → HasTruthOfGroups Query r (query fixed_piece (as_fragments r)) text
   query_truth is = builder-true Query is
 
-  pub query_nests : text ≡ query byte_atoms r → Nests Query (query fixed_piece (as_fragments r)) text
+  pub query_nests : text ≡ query byte_units r → Nests Query (query fixed_piece (as_fragments r)) text
   query_nests is = nests (as_fragments r) (raw-neutral r) Query text (query_shape r text is)
 
-  pub query_values_clauses : text ≡ query_values byte_atoms r → ReadsBack (query_values fixed_piece (as_fragments r)) text
+  pub query_values_clauses : text ≡ query_values byte_units r → ReadsBack (query_values fixed_piece (as_fragments r)) text
   query_values_clauses is = builder-reads QueryValues refl is
 
-  pub subquery_nests : text ≡ subquery byte_atoms r → Nests Subquery (subquery fixed_piece (as_fragments r)) text
+  pub subquery_nests : text ≡ subquery byte_units r → Nests Subquery (subquery fixed_piece (as_fragments r)) text
   subquery_nests is = nests (as_fragments r) (raw-neutral r) Subquery text (subquery_shape r text is)
 
-  pub subquery_as_nests : (name : List ℕ) → text ≡ subquery_as byte_atoms name r
+  pub subquery_as_nests : (name : List ℕ) → text ≡ subquery_as byte_units name r
       → Nests (SubqueryAs name) (subquery_as fixed_piece (raw_piece name) (as_fragments r)) text
   subquery_as_nests name is = nests (as_fragments r) (raw-neutral r) (SubqueryAs name) text (subquery_as_shape r text name is)

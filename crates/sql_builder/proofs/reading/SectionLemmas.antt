@@ -13,7 +13,7 @@ use Rattle.sql_builder.specs.Shape.{pieces_tokens}
 use Rattle.sql_builder.specs.Pieces.{Piece, Pieces, Fixed, Quoted, Raw, fixed_piece, pieces_text}
 use Rattle.sql_builder.proofs.tokens.BalancedFacts.{even_closes, is_even-append}
 use Rattle.sql_builder.proofs.truth.ConnectiveLemmas.{placed-then}
-use Rattle.sql_builder.specs.FitFragments.{own, begins_union, has_fit_fragments, own_tokens}
+use Rattle.sql_builder.specs.RawFragments.{own, begins_union, has_fit_fragments, own_tokens}
 use Rattle.sql_builder.proofs.reading.ClauseWordLemmas.{fit-balanced, fit-flags, laid-both, laid-plain, laid_from, Flagged, flags, own-append, same-parts}
 use Rattle.sql_builder.proofs.reading.ClauseWordLemmas.{shape-even, stays-closes, are_fit_from, is_fit, are_fit-is, fragments_closed}
 use Rattle.sql_builder.proofs.tokens.DepthFacts.{at_end-closes}

@@ -9,9 +9,9 @@ use Rattle.sql_parts.proofs.fragments.DepthFacts.{has_outer-is}
 use Rattle.sql_builder.specs.Builder.{ClauseTexts}
 use Rattle.sql_builder.specs.Calls.{FinishText, Sql, Query, QueryValues, Subquery, SubqueryAs, clauses}
 use Rattle.sql_builder.specs.Clauses.{Clauses}
-use Rattle.sql_builder.specs.FitFragments.{has_balanced_fragments}
-use Rattle.sql_builder.specs.RawTexts.{Bare, is_fit}
-use Rattle.sql_builder.specs.Layout.{byte_atoms, query, subquery_as}
+use Rattle.sql_builder.specs.RawFragments.{has_balanced_fragments, is_fit}
+use Rattle.sql_builder.specs.RawTexts.{Bare}
+use Rattle.sql_builder.specs.Layout.{byte_units, query, subquery_as}
 use Rattle.sql_builder.specs.Shape.{HasShape, as_fragments, pieces_tokens}
 use Rattle.sql_builder.specs.Statement.{layout_at}
 use Rattle.sql_builder.specs.Subqueries.{NestsAsTable, SubqueriesNestAsTables}
@@ -74,6 +74,6 @@ subqueries_nest start calls finish makes =
 
 -- ---- a builder
 
-pub subquery_as_table : (r : ClauseTexts) (text name : List ℕ) → text ≡ subquery_as byte_atoms name r
+pub subquery_as_table : (r : ClauseTexts) (text name : List ℕ) → text ≡ subquery_as byte_units name r
     → NestsAsTable (SubqueryAs name) (subquery_as fixed_piece (raw_piece name) (as_fragments r)) text
 subquery_as_table r text name is = table (as_fragments r) (raw-neutral r) (SubqueryAs name) text (subquery_as_shape r text name is)

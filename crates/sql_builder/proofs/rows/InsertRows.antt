@@ -5,7 +5,7 @@ use Rattle.sql_parts.specs.Tokens.{Word, tokens}
 use Rattle.sql_builder.specs.Calls as call
 use Rattle.sql_builder.specs.Calls.{CallText, clauses, query_of}
 use Rattle.sql_builder.specs.Inserts.{has_fit_insert_texts, has_fit_target, insert_clauses, is_one_query, lead_of}
-use Rattle.sql_builder.specs.FitFragments.{has_fit_fragments}
+use Rattle.sql_builder.specs.RawFragments.{has_fit_fragments}
 use Rattle.sql_builder.specs.Layout.{query}
 use Rattle.sql_builder.specs.Reading.{read}
 use Rattle.sql_builder.specs.Statement.{statement}

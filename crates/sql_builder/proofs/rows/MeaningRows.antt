@@ -7,12 +7,12 @@ use Rattle.sql_builder.specs.Layout.{sql}
 use Rattle.sql_builder.specs.Shape.{pieces_tokens}
 use Rattle.sql_builder.specs.Pieces.{Pieces, fixed_piece}
 use Rattle.sql_builder.specs.declared.condition.Family.TheVariants.{And, Or}
-use Rattle.sql_builder.specs.FitFragments.{has_fit_conditions, has_fit_fragments, has_fit_texts}
+use Rattle.sql_builder.specs.RawFragments.{has_fit_conditions, has_fit_fragments, has_fit_texts, is_fit}
 use Rattle.sql_builder.specs.Reading.{piece_clauses, read, clause_bodies}
 use Rattle.sql_builder.specs.Truths.{False, True, Unknown, truth, Truth, Valuation}
 use Rattle.sql_builder.specs.BuilderLaws.{IsValued, brackets_and_not, range_and_case, a_without_c}
 use Rattle.sql_parts.specs.Fragments.{balanced}
-use Rattle.sql_builder.specs.RawTexts.{Bare, is_fit}
+use Rattle.sql_builder.specs.RawTexts.{Bare}
 use Rattle.sql_builder.specs.Statement.{statement}
 use Rattle.sql_builder.specs.Subqueries.{makes_table}
 use Rattle.sql_builder.specs.Calls as call

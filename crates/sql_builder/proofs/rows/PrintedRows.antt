@@ -13,7 +13,8 @@ use Rattle.sql_builder.specs.declared.condition.Relation.TheVariants.{Gt}
 use Prim.Native.Char.{code}
 use Rattle.sql_parts.specs.Tokens.{Word, Str, Symbol}
 use Rattle.sql_builder.specs.Layout.{sql}
-use Rattle.sql_builder.specs.Shape.{cond_tokens, has_closed_fragments, shape}
+use Rattle.sql_builder.specs.Shape.{cond_tokens, shape}
+use Rattle.sql_builder.specs.RawFragments.{has_closed_fragments}
 use Rattle.sql_builder.specs.Pieces.{fixed_piece}
 use Rattle.sql_builder.specs.declared.condition.Percent.TheVariants.{Any}
 use Rattle.sql_builder.specs.Pieces as piece

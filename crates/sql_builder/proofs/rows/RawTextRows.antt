@@ -7,7 +7,7 @@ use Rattle.sql_builder.specs.Calls as call
 use Rattle.sql_builder.specs.Calls.{CallText}
 use Rattle.sql_builder.specs.Condition.{Compare, Like, Raw}
 use Rattle.sql_builder.specs.TextTests.{call_passes, is_plain, texts_pass}
-use Rattle.sql_builder.specs.Shape.{has_closed_fragments, has_no_semicolons}
+use Rattle.sql_builder.specs.RawFragments.{has_closed_fragments, has_no_semicolons}
 use Rattle.sql_builder.specs.Statement.{pieces, error_at}
 use Rattle.sql_builder.specs.StatementLaws.{made_by}
 use Rattle.sql_builder.specs.declared.condition.Family.TheVariants.{And}

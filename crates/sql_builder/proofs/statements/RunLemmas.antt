@@ -8,7 +8,7 @@ use Rattle.sql_builder.specs.Calls as call
 use Rattle.sql_builder.specs.Calls.{StartText, CallText, FinishText, clauses, call_view}
 use Rattle.sql_builder.specs.Clauses.{Clauses, map_clauses}
 use Rattle.sql_builder.specs.Condition.{ConditionText, condition_bytes, condition_pieces}
-use Rattle.sql_builder.specs.Layout.{byte_atoms}
+use Rattle.sql_builder.specs.Layout.{byte_units}
 use Rattle.sql_builder.specs.Phrases.{row}
 use Rattle.sql_builder.specs.Statement.{layout_at, pieces_at, error_at, text_at, text_unless_error, unless_error}
 use Rattle.sql_builder.specs.StatementLaws.{made_by}
@@ -26,10 +26,10 @@ use Rattle.sql_builder.proofs.conditions.ConditionLemmas.{condition_printed}
 -- the texts of pieces
 
 row_printed : (values : List (List ℕ))
-    → pieces_text (row fixed_piece (map raw_piece values)) ≡ row byte_atoms values
+    → pieces_text (row fixed_piece (map raw_piece values)) ≡ row byte_units values
 row_printed values =
-    row_in_form fixed_piece byte_atoms pieces_text refl text-append append-nil (map raw_piece values)
-    ∙ ap (row byte_atoms) (texts_of_raw values)
+    row_in_form fixed_piece byte_units pieces_text refl text-append append-nil (map raw_piece values)
+    ∙ ap (row byte_units) (texts_of_raw values)
 
 added_texts : (ts : List Pieces) (more : List (List ℕ))
     → map pieces_text (add ts (map raw_piece more)) ≡ map pieces_text ts ++ more
@@ -107,8 +107,8 @@ one_more_call start calls i c l e =
 pub text_of_layout : (f : FinishText) (r : Clauses Pieces)
     → pieces_text (layout_at fixed_piece raw_piece f r) ≡ text_at f (map_clauses pieces_text r)
 text_of_layout f r =
-    layout_in_form fixed_piece byte_atoms pieces_text refl text-append append-nil
-    raw_piece byte_atoms append-nil f r
+    layout_in_form fixed_piece byte_units pieces_text refl text-append append-nil
+    raw_piece byte_units append-nil f r
 
 -- what the builder prints is the statement of the pieces
 pub statement_printed : {Z : Type 0} (f : FinishText) (r : Clauses Pieces)

@@ -7,11 +7,11 @@ use Rattle.sql_parts.specs.Tokens.{closed, tokens}
 use Rattle.sql_parts.specs.declared.error.SqlBuilderError.{SqlBuilderError}
 use Rattle.sql_builder.specs.Calls.{CallText, FinishText, StartText, clauses}
 use Rattle.sql_builder.specs.Clauses.{Clauses}
-use Rattle.sql_builder.specs.FitFragments.{has_balanced_fragments, has_fit_fragments}
+use Rattle.sql_builder.specs.RawFragments.{has_balanced_fragments, has_fit_fragments, has_closed_fragments}
 use Rattle.sql_builder.specs.BuilderLaws.{StatementsReadBack}
 use Rattle.sql_builder.specs.Meaning.{HasTruthOf, condition_groups, is_nested}
 use Rattle.sql_builder.specs.Reading.{piece_clauses, read}
-use Rattle.sql_builder.specs.Shape.{has_closed_fragments, pieces_tokens}
+use Rattle.sql_builder.specs.Shape.{pieces_tokens}
 use Rattle.sql_builder.specs.Statement.{pieces, error_at, statement, text_at, text_unless_error, unless_error}
 use Rattle.sql_builder.specs.StatementLaws.{BuildersFollowCalls, BuildersPrintStatements, StatementsAreClosed, StatementsHaveTruth, StatementsKeepTokens}
 use Rattle.sql_builder.specs.StatementLaws.{StatementsNest, made_by}

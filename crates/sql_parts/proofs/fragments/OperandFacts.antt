@@ -10,7 +10,7 @@ use Rattle.std.proofs.Math.IntN.{suc_ℤ, pred_ℤ}
 use Rattle.std.proofs.lemmas.Bool.{and_from, and_parts, cases_Bool, false≢true, leb-true, not-true, not_from_false, or_from, or_parts}
 use Rattle.std.proofs.lemmas.Bool.Decides.{nat_tests}
 use Rattle.std.proofs.lemmas.Int.Digits.{all_below_base_digits_of, digits_of_step}
-use Rattle.sql_parts.specs.Apart.{literal_tokens}
+use Rattle.sql_parts.specs.Templates.{literal_tokens}
 use Rattle.sql_parts.specs.Fragments.{as_placed, is_clause_word, is_joining, is_outer, is_whole, is_word, lowers, operand, raises}
 use Rattle.sql_parts.specs.Literal.{LiteralValue, null, truth, whole, words, literal_text}
 use Rattle.sql_parts.specs.Name.{Name, alias_tokens, fits_form, is_plain, name_parts, name_text, name_tokens, safe_form, safe_text, tokens_in, word_tokens}

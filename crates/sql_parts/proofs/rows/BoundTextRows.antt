@@ -1,10 +1,9 @@
 -- Worked rows of texts that are bound in place of others, and of what has to hold for them not to interfere.
 use Prim.Native.Char.{code}
 use Rattle.std.specs.Prelude.{◌≡◌, ℕ, List, [], ◌∷◌, codes, true, false, Some, option_map, refl, pos, negsuc}
-use Rattle.sql_parts.specs.Apart.{apart}
 use Rattle.sql_parts.specs.StringTexts.{bound_places, length_in_tokens, semicolon_count, tokens_but}
 use Rattle.sql_parts.specs.Literal.{LiteralValue, null, whole, words}
-use Rattle.sql_parts.specs.Templates.{Cycle, First, Value, alone, bound, listed}
+use Rattle.sql_parts.specs.Templates.{Cycle, First, Value, alone, bound, listed, apart}
 use Rattle.sql_parts.specs.Tokens.{Word, Str, Symbol}
 
 -- a text and a number
@@ -14,12 +13,12 @@ with_text text = listed (words text ∷ whole (pos 1) ∷ [])
 places : bound_places (codes "a = ? AND b > ?") (Cycle 2) (with_text (codes "x")) ≡ false ∷ false ∷ true ∷ false ∷ false ∷ false ∷ false ∷ []
 places = refl
 
-hostile_text : tokens_but (false ∷ false ∷ true ∷ []) (bound (codes "a = ? AND b > ?") (Cycle 2) (with_text (codes "x' OR 1=1; --")))
+hostile_text : option_map (tokens_but (false ∷ false ∷ true ∷ [])) (bound (codes "a = ? AND b > ?") (Cycle 2) (with_text (codes "x' OR 1=1; --")))
     ≡ Some (Word (codes "a") ∷ Symbol (code "=") ∷ Str [] ∷ Word (codes "AND") ∷ Word (codes "b") ∷ Symbol (code ">") ∷ Word (codes "1") ∷ [])
 hostile_text = refl
 
 -- a string of the template's own is compared with its text
-own_string : tokens_but (bound_places (codes "'x' = ?") First (alone (words []))) (bound (codes "'x' = ?") First (alone (words (codes "y"))))
+own_string : option_map (tokens_but (bound_places (codes "'x' = ?") First (alone (words [])))) (bound (codes "'x' = ?") First (alone (words (codes "y"))))
     ≡ Some (Str (codes "x") ∷ Symbol (code "=") ∷ Str [] ∷ [])
 own_string = refl
 
@@ -40,6 +39,6 @@ text_for_text = refl
 number_for_text : option_map length_in_tokens (bound (codes "a = ?") First (alone (whole (negsuc 0)))) ≡ Some 4
 number_for_text = refl
 
-null_for_text : tokens_but (false ∷ false ∷ true ∷ []) (bound (codes "a = ?") First (alone null))
+null_for_text : option_map (tokens_but (false ∷ false ∷ true ∷ [])) (bound (codes "a = ?") First (alone null))
     ≡ Some (Word (codes "a") ∷ Symbol (code "=") ∷ Word (codes "NULL") ∷ [])
 null_for_text = refl

@@ -5,10 +5,9 @@ use Rattle.std.specs.Prelude.{◌&&◌, ◌==◌, codes, flat_map}
 use Rattle.std.specs.List.{list_any}
 use Rattle.std.proofs.lemmas.Bool.{and_parts, false≢true, or_cases, or_from, or_left, or_right}
 use Rattle.std.proofs.lemmas.List.Folds.{list_any-append}
-use Rattle.sql_parts.specs.Apart.{HasBoundTokens, IsClosedIfApart, IsSupplied, apart, bound_tokens, literal_tokens, segment_apart, segments_apart}
-use Rattle.sql_parts.specs.Apart.{resolved_apart}
+use Rattle.sql_parts.specs.Templates.{HasBoundTokens, IsClosedIfApart, IsSupplied, apart, bound_tokens, literal_tokens, segment_apart, segments_apart}
 use Rattle.sql_parts.specs.Literal.{LiteralValue, literal_text}
-use Rattle.sql_parts.specs.Templates.{Marks, Resolved, Value, bound, resolve, resolved_from, written}
+use Rattle.sql_parts.specs.Templates.{Marks, Resolved, Value, bound, resolve, resolved_from, written, resolved_apart}
 use Rattle.sql_parts.specs.Tokens.{Token, begins_with, clean, closed, ends_with, is_edge, is_empty, is_open, is_separator, tokens}
 use Rattle.sql_parts.proofs.tokens.TokenFacts.{closed-shut, seam}
 use Rattle.sql_parts.proofs.tokens.LiteralFacts.{literal-closed, literal-is, literal-shut}

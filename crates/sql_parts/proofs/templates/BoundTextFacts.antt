@@ -1,13 +1,12 @@
 -- Texts that are bound in place of other texts leave all other tokens as they are.
 use Rattle.std.proofs.Common.{◌≡◌, refl, sym, ◌∙◌, ap, ℕ, zero, suc, Bool, true, List, [], ◌∷◌, ◌++◌, map, Option, Some, None, option_map, append_assoc}
 use Rattle.std.specs.Prelude.{IfSome, IsTrue, flat_map, slice_get, unwrap_or}
-use Rattle.sql_parts.specs.Apart.{apart, bound_tokens, literal_tokens}
 use Rattle.sql_parts.specs.StringTexts.{ArgumentsDifferInTexts, BoundTextsAreStrings, BoundTextsDoNotInterfere, BoundTextsKeepTheirPlaces, IgnoresBoundTexts}
 use Rattle.sql_parts.specs.StringTexts.{IgnoresStrings, NamesDifferInTexts, are_strings, blank_at, blank_literal, bound_places, literal_places, nowhere}
 use Rattle.sql_parts.specs.StringTexts.{resolved_places, tokens_but}
 use Rattle.sql_parts.specs.TextLaws.{DifferInText, DifferInTexts}
 use Rattle.sql_parts.specs.Literal.{LiteralValue, null, truth, whole, words}
-use Rattle.sql_parts.specs.Templates.{Argument, Marks, Named, Resolved, Value, bound, resolve}
+use Rattle.sql_parts.specs.Templates.{Argument, Marks, Named, Resolved, Value, bound, resolve, apart, bound_tokens, literal_tokens}
 use Rattle.sql_parts.specs.Tokens.{Token, tokens}
 use Rattle.sql_parts.proofs.fragments.StringTextFacts.{nowhere-first, somewhere, strings-first}
 use Rattle.sql_parts.proofs.templates.ApartFacts.{bound-is}
@@ -117,7 +116,8 @@ maps g f None = refl
 maps g f (Some x) = refl
 
 bound-blank : (template : List ℕ) (marks : Marks) (literals : Value → LiteralValue) → apart template marks ≡ true
-    → tokens_but (bound_places template marks literals) (bound template marks literals) ≡ option_map (bound_tokens (blanked literals)) (resolve template marks)
+    → option_map (tokens_but (bound_places template marks literals)) (bound template marks literals)
+    ≡ option_map (bound_tokens (blanked literals)) (resolve template marks)
 bound-blank template marks literals is =
     let places = bound_places template marks literals in
     maps (blank_at places) tokens (bound template marks literals)
@@ -132,7 +132,7 @@ bound_texts-apart template marks one other is differ =
     bound-blank template marks one is
     ∙ ap (λ literals. option_map (bound_tokens literals) (resolve template marks)) (same_blanks one other differ)
     ∙ sym (bound-blank template marks other is)
-    ∙ ap (λ places. tokens_but places (bound template marks other)) (sym (bound_places-kept template marks one other differ))
+    ∙ ap (λ places. option_map (tokens_but places) (bound template marks other)) (sym (bound_places-kept template marks one other differ))
 
 -- ---- at each of the places is a string token
 
@@ -170,7 +170,8 @@ bound_texts-strings template marks literals is =
 
 -- what string tokens don't change, bound texts don't change
 unchanged : {X : Type 0} (answer : List Token → X) → IgnoresStrings answer → (places : List Bool) (one other : Option (List ℕ))
-    → tokens_but places one ≡ tokens_but places other → option_map (λ text. answer (tokens text)) one ≡ option_map (λ text. answer (tokens text)) other
+    → option_map (tokens_but places) one ≡ option_map (tokens_but places) other
+    → option_map (λ text. answer (tokens text)) one ≡ option_map (λ text. answer (tokens text)) other
 unchanged answer kept places None None same = refl
 unchanged answer kept places None (Some other) same = cc same
 unchanged answer kept places (Some one) None same = cc same

@@ -8,7 +8,7 @@ use Rattle.std.proofs.Math.Seq.{drop-length, take-length}
 use Rattle.std.proofs.lemmas.Bool.{and_from, and_parts, false≢true}
 use Rattle.std.proofs.lemmas.Bool.Decides.{nat_tests}
 use Rattle.std.proofs.lemmas.Int.Digits.{all_below_base_digits_of, digits_of_step}
-use Rattle.sql_parts.specs.Apart.{literal_tokens}
+use Rattle.sql_parts.specs.Templates.{literal_tokens}
 use Rattle.sql_parts.specs.Literal.{LiteralValue, null, truth, whole, words, literal_text}
 use Rattle.sql_parts.specs.Text.{decimal_text}
 use Rattle.sql_parts.specs.Tokens.{Token, Word, Symbol, closed, first, is_open, is_word_byte, tokens}

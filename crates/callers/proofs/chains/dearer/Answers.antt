@@ -9,14 +9,14 @@ use Rattle.callers.proofs.chains.dearer.Goals as goal
 
 pub returns-clause-text : goal.returns-clause-text
 returns-clause-text c =
-    let made = chain_call (Cond And (Compare Gt (codes "price") (decimal_text c.args.price))) c.in_ok-and_where_gt.ensures.changed.1
-    (chain_call (Field (codes "title")) c.in_ok-field.ensures.changed.1
+    let made = chain_call (Cond And (Compare Gt (codes "price") (decimal_text c.args.price))) c.in_ok-and_where_gt.ensures.changed
+    (chain_call (Field (codes "title")) c.in_ok-field.ensures.changed
     (chain_start (SelectFrom (codes "books")) c.in_ok-select_from.ensures.made)) in
     chain_text Sql c.sql.result made c.sql.ensures.text refl
 
 pub returns-clause-statement : goal.returns-clause-statement
 returns-clause-statement c =
-    let made = chain_call (Cond And (Compare Gt (codes "price") (decimal_text c.args.price))) c.in_ok-and_where_gt.ensures.changed.1
-    (chain_call (Field (codes "title")) c.in_ok-field.ensures.changed.1
+    let made = chain_call (Cond And (Compare Gt (codes "price") (decimal_text c.args.price))) c.in_ok-and_where_gt.ensures.changed
+    (chain_call (Field (codes "title")) c.in_ok-field.ensures.changed
     (chain_start (SelectFrom (codes "books")) c.in_ok-select_from.ensures.made)) in
     chain_statement Sql c.sql.result made c.sql.ensures.text c.sql.ensures.error

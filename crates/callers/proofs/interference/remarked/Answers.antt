@@ -12,8 +12,8 @@ calls word remark = SetStr (codes "remark") remark ∷ Cond And (Like false Any 
 
 pub returns-clause-statement : goal.returns-clause-statement
 returns-clause-statement c =
-    let made = chain_call (Cond And (Like false Any (codes "title") c.args.word.now)) c.in_ok-and_where_like_any.ensures.changed.1
-    (chain_call (SetStr (codes "remark") c.args.remark.now) c.in_ok-set_str.ensures.changed.1
+    let made = chain_call (Cond And (Like false Any (codes "title") c.args.word.now)) c.in_ok-and_where_like_any.ensures.changed
+    (chain_call (SetStr (codes "remark") c.args.remark.now) c.in_ok-set_str.ensures.changed
     (chain_start (UpdateTable (codes "books")) c.in_ok-update_table.ensures.made)) in
     chain_statement Sql c.sql.result made c.sql.ensures.text c.sql.ensures.error
 
@@ -21,8 +21,8 @@ pub returns-clause-same : goal.returns-clause-same
 returns-clause-same c =
     let word = c.args.word.now in
     let remark = c.args.remark.now in
-    let made = chain_call (Cond And (Like false Any (codes "title") word)) c.in_ok-and_where_like_any.ensures.changed.1
-    (chain_call (SetStr (codes "remark") remark) c.in_ok-set_str.ensures.changed.1
+    let made = chain_call (Cond And (Like false Any (codes "title") word)) c.in_ok-and_where_like_any.ensures.changed
+    (chain_call (SetStr (codes "remark") remark) c.in_ok-set_str.ensures.changed
     (chain_start (UpdateTable (codes "books")) c.in_ok-update_table.ensures.made)) in
     chain_answer Sql c.sql.result made c.sql.ensures.text c.sql.ensures.error outline
     (c.quoted_texts_do_not_interfere.ensures.outline (UpdateTable (codes "books")) (calls word remark) (calls [] []) Sql refl refl ∙ refl)

@@ -1,10 +1,10 @@
-use Rattle.sql_builder.specs.RawTexts.{Bare, is_fit}
+use Rattle.sql_builder.specs.RawTexts.{Bare}
 use Rattle.std.proofs.Common.{◌≡◌, refl, sym, ◌∙◌, ap, subst, List, [], ◌∷◌, ℕ, Bool, true, false, not, codes, map, string_bytes, append-nil}
 use Rattle.std.proofs.lemmas.Bool.{and_from}
 use Rattle.sql_parts.specs.Fragments.{balanced, has_clause_word}
 use Rattle.sql_builder.specs.Calls.{Cond, SelectFrom, Sql, call_view}
 use Rattle.sql_builder.specs.Condition.{Raw}
-use Rattle.sql_builder.specs.FitFragments.{has_fit_texts}
+use Rattle.sql_builder.specs.RawFragments.{has_fit_texts, is_fit}
 use Rattle.sql_builder.specs.Meaning.{HasTruthOf, condition_groups}
 use Rattle.sql_builder.specs.declared.condition.Family.TheVariants.{And}
 use Rattle.sql_parts.specs.Tokens.{tokens}

@@ -5,8 +5,8 @@ use Rattle.sql_parts.specs.Text.{decimal_text}
 use Rattle.sql_parts.specs.Tokens.{Str, tokens}
 use Rattle.sql_builder.specs.Calls.{CallText, Cond, SelectFrom, Sql, call_view}
 use Rattle.sql_builder.specs.Condition.{Compare}
-use Rattle.sql_builder.specs.FitFragments.{has_fit_texts}
-use Rattle.sql_builder.specs.RawTexts.{Bare, is_fit}
+use Rattle.sql_builder.specs.RawFragments.{has_fit_texts, is_fit}
+use Rattle.sql_builder.specs.RawTexts.{Bare}
 use Rattle.sql_builder.specs.Meaning.{HasTruthOf, condition_groups}
 use Rattle.sql_builder.specs.declared.condition.Family.TheVariants.{And}
 use Rattle.sql_builder.specs.declared.condition.Relation.TheVariants.{Eq, Gt}

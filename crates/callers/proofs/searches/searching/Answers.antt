@@ -17,7 +17,7 @@ returns-clause-made c =
     let books = SelectFrom (codes "books") in
     let field = Field (codes "title") in
     let first : Chain books (field ∷ []) c.in_ok-field.field-0.now =
-    chain_call field c.in_ok-field.ensures.changed.1 (chain_start books c.in_ok-builder.ensures.made) in
+    chain_call field c.in_ok-field.ensures.changed (chain_start books c.in_ok-builder.ensures.made) in
     let second : Chain books ((field ∷ []) ++ by_title wanted) c.match-search.builder =
     elim c.match-search.branch [
       | in-Some+in_ok-and_where_like_any w ↦

@@ -13,13 +13,13 @@ use Rattle.callers.proofs.untrusted.titled.Goals as goal
 
 pub returns-clause-tokens : goal.returns-clause-tokens
 returns-clause-tokens c =
-    let made = chain_call (Cond And (Compare Eq (codes "title") (string_bytes c.in_ok-title.title))) c.in_ok-and_where_eq.ensures.changed.1
+    let made = chain_call (Cond And (Compare Eq (codes "title") (string_bytes c.in_ok-title.title))) c.in_ok-and_where_eq.ensures.changed
     (chain_start (SelectFrom (codes "books")) c.in_ok-select_from.ensures.made) in
     chain_tokens Sql c.sql.result made c.sql.ensures.text c.sql.ensures.error (rw c.in_ok-title.ensures.closed refl) (rw c.in_ok-title.ensures.token refl)
 
 pub returns-clause-closed : goal.returns-clause-closed
 returns-clause-closed c =
-    let made = chain_call (Cond And (Compare Eq (codes "title") (string_bytes c.in_ok-title.title))) c.in_ok-and_where_eq.ensures.changed.1
+    let made = chain_call (Cond And (Compare Eq (codes "title") (string_bytes c.in_ok-title.title))) c.in_ok-and_where_eq.ensures.changed
     (chain_start (SelectFrom (codes "books")) c.in_ok-select_from.ensures.made) in
     chain_closed Sql c.sql.result made c.sql.ensures.text c.sql.ensures.error (rw c.in_ok-title.ensures.closed refl)
 
@@ -30,7 +30,7 @@ pub returns-clause-truth : goal.returns-clause-truth
 returns-clause-truth c =
     let start = SelectFrom (codes "books") in
     let calls = Cond And (Compare Eq (codes "title") (string_bytes c.in_ok-title.title)) ∷ [] in
-    let made = chain_call (Cond And (Compare Eq (codes "title") (string_bytes c.in_ok-title.title))) c.in_ok-and_where_eq.ensures.changed.1
+    let made = chain_call (Cond And (Compare Eq (codes "title") (string_bytes c.in_ok-title.title))) c.in_ok-and_where_eq.ensures.changed
     (chain_start start c.in_ok-select_from.ensures.made) in
     let operand = subst ServesAsOperand (sym c.in_ok-title.ensures.text) (c.literals_are_operands.ensures.quote c.args.title.now) in
     let fits = and_from _ _ (and_from _ _ (and_from _ _ (and_from _ _ operand.is_balanced operand.no_clause_word) refl) refl) refl in

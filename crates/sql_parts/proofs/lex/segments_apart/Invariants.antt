@@ -3,9 +3,8 @@ use denote.Text.{Utf8}
 use Rattle.std.proofs.Common.{◌≡◌, ℕ, ◌+◌, ◌≤◌, ◌++◌, Bool, List, [], length}
 use Rattle.std.specs.Prelude.{◌==◌}
 use Rattle.std.specs.String.{string_bytes}
-use Rattle.sql_parts.specs.Apart.{segments_apart}
 use Rattle.sql_parts.specs.Placeholders.{marks_of}
-use Rattle.sql_parts.specs.Templates.{Marks, resolved_from}
+use Rattle.sql_parts.specs.Templates.{Marks, resolved_from, segments_apart}
 use Rattle.sql_parts.proofs.lex.segments_apart.Given as goal
 
 -- whether the segments of what is left of a text are apart, where so many placeholders precede it, and this is before it in its

@@ -1,6 +1,6 @@
 use Rattle.std.proofs.Common.{◌++◌, codes}
 use Rattle.sql_builder.specs.contracts.builder.SqlBuilder.{the_view}
-use Rattle.sql_builder.specs.Layout.{byte_atoms}
+use Rattle.sql_builder.specs.Layout.{byte_units}
 use Rattle.sql_builder.specs.Phrases.{comma_list}
 use Rattle.sql_builder.specs.Printed.{inserted_bytes, optional_bytes}
 use Rattle.sql_builder.proofs.output.PrintingLemmas.{insert_is}
@@ -13,7 +13,7 @@ returns c =
     rw (← c.self.view_is) (rw (insert_is r)
     (writes_both (codes "INSERT INTO " ++ r.table) _ c.args.out.now c.push_clause.new.out c.push_optional.new.out
     (rw (c.as_str.ensures.value) at c.push_clause.ensures)
-    (writes_both (codes " (" ++ comma_list byte_atoms r.fields) _ c.push_clause.new.out c.push_list.new.out c.push_optional.new.out
+    (writes_both (codes " (" ++ comma_list byte_units r.fields) _ c.push_clause.new.out c.push_list.new.out c.push_optional.new.out
     c.push_list.ensures
     (writes_both (inserted_bytes r.query r.rows) (optional_bytes (codes " RETURNING ") r.returning) c.push_list.new.out c.push_clause-2.new.out
     c.push_optional.new.out

@@ -1,13 +1,13 @@
 use Rattle.std.proofs.Common.{◌++◌, String}
 use Rattle.sql_builder.specs.Builder.{ClauseTexts}
 use Rattle.sql_builder.specs.Concat.{HasRoom, Writes}
-use Rattle.sql_builder.specs.Layout.{byte_atoms, query}
+use Rattle.sql_builder.specs.Layout.{byte_units, query}
 use Rattle.sql_builder.specs.Printed.{query_end, query_start, where_bytes}
 use Rattle.sql_builder.proofs.output.PrintingLemmas.{query_is}
 use Rattle.sql_builder.proofs.output.LoopFacts.{room_rest, writes_both}
 use Rattle.sql_builder.proofs.builder.SqlBuilder.push_query.Goals as goal
 
-room : (r : ClauseTexts) {Z : Type 0} (s0 s1 s2 : String Z) → HasRoom s0 (query byte_atoms r) → Writes s0 s1 (query_start r)
+room : (r : ClauseTexts) {Z : Type 0} (s0 s1 s2 : String Z) → HasRoom s0 (query byte_units r) → Writes s0 s1 (query_start r)
     → Writes s1 s2 (where_bytes r.groups) → HasRoom s2 (query_end r)
 room r s0 s1 s2 whole start conditions =
     room_rest (where_bytes r.groups) (query_end r) s1 s2

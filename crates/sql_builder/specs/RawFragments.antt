@@ -1,8 +1,9 @@
--- Fragments that leave the clauses and the conditions of a statement as the builder wrote them.
+-- Tests of the raw fragments among pieces: closed, without `;`, and fit, which leaves the clauses and the conditions of a
+-- statement as the builder wrote them.
 use Rattle.std.specs.Prelude.{Bool, true, false, not, ◌&&◌, ◌||◌, List, [], ◌∷◌, ◌++◌, filter_map, flat_map, length}
 use Rattle.std.specs.List.{list_all, list_any}
 use Rattle.sql_parts.specs.Fragments.{balanced, has_clause_word, is_outer_place}
-use Rattle.sql_parts.specs.Tokens.{Token, tokens}
+use Rattle.sql_parts.specs.Tokens.{Token, closed, has_semicolon, tokens}
 use Rattle.sql_builder.specs.Builder.{ClauseTexts}
 use Rattle.sql_builder.specs.Calls as call
 use Rattle.sql_builder.specs.Calls.{CallText, FinishText, StartText, call_raw_texts, condition_in, finish_raw_texts, start_raw_texts}
@@ -10,8 +11,30 @@ use Rattle.sql_builder.specs.Condition.{condition_pieces}
 use Rattle.sql_builder.specs.Filters.{until}
 use Rattle.sql_builder.specs.Reading.{is_union}
 use Rattle.sql_builder.specs.Pieces as text
-use Rattle.sql_builder.specs.Pieces.{Piece, Pieces, Fixed, raw_piece}
-use Rattle.sql_builder.specs.RawTexts.{is_fit}
+use Rattle.sql_builder.specs.Pieces.{Piece, Pieces, Fixed, Quoted, raw_piece}
+use Rattle.sql_builder.specs.RawTexts.{RawText, Bare, Enclosed}
+
+-- a raw fragment is closed; the other pieces are no fragments
+abbrev pub is_closed_piece : Piece → Bool
+is_closed_piece (Fixed text) = true
+is_closed_piece (Quoted text) = true
+is_closed_piece (text.Raw text) = closed text
+
+-- each fragment among the pieces is closed
+abbrev pub has_closed_fragments : Pieces → Bool
+has_closed_fragments printed = list_all is_closed_piece printed
+
+-- a fragment has no `;` among its tokens
+abbrev pub is_without_semicolon : Piece → Bool
+is_without_semicolon (Fixed text) = true
+is_without_semicolon (Quoted text) = true
+is_without_semicolon (text.Raw text) = not (has_semicolon text)
+
+-- no fragment among the pieces has one
+abbrev pub has_no_semicolons : Pieces → Bool
+has_no_semicolons printed = list_all is_without_semicolon printed
+
+-- ---- fit fragments
 
 -- the tokens of a piece, if it is of the builder's own
 abbrev pub own_tokens : Piece → List Token
@@ -68,6 +91,11 @@ abbrev pub has_balanced_fragments : Pieces → Bool
 has_balanced_fragments printed = list_all is_balanced_piece printed
 
 -- ---- the same, of raw texts
+
+-- a raw text is balanced, and has no top-level clause keyword if it is bare
+abbrev pub is_fit : RawText → Bool
+is_fit (Bare text) = balanced text && not (has_clause_word text)
+is_fit (Enclosed text) = balanced text
 
 -- whether the finish prints fields between brackets
 abbrev pub encloses_fields : StartText → FinishText → Bool
