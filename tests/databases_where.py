@@ -8,7 +8,7 @@ table has every row of small values and NULLs. What is installed is measured, as
 SKIPPED.
 
 sqlb has to be built. The arguments are how many statements are made (5,000 without one) and a seed. The last line counts the
-statements that found other rows, and the status is 0 where there are none."""
+statements that found these rows and those that found others, and the status is 0 where none found others and some were run."""
 
 import itertools
 import os
@@ -20,6 +20,7 @@ from typing import Any, Callable
 
 sys.dont_write_bytecode = True
 from connections import Broken, Refused, Skipped, maria, postgres, sqlite
+from tally import Tally
 
 ROOT = os.path.dirname(os.path.dirname(os.path.realpath(__file__)))
 NUMBERS, TEXTS = (None, 0, 1, 2), (None, "", "a", "ab", "b'a", "a%b")
@@ -229,18 +230,14 @@ def prepare(db):
         db.run(f"INSERT INTO w VALUES ({number}, {shown(row['a'])}, {shown(row['b'])}, {shown(row['c'])}, {text})")
 
 
-def compare(db, statements, wanted):
-    """How many statements found other rows than are wanted, each of which is printed."""
-    failed = 0
+def compare(db, statements, wanted, tally):
+    """Counts the statements that found the rows that are wanted, and prints each other one."""
     for statement, numbers in zip(statements, wanted):
         try:
             found = [int(it[0]) for it in db.run(statement)]
         except Refused as why:
             found = f"refused: {why}"
-        if found != numbers:
-            failed += 1
-            print(f"FAILED: {db.name}: {statement}\n  wanted {numbers}\n  found  {found}", flush=True)
-    return failed
+        tally.count(found == numbers, f"{db.name}: {statement}\n  wanted {numbers}\n  found  {found}")
 
 
 def main():
@@ -257,20 +254,19 @@ def main():
         raise Broken(f"sqlb printed {len(statements)} statements for {count}")
     some = sum(bool(it) and len(it) < len(ROWS) for it in wanted)
     print(f"{count} statements over {len(ROWS)} rows, of which {some} find some of the rows and not all")
-    failed = measured = 0
+    tally = Tally("databases_where")
     for name, opened in (("SQLite", sqlite), ("PostgreSQL", postgres), ("MariaDB", maria)):
         try:
             with opened() as db:
                 # a mask's backslashes are no matter here: there are none
                 db.set(db.settings[0])
                 prepare(db)
-                differ = compare(db, statements, wanted)
-                print(f"{db.name}: {count - differ} of {count} statements found the rows that their groups mean", flush=True)
-                failed, measured = failed + differ, measured + 1
+                before = tally.passed
+                compare(db, statements, wanted, tally)
+                print(f"{db.name}: {tally.passed - before} of {count} statements found the rows that their groups mean", flush=True)
         except Skipped as why:
             print(f"SKIPPED: {name}: {why}", flush=True)
-    print(f"databases_where: {failed} failed")
-    return 1 if failed or not measured else 0
+    return tally.end()
 
 
 if __name__ == "__main__":
