@@ -1,4 +1,4 @@
--- What calls make of the texts that they are given, over any kind of atom A: bytes, or pieces.
+-- What calls make of the texts that they are given, over any kind of unit A: bytes, or pieces.
 use Rattle.std.specs.Prelude.{ℕ, List, ◌++◌, Option, None, Some, Bool, true, false, codes}
 use Rattle.sql_parts.specs.Text.{join_with}
 use Rattle.sql_builder.specs.declared.clauses.JoinOperator.{JoinOperator}
@@ -19,7 +19,7 @@ abbrev pub join_words : Bool → Option JoinOperator → List ℕ
 join_words true operator = codes "NATURAL " ++ operator_text operator
 join_words false operator = operator_text operator
 
--- `word` gives the atoms of a text of the product's own
+-- `word` gives the units of a text of the product's own
 module _ {A : Type 0} (word : List ℕ → List A) where
   -- items with commas between them
   abbrev pub comma_list : List (List A) → List A
