@@ -1,7 +1,7 @@
 -- Laws of lists of calls, of clauses and of truth.
 use Rattle.std.specs.Prelude.{◌≡◌, ◌&&◌, IfOk, Ok, false, ℕ, Bool, List, [], ◌∷◌, ◌++◌, IsTrue, Option, codes, is_some, map, not, true}
 use Rattle.std.specs.List.{list_all}
-use Rattle.sql_parts.specs.Fragments.{has_outer, is_balanced, is_clause_word, is_joining, is_operand, placed}
+use Rattle.sql_parts.specs.Fragments.{has_top_level, is_balanced, is_clause_word, is_joining, is_operand, placed}
 use Rattle.sql_parts.specs.Quoting.{quoted}
 use Rattle.sql_parts.specs.Tokens.{Token, Word, is_empty, tokens}
 use Rattle.sql_builder.specs.Builder.{ClauseTexts}
@@ -66,23 +66,23 @@ TruthOfOr = (facts : Valuation) (one other : List Token) → IsTrue (is_balanced
 
 -- the truth of `one AND other`, where neither has a top-level OR, and no BETWEEN of the one owns the AND
 abbrev pub TruthOfAnd : Type 0
-TruthOfAnd = (facts : Valuation) (one other : List Token) → IsTrue (is_balanced one && not (has_outer is_or one) && not (owns_next false (placed one)))
-    → IsTrue (not (has_outer is_or other))
+TruthOfAnd = (facts : Valuation) (one other : List Token) → IsTrue (is_balanced one && not (has_top_level is_or one) && not (owns_next false (placed one)))
+    → IsTrue (not (has_top_level is_or other))
     → truth facts (one ++ Word (codes "AND") ∷ other) ≡ and3 (truth facts one) (truth facts other)
 
 -- the truth of `NOT negated`, where what is negated has no top-level OR, AND or BETWEEN
 abbrev pub TruthOfNot : Type 0
-TruthOfNot = (facts : Valuation) (negated : List Token) → IsTrue (not (has_outer is_joining negated))
+TruthOfNot = (facts : Valuation) (negated : List Token) → IsTrue (not (has_top_level is_joining negated))
     → truth facts (Word (codes "NOT") ∷ negated) ≡ not3 (truth facts negated)
 
 -- the truth of what is between brackets, where it is balanced and has no top-level clause keyword
 abbrev pub TruthOfBrackets : Type 0
-TruthOfBrackets = (facts : Valuation) (inner : List Token) → IsTrue (is_balanced inner && not (has_outer is_clause_word inner))
+TruthOfBrackets = (facts : Valuation) (inner : List Token) → IsTrue (is_balanced inner && not (has_top_level is_clause_word inner))
     → truth facts (in_brackets inner) ≡ truth facts inner
 
 -- a group of conditions: there is one, and each is balanced and has no top-level clause keyword
 abbrev pub is_fit_group : List (List Token) → Bool
-is_fit_group conditions = not (is_empty conditions) && list_all (λ ts. is_balanced ts && not (has_outer is_clause_word ts)) conditions
+is_fit_group conditions = not (is_empty conditions) && list_all (λ ts. is_balanced ts && not (has_top_level is_clause_word ts)) conditions
 
 -- the truth of a WHERE: the AND of its groups, each the OR of its conditions
 abbrev pub TruthOfWhere : Type 0
@@ -92,7 +92,7 @@ TruthOfWhere = (facts : Valuation) (groups : List (List (List Token))) → IsTru
 -- what is balanced is an operand without a top-level clause keyword between brackets, whatever it holds
 abbrev pub BracketsMakeOperands : Type 0
 BracketsMakeOperands = (inner : List Token) → IsTrue (is_balanced inner)
-    → IsTrue (is_operand (in_brackets inner) && not (has_outer is_clause_word (in_brackets inner)))
+    → IsTrue (is_operand (in_brackets inner) && not (has_top_level is_clause_word (in_brackets inner)))
 
 -- a fact of the atom that this text is
 abbrev pub fact : List ℕ → Truth → Fact

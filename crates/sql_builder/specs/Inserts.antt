@@ -1,7 +1,7 @@
 -- The clauses of an INSERT of a query, as its tokens parse back.
 use Rattle.std.specs.Prelude.{◌≡◌, ℕ, Bool, true, not, ◌&&◌, ◌||◌, IfOk, IsTrue, List, [], ◌∷◌, ◌++◌, Option, None, Some, codes, flat_map, if◌then◌else◌}
 use Rattle.std.specs.List.{list_all}
-use Rattle.sql_parts.specs.Fragments.{balanced, has_outer, is_clause_word, placed}
+use Rattle.sql_parts.specs.Fragments.{balanced, has_top_level, is_clause_word, placed}
 use Rattle.sql_parts.specs.Tokens.{Token, Word, tokens}
 use Rattle.sql_builder.specs.Builder.{ClauseTexts}
 use Rattle.sql_builder.specs.Calls.{CallText, StartText, Query, Sql, clauses, is_select, query_of, unions_in, call_raw_texts}
@@ -29,7 +29,7 @@ returning_clauses (Some returned) = (Word (codes "RETURNING"), pieces_tokens ret
 
 -- those that are read behind a query: none behind a top-level UNION, where a reader ends
 abbrev pub returning_after : List Token → Option Pieces → List Clause
-returning_after query returned = if has_outer is_union query then [] else returning_clauses returned
+returning_after query returned = if has_top_level is_union query then [] else returning_clauses returned
 
 -- the clauses of an INSERT of a query: its own, with the table and the fields, then those of the query, and RETURNING
 abbrev pub insert_clauses : Clauses Pieces → List Token → List Clause
@@ -60,7 +60,7 @@ BuildersOfInsertsReadBack = (r : ClauseTexts) (query : List ℕ)
 
 -- a query that is balanced, and has no top-level UNION: RETURNING is read behind it
 abbrev pub is_one_query : List ℕ → Bool
-is_one_query query = balanced query && not (has_outer is_union (tokens query))
+is_one_query query = balanced query && not (has_top_level is_union (tokens query))
 
 -- what `query` prints without a union is one query, where its fragments are fit
 abbrev pub QueriesAreOne : Type 0

@@ -2,7 +2,7 @@
 -- statement as the builder wrote them.
 use Rattle.std.specs.Prelude.{Bool, true, false, not, ◌&&◌, ◌||◌, List, [], ◌∷◌, ◌++◌, filter_map, flat_map, length}
 use Rattle.std.specs.List.{list_all, list_any}
-use Rattle.sql_parts.specs.Fragments.{balanced, has_clause_word, is_outer_place}
+use Rattle.sql_parts.specs.Fragments.{balanced, has_clause_word, is_top_level}
 use Rattle.sql_parts.specs.Tokens.{Token, closed, has_semicolon, tokens}
 use Rattle.sql_builder.specs.Builder.{ClauseTexts}
 use Rattle.sql_builder.specs.Calls as call
@@ -47,7 +47,7 @@ own printed = flat_map own_tokens printed
 
 -- behind these pieces no bracket of the builder's own is open
 abbrev pub is_bare_after : Pieces → Bool
-is_bare_after before = is_outer_place (own before) (length (own before))
+is_bare_after before = is_top_level (own before) (length (own before))
 
 -- A fragment that follows these pieces is balanced; where no bracket of the builder's own is open there, it has no
 -- top-level clause keyword.

@@ -2,10 +2,10 @@
 use Rattle.std.specs.Prelude.{Bool, Result, ◌||◌, if◌then◌else◌, List, [], ◌∷◌, ℕ, flat_map, map, codes}
 use Rattle.std.specs.Result.{result_map_both}
 use Rattle.sql_parts.specs.declared.error.SqlBuilderError.{SqlBuilderError}
-use Rattle.sql_parts.specs.Fragments.{Placed, Outer, Inner, is_clause_word, is_word, placed}
+use Rattle.sql_parts.specs.Fragments.{Placed, TopLevel, Nested, is_clause_word, is_word, placed}
 use Rattle.sql_parts.specs.Tokens.{Token, Str, ends_with, is_semicolon, tokens}
 use Rattle.sql_builder.specs.Calls.{CallText, FinishText, StartText}
-use Rattle.sql_builder.specs.TokenParts.{before_outer, but_last, parts_at}
+use Rattle.sql_builder.specs.TokenParts.{before_top_level, but_last, parts_at}
 use Rattle.sql_builder.specs.Statement.{pieces}
 use Rattle.sql_builder.specs.Pieces.{Piece, Pieces, Fixed, Quoted, Raw}
 
@@ -23,13 +23,13 @@ is_union token = is_word (codes "UNION") token
 
 -- each top-level clause keyword with the tokens up to the next, before the first top-level UNION and without a last `;`
 unfoldable pub read : List Token → List Clause
-read ts = (parts_at is_clause_word (before_outer is_union (placed (without_semicolon ts)))).rest
+read ts = (parts_at is_clause_word (before_top_level is_union (placed (without_semicolon ts)))).rest
 
 -- the tokens of a piece: those of a text of the builder's own count as top-level, whatever their nesting depth
 abbrev pub own_placed : Piece → List Placed
-own_placed (Fixed text) = map Outer (tokens text)
-own_placed (Quoted text) = Inner (Str text) ∷ []
-own_placed (Raw text) = map Inner (tokens text)
+own_placed (Fixed text) = map TopLevel (tokens text)
+own_placed (Quoted text) = Nested (Str text) ∷ []
+own_placed (Raw text) = map Nested (tokens text)
 
 -- the clauses end before UNION, and before `;`
 abbrev pub ends_clauses : Token → Bool
@@ -37,7 +37,7 @@ ends_clauses token = is_union token || is_semicolon token
 
 -- each clause word of the builder's own with the tokens up to the next, before its first UNION and its `;`
 unfoldable pub piece_clauses : Pieces → List Clause
-piece_clauses printed = (parts_at is_clause_word (before_outer ends_clauses (flat_map own_placed printed))).rest
+piece_clauses printed = (parts_at is_clause_word (before_top_level ends_clauses (flat_map own_placed printed))).rest
 
 -- the clauses of the pieces that are printed, or the error
 abbrev pub clause_list : StartText → List CallText → FinishText → Result (List Clause) SqlBuilderError

@@ -1,6 +1,6 @@
 -- A list of tokens, cut at the top-level tokens that pass a test.
 use Rattle.std.specs.Prelude.{Bool, true, false, List, [], ◌∷◌, if◌then◌else◌, map}
-use Rattle.sql_parts.specs.Fragments.{Placed, is_outer, token_of}
+use Rattle.sql_parts.specs.Fragments.{Placed, at_top_level, token_of}
 use Rattle.sql_parts.specs.Tokens.{Token}
 
 -- The tokens before the first divider, and each divider with the tokens up to the next.
@@ -16,7 +16,7 @@ with_front false token parts = record { lead = token ∷ parts.lead; rest = part
 -- the dividers are the top-level tokens that pass the test
 abbrev pub parts_at : (Token → Bool) → List Placed → Parts
 parts_at test [] = record { lead = []; rest = [] }
-parts_at test (found ∷ more) = with_front (is_outer test found) (token_of found) (parts_at test more)
+parts_at test (found ∷ more) = with_front (at_top_level test found) (token_of found) (parts_at test more)
 
 -- the tokens before the first divider, between each and the next, and after the last
 abbrev pub pieces_of : Parts → List (List Token)
@@ -27,9 +27,9 @@ abbrev pub pieces_at : (Token → Bool) → List Placed → List (List Token)
 pieces_at test ms = pieces_of (parts_at test ms)
 
 -- the tokens before the first divider, with their places
-abbrev pub before_outer : (Token → Bool) → List Placed → List Placed
-before_outer test [] = []
-before_outer test (found ∷ more) = if is_outer test found then [] else found ∷ before_outer test more
+abbrev pub before_top_level : (Token → Bool) → List Placed → List Placed
+before_top_level test [] = []
+before_top_level test (found ∷ more) = if at_top_level test found then [] else found ∷ before_top_level test more
 
 -- all but the last element
 abbrev pub but_last : {X : Type 0} → List X → List X

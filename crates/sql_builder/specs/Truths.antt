@@ -3,7 +3,8 @@ use Prim.Native.Char.{code}
 use Rattle.std.specs.Prelude.{◌≡◌, ℕ, zero, suc, Bool, true, false, not, ◌&&◌, ◌||◌, ◌==◌, if◌then◌else◌, List, [], ◌∷◌, map, length, drop, pos, int_le, codes}
 use Rattle.std.specs.List.{list_all, list_any}
 use Rattle.std.specs.Str.{bytes_eq}
-use Rattle.sql_parts.specs.Fragments.{Placed, Outer, Inner, any_token, has_outer, is_clause_word, is_outer, is_symbol, is_word, level, placed, places}
+use Rattle.sql_parts.specs.Fragments.{Placed, TopLevel, Nested, any_token, has_top_level, is_clause_word, at_top_level, is_symbol, is_word, depth_at}
+use Rattle.sql_parts.specs.Fragments.{placed, places}
 use Rattle.sql_parts.specs.Tokens.{Token, Word, Str, Name, Symbol, Open, begins_with, ends_with}
 use Rattle.sql_builder.specs.TokenParts.{but_last, pieces_at}
 
@@ -96,19 +97,19 @@ is_between_last owned token = if is_between token then true else (if is_and toke
 -- BETWEEN. `owned` says whether it is, so far.
 abbrev pub without_owned : Bool → List Placed → List Placed
 without_owned owned [] = []
-without_owned owned (Inner token ∷ more) = Inner token ∷ without_owned owned more
-without_owned owned (Outer token ∷ more) =
-    (if owned && is_and token then Inner token else Outer token) ∷ without_owned (is_between_last owned token) more
+without_owned owned (Nested token ∷ more) = Nested token ∷ without_owned owned more
+without_owned owned (TopLevel token ∷ more) =
+    (if owned && is_and token then Nested token else TopLevel token) ∷ without_owned (is_between_last owned token) more
 
 -- whether a BETWEEN would own a top-level AND behind these tokens
 abbrev pub owns_next : Bool → List Placed → Bool
 owns_next owned [] = owned
-owns_next owned (Inner token ∷ more) = owns_next owned more
-owns_next owned (Outer token ∷ more) = owns_next (is_between_last owned token) more
+owns_next owned (Nested token ∷ more) = owns_next owned more
+owns_next owned (TopLevel token ∷ more) = owns_next (is_between_last owned token) more
 
 -- the nesting depth is at least 1 after each token
 abbrev pub is_inside : List Token → Bool
-is_inside ts = list_all (λ place. int_le (pos 1) (level ts (suc place))) (places any_token ts)
+is_inside ts = list_all (λ place. int_le (pos 1) (depth_at ts (suc place))) (places any_token ts)
 
 -- what is between the first token and the last
 abbrev pub inside : List Token → List Token
@@ -119,7 +120,7 @@ inside ts = but_last (drop 1 ts)
 abbrev pub is_bracketed : List Token → Bool
 is_bracketed ts =
     begins_with (is_symbol (code "(")) ts && ends_with (is_symbol (code ")")) ts && is_inside (but_last ts)
-    && not (has_outer is_clause_word (inside ts))
+    && not (has_top_level is_clause_word (inside ts))
 
 -- How a condition is made: of pieces joined by OR, of pieces joined by AND, of NOT and what it negates, of brackets and what
 -- they hold, or of nothing else.
@@ -133,8 +134,8 @@ pub data Form : Type 0 where
 -- the first of the five that fits, from the tokens with their places and from whether they are bracketed
 abbrev pub form_of : List Placed → Bool → List Token → Form
 form_of ms bracketed ts =
-    if list_any (is_outer is_or) ms then AnyOf (pieces_at is_or ms)
-    else (if list_any (is_outer is_and) (without_owned false ms) then AllOf (pieces_at is_and (without_owned false ms))
+    if list_any (at_top_level is_or) ms then AnyOf (pieces_at is_or ms)
+    else (if list_any (at_top_level is_and) (without_owned false ms) then AllOf (pieces_at is_and (without_owned false ms))
     else (if begins_with is_not ts then Negated (drop 1 ts)
     else (if bracketed then Bracketed (inside ts)
     else Atom)))

@@ -37,8 +37,8 @@ weight test token = if test token then 1 else 0
 
 -- The nesting depth at a place, which is just before the token there: how many of the tokens before it raise it, less how
 -- many of them lower it.
-abbrev pub level : List Token → ℕ → ℤ
-level ts place = pos (count_by raises (take place ts)) -ℤ pos (count_by lowers (take place ts))
+abbrev pub depth_at : List Token → ℕ → ℤ
+depth_at ts place = pos (count_by raises (take place ts)) -ℤ pos (count_by lowers (take place ts))
 
 -- the places of the tokens that pass a test
 abbrev pub places : (Token → Bool) → List Token → List ℕ
@@ -60,37 +60,37 @@ abbrev pub is_before : (Token → Bool) → List Token → ℕ → Bool
 is_before test ts zero = false
 is_before test ts (suc place) = is_at test ts place
 
--- the place is at the top level: its depth is 0
-abbrev pub is_outer_place : List Token → ℕ → Bool
-is_outer_place ts place = int_eq (level ts place) (pos 0)
+-- the place is at the top depth_at: its depth is 0
+abbrev pub is_top_level : List Token → ℕ → Bool
+is_top_level ts place = int_eq (depth_at ts place) (pos 0)
 
 -- a token at depth 0 passes a test
-abbrev pub has_outer : (Token → Bool) → List Token → Bool
-has_outer test ts = list_any (is_outer_place ts) (places test ts)
+abbrev pub has_top_level : (Token → Bool) → List Token → Bool
+has_top_level test ts = list_any (is_top_level ts) (places test ts)
 
 -- A token at depth 0, or at another.
 pub data Placed : Type 0 where
-  Outer : Token → Placed
-  Inner : Token → Placed
+  TopLevel : Token → Placed
+  Nested : Token → Placed
 
--- a token, from whether its place is at the top level
+-- a token, from whether its place is at the top depth_at
 abbrev pub as_placed : Bool → Token → Placed
-as_placed true token = Outer token
-as_placed false token = Inner token
+as_placed true token = TopLevel token
+as_placed false token = Nested token
 
 -- each token with its place
 abbrev pub placed : List Token → List Placed
-placed ts = map (λ found. as_placed found.0 found.1) (zip (map (is_outer_place ts) (places any_token ts)) ts)
+placed ts = map (λ found. as_placed found.0 found.1) (zip (map (is_top_level ts) (places any_token ts)) ts)
 
 -- the token without its place
 abbrev pub token_of : Placed → Token
-token_of (Outer token) = token
-token_of (Inner token) = token
+token_of (TopLevel token) = token
+token_of (Nested token) = token
 
 -- a token at depth 0 passes a test
-abbrev pub is_outer : (Token → Bool) → Placed → Bool
-is_outer test (Outer token) = test token
-is_outer test (Inner token) = false
+abbrev pub at_top_level : (Token → Bool) → Placed → Bool
+at_top_level test (TopLevel token) = test token
+at_top_level test (Nested token) = false
 
 -- the words that begin a clause of a statement
 abbrev pub clause_words : List (List ℕ)
@@ -104,20 +104,20 @@ is_clause_word token = is_word_of clause_words token
 
 -- a text has a top-level clause keyword
 abbrev pub has_clause_word : List ℕ → Bool
-has_clause_word text = has_outer is_clause_word (tokens text)
+has_clause_word text = has_top_level is_clause_word (tokens text)
 
 -- neither a quote or a comment without an end, nor a `;`
 abbrev pub is_whole : Token → Bool
 is_whole token = not (is_open token) && not (is_semicolon token)
 
 -- the depth is at least 0 after each token, and 0 after the last
-abbrev pub is_level : List Token → Bool
-is_level ts =
-    list_all (λ place. int_le (pos 0) (level ts (suc place))) (places any_token ts) && int_eq (level ts (length ts)) (pos 0)
+abbrev pub brackets_match : List Token → Bool
+brackets_match ts =
+    list_all (λ place. int_le (pos 0) (depth_at ts (suc place))) (places any_token ts) && int_eq (depth_at ts (length ts)) (pos 0)
 
 -- there is a token, none is open or a `;`, and the brackets match
 abbrev pub is_balanced : List Token → Bool
-is_balanced ts = not (is_empty ts) && list_all is_whole ts && is_level ts
+is_balanced ts = not (is_empty ts) && list_all is_whole ts && brackets_match ts
 
 -- a text whose tokens are balanced
 abbrev pub balanced : List ℕ → Bool
@@ -133,7 +133,7 @@ is_joining token = is_word_of joining_words token
 
 -- balanced, without a top-level OR, AND or BETWEEN, and not beginning with NOT
 abbrev pub is_operand : List Token → Bool
-is_operand ts = is_balanced ts && not (has_outer is_joining ts) && not (begins_with (is_word (codes "NOT")) ts)
+is_operand ts = is_balanced ts && not (has_top_level is_joining ts) && not (begins_with (is_word (codes "NOT")) ts)
 
 -- a text whose tokens are an operand
 abbrev pub operand : List ℕ → Bool
@@ -176,9 +176,9 @@ is_between start end place = nat_lt start place && nat_lt place end
 abbrev pub is_and_of : List Token → ℕ → ℕ → Bool
 is_and_of ts between and =
     nat_lt between and
-    && int_eq (level ts and) (level ts between)
-    && list_all (λ place. not (is_between between and place) || int_le (level ts between) (level ts place)) (places any_token ts)
-    && not (list_any (λ place. is_between between and place && int_eq (level ts place) (level ts between)) (places is_joining ts))
+    && int_eq (depth_at ts and) (depth_at ts between)
+    && list_all (λ place. not (is_between between and place) || int_le (depth_at ts between) (depth_at ts place)) (places any_token ts)
+    && not (list_any (λ place. is_between between and place && int_eq (depth_at ts place) (depth_at ts between)) (places is_joining ts))
 
 -- each BETWEEN has its AND
 abbrev pub has_ands : List Token → Bool

@@ -24,7 +24,7 @@ impl Depth {
         }
     }
 
-    pub(crate) fn is_outer(self) -> bool
+    pub(crate) fn is_top_level(self) -> bool
         ensures { result ≡ (self.raised == self.lowered) }
     {
         self.raised == self.lowered

@@ -2,7 +2,7 @@
 ghost use Rattle.std.specs.Prelude.{◌≡◌, ◌++◌, Bool, IsTrue, List, codes, length, nat_eq, not, ℕ, ℤ};
 ghost use Rattle.std.specs.List.{count_by, ends_with, list_any, starts_with};
 ghost use Rattle.std.specs.Str.Iter.{HasSubslice};
-ghost use Rattle.sql_parts.specs.Fragments.{balanced, dangling, has_clause_word, has_outer, is_balanced, is_clause_word, is_dangling, is_operand, operand};
+ghost use Rattle.sql_parts.specs.Fragments.{balanced, dangling, has_clause_word, has_top_level, is_balanced, is_clause_word, is_dangling, is_operand, operand};
 ghost use Rattle.sql_parts.specs.StringTexts.{ArgumentsDifferInTexts, BlankSomewhere, BoundTextsAreStrings, BoundTextsDoNotInterfere};
 ghost use Rattle.sql_parts.specs.StringTexts.{BoundTextsKeepTheirPlaces, IgnoresBoundTexts, IgnoresStrings, NamesDifferInTexts, outline, semicolon_count};
 ghost use Rattle.sql_parts.specs.TextLaws.{DifferInTexts, EndsAsWritten, HasOneReading, LeavesTextWithout, MasksMatch, UndoesDoubling, IsInjective, colon};
@@ -64,7 +64,7 @@ pub fn string_texts_decide_nothing()
     ensures closed { IgnoresStrings (λ ts. not (list_any is_open ts)) }
     ensures balanced { IgnoresStrings is_balanced }
     ensures operand { IgnoresStrings is_operand }
-    ensures clause_word { IgnoresStrings (has_outer is_clause_word) }
+    ensures clause_word { IgnoresStrings (has_top_level is_clause_word) }
     ensures dangling { IgnoresStrings is_dangling }
 {}
 

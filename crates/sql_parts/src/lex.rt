@@ -2,7 +2,7 @@
 ghost use Rattle.std.specs.Prelude.{◌≡◌, ◌&&◌, IfErr, IfOk, codes, not, true};
 ghost use Rattle.sql_parts.specs.Backslash.{has_backslash};
 ghost use Rattle.sql_parts.specs.Error.{FailsOnlyByMemory};
-ghost use Rattle.sql_parts.specs.Fragments.{IsMemoryForNesting, balanced, dangling, has_clause_word, has_outer, is_balanced, is_joining, is_word, operand};
+ghost use Rattle.sql_parts.specs.Fragments.{IsMemoryForNesting, balanced, dangling, has_clause_word, has_top_level, is_balanced, is_joining, is_word, operand};
 ghost use Rattle.sql_parts.specs.Placeholders.{marks_of};
 ghost use Rattle.sql_parts.specs.Roles.{HasRole};
 ghost use Rattle.sql_parts.specs.Templates.{resolved_from, apart, segment_apart, segments_apart};
@@ -43,7 +43,7 @@ fn bars_first(operand: bool, role: Role) -> bool
 }
 
 // Whether the token may not be at depth 0, where the text is to be an operand.
-fn bars_outer(operand: bool, role: Role) -> bool
+fn bars_top_level(operand: bool, role: Role) -> bool
     ensures { (defined : tokens.Token) → HasRole role defined → result ≡ (operand && is_joining defined) }
 {
     operand && role.joins()
@@ -54,14 +54,16 @@ fn bars_outer(operand: bool, role: Role) -> bool
 #[inline(always)]
 fn is_balanced_as(text: &str, operand: bool) -> bool
     ensures { result ≡ (is_balanced (tokens.tokens text.now)
-        && not (has_outer (λ token. operand && is_joining token) (tokens.tokens text.now))
+        && not (has_top_level (λ token. operand && is_joining token) (tokens.tokens text.now))
         && not (begins_with (λ token. operand && is_word (codes "NOT") token) (tokens.tokens text.now))) }
 {
     let mut depth = Depth::start();
     let mut is_empty = true;
     let mut rest = text;
     while let Some((role, behind)) = first_role(rest) {
-        if is_empty && bars_first(operand, role) || depth.is_outer() && bars_outer(operand, role) {
+        if is_empty && bars_first(operand, role)
+            || depth.is_top_level() && bars_top_level(operand, role)
+        {
             return false;
         }
         depth = depth.behind(role);
@@ -71,7 +73,7 @@ fn is_balanced_as(text: &str, operand: bool) -> bool
         is_empty = false;
         rest = behind;
     }
-    !is_empty && depth.is_outer()
+    !is_empty && depth.is_top_level()
 }
 
 /// Whether the text has a token, no quote or comment without an end and no `;`, and its brackets
@@ -102,7 +104,7 @@ pub fn has_clause_word(text: &str) -> bool
     let mut depth = Depth::start();
     let mut rest = text;
     while let Some((role, behind)) = first_role(rest) {
-        if depth.is_outer() && role.is_clause() {
+        if depth.is_top_level() && role.is_clause() {
             return true;
         }
         depth = depth.behind(role);

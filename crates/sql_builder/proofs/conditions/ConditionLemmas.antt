@@ -7,7 +7,7 @@ use Rattle.std.proofs.lemmas.List.{append-nil}
 use Rattle.sql_parts.specs.Fragments.{balanced, is_joining, operand}
 use Rattle.sql_parts.specs.Quoting.{quoted}
 use Rattle.sql_parts.specs.Tokens.{Symbol, tokens}
-use Rattle.sql_parts.proofs.fragments.DepthFacts.{has_outer, is_even, is_operand, is_operand-is}
+use Rattle.sql_parts.proofs.fragments.DepthFacts.{has_top_level, is_even, is_operand, is_operand-is}
 use Rattle.sql_parts.proofs.tokens.JoinFacts.{Edged}
 use Rattle.sql_builder.specs.Condition.{ConditionText, Raw, Compare, Like, IsNull, IsNotNull, InList, InQuoted, InQuery, Between, condition_bytes}
 use Rattle.sql_builder.specs.Condition.{condition_raw_texts, condition_pieces, has_operands, mask_text, not_text, relation_text}
@@ -183,8 +183,8 @@ begins_raw (Between negated field least greatest) = (field, _, refl)
 operand_tokens : (f : List ℕ) → operand f ≡ true → is_operand (tokens f) ≡ true
 operand_tokens f h = sym (is_operand-is (tokens f)) ∙ h
 
-no_joining : (v : List ℕ) → operand v ≡ true → has_outer is_joining (tokens v ++ []) ≡ false
-no_joining v h = ap (has_outer is_joining) (append-nil (tokens v)) ∙ operand_plain (tokens v) (operand_tokens v h)
+no_joining : (v : List ℕ) → operand v ≡ true → has_top_level is_joining (tokens v ++ []) ≡ false
+no_joining v h = ap (has_top_level is_joining) (append-nil (tokens v)) ∙ operand_plain (tokens v) (operand_tokens v h)
 
 compare-atom : (relation : Relation) (f v : List ℕ) → operand f ≡ true → operand v ≡ true → IsAtom (cond_tokens (Compare relation f v))
 compare-atom Eq f v h k = atom_plain (tokens f) (Symbol 61) (tokens v ++ []) (operand_tokens f h) (no_joining v k)

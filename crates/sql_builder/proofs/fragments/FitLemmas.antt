@@ -12,7 +12,7 @@ use Rattle.std.proofs.lemmas.Bool.{and_parts, and_from, false≢true}
 use Rattle.sql_parts.specs.Fragments.{balanced, has_clause_word, is_clause_word}
 use Rattle.sql_parts.specs.Tokens.{Token, tokens}
 use Rattle.sql_parts.specs.declared.error.SqlBuilderError.{SqlBuilderError}
-use Rattle.sql_parts.proofs.fragments.DepthFacts.{at_end, has_outer-is, is_balanced, is_balanced-is, is_zero}
+use Rattle.sql_parts.proofs.fragments.DepthFacts.{at_end, has_top_level-is, is_balanced, is_balanced-is, is_zero}
 use Rattle.sql_builder.specs.Calls.{CallText, FinishText, StartText, SelectFrom, SelectValues, InsertInto, UpdateTable, DeleteFrom, Sql, Query, QueryValues}
 use Rattle.sql_builder.specs.Calls.{Subquery, SubqueryAs, Cond, SetFields, clauses, start_fields, call_raw_texts, finish_raw_texts, start_raw_texts}
 use Rattle.sql_builder.specs.Clauses.{Clauses}
@@ -74,7 +74,7 @@ balanced_tokens : (text : List ℕ) → balanced text ≡ true → is_balanced (
 balanced_tokens text h = sym (is_balanced-is (tokens text)) ∙ h
 
 without_clause_tokens : (text : List ℕ) → not (has_clause_word text) ≡ true → not (has_clause (tokens text)) ≡ true
-without_clause_tokens text h = (λ i. not (sym (has_outer-is is_clause_word (tokens text)) i)) ∙ h
+without_clause_tokens text h = (λ i. not (sym (has_top_level-is is_clause_word (tokens text)) i)) ∙ h
 
 bare-at : (n : ℕ) (text : List ℕ) → is_fit (Bare text) ≡ true → own_words.is_fit (pos n) (printed.Raw text) ≡ true
 bare-at n text h =

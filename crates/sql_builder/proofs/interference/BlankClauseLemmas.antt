@@ -4,12 +4,12 @@ use Rattle.std.specs.Prelude.{if◌then◌else◌}
 use Rattle.std.proofs.Math.IntN.{suc_ℤ, pred_ℤ}
 use Rattle.sql_parts.specs.StringTexts.{IgnoresStrings, blank, blank_token}
 use Rattle.sql_parts.specs.Fragments as fragments
-use Rattle.sql_parts.specs.Fragments.{Inner, Outer, Placed, as_placed, is_clause_word, is_outer, lowers, raises, token_of}
+use Rattle.sql_parts.specs.Fragments.{Nested, TopLevel, Placed, as_placed, is_clause_word, at_top_level, lowers, raises, token_of}
 use Rattle.sql_parts.specs.Tokens.{Token, Word, Str, Name, Symbol, Open, ends_with, is_semicolon}
 use Rattle.sql_parts.proofs.fragments.StringTextFacts.{Ignores, ends-blank, ignores, test-blank, token-twice}
 use Rattle.sql_parts.proofs.fragments.DepthFacts.{after, is_zero, placed_from, placed-is}
 use Rattle.sql_builder.specs.Interference.{blank_clause, blank_clauses}
-use Rattle.sql_builder.specs.TokenParts.{Parts, before_outer, but_last, parts_at, with_front}
+use Rattle.sql_builder.specs.TokenParts.{Parts, before_top_level, but_last, parts_at, with_front}
 use Rattle.sql_builder.specs.Reading.{Clause, is_union, read, without_semicolon}
 
 -- ---- the `;` at the end
@@ -30,10 +30,10 @@ without_semicolon-blank ts =
 -- ---- tokens with their places
 
 abbrev blank_placed : Placed → Placed
-blank_placed (Outer token) = Outer (blank_token token)
-blank_placed (Inner token) = Inner (blank_token token)
+blank_placed (TopLevel token) = TopLevel (blank_token token)
+blank_placed (Nested token) = Nested (blank_token token)
 
-as_placed-blank : (outer : Bool) (t : Token) → as_placed outer (blank_token t) ≡ blank_placed (as_placed outer t)
+as_placed-blank : (at_top : Bool) (t : Token) → as_placed at_top (blank_token t) ≡ blank_placed (as_placed at_top t)
 as_placed-blank true t = refl
 as_placed-blank false t = refl
 
@@ -51,17 +51,19 @@ placed-blank ts = placed-is (blank ts) ∙ placed_from-blank (pos 0) ts ∙ ap (
 
 -- ---- parts
 
-outer-blank : (test : Token → Bool) → Ignores test → (found : Placed) → is_outer test (blank_placed found) ≡ is_outer test found
-outer-blank test same (Outer token) = test-blank test same token
-outer-blank test same (Inner token) = refl
+top_level-blank : (test : Token → Bool) → Ignores test → (found : Placed) → at_top_level test (blank_placed found) ≡ at_top_level test found
+top_level-blank test same (TopLevel token) = test-blank test same token
+top_level-blank test same (Nested token) = refl
 
-before-blank : (test : Token → Bool) → Ignores test → (ms : List Placed) → before_outer test (map blank_placed ms) ≡ map blank_placed (before_outer test ms)
+before-blank : (test : Token → Bool) → Ignores test → (ms : List Placed)
+    → before_top_level test (map blank_placed ms) ≡ map blank_placed (before_top_level test ms)
 before-blank test same [] = refl
 before-blank test same (found ∷ ms) =
-    (λ i. if outer-blank test same found i then [] else blank_placed found ∷ before-blank test same ms i) ∙ by (is_outer test found)
+    (λ i. if top_level-blank test same found i then [] else blank_placed found ∷ before-blank test same ms i) ∙ by (at_top_level test found)
   where
     by : (is : Bool)
-        → (if is then [] else blank_placed found ∷ map blank_placed (before_outer test ms)) ≡ map blank_placed (if is then [] else found ∷ before_outer test ms)
+        → (if is then [] else blank_placed found ∷ map blank_placed (before_top_level test ms))
+        ≡ map blank_placed (if is then [] else found ∷ before_top_level test ms)
     by true = refl
     by false = refl
 
@@ -77,12 +79,12 @@ word-blank (Symbol byte) is = refl
 word-blank Open is = refl
 
 token_of-blank : (found : Placed) → token_of (blank_placed found) ≡ blank_token (token_of found)
-token_of-blank (Outer token) = refl
-token_of-blank (Inner token) = refl
+token_of-blank (TopLevel token) = refl
+token_of-blank (Nested token) = refl
 
-divider-blank : (found : Placed) → is_outer is_clause_word found ≡ true → blank_token (token_of found) ≡ token_of found
-divider-blank (Outer token) is = word-blank token is
-divider-blank (Inner token) is = cc is
+divider-blank : (found : Placed) → at_top_level is_clause_word found ≡ true → blank_token (token_of found) ≡ token_of found
+divider-blank (TopLevel token) is = word-blank token is
+divider-blank (Nested token) is = cc is
 
 front-blank : (is : Bool) (t : Token) (parts : Parts) → (is ≡ true → blank_token t ≡ t)
     → with_front is (blank_token t) (blank_parts parts) ≡ blank_parts (with_front is t parts)
@@ -92,18 +94,18 @@ front-blank false t parts unchanged = refl
 parts-blank : (ms : List Placed) → parts_at is_clause_word (map blank_placed ms) ≡ blank_parts (parts_at is_clause_word ms)
 parts-blank [] = refl
 parts-blank (found ∷ ms) =
-    (λ i. with_front (outer-blank is_clause_word (λ text. refl) found i) (token_of-blank found i) (parts-blank ms i))
-    ∙ front-blank (is_outer is_clause_word found) (token_of found) (parts_at is_clause_word ms) (divider-blank found)
+    (λ i. with_front (top_level-blank is_clause_word (λ text. refl) found i) (token_of-blank found i) (parts-blank ms i))
+    ∙ front-blank (at_top_level is_clause_word found) (token_of found) (parts_at is_clause_word ms) (divider-blank found)
 
 -- ---- clauses
 
 read-blank : (ts : List Token) → read (blank ts) ≡ map blank_clause (read ts)
 unfolding read
 read-blank ts =
-    ap (λ all. (parts_at is_clause_word (before_outer is_union (fragments.placed all))).rest) (without_semicolon-blank ts)
-    ∙ ap (λ ms. (parts_at is_clause_word (before_outer is_union ms)).rest) (placed-blank (without_semicolon ts))
+    ap (λ all. (parts_at is_clause_word (before_top_level is_union (fragments.placed all))).rest) (without_semicolon-blank ts)
+    ∙ ap (λ ms. (parts_at is_clause_word (before_top_level is_union ms)).rest) (placed-blank (without_semicolon ts))
     ∙ ap (λ ms. (parts_at is_clause_word ms).rest) (before-blank is_union (λ text. refl) (fragments.placed (without_semicolon ts)))
-    ∙ ap (λ parts. parts.rest) (parts-blank (before_outer is_union (fragments.placed (without_semicolon ts))))
+    ∙ ap (λ parts. parts.rest) (parts-blank (before_top_level is_union (fragments.placed (without_semicolon ts))))
 
 blank-twice : (ts : List Token) → blank (blank ts) ≡ blank ts
 blank-twice [] = refl

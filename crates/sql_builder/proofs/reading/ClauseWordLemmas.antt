@@ -19,8 +19,8 @@ use Rattle.sql_builder.specs.RawFragments.{is_balanced_piece, own_tokens, are_fi
 use Rattle.sql_builder.specs.TokenParts.{Parts, parts_at, with_front}
 use Rattle.sql_builder.specs.Reading.{own_placed}
 use Rattle.sql_parts.proofs.fragments.DepthFacts.{after, at_end, closes_from, is_at_least_0, is_balanced, is_even, is_zero, placed, placed_from, end-is}
-use Rattle.sql_parts.proofs.fragments.DepthFacts.{has_outer-is, is_balanced-is}
-use Rattle.sql_parts.specs.Fragments.{as_placed, Inner, Outer, Placed, is_clause_word, is_outer, is_whole, token_of, balanced}
+use Rattle.sql_parts.proofs.fragments.DepthFacts.{has_top_level-is, is_balanced-is}
+use Rattle.sql_parts.specs.Fragments.{as_placed, Nested, TopLevel, Placed, is_clause_word, at_top_level, is_whole, token_of, balanced}
 
 pub own-append : (x y : Pieces) → own (x ++ y) ≡ own x ++ own y
 own-append x y = flat_map-append own_tokens x y
@@ -37,7 +37,7 @@ are_fit_from l (piece ∷ pieces) = is_fit l piece && are_fit_from (at_end l (ow
 fit-piece : (before : Pieces) (piece : Piece) → is_fit_after before piece ≡ is_fit (at_end (pos 0) (own before)) piece
 fit-piece before (Fixed text) = refl
 fit-piece before (Quoted text) = refl
-fit-piece before (Raw text) = λ i. is_balanced-is (tokens text) i && (not (end-is (own before) i) || not (has_outer-is is_clause_word (tokens text) i))
+fit-piece before (Raw text) = λ i. is_balanced-is (tokens text) i && (not (end-is (own before) i) || not (has_top_level-is is_clause_word (tokens text) i))
 
 depth-after : (before : Pieces) (piece : Piece) → at_end (pos 0) (own (before ++ piece ∷ [])) ≡ at_end (at_end (pos 0) (own before)) (own_tokens piece)
 depth-after before piece =
@@ -102,11 +102,11 @@ zero-suc (pos n) h = refl
 zero-suc (negsuc n) h = absurd (false≢true h)
 
 -- above depth 0 no token is top-level
-pub placed-above : (l : ℤ) (a : List Token) → is_at_least_0 l ≡ true → stays_from l a ≡ true → placed_from (suc_ℤ l) a ≡ map Inner a
+pub placed-above : (l : ℤ) (a : List Token) → is_at_least_0 l ≡ true → stays_from l a ≡ true → placed_from (suc_ℤ l) a ≡ map Nested a
 placed-above l [] h stays = refl
 placed-above l (t ∷ a) h stays =
     let both = and_parts (is_at_least_0 (after l t)) (stays_from (after l t) a) stays in
-    rw (zero-suc l h, after-suc l t) (ap (λ ms. Inner t ∷ ms) (placed-above (after l t) a both.0 both.1))
+    rw (zero-suc l h, after-suc l t) (ap (λ ms. Nested t ∷ ms) (placed-above (after l t) a both.0 both.1))
 
 -- the depth stays at least 0, and each clause word is at depth 0
 abbrev pub laid_from : ℤ → List Token → Bool
@@ -149,7 +149,7 @@ abbrev pub Flagged : Type 0
 Flagged = Bool × Token
 
 abbrev pub flag : Placed → Flagged
-flag m = (is_outer is_clause_word m, token_of m)
+flag m = (at_top_level is_clause_word m, token_of m)
 
 abbrev pub flags : List Placed → List Flagged
 flags ms = map flag ms
@@ -164,17 +164,17 @@ parts_of (m ∷ ms) = with_front m.0 m.1 (parts_of ms)
 
 parts-flags : (ms : List Placed) → parts_at is_clause_word ms ≡ parts_of (flags ms)
 parts-flags [] = refl
-parts-flags (m ∷ ms) = ap (with_front (is_outer is_clause_word m) (token_of m)) (parts-flags ms)
+parts-flags (m ∷ ms) = ap (with_front (at_top_level is_clause_word m) (token_of m)) (parts-flags ms)
 
 pub same-parts : (a b : List Placed) → flags a ≡ flags b → parts_at is_clause_word a ≡ parts_at is_clause_word b
 same-parts a b same = parts-flags a ∙ ap parts_of same ∙ sym (parts-flags b)
 
 -- the product's own texts
-flag-own : (zero : Bool) (t : Token) → (zero || not (is_clause_word t)) ≡ true → flag (as_placed zero t) ≡ flag (Outer t)
+flag-own : (zero : Bool) (t : Token) → (zero || not (is_clause_word t)) ≡ true → flag (as_placed zero t) ≡ flag (TopLevel t)
 flag-own true t h = refl
 flag-own false t h = ap (λ (b : Bool). (b, t)) (sym (not-true _ h))
 
-flags-own : (l : ℤ) (a : List Token) → laid_from l a ≡ true → flags (placed_from l a) ≡ flags (map Outer a)
+flags-own : (l : ℤ) (a : List Token) → laid_from l a ≡ true → flags (placed_from l a) ≡ flags (map TopLevel a)
 flags-own l [] h = refl
 flags-own l (t ∷ a) h =
     let both = and_parts _ _ h in
@@ -184,20 +184,20 @@ flags-own l (t ∷ a) h =
     λ i. first i ∷ rest i
 
 -- fragments
-flags-plain : (ms : List Placed) → list_any (is_outer is_clause_word) ms ≡ false → flags ms ≡ flags (map Inner (map token_of ms))
+flags-plain : (ms : List Placed) → list_any (at_top_level is_clause_word) ms ≡ false → flags ms ≡ flags (map Nested (map token_of ms))
 flags-plain [] none = refl
 flags-plain (m ∷ ms) none =
-    let both = or_parts (is_outer is_clause_word m) (list_any (is_outer is_clause_word) ms) none in
+    let both = or_parts (at_top_level is_clause_word m) (list_any (at_top_level is_clause_word) ms) none in
     let first = both.0 in
     let rest = flags-plain ms both.1 in
     λ i. (first i, token_of m) ∷ rest i
 
 flags-raw : (n : ℕ) (a : List Token) → is_even a ≡ true → (not (is_zero (pos n)) || not (has_clause a)) ≡ true → flags (placed_from (pos n) a)
-    ≡ flags (map Inner a)
-flags-raw zero a even none = flags-plain (placed a) (not-true _ none) ∙ ap (λ ts. flags (map Inner ts)) (tokens-placed_from (pos 0) a)
+    ≡ flags (map Nested a)
+flags-raw zero a even none = flags-plain (placed a) (not-true _ none) ∙ ap (λ ts. flags (map Nested ts)) (tokens-placed_from (pos 0) a)
 flags-raw (suc n) a even none = ap flags (placed-above (pos n) a refl (stays-up n a (stays-closes (pos 0) a (and_parts (list_all is_whole a) _ even).1)))
 
-flag-str : (zero : Bool) (text : List ℕ) → flag (as_placed zero (Str text)) ≡ flag (Inner (Str text))
+flag-str : (zero : Bool) (text : List ℕ) → flag (as_placed zero (Str text)) ≡ flag (Nested (Str text))
 flag-str true text = refl
 flag-str false text = refl
 
@@ -217,8 +217,8 @@ fit-flags l (Fixed text ∷ ps) h fit laid =
     let parts = laid-parts l a (own ps) laid in
     ap flags (placed_from-append l a (pieces_tokens ps)) ∙ flags-append (placed_from l a) (placed_from (at_end l a) (pieces_tokens ps))
     ∙ ap (λ ms. ms ++ flags (placed_from (at_end l a) (pieces_tokens ps))) (flags-own l a parts.0)
-    ∙ ap (λ ms. flags (map Outer a) ++ ms) (fit-flags (at_end l a) ps (stays-high l a h (laid-stays l a parts.0)) fit parts.1)
-    ∙ sym (flags-append (map Outer a) (flat_map own_placed ps))
+    ∙ ap (λ ms. flags (map TopLevel a) ++ ms) (fit-flags (at_end l a) ps (stays-high l a h (laid-stays l a parts.0)) fit parts.1)
+    ∙ sym (flags-append (map TopLevel a) (flat_map own_placed ps))
 fit-flags l (Quoted text ∷ ps) h fit laid =
     let first = flag-str (is_zero l) text in
     let rest = fit-flags l ps h fit laid in
@@ -230,9 +230,9 @@ fit-flags (pos n) (Raw text ∷ ps) h fit laid =
     let even = balanced_even a here.0 in
     ap flags (placed_from-append (pos n) a (pieces_tokens ps)) ∙ flags-append (placed_from (pos n) a) (placed_from (at_end (pos n) a) (pieces_tokens ps))
     ∙ ap (λ ms. ms ++ flags (placed_from (at_end (pos n) a) (pieces_tokens ps))) (flags-raw n a even here.1)
-    ∙ ap (λ l. flags (map Inner a) ++ flags (placed_from l (pieces_tokens ps))) (even-ends n a even)
-    ∙ ap (λ ms. flags (map Inner a) ++ ms) (fit-flags (pos n) ps h both.1 laid)
-    ∙ sym (flags-append (map Inner a) (flat_map own_placed ps))
+    ∙ ap (λ l. flags (map Nested a) ++ flags (placed_from l (pieces_tokens ps))) (even-ends n a even)
+    ∙ ap (λ ms. flags (map Nested a) ++ ms) (fit-flags (pos n) ps h both.1 laid)
+    ∙ sym (flags-append (map Nested a) (flat_map own_placed ps))
 fit-flags (negsuc n) (Raw text ∷ ps) h fit laid = absurd (false≢true h)
 
 -- ---- depth alone: each fragment is balanced

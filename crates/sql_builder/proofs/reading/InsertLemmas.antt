@@ -5,9 +5,9 @@ use Rattle.std.specs.Prelude.{IfSome, IfOk, flat_map, option_map, IsTrue, if◌t
 use Rattle.std.specs.List.{list_all, list_any}
 use Rattle.std.proofs.lemmas.Bool.{and_from, and_parts, or_from, not_from_false, false≢true}
 use Rattle.sql_parts.specs.Fragments as fragments
-use Rattle.sql_parts.specs.Fragments.{Placed, balanced, is_clause_word, is_outer, is_whole}
+use Rattle.sql_parts.specs.Fragments.{Placed, balanced, is_clause_word, at_top_level, is_whole}
 use Rattle.sql_parts.specs.Tokens.{Token, Symbol, begins_with, tokens}
-use Rattle.sql_parts.proofs.fragments.DepthFacts.{has_outer, has_outer-is, is_even, placed, placed-is, is_balanced, is_balanced-is}
+use Rattle.sql_parts.proofs.fragments.DepthFacts.{has_top_level, has_top_level-is, is_even, placed, placed-is, is_balanced, is_balanced-is}
 use Rattle.sql_parts.specs.declared.error.SqlBuilderError.{SqlBuilderError}
 use Rattle.sql_builder.specs.Calls as call
 use Rattle.sql_builder.specs.Calls.{Sql, clauses, query_of, Query}
@@ -17,14 +17,14 @@ use Rattle.sql_builder.specs.Inserts.{BuildersOfInsertsReadBack, InsertsReadBack
 use Rattle.sql_builder.specs.Inserts.{returning_clauses, BuildersOfQueriesAreOne, QueriesAreOne, returning_after}
 use Rattle.sql_builder.specs.Layout.{byte_units, insert_sections, concat_sections, insert_target, optional_section, returning_sections, section, sql}
 use Rattle.sql_builder.specs.Layout.{statement_sections, query, query_sections}
-use Rattle.sql_builder.specs.TokenParts.{Parts, parts_at, before_outer, with_front}
+use Rattle.sql_builder.specs.TokenParts.{Parts, parts_at, before_top_level, with_front}
 use Rattle.sql_builder.specs.Phrases.{comma_list}
 use Rattle.sql_builder.specs.Reading.{Clause, is_union, own_placed, read, without_semicolon}
 use Rattle.sql_builder.specs.Shape.{HasShape, as_fragments, pieces_tokens}
 use Rattle.sql_builder.specs.Statement.{error_at, text_unless_error, unless_error}
 use Rattle.sql_builder.specs.StatementLaws.{made_by}
 use Rattle.sql_builder.specs.Pieces.{Pieces, fixed_piece, pieces_text, raw_piece}
-use Rattle.sql_builder.proofs.tokens.BalancedFacts.{even_closes, even_text, has_outer-append, is_even-append}
+use Rattle.sql_builder.proofs.tokens.BalancedFacts.{even_closes, even_text, has_top_level-append, is_even-append}
 use Rattle.sql_builder.proofs.fragments.NeutralLemmas.{NeutralParts, neutral-target, clauses-neutral, raw-neutral}
 use Rattle.sql_builder.proofs.fragments.PropertyLemmas.{neutral-append, neutral-list, passes-append}
 use Rattle.sql_builder.proofs.pieces.ClauseShapeLemmas.{printed-shaped}
@@ -33,7 +33,8 @@ use Rattle.sql_builder.proofs.pieces.LayoutShapeLemmas.{sql_shape, query_shape}
 use Rattle.sql_builder.specs.Filters.{until}
 use Rattle.sql_builder.proofs.reading.NestingLemmas.{query-balanced}
 use Rattle.sql_builder.proofs.reading.LayoutLemmas.{query-opens}
-use Rattle.sql_builder.proofs.reading.SectionLemmas.{Neutral, Front, any_union, before-append, neutral-front, front-append, lead_on, opening_clauses, own-outer}
+use Rattle.sql_builder.proofs.reading.SectionLemmas.{Neutral, Front, any_union, before-append, neutral-front, front-append, lead_on, opening_clauses}
+use Rattle.sql_builder.proofs.reading.SectionLemmas.{own-top_level}
 use Rattle.sql_builder.proofs.reading.SectionLemmas.{section-clauses, starts-lead, union-flags, with_last, sections-front, until-after, union-flag}
 use Rattle.sql_builder.proofs.reading.ClauseWordLemmas.{are_fit-is, are_fit_from, fit-balanced, fit-flags, fragments_closed, flags, same-parts, shape-even}
 use Rattle.sql_builder.proofs.tokens.DepthFacts.{at_end-closes}
@@ -56,20 +57,20 @@ joined-front false t lead (c ∷ cs) other = refl
 parts-joined : (test : Token → Bool) (a b : List Placed) → parts_at test (a ++ b) ≡ joined (parts_at test a) (parts_at test b)
 parts-joined test [] b = refl
 parts-joined test (m ∷ a) b =
-    ap (with_front (is_outer test m) (fragments.token_of m)) (parts-joined test a b)
-    ∙ joined-front (is_outer test m) (fragments.token_of m) (parts_at test a).lead (parts_at test a).rest (parts_at test b)
+    ap (with_front (at_top_level test m) (fragments.token_of m)) (parts-joined test a b)
+    ∙ joined-front (at_top_level test m) (fragments.token_of m) (parts_at test a).lead (parts_at test a).rest (parts_at test b)
 
 -- ---- tokens that have no top-level UNION
 
 -- balanced or none, and without a top-level UNION
 record One (ts : List Token) : Type 0 where
   even : is_even ts ≡ true
-  no_union : has_outer is_union ts ≡ false
+  no_union : has_top_level is_union ts ≡ false
 
 one-append : (a b : List Token) → One a → One b → One (a ++ b)
 one-append a b one other = record {
   even = is_even-append a b one.even other.even;
-  no_union = has_outer-append is_union a b one.even ∙ or_from _ _ one.no_union other.no_union;
+  no_union = has_top_level-append is_union a b one.even ∙ or_from _ _ one.no_union other.no_union;
 }
 
 abbrev parts : List Token → Parts
@@ -79,48 +80,49 @@ parts-append : (a b : List Token) → One a → parts (a ++ b) ≡ joined (parts
 parts-append a b one = ap (parts_at is_clause_word) (placed-then a b (at_end-closes (pos 0) a (even_closes a one.even)))
     ∙ parts-joined is_clause_word (placed a) (placed b)
 
-before-none : (test : Token → Bool) (ms : List Placed) → list_any (is_outer test) ms ≡ false → before_outer test ms ≡ ms
-before-none test ms none = ap (before_outer test) (sym (append-nil ms)) ∙ before-append test ms [] none ∙ append-nil ms
+before-none : (test : Token → Bool) (ms : List Placed) → list_any (at_top_level test) ms ≡ false → before_top_level test ms ≡ ms
+before-none test ms none = ap (before_top_level test) (sym (append-nil ms)) ∙ before-append test ms [] none ∙ append-nil ms
 
-before-cut : (test : Token → Bool) (a b : List Placed) → list_any (is_outer test) a ≡ true → before_outer test (a ++ b) ≡ before_outer test a
+before-cut : (test : Token → Bool) (a b : List Placed) → list_any (at_top_level test) a ≡ true → before_top_level test (a ++ b) ≡ before_top_level test a
 before-cut test [] b some = absurd (false≢true some)
-before-cut test (m ∷ a) b some = by (is_outer test m) some (before-cut test a b)
+before-cut test (m ∷ a) b some = by (at_top_level test m) some (before-cut test a b)
   where
-    by : (found : Bool) → (found || list_any (is_outer test) a) ≡ true → (list_any (is_outer test) a ≡ true → before_outer test (a ++ b) ≡ before_outer test a)
-        → (if found then [] else (m ∷ before_outer test (a ++ b))) ≡ (if found then [] else (m ∷ before_outer test a))
+    by : (found : Bool) → (found || list_any (at_top_level test) a) ≡ true
+        → (list_any (at_top_level test) a ≡ true → before_top_level test (a ++ b) ≡ before_top_level test a)
+        → (if found then [] else (m ∷ before_top_level test (a ++ b))) ≡ (if found then [] else (m ∷ before_top_level test a))
     by true some rest = refl
     by false some rest = ap (λ (ms : List Placed). m ∷ ms) (rest some)
 
 -- UNION is a clause word, so the first clause word is not behind it
-lead-cut : (ms : List Placed) → (parts_at is_clause_word (before_outer is_union ms)).lead ≡ (parts_at is_clause_word ms).lead
+lead-cut : (ms : List Placed) → (parts_at is_clause_word (before_top_level is_union ms)).lead ≡ (parts_at is_clause_word ms).lead
 lead-cut [] = refl
 lead-cut (m ∷ ms) =
-    ap (λ (found : Bool). (parts_at is_clause_word (if found then [] else (m ∷ before_outer is_union ms))).lead) (union-flag m)
-    ∙ by (is_outer is_clause_word m) (is_union (fragments.token_of m)) refl (lead-cut ms)
+    ap (λ (found : Bool). (parts_at is_clause_word (if found then [] else (m ∷ before_top_level is_union ms))).lead) (union-flag m)
+    ∙ by (at_top_level is_clause_word m) (is_union (fragments.token_of m)) refl (lead-cut ms)
   where
-    by : (clause union : Bool) → is_outer is_clause_word m ≡ clause
-        → (parts_at is_clause_word (before_outer is_union ms)).lead ≡ (parts_at is_clause_word ms).lead
-        → (parts_at is_clause_word (if clause && union then [] else (m ∷ before_outer is_union ms))).lead
+    by : (clause union : Bool) → at_top_level is_clause_word m ≡ clause
+        → (parts_at is_clause_word (before_top_level is_union ms)).lead ≡ (parts_at is_clause_word ms).lead
+        → (parts_at is_clause_word (if clause && union then [] else (m ∷ before_top_level is_union ms))).lead
         ≡ (with_front clause (fragments.token_of m) (parts_at is_clause_word ms)).lead
     by true true is rest = refl
-    by true false is rest = ap (λ (clause : Bool). (with_front clause (fragments.token_of m) (parts_at is_clause_word (before_outer is_union ms))).lead) is
+    by true false is rest = ap (λ (clause : Bool). (with_front clause (fragments.token_of m) (parts_at is_clause_word (before_top_level is_union ms))).lead) is
     by false union is rest =
-        ap (λ (clause : Bool). (with_front clause (fragments.token_of m) (parts_at is_clause_word (before_outer is_union ms))).lead) is
+        ap (λ (clause : Bool). (with_front clause (fragments.token_of m) (parts_at is_clause_word (before_top_level is_union ms))).lead) is
         ∙ ap (λ ts. fragments.token_of m ∷ ts) rest
 
 -- tokens are read up to their first top-level UNION
-read-cut : (ts us : List Token) → without_semicolon ts ≡ us → read ts ≡ (parts_at is_clause_word (before_outer is_union (placed us))).rest
+read-cut : (ts us : List Token) → without_semicolon ts ≡ us → read ts ≡ (parts_at is_clause_word (before_top_level is_union (placed us))).rest
 unfolding read
 read-cut ts us is =
-    ap (λ vs. (parts_at is_clause_word (before_outer is_union (fragments.placed vs))).rest) is
-    ∙ ap (λ ms. (parts_at is_clause_word (before_outer is_union ms)).rest) (placed-is us)
+    ap (λ vs. (parts_at is_clause_word (before_top_level is_union (fragments.placed vs))).rest) is
+    ∙ ap (λ ms. (parts_at is_clause_word (before_top_level is_union ms)).rest) (placed-is us)
 
 -- pieces whose own words are laid as those of a statement
 pieces-one : (ps : Pieces) → Front (own ps) → are_fit_from (pos 0) ps ≡ true → One (pieces_tokens ps)
 pieces-one ps front fits = record {
   even = shape-even ps (fit-balanced (pos 0) ps fits) front.even;
   no_union = union-flags (placed (pieces_tokens ps)) ∙ ap any_union (fit-flags (pos 0) ps refl fits front.laid) ∙ sym (union-flags (flat_map own_placed ps))
-      ∙ own-outer is_union ps ∙ front.no_union;
+      ∙ own-top_level is_union ps ∙ front.no_union;
 }
 
 -- ---- a section of the builder's own
@@ -219,7 +221,7 @@ module _ (r : Clauses Pieces) (query : List ℕ) (neutral : NeutralParts r) (is 
   query-even : is_even (tokens query) ≡ true
   query-even = even_text query is
 
-  query-read : read (tokens query) ≡ (parts_at is_clause_word (before_outer is_union (placed (tokens query)))).rest
+  query-read : read (tokens query) ≡ (parts_at is_clause_word (before_top_level is_union (placed (tokens query)))).rest
   query-read = read-cut (tokens query) (tokens query) (semicolon-none (tokens query) (and_parts (list_all is_whole (tokens query)) _ query-even).0)
 
   tail : Tail (returned r.returning) (returning_clauses r.returning)
@@ -233,34 +235,35 @@ module _ (r : Clauses Pieces) (query : List ℕ) (neutral : NeutralParts r) (is 
 
   -- what is read behind the target
   abbrev behind : List Placed
-  behind = before_outer is_union (placed (tokens query ++ returned r.returning))
+  behind = before_top_level is_union (placed (tokens query ++ returned r.returning))
 
   after-is : parts_at is_clause_word behind
       ≡ record { lead = lead_of (tokens query); rest = read (tokens query) ++ returning_after (tokens query) r.returning }
-  after-is = by (has_outer is_union (tokens query)) refl
+  after-is = by (has_top_level is_union (tokens query)) refl
     where
       lead-is : (parts (tokens query)).lead ≡ lead_of (tokens query)
       lead-is = ap (λ ms. (parts_at is_clause_word ms).lead) (sym (placed-is (tokens query)))
 
-      by : (union : Bool) → has_outer is_union (tokens query) ≡ union
+      by : (union : Bool) → has_top_level is_union (tokens query) ≡ union
           → parts_at is_clause_word behind ≡ record { lead = lead_of (tokens query); rest = read (tokens query) ++ returning_after (tokens query) r.returning }
       by true found =
           let cut = before-cut is_union (placed (tokens query)) (placed (returned r.returning)) found in
-          let unchanged : parts_at is_clause_word behind ≡ parts_at is_clause_word (before_outer is_union (placed (tokens query))) =
-          ap (λ ms. parts_at is_clause_word (before_outer is_union ms))
+          let unchanged : parts_at is_clause_word behind ≡ parts_at is_clause_word (before_top_level is_union (placed (tokens query))) =
+          ap (λ ms. parts_at is_clause_word (before_top_level is_union ms))
           (placed-then (tokens query) (returned r.returning) (at_end-closes (pos 0) (tokens query) (even_closes (tokens query) query-even)))
           ∙ ap (parts_at is_clause_word) cut in
           let none : returning_after (tokens query) r.returning ≡ [] =
-          ap (λ (union : Bool). if union then [] else returning_clauses r.returning) (has_outer-is is_union (tokens query) ∙ found) in
+          ap (λ (union : Bool). if union then [] else returning_clauses r.returning) (has_top_level-is is_union (tokens query) ∙ found) in
           unchanged
           ∙ (λ i. record {
             lead = (lead-cut (placed (tokens query)) ∙ lead-is) i;
-            rest = (sym (append-nil (parts_at is_clause_word (before_outer is_union (placed (tokens query)))).rest) ∙ (λ j. sym query-read j ++ sym none j)) i;
+            rest = (sym (append-nil (parts_at is_clause_word (before_top_level is_union (placed (tokens query)))).rest)
+                ∙ (λ j. sym query-read j ++ sym none j)) i;
           })
       by false found =
           let one : One (tokens query) = record { even = query-even; no_union = found } in
           let some : returning_after (tokens query) r.returning ≡ returning_clauses r.returning =
-          ap (λ (union : Bool). if union then [] else returning_clauses r.returning) (has_outer-is is_union (tokens query) ∙ found) in
+          ap (λ (union : Bool). if union then [] else returning_clauses r.returning) (has_top_level-is is_union (tokens query) ∙ found) in
           let whole : (parts (tokens query)).rest ≡ read (tokens query) =
           ap (λ ms. (parts_at is_clause_word ms).rest) (sym (before-none is_union (placed (tokens query)) found)) ∙ sym query-read in
           ap (parts_at is_clause_word)
@@ -269,10 +272,10 @@ module _ (r : Clauses Pieces) (query : List ℕ) (neutral : NeutralParts r) (is 
           ∙ (λ i. record { lead = lead-is i; rest = whole i ++ sym some i })
 
   -- the clauses that the whole has
-  whole-clauses : (parts_at is_clause_word (before_outer is_union (placed (front ++ (tokens query ++ returned r.returning))))).rest
+  whole-clauses : (parts_at is_clause_word (before_top_level is_union (placed (front ++ (tokens query ++ returned r.returning))))).rest
       ≡ insert_clauses r (tokens query)
   whole-clauses =
-      ap (λ ms. (parts_at is_clause_word (before_outer is_union ms)).rest)
+      ap (λ ms. (parts_at is_clause_word (before_top_level is_union ms)).rest)
       (placed-then front (tokens query ++ returned r.returning) (at_end-closes (pos 0) front (even_closes front front-one.even)))
       ∙ ap (λ ms. (parts_at is_clause_word ms).rest) (before-append is_union (placed front) (placed (tokens query ++ returned r.returning)) front-one.no_union)
       ∙ ap (λ (ps : Parts). ps.rest) (parts-joined is_clause_word (placed front) behind)
@@ -336,7 +339,7 @@ module _ (r : Clauses Pieces) (neutral : NeutralParts r) (none : r.unions ≡ []
       let all = fit-balanced (pos 0) (query fixed_piece r) query-fits in
       let same = shaped (fragments_closed (query fixed_piece r) all) in
       and_from _ _ (is_balanced-is (tokens text) ∙ ap is_balanced same ∙ query-balanced r neutral all)
-      (not_from_false _ (has_outer-is is_union (tokens text) ∙ ap (has_outer is_union) same
+      (not_from_false _ (has_top_level-is is_union (tokens text) ∙ ap (has_top_level is_union) same
       ∙ (pieces-one (query fixed_piece r) query-front query-fits).no_union))
 
 -- ---- a list of calls

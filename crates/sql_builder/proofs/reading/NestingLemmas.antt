@@ -17,7 +17,7 @@ use Rattle.sql_builder.proofs.pieces.ShapeLemmas.{pieces_tokens-brackets}
 use Rattle.sql_builder.specs.WhereTokens as where_tokens
 use Rattle.sql_builder.proofs.tokens.WhereWords.{has_clause}
 use Rattle.sql_builder.specs.Meaning.{Nests}
-use Rattle.sql_parts.proofs.fragments.DepthFacts.{is_balanced, is_even, is_operand, has_outer-is, is_balanced-is, is_operand-is}
+use Rattle.sql_parts.proofs.fragments.DepthFacts.{is_balanced, is_even, is_operand, has_top_level-is, is_balanced-is, is_operand-is}
 use Rattle.sql_parts.specs.Fragments.{is_clause_word}
 use Rattle.sql_builder.proofs.fragments.NeutralLemmas.{NeutralParts}
 
@@ -65,6 +65,6 @@ module _ (r : Clauses Pieces) (parts : NeutralParts r) where
   nests Subquery text shaped = λ all.
       let same = shaped (fragments_closed (subquery fixed_piece r) all) in
       and_from _ _ (is_operand-is (tokens text) ∙ ap is_operand same ∙ subquery-operand all)
-      (not_from_false _ (has_outer-is is_clause_word (tokens text) ∙ ap has_clause same ∙ subquery-no_clause all))
+      (not_from_false _ (has_top_level-is is_clause_word (tokens text) ∙ ap has_clause same ∙ subquery-no_clause all))
   nests (SubqueryAs name) text shaped = λ all. is_balanced-is (tokens text)
       ∙ ap is_balanced (shaped (fragments_closed (subquery_as fixed_piece (raw_piece name) r) all)) ∙ named-balanced name all

@@ -19,10 +19,10 @@ use Rattle.sql_builder.proofs.reading.ClauseWordLemmas.{shape-even, stays-closes
 use Rattle.sql_builder.proofs.tokens.DepthFacts.{at_end-closes}
 use Rattle.sql_builder.proofs.tokens.PartFacts.{not_union, semicolon-later, semicolon-none, semicolon-one, none-inner, parts-none}
 use Rattle.sql_builder.proofs.pieces.ShapeLemmas.{Follows, Inside, text-append}
-use Rattle.sql_builder.specs.TokenParts.{Parts, before_outer, parts_at, with_front}
+use Rattle.sql_builder.specs.TokenParts.{Parts, before_top_level, parts_at, with_front}
 use Rattle.sql_builder.specs.Reading.{Clause, piece_clauses, ends_clauses, is_union, own_placed, read, without_semicolon}
-use Rattle.sql_parts.proofs.fragments.DepthFacts.{at_end, closes_from, has_outer, is_even, placed, placed-is}
-use Rattle.sql_parts.specs.Fragments.{Inner, Outer, Placed, is_clause_word, is_outer, is_whole, token_of}
+use Rattle.sql_parts.proofs.fragments.DepthFacts.{at_end, closes_from, has_top_level, is_even, placed, placed-is}
+use Rattle.sql_parts.specs.Fragments.{Nested, TopLevel, Placed, is_clause_word, at_top_level, is_whole, token_of}
 use Rattle.sql_parts.specs.Fragments as fragments
 
 -- the product's own words before the first UNION
@@ -58,30 +58,30 @@ neutral-front ps neutral = record {
 
 -- ---- top-level tokens of the product's own
 
-outer-all : (test : Token → Bool) (ts : List Token) → list_any (is_outer test) (map Outer ts) ≡ list_any test ts
-outer-all test [] = refl
-outer-all test (t ∷ ts) = ap (λ (b : Bool). test t || b) (outer-all test ts)
+top_level-all : (test : Token → Bool) (ts : List Token) → list_any (at_top_level test) (map TopLevel ts) ≡ list_any test ts
+top_level-all test [] = refl
+top_level-all test (t ∷ ts) = ap (λ (b : Bool). test t || b) (top_level-all test ts)
 
-pub own-outer : (test : Token → Bool) (ps : Pieces) → list_any (is_outer test) (flat_map own_placed ps) ≡ list_any test (own ps)
-own-outer test [] = refl
-own-outer test (Fixed text ∷ ps) =
-    list_any-append (is_outer test) (map Outer (tokens text)) (flat_map own_placed ps)
-    ∙ ap (λ (b : Bool). b || list_any (is_outer test) (flat_map own_placed ps)) (outer-all test (tokens text))
-    ∙ ap (λ (b : Bool). list_any test (tokens text) || b) (own-outer test ps)
+pub own-top_level : (test : Token → Bool) (ps : Pieces) → list_any (at_top_level test) (flat_map own_placed ps) ≡ list_any test (own ps)
+own-top_level test [] = refl
+own-top_level test (Fixed text ∷ ps) =
+    list_any-append (at_top_level test) (map TopLevel (tokens text)) (flat_map own_placed ps)
+    ∙ ap (λ (b : Bool). b || list_any (at_top_level test) (flat_map own_placed ps)) (top_level-all test (tokens text))
+    ∙ ap (λ (b : Bool). list_any test (tokens text) || b) (own-top_level test ps)
     ∙ sym (list_any-append test (tokens text) (own ps))
-own-outer test (Quoted text ∷ ps) = own-outer test ps
-own-outer test (Raw text ∷ ps) =
-    list_any-append (is_outer test) (map Inner (tokens text)) (flat_map own_placed ps)
-    ∙ ap (λ (b : Bool). b || list_any (is_outer test) (flat_map own_placed ps)) (none-inner test (tokens text))
-    ∙ own-outer test ps
+own-top_level test (Quoted text ∷ ps) = own-top_level test ps
+own-top_level test (Raw text ∷ ps) =
+    list_any-append (at_top_level test) (map Nested (tokens text)) (flat_map own_placed ps)
+    ∙ ap (λ (b : Bool). b || list_any (at_top_level test) (flat_map own_placed ps)) (none-inner test (tokens text))
+    ∙ own-top_level test ps
 
-back-outer : (ts : List Token) → map token_of (map Outer ts) ≡ ts
-back-outer [] = refl
-back-outer (t ∷ ts) = ap (λ us. t ∷ us) (back-outer ts)
+back-top_level : (ts : List Token) → map token_of (map TopLevel ts) ≡ ts
+back-top_level [] = refl
+back-top_level (t ∷ ts) = ap (λ us. t ∷ us) (back-top_level ts)
 
-back-inner : (ts : List Token) → map token_of (map Inner ts) ≡ ts
-back-inner [] = refl
-back-inner (t ∷ ts) = ap (λ us. t ∷ us) (back-inner ts)
+back-nested : (ts : List Token) → map token_of (map Nested ts) ≡ ts
+back-nested [] = refl
+back-nested (t ∷ ts) = ap (λ us. t ∷ us) (back-nested ts)
 
 map-both : (a b : List Placed) → map token_of (a ++ b) ≡ map token_of a ++ map token_of b
 map-both [] b = refl
@@ -90,9 +90,9 @@ map-both (m ∷ a) b = ap (λ us. token_of m ∷ us) (map-both a b)
 -- and all tokens
 pub own-shape : (ps : Pieces) → map token_of (flat_map own_placed ps) ≡ pieces_tokens ps
 own-shape [] = refl
-own-shape (Fixed text ∷ ps) = map-both (map Outer (tokens text)) (flat_map own_placed ps) ∙ cc (back-outer (tokens text), own-shape ps)
+own-shape (Fixed text ∷ ps) = map-both (map TopLevel (tokens text)) (flat_map own_placed ps) ∙ cc (back-top_level (tokens text), own-shape ps)
 own-shape (Quoted text ∷ ps) = ap (λ us. Token.Str text ∷ us) (own-shape ps)
-own-shape (Raw text ∷ ps) = map-both (map Inner (tokens text)) (flat_map own_placed ps) ∙ cc (back-inner (tokens text), own-shape ps)
+own-shape (Raw text ∷ ps) = map-both (map Nested (tokens text)) (flat_map own_placed ps) ∙ cc (back-nested (tokens text), own-shape ps)
 
 -- ---- UNION
 
@@ -100,21 +100,22 @@ narrow : (clause union : Bool) → (clause ≡ false → union ≡ false) → un
 narrow true union h = refl
 narrow false union h = h refl
 
-pub union-flag : (m : Placed) → is_outer is_union m ≡ (is_outer is_clause_word m && is_union (token_of m))
-union-flag (Outer t) = narrow (is_clause_word t) (is_union t) (not_union t)
-union-flag (Inner t) = refl
+pub union-flag : (m : Placed) → at_top_level is_union m ≡ (at_top_level is_clause_word m && is_union (token_of m))
+union-flag (TopLevel t) = narrow (is_clause_word t) (is_union t) (not_union t)
+union-flag (Nested t) = refl
 
 abbrev pub any_union : List Flagged → Bool
 any_union ms = list_any (λ (m : Flagged). m.0 && is_union m.1) ms
 
-pub union-flags : (ms : List Placed) → list_any (is_outer is_union) ms ≡ any_union (flags ms)
+pub union-flags : (ms : List Placed) → list_any (at_top_level is_union) ms ≡ any_union (flags ms)
 union-flags [] = refl
 union-flags (m ∷ ms) = cc (union-flag m, union-flags ms)
 
-pub before-append : (test : Token → Bool) (a b : List Placed) → list_any (is_outer test) a ≡ false → before_outer test (a ++ b) ≡ a ++ before_outer test b
+pub before-append : (test : Token → Bool) (a b : List Placed) → list_any (at_top_level test) a ≡ false
+    → before_top_level test (a ++ b) ≡ a ++ before_top_level test b
 before-append test [] b none = refl
 before-append test (m ∷ a) b none =
-    let both = or_parts (is_outer test m) (list_any (is_outer test) a) none in
+    let both = or_parts (at_top_level test m) (list_any (at_top_level test) a) none in
     rw both.0 (ap (λ ms. m ∷ ms) (before-append test a b both.1))
 
 none-ends : (ts : List Token) → list_all is_whole ts ≡ true → list_any is_union ts ≡ false → list_any ends_clauses ts ≡ false
@@ -142,8 +143,8 @@ until-after (Raw text ∷ a) b none = ap (λ ps. Raw text ∷ ps) (until-after a
 pub record Ending (rest : Pieces) : Type 0 where
   pub follows : Follows (pieces_text rest)
   pub cut : (a : List Token) → list_all is_whole a ≡ true → (r : List Token) × (without_semicolon (a ++ tokens (pieces_text rest)) ≡ a ++ r)
-      × (before_outer is_union (placed r) ≡ [])
-  pub ends : before_outer ends_clauses (flat_map own_placed rest) ≡ []
+      × (before_top_level is_union (placed r) ≡ [])
+  pub ends : before_top_level ends_clauses (flat_map own_placed rest) ≡ []
   pub until_fits : (l : ℤ) → are_fit_from l (until begins_union rest) ≡ true
 
 pub ending-none : Ending []
@@ -186,10 +187,10 @@ module _ (front rest : Pieces) (is : Front (own front)) (ending : Ending rest) w
   unfolding piece_clauses
   list-back =
       let whole = (and_parts (list_all is_whole (own front)) (closes_from (pos 0) (own front)) is.even).0 in
-      ap (λ ms. (parts_at is_clause_word (before_outer ends_clauses ms)).rest) (flat_map-append own_placed front rest)
+      ap (λ ms. (parts_at is_clause_word (before_top_level ends_clauses ms)).rest) (flat_map-append own_placed front rest)
       ∙ ap (λ ms. (parts_at is_clause_word ms).rest)
       (before-append ends_clauses (flat_map own_placed front) (flat_map own_placed rest)
-      (own-outer ends_clauses front ∙ none-ends (own front) whole is.no_union)
+      (own-top_level ends_clauses front ∙ none-ends (own front) whole is.no_union)
       ∙ ap (λ ms. flat_map own_placed front ++ ms) ending.ends ∙ append-nil (flat_map own_placed front))
 
   fit-front : has_fit_fragments (front ++ rest) ≡ true → are_fit_from (pos 0) front ≡ true
@@ -204,11 +205,11 @@ module _ (front rest : Pieces) (is : Front (own front)) (ending : Ending rest) w
       let even = shape-even front (fit-balanced (pos 0) front fit) is.even in
       let both = and_parts (list_all is_whole (pieces_tokens front)) (closes_from (pos 0) (pieces_tokens front)) even in
       let found = ending.cut (pieces_tokens front) both.0 in
-      let no_union : has_outer is_union (pieces_tokens front) ≡ false = union-flags (placed (pieces_tokens front)) ∙ ap any_union same
-      ∙ sym (union-flags (flat_map own_placed front)) ∙ own-outer is_union front ∙ is.no_union in
-      ap (λ us. (parts_at is_clause_word (before_outer is_union (fragments.placed us))).rest) found.1
-      ∙ ap (λ ms. (parts_at is_clause_word (before_outer is_union ms)).rest) (placed-is (pieces_tokens front ++ found.0))
-      ∙ ap (λ ms. (parts_at is_clause_word (before_outer is_union ms)).rest)
+      let no_union : has_top_level is_union (pieces_tokens front) ≡ false = union-flags (placed (pieces_tokens front)) ∙ ap any_union same
+      ∙ sym (union-flags (flat_map own_placed front)) ∙ own-top_level is_union front ∙ is.no_union in
+      ap (λ us. (parts_at is_clause_word (before_top_level is_union (fragments.placed us))).rest) found.1
+      ∙ ap (λ ms. (parts_at is_clause_word (before_top_level is_union ms)).rest) (placed-is (pieces_tokens front ++ found.0))
+      ∙ ap (λ ms. (parts_at is_clause_word (before_top_level is_union ms)).rest)
       (placed-then (pieces_tokens front) found.0 (at_end-closes (pos 0) (pieces_tokens front) both.1))
       ∙ ap (λ ms. (parts_at is_clause_word ms).rest)
       (before-append is_union (placed (pieces_tokens front)) (placed found.0) no_union
@@ -257,11 +258,11 @@ parts-cut test a b none = ap (λ (ps : Parts). ps.rest) (cut a)
 
     cut : (c : List Placed) → parts_at test (c ++ b) ≡ record { lead = (parts_at test c).lead; rest = (parts_at test c).rest ++ (parts_at test b).rest }
     cut [] = λ i. record { lead = none i; rest = (parts_at test b).rest }
-    cut (m ∷ c) = ap (with_front (is_outer test m) (token_of m)) (cut c) ∙ step (is_outer test m) (token_of m) (parts_at test c) (parts_at test b).rest
+    cut (m ∷ c) = ap (with_front (at_top_level test m) (token_of m)) (cut c) ∙ step (at_top_level test m) (token_of m) (parts_at test c) (parts_at test b).rest
 
-pub starts-lead : (ts : List Token) (ms : List Placed) → begins_with is_clause_word ts ≡ true → (parts_at is_clause_word (map Outer ts ++ ms)).lead ≡ []
+pub starts-lead : (ts : List Token) (ms : List Placed) → begins_with is_clause_word ts ≡ true → (parts_at is_clause_word (map TopLevel ts ++ ms)).lead ≡ []
 starts-lead [] ms h = absurd (false≢true h)
-starts-lead (t ∷ ts) ms h = ap (λ b. (with_front b t (parts_at is_clause_word (map Outer ts ++ ms))).lead) h
+starts-lead (t ∷ ts) ms h = ap (λ b. (with_front b t (parts_at is_clause_word (map TopLevel ts ++ ms))).lead) h
 
 sections-lead : (P : Pieces → Type 0) (sections : List (Section Piece)) → AllOpen P sections
     → (parts_at is_clause_word (flat_map own_placed (concat_sections fixed_piece sections))).lead ≡ []
@@ -297,18 +298,18 @@ on-front true t ts lead (c ∷ cs) = refl
 on-front false t ts lead [] = refl
 on-front false t ts lead (c ∷ cs) = refl
 
-parts-on : (test : Token → Bool) (a b : List Placed) → list_any (is_outer test) b ≡ false → parts_at test (a ++ b) ≡ on (map token_of b) (parts_at test a)
+parts-on : (test : Token → Bool) (a b : List Placed) → list_any (at_top_level test) b ≡ false → parts_at test (a ++ b) ≡ on (map token_of b) (parts_at test a)
 parts-on test [] b none = parts-none test b none
 parts-on test (m ∷ a) b none =
-    ap (with_front (is_outer test m) (token_of m)) (parts-on test a b none)
-    ∙ on-front (is_outer test m) (token_of m) (map token_of b) (parts_at test a).lead (parts_at test a).rest
+    ap (with_front (at_top_level test m) (token_of m)) (parts-on test a b none)
+    ∙ on-front (at_top_level test m) (token_of m) (map token_of b) (parts_at test a).lead (parts_at test a).rest
 
 -- the clauses of a section: those of its opening words, the last with the body
 abbrev pub opening_clauses : List ℕ → List Clause
-opening_clauses opening = (parts_at is_clause_word (map Outer (tokens opening))).rest
+opening_clauses opening = (parts_at is_clause_word (map TopLevel (tokens opening))).rest
 
 pub section-clauses : (s : Section Piece) → Neutral s.body → clauses_in (section_pieces s) ≡ with_last (pieces_tokens s.body) (opening_clauses s.opening)
 section-clauses s neutral =
-    ap (λ (ps : Parts). ps.rest) (parts-on is_clause_word (map Outer (tokens s.opening)) (flat_map own_placed s.body)
-    (own-outer is_clause_word s.body ∙ neutral.no_word))
+    ap (λ (ps : Parts). ps.rest) (parts-on is_clause_word (map TopLevel (tokens s.opening)) (flat_map own_placed s.body)
+    (own-top_level is_clause_word s.body ∙ neutral.no_word))
     ∙ ap (λ ts. with_last ts (opening_clauses s.opening)) (own-shape s.body)

@@ -5,7 +5,7 @@ use Rattle.std.specs.Prelude.{IsTrue}
 use Rattle.std.proofs.lemmas.Bool.{and_parts, and_from, false≢true, not-true, not_from_false, or_from}
 use Rattle.sql_parts.specs.Fragments.{balanced, has_clause_word, is_clause_word}
 use Rattle.sql_parts.specs.Tokens.{Word, Symbol, tokens}
-use Rattle.sql_parts.proofs.fragments.DepthFacts.{has_outer-is}
+use Rattle.sql_parts.proofs.fragments.DepthFacts.{has_top_level-is}
 use Rattle.sql_builder.specs.Builder.{ClauseTexts}
 use Rattle.sql_builder.specs.Calls.{FinishText, Sql, Query, QueryValues, Subquery, SubqueryAs, clauses}
 use Rattle.sql_builder.specs.Clauses.{Clauses}
@@ -17,7 +17,7 @@ use Rattle.sql_builder.specs.Statement.{layout_at}
 use Rattle.sql_builder.specs.Subqueries.{NestsAsTable, SubqueriesNestAsTables}
 use Rattle.sql_builder.specs.Pieces.{Pieces, fixed_piece, pieces_text, raw_piece}
 use Rattle.sql_builder.specs.WhereTokens as where_tokens
-use Rattle.sql_builder.proofs.tokens.BalancedFacts.{has_outer-append, is_even-brackets, no_clause-brackets}
+use Rattle.sql_builder.proofs.tokens.BalancedFacts.{has_top_level-append, is_even-brackets, no_clause-brackets}
 use Rattle.sql_builder.proofs.fragments.NeutralLemmas.{NeutralParts, clauses-neutral, raw-neutral}
 use Rattle.sql_builder.proofs.pieces.ClauseShapeLemmas.{printed-shaped}
 use Rattle.sql_builder.proofs.pieces.LayoutShapeLemmas.{subquery_as_shape}
@@ -47,7 +47,7 @@ module _ (r : Clauses Pieces) (parts : NeutralParts r) where
       let inner = pieces_tokens (query fixed_piece r) in
       let even = shape-even (query fixed_piece r) (inner-balanced r parts (fixed_piece (codes ") AS ") ++ raw_piece name) all) (query-even r parts) in
       ap has_clause (named-tokens name)
-      ∙ has_outer-append is_clause_word (where_tokens.in_brackets inner) (Word (codes "AS") ∷ tokens name) (is_even-brackets inner even)
+      ∙ has_top_level-append is_clause_word (where_tokens.in_brackets inner) (Word (codes "AS") ∷ tokens name) (is_even-brackets inner even)
       ∙ or_from _ _ (no_clause-brackets inner even) none
 
   pub table : (finish : FinishText) (text : List ℕ) → HasShape (layout_at fixed_piece raw_piece finish r) text
@@ -60,9 +60,9 @@ module _ (r : Clauses Pieces) (parts : NeutralParts r) where
       and_from _ _ (and_parts (balanced text) _ (and_parts _ _ both.0).0).0 both.1
   table (SubqueryAs name) text shaped = λ makes all.
       let same = shaped (fragments_closed (subquery_as fixed_piece (raw_piece name) r) all) in
-      let none = sym (has_outer-is is_clause_word (tokens name)) ∙ not-true _ makes in
+      let none = sym (has_top_level-is is_clause_word (tokens name)) ∙ not-true _ makes in
       and_from _ _ (nests r parts (SubqueryAs name) text shaped all)
-      (not_from_false _ (has_outer-is is_clause_word (tokens text) ∙ ap has_clause same ∙ named-no_clause name all none))
+      (not_from_false _ (has_top_level-is is_clause_word (tokens text) ∙ ap has_clause same ∙ named-no_clause name all none))
 
 -- ---- a list of calls
 

@@ -10,9 +10,9 @@ use Rattle.sql_builder.proofs.tokens.WhereWords.{is_condition, is_group, has_cla
 use Rattle.sql_builder.proofs.tokens.DepthFacts.{closes_from-append, at_end-closes, after-suc}
 use Rattle.sql_builder.proofs.tokens.PartFacts.{none-append, any-append}
 use Rattle.sql_builder.proofs.truth.ConnectiveLemmas.{none-brackets, placed-then}
-use Rattle.sql_parts.proofs.fragments.DepthFacts.{after, closes_from, has_outer, is_at_least_0, is_balanced, is_even, is_operand, placed, placed_from}
+use Rattle.sql_parts.proofs.fragments.DepthFacts.{after, closes_from, has_top_level, is_at_least_0, is_balanced, is_even, is_operand, placed, placed_from}
 use Rattle.sql_parts.proofs.fragments.DepthFacts.{is_balanced-is}
-use Rattle.sql_parts.specs.Fragments.{is_clause_word, is_joining, is_outer, is_whole, balanced}
+use Rattle.sql_parts.specs.Fragments.{is_clause_word, is_joining, at_top_level, is_whole, balanced}
 
 whole-append : (a b : List Token) → list_all is_whole a ≡ true → list_all is_whole b ≡ true → list_all is_whole (a ++ b) ≡ true
 whole-append a b h k = list_all-append is_whole a b ∙ and_from _ _ h k
@@ -28,9 +28,10 @@ is_balanced-append [] b h k = absurd (false≢true h)
 is_balanced-append (t ∷ a) b h k = is_even-append (t ∷ a) b h k
 
 -- no test finds a top-level token in a list that is joined, if in neither
-pub none-joined : (test : Token → Bool) (a b : List Token) → closes_from (pos 0) a ≡ true → has_outer test a ≡ false → has_outer test b ≡ false
-    → has_outer test (a ++ b) ≡ false
-none-joined test a b closes h k = ap (list_any (is_outer test)) (placed-then a b (at_end-closes (pos 0) a closes)) ∙ none-append test (placed a) (placed b) h k
+pub none-joined : (test : Token → Bool) (a b : List Token) → closes_from (pos 0) a ≡ true → has_top_level test a ≡ false → has_top_level test b ≡ false
+    → has_top_level test (a ++ b) ≡ false
+none-joined test a b closes h k = ap (list_any (at_top_level test)) (placed-then a b (at_end-closes (pos 0) a closes))
+    ∙ none-append test (placed a) (placed b) h k
 
 pub high : (l : ℤ) → is_at_least_0 l ≡ true → is_at_least_0 (suc_ℤ l) ≡ true
 high l h = up l h
@@ -78,8 +79,9 @@ pub even_closes : (ts : List Token) → is_even ts ≡ true → closes_from (pos
 even_closes ts h = (and_parts (list_all is_whole ts) (closes_from (pos 0) ts) h).1
 
 -- a top-level token of a list that is joined is one of a part
-pub has_outer-append : (test : Token → Bool) (a b : List Token) → is_even a ≡ true → has_outer test (a ++ b) ≡ (has_outer test a || has_outer test b)
-has_outer-append test a b h = ap (list_any (is_outer test)) (placed-then a b (at_end-closes (pos 0) a (even_closes a h)))
+pub has_top_level-append : (test : Token → Bool) (a b : List Token) → is_even a ≡ true
+    → has_top_level test (a ++ b) ≡ (has_top_level test a || has_top_level test b)
+has_top_level-append test a b h = ap (list_any (at_top_level test)) (placed-then a b (at_end-closes (pos 0) a (even_closes a h)))
     ∙ any-append test (placed a) (placed b)
 
 -- a condition, and more that is no clause
@@ -87,7 +89,7 @@ pub is_condition-append : (a b : List Token) → is_condition a ≡ true → is_
 is_condition-append a b h even none =
     let ha = and_parts (is_balanced a) (not (has_clause a)) h in
     and_from _ _ (is_balanced-append a b ha.0 even)
-    (not_from_false _ (has_outer-append is_clause_word a b (balanced_even a ha.0) ∙ or_from _ _ (not-true _ ha.1) none))
+    (not_from_false _ (has_top_level-append is_clause_word a b (balanced_even a ha.0) ∙ or_from _ _ (not-true _ ha.1) none))
 
 -- ---- the same of texts
 
@@ -118,7 +120,7 @@ even_after s ts plain h =
     and_from _ _ (and_from _ _ plain.whole both.0) (and_from _ _ (ap is_at_least_0 plain.flat) (ap (λ l. closes_from l ts) plain.flat ∙ both.1))
 
 no_clause_after : (s : Token) (ts : List Token) → IsPlain s → has_clause ts ≡ false → has_clause (s ∷ ts) ≡ false
-no_clause_after s ts plain h = or_from _ _ plain.no_clause (ap (λ l. list_any (is_outer is_clause_word) (placed_from l ts)) plain.flat ∙ h)
+no_clause_after s ts plain h = or_from _ _ plain.no_clause (ap (λ l. list_any (at_top_level is_clause_word) (placed_from l ts)) plain.flat ∙ h)
 
 pub is_condition-joined : (s : Token) (c : List Token) (cs : List (List Token)) → IsPlain s → list_all is_condition (c ∷ cs) ≡ true
     → is_condition (joined s (c ∷ cs)) ≡ true

@@ -4,7 +4,7 @@ use Rattle.std.proofs.lemmas.Bool.{and_parts, and_from, false≢true}
 use Rattle.std.proofs.Math.IntN.{suc_ℤ, pred_ℤ, suc-pred, pred-suc}
 use Rattle.sql_parts.specs.Tokens.{Token}
 use Rattle.sql_parts.proofs.fragments.DepthFacts.{after, at_end, closes_from, is_at_least_0, is_zero, placed_from}
-use Rattle.sql_parts.specs.Fragments.{as_placed, Inner, lowers, raises}
+use Rattle.sql_parts.specs.Fragments.{as_placed, Nested, lowers, raises}
 
 pub placed_from-append : (l : ℤ) (a b : List Token) → placed_from l (a ++ b) ≡ placed_from l a ++ placed_from (at_end l a) b
 placed_from-append l [] b = refl
@@ -36,16 +36,16 @@ pub at_end-closes : (l : ℤ) (a : List Token) → closes_from l a ≡ true → 
 at_end-closes l [] h = zero_from l h
 at_end-closes l (t ∷ a) h = at_end-closes (after l t) a (and_parts _ _ h).1
 
-not_outer : (l : ℤ) → is_at_least_0 l ≡ true → is_zero (suc_ℤ l) ≡ false
-not_outer (pos n) h = refl
-not_outer (negsuc n) h = absurd (false≢true h)
+not_top_level : (l : ℤ) → is_at_least_0 l ≡ true → is_zero (suc_ℤ l) ≡ false
+not_top_level (pos n) h = refl
+not_top_level (negsuc n) h = absurd (false≢true h)
 
 -- one deeper no token is top-level
-pub placed_from-suc : (l : ℤ) (a : List Token) → is_at_least_0 l ≡ true → closes_from l a ≡ true → placed_from (suc_ℤ l) a ≡ map Inner a
+pub placed_from-suc : (l : ℤ) (a : List Token) → is_at_least_0 l ≡ true → closes_from l a ≡ true → placed_from (suc_ℤ l) a ≡ map Nested a
 placed_from-suc l [] high h = refl
 placed_from-suc l (t ∷ a) high h =
     let parts = and_parts _ _ h in
-    rw (not_outer l high, after-suc l t) (ap (λ ms. Inner t ∷ ms) (placed_from-suc (after l t) a parts.0 parts.1))
+    rw (not_top_level l high, after-suc l t) (ap (λ ms. Nested t ∷ ms) (placed_from-suc (after l t) a parts.0 parts.1))
 
 pub closes_from-append : (l : ℤ) (a b : List Token) → closes_from l a ≡ true → closes_from (pos 0) b ≡ true → closes_from l (a ++ b) ≡ true
 closes_from-append l [] b h k = subst (λ m. closes_from m b ≡ true) (sym (zero_from l h)) k

@@ -6,24 +6,27 @@ use Rattle.sql_parts.specs.Tokens.{Token, ends_with, is_semicolon}
 use Rattle.sql_builder.specs.TokenParts.{Parts, but_last, parts_at, pieces_at, pieces_of, with_front}
 use Rattle.sql_builder.specs.Truths.{is_and, is_between, is_between_last, is_or, owns_next, without_owned}
 use Rattle.sql_parts.proofs.fragments.DepthFacts.{after, is_zero, placed_from}
-use Rattle.sql_parts.specs.Fragments.{as_placed, Inner, Outer, Placed, is_joining, is_outer, token_of, clause_words, is_clause_word, is_whole, is_word}
+use Rattle.sql_parts.specs.Fragments.{as_placed, Nested, TopLevel, Placed, is_joining, at_top_level, token_of, clause_words, is_clause_word, is_whole}
+use Rattle.sql_parts.specs.Fragments.{is_word}
 use Rattle.sql_builder.proofs.tokens.WhereWords.{semicolon}
 use Rattle.sql_builder.specs.Reading.{is_union, without_semicolon}
 
-pub any-append : (test : Token → Bool) (a b : List Placed) → list_any (is_outer test) (a ++ b) ≡ (list_any (is_outer test) a || list_any (is_outer test) b)
+pub any-append : (test : Token → Bool) (a b : List Placed)
+    → list_any (at_top_level test) (a ++ b) ≡ (list_any (at_top_level test) a || list_any (at_top_level test) b)
 any-append test [] b = refl
-any-append test (m ∷ a) b = shift (is_outer test m) (list_any (is_outer test) a) (list_any (is_outer test) b) (list_any (is_outer test) (a ++ b))
+any-append test (m ∷ a) b = shift (at_top_level test m) (list_any (at_top_level test) a) (list_any (at_top_level test) b)
+    (list_any (at_top_level test) (a ++ b))
     (any-append test a b)
   where
     shift : (x y z w : Bool) → w ≡ (y || z) → (x || w) ≡ ((x || y) || z)
     shift true y z w e = refl
     shift false y z w e = e
 
-pub none-append : (test : Token → Bool) (a b : List Placed) → list_any (is_outer test) a ≡ false → list_any (is_outer test) b ≡ false
-    → list_any (is_outer test) (a ++ b) ≡ false
+pub none-append : (test : Token → Bool) (a b : List Placed) → list_any (at_top_level test) a ≡ false → list_any (at_top_level test) b ≡ false
+    → list_any (at_top_level test) (a ++ b) ≡ false
 none-append test a b h k = any-append test a b ∙ or_from _ _ h k
 
-pub none-inner : (test : Token → Bool) (a : List Token) → list_any (is_outer test) (map Inner a) ≡ false
+pub none-inner : (test : Token → Bool) (a : List Token) → list_any (at_top_level test) (map Nested a) ≡ false
 none-inner test [] = refl
 none-inner test (t ∷ a) = none-inner test a
 
@@ -36,18 +39,19 @@ unfolding parts_then
 with_front-then true s a t b = refl
 with_front-then false s a t b = refl
 
-pub parts-separator : (test : Token → Bool) (a : List Placed) (t : Token) (b : List Placed) → test t ≡ true → parts_at test (a ++ Outer t ∷ b)
+pub parts-separator : (test : Token → Bool) (a : List Placed) (t : Token) (b : List Placed) → test t ≡ true → parts_at test (a ++ TopLevel t ∷ b)
     ≡ parts_then (parts_at test a) t (parts_at test b)
 unfolding parts_then
 parts-separator test [] t b h = rw h
-parts-separator test (m ∷ a) t b h = rw (parts-separator test a t b h) (with_front-then (is_outer test m) (token_of m) (parts_at test a) t (parts_at test b))
+parts-separator test (m ∷ a) t b h = rw (parts-separator test a t b h)
+    (with_front-then (at_top_level test m) (token_of m) (parts_at test a) t (parts_at test b))
 
 map-append : (xs ys : List (Token × List Token)) → map (λ (part : Token × List Token). part.1) (xs ++ ys) ≡ map (λ (part : Token × List Token). part.1) xs
     ++ map (λ (part : Token × List Token). part.1) ys
 map-append [] ys = refl
 map-append (x ∷ xs) ys = ap (λ zs. x.1 ∷ zs) (map-append xs ys)
 
-pub pieces-separator : (test : Token → Bool) (a : List Placed) (t : Token) (b : List Placed) → test t ≡ true → pieces_at test (a ++ Outer t ∷ b)
+pub pieces-separator : (test : Token → Bool) (a : List Placed) (t : Token) (b : List Placed) → test t ≡ true → pieces_at test (a ++ TopLevel t ∷ b)
     ≡ pieces_at test a ++ pieces_at test b
 unfolding parts_then
 pieces-separator test a t b h =
@@ -55,66 +59,68 @@ pieces-separator test a t b h =
     let more = parts_at test b in
     ap pieces_of (parts-separator test a t b h) ∙ ap (λ zs. parted.lead ∷ zs) (map-append parted.rest ((t, more.lead) ∷ more.rest))
 
-pub parts-none : (test : Token → Bool) (a : List Placed) → list_any (is_outer test) a ≡ false → parts_at test a ≡ record { lead = map token_of a; rest = [] }
+pub parts-none : (test : Token → Bool) (a : List Placed) → list_any (at_top_level test) a ≡ false
+    → parts_at test a ≡ record { lead = map token_of a; rest = [] }
 parts-none test [] h = refl
 parts-none test (m ∷ a) h =
-    let both = or_parts (is_outer test m) (list_any (is_outer test) a) h in
+    let both = or_parts (at_top_level test m) (list_any (at_top_level test) a) h in
     rw (both.0, parts-none test a both.1)
 
 pub tokens-placed_from : (l : ℤ) (ts : List Token) → map token_of (placed_from l ts) ≡ ts
 tokens-placed_from l [] = refl
 tokens-placed_from l (t ∷ ts) = back (is_zero l) t (map token_of (placed_from (after l t) ts)) ts (tokens-placed_from (after l t) ts)
   where
-    back : (outer : Bool) (t : Token) (us ts : List Token) → us ≡ ts → token_of (as_placed outer t) ∷ us ≡ t ∷ ts
+    back : (at_top : Bool) (t : Token) (us ts : List Token) → us ≡ ts → token_of (as_placed at_top t) ∷ us ≡ t ∷ ts
     back true t us ts e = ap (λ vs. t ∷ vs) e
     back false t us ts e = ap (λ vs. t ∷ vs) e
 
 -- one AND hidden or not, the token is the same
-token_hidden : (b : Bool) (t : Token) → token_of (cond b (Inner t) (Outer t)) ≡ t
+token_hidden : (b : Bool) (t : Token) → token_of (cond b (Nested t) (TopLevel t)) ≡ t
 token_hidden true t = refl
 token_hidden false t = refl
 
 pub tokens-without_owned : (owned : Bool) (ms : List Placed) → map token_of (without_owned owned ms) ≡ map token_of ms
 tokens-without_owned owned [] = refl
-tokens-without_owned owned (Inner t ∷ ms) = ap (λ ts. t ∷ ts) (tokens-without_owned owned ms)
-tokens-without_owned owned (Outer t ∷ ms) = cc (token_hidden (owned && is_and t) t, tokens-without_owned (is_between_last owned t) ms)
+tokens-without_owned owned (Nested t ∷ ms) = ap (λ ts. t ∷ ts) (tokens-without_owned owned ms)
+tokens-without_owned owned (TopLevel t ∷ ms) = cc (token_hidden (owned && is_and t) t, tokens-without_owned (is_between_last owned t) ms)
 
 -- where no top-level token is OR, AND or BETWEEN, no AND is owned, and what follows is as before
-pub without_owned-plain : (owned : Bool) (a b : List Placed) → list_any (is_outer is_joining) a ≡ false → without_owned owned (a ++ b) ≡ a
+pub without_owned-plain : (owned : Bool) (a b : List Placed) → list_any (at_top_level is_joining) a ≡ false → without_owned owned (a ++ b) ≡ a
     ++ without_owned owned b
 without_owned-plain owned [] b h = refl
-without_owned-plain owned (Inner t ∷ a) b h = ap (λ ms. Inner t ∷ ms) (without_owned-plain owned a b h)
-without_owned-plain owned (Outer t ∷ a) b h =
-    let here = or_parts (is_joining t) (list_any (is_outer is_joining) a) h in
+without_owned-plain owned (Nested t ∷ a) b h = ap (λ ms. Nested t ∷ ms) (without_owned-plain owned a b h)
+without_owned-plain owned (TopLevel t ∷ a) b h =
+    let here = or_parts (is_joining t) (list_any (at_top_level is_joining) a) h in
     let words = or_parts (is_or t) (is_and t || (is_between t || false)) here.0 in
     let ands = or_parts (is_and t) (is_between t || false) words.1 in
     unchanged owned (is_or t) (is_and t) (is_between t) words.0 ands.0 (or_parts (is_between t) false ands.1).0 (without_owned-plain owned a b here.1)
   where
     unchanged : (owned or and between : Bool) → or ≡ false → and ≡ false → between ≡ false → without_owned owned (a ++ b) ≡ a ++ without_owned owned b
-        → cond (owned && and) (Inner t) (Outer t) ∷ without_owned (cond between true (cond (and || or) false owned)) (a ++ b)
-        ≡ Outer t ∷ (a ++ without_owned owned b)
+        → cond (owned && and) (Nested t) (TopLevel t) ∷ without_owned (cond between true (cond (and || or) false owned)) (a ++ b)
+        ≡ TopLevel t ∷ (a ++ without_owned owned b)
     unchanged true true and between e f g k = absurd (true≢false e)
     unchanged true false true between e f g k = absurd (true≢false f)
     unchanged true false false true e f g k = absurd (true≢false g)
-    unchanged true false false false e f g k = ap (λ ms. Outer t ∷ ms) k
+    unchanged true false false false e f g k = ap (λ ms. TopLevel t ∷ ms) k
     unchanged false true and between e f g k = absurd (true≢false e)
     unchanged false false true between e f g k = absurd (true≢false f)
     unchanged false false false true e f g k = absurd (true≢false g)
-    unchanged false false false false e f g k = ap (λ ms. Outer t ∷ ms) k
+    unchanged false false false false e f g k = ap (λ ms. TopLevel t ∷ ms) k
 
 -- what follows tokens is read by whether a BETWEEN of theirs owns the next AND
 pub without_owned-append : (owned : Bool) (a b : List Placed) → without_owned owned (a ++ b) ≡ without_owned owned a ++ without_owned (owns_next owned a) b
 without_owned-append owned [] b = refl
-without_owned-append owned (Inner t ∷ a) b = ap (λ ms. Inner t ∷ ms) (without_owned-append owned a b)
-without_owned-append owned (Outer t ∷ a) b = ap (λ ms. cond (owned && is_and t) (Inner t) (Outer t) ∷ ms) (without_owned-append (is_between_last owned t) a b)
+without_owned-append owned (Nested t ∷ a) b = ap (λ ms. Nested t ∷ ms) (without_owned-append owned a b)
+without_owned-append owned (TopLevel t ∷ a) b = ap (λ ms. cond (owned && is_and t) (Nested t) (TopLevel t) ∷ ms)
+    (without_owned-append (is_between_last owned t) a b)
 
 -- a test that implies another
-pub none_narrower : (test wider : Token → Bool) → ((t : Token) → wider t ≡ false → test t ≡ false) → (a : List Placed) → list_any (is_outer wider) a ≡ false
-    → list_any (is_outer test) a ≡ false
+pub none_narrower : (test wider : Token → Bool) → ((t : Token) → wider t ≡ false → test t ≡ false) → (a : List Placed) → list_any (at_top_level wider) a ≡ false
+    → list_any (at_top_level test) a ≡ false
 none_narrower test wider narrow [] h = refl
-none_narrower test wider narrow (Inner t ∷ a) h = none_narrower test wider narrow a h
-none_narrower test wider narrow (Outer t ∷ a) h =
-    let both = or_parts (wider t) (list_any (is_outer wider) a) h in
+none_narrower test wider narrow (Nested t ∷ a) h = none_narrower test wider narrow a h
+none_narrower test wider narrow (TopLevel t ∷ a) h =
+    let both = or_parts (wider t) (list_any (at_top_level wider) a) h in
     or_from _ _ (narrow t both.0) (none_narrower test wider narrow a both.1)
 
 -- ---- the last token

@@ -4,7 +4,7 @@ use Rattle.std.specs.Prelude.{Bool, false, not, ◌&&◌, List, [], ◌∷◌, c
 use Rattle.std.specs.List.{list_all}
 use Rattle.sql_parts.specs.Fragments.{is_clause_word}
 use Rattle.sql_parts.specs.Tokens.{Token, Word, Symbol}
-use Rattle.sql_parts.proofs.fragments.DepthFacts.{has_outer, is_balanced}
+use Rattle.sql_parts.proofs.fragments.DepthFacts.{has_top_level, is_balanced}
 
 abbrev pub or_word : Token
 or_word = Word (codes "OR")
@@ -41,7 +41,7 @@ semicolon = Symbol (code ";")
 
 -- a top-level word begins a clause
 abbrev pub has_clause : List Token → Bool
-has_clause ts = has_outer is_clause_word ts
+has_clause ts = has_top_level is_clause_word ts
 
 -- balanced, with no top-level clause keyword
 abbrev pub is_condition : List Token → Bool

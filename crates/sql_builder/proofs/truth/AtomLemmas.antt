@@ -12,8 +12,9 @@ use Rattle.sql_builder.proofs.truth.ConnectiveLemmas.{placed-then, no_or, no_and
 use Rattle.sql_builder.proofs.tokens.BalancedFacts.{none-joined, even_closes}
 use Rattle.sql_builder.specs.TokenParts.{but_last}
 use Rattle.sql_builder.specs.Truths.{IsAtom, inside, is_and, is_not, is_or, truth, truth_by, value_in, without_owned}
-use Rattle.sql_parts.proofs.fragments.DepthFacts.{after, at_end, closes_from, has_outer, is_at_least_1, is_balanced, is_even, is_operand, placed, stays_inside}
-use Rattle.sql_parts.specs.Fragments.{Inner, Outer, is_joining, is_outer, is_symbol}
+use Rattle.sql_parts.proofs.fragments.DepthFacts.{after, at_end, closes_from, has_top_level, is_at_least_1, is_balanced, is_even, is_operand, placed}
+use Rattle.sql_parts.proofs.fragments.DepthFacts.{stays_inside}
+use Rattle.sql_parts.specs.Fragments.{Nested, TopLevel, is_joining, at_top_level, is_symbol}
 
 -- what is known of an operand
 operand_closes : (f : List Token) → is_operand f ≡ true → closes_from (pos 0) f ≡ true
@@ -22,12 +23,12 @@ operand_closes f h = (and_parts _ _ (and_parts _ _ (and_parts (is_balanced f) _ 
 operand_ends : (f : List Token) → is_operand f ≡ true → at_end (pos 0) f ≡ pos 0
 operand_ends f h = at_end-closes (pos 0) f (operand_closes f h)
 
-pub operand_plain : (f : List Token) → is_operand f ≡ true → has_outer is_joining f ≡ false
-operand_plain f h = not-true _ (and_parts (not (has_outer is_joining f)) (not (begins_with is_not f)) (and_parts (is_balanced f) _ h).1).0
+pub operand_plain : (f : List Token) → is_operand f ≡ true → has_top_level is_joining f ≡ false
+operand_plain f h = not-true _ (and_parts (not (has_top_level is_joining f)) (not (begins_with is_not f)) (and_parts (is_balanced f) _ h).1).0
 
 operand_no_not : (f r : List Token) → is_operand f ≡ true → begins_with is_not (f ++ r) ≡ false
 operand_no_not [] r h = absurd (false≢true h)
-operand_no_not (t ∷ f) r h = not-true _ (and_parts (not (has_outer is_joining (t ∷ f))) (not (begins_with is_not (t ∷ f)))
+operand_no_not (t ∷ f) r h = not-true _ (and_parts (not (has_top_level is_joining (t ∷ f))) (not (begins_with is_not (t ∷ f)))
     (and_parts (is_balanced (t ∷ f)) _ h).1).1
 
 -- the depth is 0 after what ends there
@@ -44,23 +45,23 @@ not_bracketed (u ∷ f) t q h =
     (ap (stays_inside (pos 0)) (but_last-append (u ∷ f) t q) ∙ not_inside (pos 0) u f (but_last (t ∷ q)) (operand_ends (u ∷ f) h))))
 
 -- behind an operand, what has no top-level OR and no top-level AND but those of BETWEEN
-pub atom : (f : List Token) (t : Token) (q : List Token) → is_operand f ≡ true → has_outer is_or (t ∷ q) ≡ false
-    → list_any (is_outer is_and) (placed_ands (t ∷ q)) ≡ false → IsAtom (f ++ t ∷ q)
+pub atom : (f : List Token) (t : Token) (q : List Token) → is_operand f ≡ true → has_top_level is_or (t ∷ q) ≡ false
+    → list_any (at_top_level is_and) (placed_ands (t ∷ q)) ≡ false → IsAtom (f ++ t ∷ q)
 atom f t q h ors ands facts =
     let both : placed (f ++ t ∷ q) ≡ placed f ++ placed (t ∷ q) = placed-then f (t ∷ q) (operand_ends f h) in
     let plain = operand_plain f h in
     truth_is facts (f ++ t ∷ q)
     ∙ ap (truth_by (truth facts) (value_in facts (f ++ t ∷ q)))
-    (cond-false _ _ _ (ap (list_any (is_outer is_or)) both ∙ none-append is_or (placed f) (placed (t ∷ q)) (no_or (placed f) plain) ors)
-    ∙ cond-false _ _ _ (ap (λ ms. list_any (is_outer is_and) (without_owned false ms)) both
-    ∙ ap (list_any (is_outer is_and)) (without_owned-plain false (placed f) (placed (t ∷ q)) plain)
+    (cond-false _ _ _ (ap (list_any (at_top_level is_or)) both ∙ none-append is_or (placed f) (placed (t ∷ q)) (no_or (placed f) plain) ors)
+    ∙ cond-false _ _ _ (ap (λ ms. list_any (at_top_level is_and) (without_owned false ms)) both
+    ∙ ap (list_any (at_top_level is_and)) (without_owned-plain false (placed f) (placed (t ∷ q)) plain)
     ∙ none-append is_and (placed f) (placed_ands (t ∷ q)) (no_and (placed f) plain) ands)
     ∙ cond-false _ _ _ (operand_no_not f (t ∷ q) h)
     ∙ cond-false _ _ _ (not_bracketed f t q h))
 
 -- what has no top-level OR, AND or BETWEEN
-pub atom_plain : (f : List Token) (t : Token) (q : List Token) → is_operand f ≡ true → has_outer is_joining (t ∷ q) ≡ false → IsAtom (f ++ t ∷ q)
-atom_plain f t q h plain = atom f t q h (no_or (placed (t ∷ q)) plain) (ap (list_any (is_outer is_and)) (without_owned-all (placed (t ∷ q)) plain)
+pub atom_plain : (f : List Token) (t : Token) (q : List Token) → is_operand f ≡ true → has_top_level is_joining (t ∷ q) ≡ false → IsAtom (f ++ t ∷ q)
+atom_plain f t q h plain = atom f t q h (no_or (placed (t ∷ q)) plain) (ap (list_any (at_top_level is_and)) (without_owned-all (placed (t ∷ q)) plain)
     ∙ no_and (placed (t ∷ q)) plain)
 
 pub atom_like : (f : List Token) (mask : List ℕ) → is_operand f ≡ true → IsAtom (f ++ like_word ∷ Token.Str mask ∷ [])
@@ -76,16 +77,16 @@ pub atom_not_null : (f : List Token) → is_operand f ≡ true → IsAtom (f ++ 
 atom_not_null f h = atom_plain f is_null_word (not_word ∷ null_word ∷ []) h refl
 
 -- the AND of a BETWEEN is owned
-between_or : (a b : List Token) → is_operand a ≡ true → is_operand b ≡ true → has_outer is_or (between_word ∷ a ++ and_word ∷ b) ≡ false
+between_or : (a b : List Token) → is_operand a ≡ true → is_operand b ≡ true → has_top_level is_or (between_word ∷ a ++ and_word ∷ b) ≡ false
 between_or a b h k = none-joined is_or a (and_word ∷ b) (operand_closes a h) (no_or (placed a) (operand_plain a h)) (no_or (placed b) (operand_plain b k))
 
-between_and : (a b : List Token) → is_operand a ≡ true → is_operand b ≡ true → list_any (is_outer is_and) (placed_ands (between_word ∷ a ++ and_word ∷ b))
+between_and : (a b : List Token) → is_operand a ≡ true → is_operand b ≡ true → list_any (at_top_level is_and) (placed_ands (between_word ∷ a ++ and_word ∷ b))
     ≡ false
 between_and a b h k =
-    ap (λ ms. list_any (is_outer is_and) (without_owned true ms)) (placed-then a (and_word ∷ b) (operand_ends a h))
-    ∙ ap (list_any (is_outer is_and)) (without_owned-plain true (placed a) (Outer and_word ∷ placed b) (operand_plain a h))
-    ∙ none-append is_and (placed a) (Inner and_word ∷ placed_ands b) (no_and (placed a) (operand_plain a h))
-    (ap (list_any (is_outer is_and)) (without_owned-all (placed b) (operand_plain b k)) ∙ no_and (placed b) (operand_plain b k))
+    ap (λ ms. list_any (at_top_level is_and) (without_owned true ms)) (placed-then a (and_word ∷ b) (operand_ends a h))
+    ∙ ap (list_any (at_top_level is_and)) (without_owned-plain true (placed a) (TopLevel and_word ∷ placed b) (operand_plain a h))
+    ∙ none-append is_and (placed a) (Nested and_word ∷ placed_ands b) (no_and (placed a) (operand_plain a h))
+    (ap (list_any (at_top_level is_and)) (without_owned-all (placed b) (operand_plain b k)) ∙ no_and (placed b) (operand_plain b k))
 
 pub atom_between : (f a b : List Token) → is_operand f ≡ true → is_operand a ≡ true → is_operand b ≡ true → IsAtom (f ++ between_word ∷ (a ++ and_word ∷ b))
 atom_between f a b h k l = atom f between_word (a ++ and_word ∷ b) h (between_or a b k l) (between_and a b k l)

@@ -17,7 +17,7 @@ use Rattle.sql_builder.specs.declared.condition.Family.{Family}
 use Rattle.sql_builder.proofs.fragments.NeutralLemmas.{condition-neutral}
 use Rattle.sql_builder.proofs.fragments.PropertyLemmas.{neutral-raw}
 use Rattle.sql_builder.proofs.reading.LayoutLemmas.{where_bodies, where_body}
-use Rattle.sql_builder.proofs.reading.SectionLemmas.{Neutral, neutral-front, own-outer}
+use Rattle.sql_builder.proofs.reading.SectionLemmas.{Neutral, neutral-front, own-top_level}
 use Rattle.sql_builder.proofs.reading.ClauseWordLemmas.{Flagged, fit-balanced, fit-flags, flags, shape-even, are_fit_from, is_fit, are_fit-is}
 use Rattle.sql_builder.proofs.pieces.ShapeLemmas.{pieces_tokens-append, pieces_tokens-brackets}
 use Rattle.sql_builder.proofs.truth.WhereLemmas.{truth_where}
@@ -29,23 +29,23 @@ use Rattle.sql_builder.specs.Meaning.{condition_groups, text_groups, where_truth
 use Rattle.sql_builder.specs.Reading.{own_placed}
 use Rattle.sql_builder.specs.Truths.{truth, Valuation}
 use Rattle.sql_parts.proofs.fragments.DepthFacts.{is_balanced, placed}
-use Rattle.sql_parts.specs.Fragments.{Placed, is_clause_word, is_outer}
+use Rattle.sql_parts.specs.Fragments.{Placed, is_clause_word, at_top_level}
 use Rattle.std.proofs.lemmas.List.Folds.{list_all-map}
 use Rattle.sql_builder.proofs.lists.AllFacts.{cut-all}
 use Rattle.sql_builder.proofs.conditions.ConditionLemmas.{begins_raw}
 
 -- ---- one condition
 
-any-flags : (ms : List Placed) → list_any (is_outer is_clause_word) ms ≡ list_any (λ (m : Flagged). m.0) (flags ms)
+any-flags : (ms : List Placed) → list_any (at_top_level is_clause_word) ms ≡ list_any (λ (m : Flagged). m.0) (flags ms)
 any-flags [] = refl
-any-flags (m ∷ ms) = ap (λ (b : Bool). is_outer is_clause_word m || b) (any-flags ms)
+any-flags (m ∷ ms) = ap (λ (b : Bool). at_top_level is_clause_word m || b) (any-flags ms)
 
 -- fit pieces without a clause word of the product's have no top-level clause keyword
 no_clause-tokens : (ps : Pieces) → Neutral ps → are_fit_from (pos 0) ps ≡ true → has_clause (pieces_tokens ps) ≡ false
 no_clause-tokens ps neutral fit =
     any-flags (placed (pieces_tokens ps))
     ∙ ap (list_any (λ (m : Flagged). m.0)) (fit-flags (pos 0) ps refl fit (neutral-front ps neutral).laid)
-    ∙ sym (any-flags (flat_map own_placed ps)) ∙ own-outer is_clause_word ps ∙ neutral.no_word
+    ∙ sym (any-flags (flat_map own_placed ps)) ∙ own-top_level is_clause_word ps ∙ neutral.no_word
 
 some-append : (a b : List Token) → is_balanced a ≡ true → not (is_empty (a ++ b)) ≡ true
 some-append [] b h = absurd (false≢true h)

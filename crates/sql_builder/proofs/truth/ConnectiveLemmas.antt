@@ -13,8 +13,8 @@ use Rattle.sql_builder.proofs.truth.FormLemmas.{truth_is, is_bracketed, placed_a
 use Rattle.sql_builder.specs.TokenParts.{pieces_at, pieces_of}
 use Rattle.sql_builder.specs.Truths.{False, True, Truth, Unknown, not3, or3, or_all, is_and, is_or, and_all, and3, truth, truth_by, value_in, without_owned}
 use Rattle.sql_builder.specs.Truths.{Valuation, is_between, owns_next}
-use Rattle.sql_parts.proofs.fragments.DepthFacts.{after, at_end, closes_from, has_outer, is_at_least_0, is_at_least_1, placed, placed_from, stays_inside}
-use Rattle.sql_parts.specs.Fragments.{Inner, Outer, Placed, is_joining, is_outer, is_symbol}
+use Rattle.sql_parts.proofs.fragments.DepthFacts.{after, at_end, closes_from, has_top_level, is_at_least_0, is_at_least_1, placed, placed_from, stays_inside}
+use Rattle.sql_parts.specs.Fragments.{Nested, TopLevel, Placed, is_joining, at_top_level, is_symbol}
 
 pub or3-False : (x : Truth) → or3 x False ≡ x
 or3-False False = refl
@@ -53,27 +53,27 @@ and_all-append f [] ys = refl
 and_all-append f (x ∷ xs) ys = ap (and3 (f x)) (and_all-append f xs ys) ∙ sym (and3_assoc (f x) _ _)
 
 -- no separator: the one piece is the whole
-one_piece : (test : Token → Bool) (ts : List Token) → has_outer test ts ≡ false → pieces_at test (placed ts) ≡ ts ∷ []
+one_piece : (test : Token → Bool) (ts : List Token) → has_top_level test ts ≡ false → pieces_at test (placed ts) ≡ ts ∷ []
 one_piece test ts h = ap pieces_of (parts-none test (placed ts) h) ∙ ap (λ us. us ∷ []) (tokens-placed_from (pos 0) ts)
 
-one_piece_and : (ts : List Token) → list_any (is_outer is_and) (placed_ands ts) ≡ false → pieces_at is_and (placed_ands ts) ≡ ts ∷ []
+one_piece_and : (ts : List Token) → list_any (at_top_level is_and) (placed_ands ts) ≡ false → pieces_at is_and (placed_ands ts) ≡ ts ∷ []
 one_piece_and ts h = ap pieces_of (parts-none is_and (placed_ands ts) h)
     ∙ ap (λ us. us ∷ []) (tokens-without_owned false (placed ts) ∙ tokens-placed_from (pos 0) ts)
 
 -- the OR of the pieces between the top-level ORs, also where there is none
 pub truth_any : (facts : Valuation) (ts : List Token) → truth facts ts ≡ or_all (map (truth facts) (pieces_at is_or (placed ts)))
-truth_any facts ts = by (has_outer is_or ts) refl
+truth_any facts ts = by (has_top_level is_or ts) refl
   where
-    by : (b : Bool) → has_outer is_or ts ≡ b → truth facts ts ≡ or_all (map (truth facts) (pieces_at is_or (placed ts)))
+    by : (b : Bool) → has_top_level is_or ts ≡ b → truth facts ts ≡ or_all (map (truth facts) (pieces_at is_or (placed ts)))
     by true e = truth_is facts ts ∙ ap (truth_by (truth facts) (value_in facts ts)) (cond-true _ _ _ e)
     by false e = sym (ap (λ ps. or_all (map (truth facts) ps)) (one_piece is_or ts e) ∙ or3-False (truth facts ts))
 
 -- the same of the top-level ANDs, where there is no top-level OR
-pub truth_all : (facts : Valuation) (ts : List Token) → has_outer is_or ts ≡ false → truth facts ts
+pub truth_all : (facts : Valuation) (ts : List Token) → has_top_level is_or ts ≡ false → truth facts ts
     ≡ and_all (map (truth facts) (pieces_at is_and (placed_ands ts)))
-truth_all facts ts h = by (list_any (is_outer is_and) (placed_ands ts)) refl
+truth_all facts ts h = by (list_any (at_top_level is_and) (placed_ands ts)) refl
   where
-    by : (b : Bool) → list_any (is_outer is_and) (placed_ands ts) ≡ b → truth facts ts ≡ and_all (map (truth facts) (pieces_at is_and (placed_ands ts)))
+    by : (b : Bool) → list_any (at_top_level is_and) (placed_ands ts) ≡ b → truth facts ts ≡ and_all (map (truth facts) (pieces_at is_and (placed_ands ts)))
     by true e = truth_is facts ts ∙ ap (truth_by (truth facts) (value_in facts ts)) (cond-false _ _ _ h ∙ cond-true _ _ _ e)
     by false e = sym (ap (λ ps. and_all (map (truth facts) ps)) (one_piece_and ts e) ∙ and3-True (truth facts ts))
 
@@ -92,36 +92,37 @@ truth_or facts a b h =
     ∙ ap (or3 (truth facts a)) (sym (truth_any facts b))
 
 -- no top-level OR, AND or BETWEEN: no top-level OR, and no top-level AND
-pub no_or : (ms : List Placed) → list_any (is_outer is_joining) ms ≡ false → list_any (is_outer is_or) ms ≡ false
+pub no_or : (ms : List Placed) → list_any (at_top_level is_joining) ms ≡ false → list_any (at_top_level is_or) ms ≡ false
 no_or ms h = none_narrower is_or is_joining (λ t e. (or_parts _ _ e).0) ms h
 
-pub no_and : (ms : List Placed) → list_any (is_outer is_joining) ms ≡ false → list_any (is_outer is_and) ms ≡ false
+pub no_and : (ms : List Placed) → list_any (at_top_level is_joining) ms ≡ false → list_any (at_top_level is_and) ms ≡ false
 no_and ms h = none_narrower is_and is_joining (λ t e. (or_parts _ _ (or_parts (is_or t) _ e).1).0) ms h
 
-pub without_owned-all : (a : List Placed) → list_any (is_outer is_joining) a ≡ false → without_owned false a ≡ a
+pub without_owned-all : (a : List Placed) → list_any (at_top_level is_joining) a ≡ false → without_owned false a ≡ a
 without_owned-all a h = subst (λ ms. without_owned false ms ≡ ms) (append-nil a) (without_owned-plain false a [] h)
 
 -- the truth of an AND
-pub truth_and : (facts : Valuation) (a b : List Token) → at_end (pos 0) a ≡ pos 0 → has_outer is_or a ≡ false → owns_next false (placed a) ≡ false
-    → has_outer is_or b ≡ false
+pub truth_and : (facts : Valuation) (a b : List Token) → at_end (pos 0) a ≡ pos 0 → has_top_level is_or a ≡ false → owns_next false (placed a) ≡ false
+    → has_top_level is_or b ≡ false
     → truth facts (a ++ and_word ∷ b) ≡ and3 (truth facts a) (truth facts b)
 truth_and facts a b h no_or_a free no_or_b =
-    let both : placed (a ++ and_word ∷ b) ≡ placed a ++ Outer and_word ∷ placed b = placed-then a (and_word ∷ b) h in
-    truth_all facts (a ++ and_word ∷ b) (ap (list_any (is_outer is_or)) both ∙ none-append is_or (placed a) (Outer and_word ∷ placed b) no_or_a no_or_b)
+    let both : placed (a ++ and_word ∷ b) ≡ placed a ++ TopLevel and_word ∷ placed b = placed-then a (and_word ∷ b) h in
+    truth_all facts (a ++ and_word ∷ b) (ap (list_any (at_top_level is_or)) both ∙ none-append is_or (placed a) (TopLevel and_word ∷ placed b) no_or_a no_or_b)
     ∙ ap (λ ms. and_all (map (truth facts) (pieces_at is_and (without_owned false ms)))) both
     ∙ ap (λ ms. and_all (map (truth facts) (pieces_at is_and ms)))
-    (without_owned-append false (placed a) (Outer and_word ∷ placed b) ∙ ap (λ owned. placed_ands a ++ without_owned owned (Outer and_word ∷ placed b)) free)
+    (without_owned-append false (placed a) (TopLevel and_word ∷ placed b)
+    ∙ ap (λ owned. placed_ands a ++ without_owned owned (TopLevel and_word ∷ placed b)) free)
     ∙ ap (λ ps. and_all (map (truth facts) ps)) (pieces-separator is_and (placed_ands a) and_word (placed_ands b) refl)
     ∙ and_all-append (truth facts) (pieces_at is_and (placed_ands a)) (pieces_at is_and (placed_ands b))
     ∙ ap (λ x. and3 x (and_all (map (truth facts) (pieces_at is_and (placed_ands b))))) (sym (truth_all facts a no_or_a))
     ∙ ap (and3 (truth facts a)) (sym (truth_all facts b no_or_b))
 
 -- what has no top-level OR, AND or BETWEEN owns nothing
-pub plain-owns : (ms : List Placed) → list_any (is_outer is_joining) ms ≡ false → owns_next false ms ≡ false
+pub plain-owns : (ms : List Placed) → list_any (at_top_level is_joining) ms ≡ false → owns_next false ms ≡ false
 plain-owns [] h = refl
-plain-owns (Inner t ∷ ms) h = plain-owns ms h
-plain-owns (Outer t ∷ ms) h =
-    let here = or_parts (is_joining t) (list_any (is_outer is_joining) ms) h in
+plain-owns (Nested t ∷ ms) h = plain-owns ms h
+plain-owns (TopLevel t ∷ ms) h =
+    let here = or_parts (is_joining t) (list_any (at_top_level is_joining) ms) h in
     let words = or_parts (is_or t) (is_and t || (is_between t || false)) here.0 in
     let ands = or_parts (is_and t) (is_between t || false) words.1 in
     let between = (or_parts (is_between t) false ands.1).0 in
@@ -131,13 +132,13 @@ plain-owns (Outer t ∷ ms) h =
 
 -- in brackets no token but the first is top-level
 pub placed-brackets : (ts : List Token) → closes_from (pos 0) ts ≡ true → placed (in_brackets ts)
-    ≡ Outer left_bracket ∷ (map Inner ts ++ Inner right_bracket ∷ [])
+    ≡ TopLevel left_bracket ∷ (map Nested ts ++ Nested right_bracket ∷ [])
 unfolding in_brackets
 placed-brackets ts h =
     let last : at_end (pos 1) ts ≡ pos 1 = at_end-suc (pos 0) ts ∙ ap suc_ℤ (at_end-closes (pos 0) ts h) in
-    let back : placed_from (at_end (pos 1) ts) (right_bracket ∷ []) ≡ Inner right_bracket ∷ [] = ap (λ l. placed_from l (right_bracket ∷ [])) last in
-    ap (λ ms. Outer left_bracket ∷ ms) (placed_from-append (pos 1) ts (right_bracket ∷ [])
-    ∙ ap (λ ms. ms ++ placed_from (at_end (pos 1) ts) (right_bracket ∷ [])) (placed_from-suc (pos 0) ts refl h) ∙ ap (λ ms. map Inner ts ++ ms) back)
+    let back : placed_from (at_end (pos 1) ts) (right_bracket ∷ []) ≡ Nested right_bracket ∷ [] = ap (λ l. placed_from l (right_bracket ∷ [])) last in
+    ap (λ ms. TopLevel left_bracket ∷ ms) (placed_from-append (pos 1) ts (right_bracket ∷ [])
+    ∙ ap (λ ms. ms ++ placed_from (at_end (pos 1) ts) (right_bracket ∷ [])) (placed_from-suc (pos 0) ts refl h) ∙ ap (λ ms. map Nested ts ++ ms) back)
 
 pub at_end-brackets : (ts : List Token) → closes_from (pos 0) ts ≡ true → at_end (pos 0) (in_brackets ts) ≡ pos 0
 unfolding in_brackets
@@ -146,10 +147,10 @@ at_end-brackets ts h =
     ∙ ap (λ l. at_end l (right_bracket ∷ [])) (at_end-suc (pos 0) ts ∙ ap suc_ℤ (at_end-closes (pos 0) ts h))
 
 -- so no test finds a top-level token there, if it does not pass `(`
-pub none-brackets : (test : Token → Bool) (ts : List Token) → test left_bracket ≡ false → closes_from (pos 0) ts ≡ true → has_outer test (in_brackets ts)
+pub none-brackets : (test : Token → Bool) (ts : List Token) → test left_bracket ≡ false → closes_from (pos 0) ts ≡ true → has_top_level test (in_brackets ts)
     ≡ false
-none-brackets test ts first h = ap (list_any (is_outer test)) (placed-brackets ts h)
-    ∙ or_from _ _ first (none-append test (map Inner ts) (Inner right_bracket ∷ []) (none-inner test ts) refl)
+none-brackets test ts first h = ap (list_any (at_top_level test)) (placed-brackets ts h)
+    ∙ or_from _ _ first (none-append test (map Nested ts) (Nested right_bracket ∷ []) (none-inner test ts) refl)
 
 one_more : (l : ℤ) → is_at_least_0 l ≡ true → is_at_least_1 (suc_ℤ l) ≡ true
 one_more (pos n) h = refl
@@ -177,13 +178,13 @@ truth_brackets facts ts h no_clause =
     truth_is facts (in_brackets ts)
     ∙ ap (truth_by (truth facts) (value_in facts (in_brackets ts)))
     (cond-false _ _ _ (none-brackets is_or ts refl h)
-    ∙ cond-false _ _ _ (ap (list_any (is_outer is_and)) (without_owned-all (placed (in_brackets ts)) (none-brackets is_joining ts refl h))
+    ∙ cond-false _ _ _ (ap (list_any (at_top_level is_and)) (without_owned-all (placed (in_brackets ts)) (none-brackets is_joining ts refl h))
     ∙ none-brackets is_and ts refl h)
     ∙ cond-true _ _ _ (bracketed ts h no_clause))
     ∙ ap (truth facts) (but_last-push ts right_bracket)
 
 -- the truth of a NOT
-pub truth_not : (facts : Valuation) (ts : List Token) → has_outer is_or ts ≡ false → list_any (is_outer is_and) (placed_ands ts) ≡ false
+pub truth_not : (facts : Valuation) (ts : List Token) → has_top_level is_or ts ≡ false → list_any (at_top_level is_and) (placed_ands ts) ≡ false
     → truth facts (not_word ∷ ts) ≡ not3 (truth facts ts)
 truth_not facts ts no_ors no_ands =
     truth_is facts (not_word ∷ ts)

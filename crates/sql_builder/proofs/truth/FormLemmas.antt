@@ -10,9 +10,9 @@ use Rattle.sql_builder.specs.Truths.{AllOf, AnyOf, Atom, Bracketed, Fact, Form, 
 use Rattle.sql_builder.specs.Truths.{is_not, is_or, and_all, truth, truth_by, truth_within, value_in, without_owned}
 use Rattle.std.proofs.Math.Bool.{and_assoc}
 use Rattle.sql_builder.specs.Truths as truths
-use Rattle.sql_parts.proofs.fragments.DepthFacts.{after, has_outer, has_outer-is, inside-is, placed, placed-is, placed_from, stays_inside}
+use Rattle.sql_parts.proofs.fragments.DepthFacts.{after, has_top_level, has_top_level-is, inside-is, placed, placed-is, placed_from, stays_inside}
 use Rattle.sql_builder.proofs.tokens.WhereWords.{has_clause}
-use Rattle.sql_parts.specs.Fragments.{Inner, Outer, Placed, is_clause_word, is_outer, is_symbol, token_of}
+use Rattle.sql_parts.specs.Fragments.{Nested, TopLevel, Placed, is_clause_word, at_top_level, is_symbol, token_of}
 
 -- the tokens with their places, where the ANDs of BETWEEN do not count
 abbrev pub placed_ands : List Token → List Placed
@@ -29,7 +29,7 @@ form_by_depth ts = form_of (placed ts) (is_bracketed ts) ts
 bracketed-is : (ts : List Token) → truths.is_bracketed ts ≡ is_bracketed ts
 bracketed-is ts =
     (λ i. begins_with (is_symbol (code "(")) ts && ends_with (is_symbol (code ")")) ts && inside-is (but_last ts) i
-    && not (has_outer-is is_clause_word (inside ts) i))
+    && not (has_top_level-is is_clause_word (inside ts) i))
     ∙ and_assoc (begins_with (is_symbol (code "(")) ts && ends_with (is_symbol (code ")")) ts) (stays_inside (pos 0) (but_last ts))
     (not (has_clause (inside ts)))
     ∙ and_assoc (begins_with (is_symbol (code "(")) ts) (ends_with (is_symbol (code ")")) ts)
@@ -44,8 +44,8 @@ length-placed l (t ∷ ts) = ap suc (length-placed (after l t) ts)
 
 length-without_owned : (owned : Bool) (ms : List Placed) → length (without_owned owned ms) ≡ length ms
 length-without_owned owned [] = refl
-length-without_owned owned (Inner t ∷ ms) = ap suc (length-without_owned owned ms)
-length-without_owned owned (Outer t ∷ ms) = ap suc (length-without_owned (is_between_last owned t) ms)
+length-without_owned owned (Nested t ∷ ms) = ap suc (length-without_owned owned ms)
+length-without_owned owned (TopLevel t ∷ ms) = ap suc (length-without_owned (is_between_last owned t) ms)
 
 -- the separators and the tokens behind them
 abbrev weight : List (Token × List Token) → ℕ
@@ -59,7 +59,7 @@ weight_front false t parts = omega arith
 
 weight_all : (test : Token → Bool) (ms : List Placed) → length (parts_at test ms).lead + weight (parts_at test ms).rest ≡ length ms
 weight_all test [] = refl
-weight_all test (m ∷ ms) = weight_front (is_outer test m) (token_of m) (parts_at test ms) ∙ ap suc (weight_all test ms)
+weight_all test (m ∷ ms) = weight_front (at_top_level test m) (token_of m) (parts_at test ms) ∙ ap suc (weight_all test ms)
 
 -- the lists are shorter than n
 abbrev Below : ℕ → List (List Token) → Type 0
@@ -79,11 +79,11 @@ later : {A B C : Type 0} → (B → C) → A ⊎ B → A ⊎ C
 later f (inl e) = inl e
 later f (inr e) = inr (f e)
 
-some_weight : (test : Token → Bool) (ms : List Placed) → list_any (is_outer test) ms ≡ true → 1 ≤ weight (parts_at test ms).rest
+some_weight : (test : Token → Bool) (ms : List Placed) → list_any (at_top_level test) ms ≡ true → 1 ≤ weight (parts_at test ms).rest
 some_weight test [] h = absurd (false≢true h)
-some_weight test (m ∷ ms) h = front_weight (is_outer test m) (token_of m) (parts_at test ms) (later (some_weight test ms) (or_cases _ _ h))
+some_weight test (m ∷ ms) h = front_weight (at_top_level test m) (token_of m) (parts_at test ms) (later (some_weight test ms) (or_cases _ _ h))
 
-pieces_below : (test : Token → Bool) (ms : List Placed) → list_any (is_outer test) ms ≡ true → Below (length ms) (pieces_at test ms)
+pieces_below : (test : Token → Bool) (ms : List Placed) → list_any (at_top_level test) ms ≡ true → Below (length ms) (pieces_at test ms)
 pieces_below test ms h =
     let some : 1 ≤ weight (parts_at test ms).rest = some_weight test ms h in
     let all : length (parts_at test ms).lead + weight (parts_at test ms).rest ≡ length ms = weight_all test ms in
@@ -110,10 +110,10 @@ inside_below : (ts : List Token) → is_bracketed ts ≡ true → length (inside
 inside_below [] h = absurd (false≢true h)
 inside_below (t ∷ ts) h = let short : length (but_last ts) ≤ length ts = length-but_last ts in omega arith
 
-any_below : (ts : List Token) → has_outer is_or ts ≡ true → Below (length ts) (pieces_at is_or (placed ts))
+any_below : (ts : List Token) → has_top_level is_or ts ≡ true → Below (length ts) (pieces_at is_or (placed ts))
 any_below ts h = subst (λ n. Below n (pieces_at is_or (placed ts))) (length-placed (pos 0) ts) (pieces_below is_or (placed ts) h)
 
-all_below : (ts : List Token) → list_any (is_outer is_and) (placed_ands ts) ≡ true → Below (length ts) (pieces_at is_and (placed_ands ts))
+all_below : (ts : List Token) → list_any (at_top_level is_and) (placed_ands ts) ≡ true → Below (length ts) (pieces_at is_and (placed_ands ts))
 all_below ts h = subst (λ n. Below n (pieces_at is_and (placed_ands ts))) (length-without_owned false (placed ts) ∙ length-placed (pos 0) ts)
     (pieces_below is_and (placed_ands ts) h)
 
@@ -128,7 +128,7 @@ choose P false false false false a b c d f g h k e = e
 
 -- each piece of a form is shorter than the whole
 form_by_depth_below : (ts : List Token) → Below (length ts) (pieces_in (form_by_depth ts))
-form_by_depth_below ts = choose (λ s. Below (length ts) (pieces_in s)) (has_outer is_or ts) (list_any (is_outer is_and) (placed_ands ts))
+form_by_depth_below ts = choose (λ s. Below (length ts) (pieces_in s)) (has_top_level is_or ts) (list_any (at_top_level is_and) (placed_ands ts))
     (begins_with is_not ts) (is_bracketed ts) (AnyOf (pieces_at is_or (placed ts))) (AllOf (pieces_at is_and (placed_ands ts))) (Negated (drop 1 ts))
     (Bracketed (inside ts)) (any_below ts) (all_below ts) (λ h. (drop_below is_not ts h, tt)) (λ h. (inside_below ts h, tt)) tt
 

@@ -11,8 +11,8 @@ use Rattle.sql_builder.proofs.tokens.PartFacts.{none-append}
 use Rattle.sql_builder.proofs.truth.ConnectiveLemmas.{truth_or, truth_and, truth_brackets, none-brackets, at_end-brackets, placed-then, or3-False, and3-True}
 use Rattle.sql_builder.proofs.truth.ConnectiveLemmas.{plain-owns}
 use Rattle.sql_builder.specs.Truths.{Fact, or3, or_all, is_or, and_all, and3, truth}
-use Rattle.sql_parts.proofs.fragments.DepthFacts.{closes_from, has_outer, is_balanced, placed}
-use Rattle.sql_parts.specs.Fragments.{is_joining, is_outer}
+use Rattle.sql_parts.proofs.fragments.DepthFacts.{closes_from, has_top_level, is_balanced, placed}
+use Rattle.sql_parts.specs.Fragments.{is_joining, at_top_level}
 
 pub condition_closes : (c : List Token) → is_condition c ≡ true → closes_from (pos 0) c ≡ true
 condition_closes c h = (and_parts _ _ (and_parts _ _ (and_parts (is_balanced c) _ h).0).1).1
@@ -45,12 +45,12 @@ truth_one facts g h = truth_brackets facts (group_tokens g) (is_group_closes g h
 
 -- groups in brackets, joined by AND, have no top-level OR
 joined_no_or : (g : List (List Token)) (gs : List (List (List Token))) → list_all is_group (g ∷ gs) ≡ true
-    → has_outer is_or (joined and_word (bracketed_groups (g ∷ gs))) ≡ false
+    → has_top_level is_or (joined and_word (bracketed_groups (g ∷ gs))) ≡ false
 joined_no_or g [] h = none-brackets is_or (group_tokens g) refl (is_group_closes g (and_parts (is_group g) true h).0)
 joined_no_or g (k ∷ gs) h =
     let both = and_parts (is_group g) (list_all is_group (k ∷ gs)) h in
     let closes = is_group_closes g both.0 in
-    ap (list_any (is_outer is_or)) (placed-then (in_brackets (group_tokens g)) (and_word ∷ joined and_word (bracketed_groups (k ∷ gs)))
+    ap (list_any (at_top_level is_or)) (placed-then (in_brackets (group_tokens g)) (and_word ∷ joined and_word (bracketed_groups (k ∷ gs)))
     (at_end-brackets (group_tokens g) closes))
     ∙ none-append is_or (placed (in_brackets (group_tokens g))) (placed (and_word ∷ joined and_word (bracketed_groups (k ∷ gs))))
     (none-brackets is_or (group_tokens g) refl closes) (joined_no_or k gs both.1)

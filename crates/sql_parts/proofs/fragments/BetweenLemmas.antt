@@ -13,10 +13,10 @@ use Rattle.std.specs.Str.{bytes_eq, str_eq_ignore_ascii_case, str_to_ascii_lower
 use Rattle.std.proofs.lemmas.Bool.{cases_Bool, eqb-true, ltb-true, lt-ltb, le-ltb, false≢true}
 use Rattle.std.proofs.lemmas.Bool.Decides.{same_from_decides, Decides-int_eq, Decides-ltb}
 use Rattle.sql_parts.specs.Tokens.{Token, Word, Str, Name, Symbol, Open}
-use Rattle.sql_parts.specs.Fragments.{any_token, has_ands, is_and_of, is_between, is_joining, is_symbol, is_word, level, lowers, places, raises, weight}
+use Rattle.sql_parts.specs.Fragments.{any_token, has_ands, is_and_of, is_between, is_joining, is_symbol, is_word, depth_at, lowers, places, raises, weight}
 use Rattle.sql_parts.specs.Ranges.{is_answered}
-use Rattle.sql_parts.proofs.fragments.DepthCountLemmas.{any_place, each_place, is_at_least_0, is_zero, level_from, level_from-start, level_from-suc}
-use Rattle.sql_parts.proofs.fragments.DepthCountLemmas.{level_from-zero}
+use Rattle.sql_parts.proofs.fragments.DepthCountLemmas.{any_place, each_place, is_at_least_0, is_zero, depth_from, depth_from-start, depth_from-suc}
+use Rattle.sql_parts.proofs.fragments.DepthCountLemmas.{depth_from-zero}
 
 abbrev pub is_and : Token → Bool
 is_and token = is_word (codes "AND") token
@@ -46,15 +46,15 @@ any-and false test xs = any-false xs
 -- the AND at a place answers a BETWEEN before the tokens
 abbrev answers : ℕ → ℕ → List Token → ℕ → Bool
 answers up down ts and =
-    int_eq (level_from up down ts and) (pos 0)
-    && list_all (λ place. not (ltb place and) || int_le (pos 0) (level_from up down ts place)) (places any_token ts)
-    && not (list_any (λ place. ltb place and && int_eq (level_from up down ts place) (pos 0)) (places is_joining ts))
+    int_eq (depth_from up down ts and) (pos 0)
+    && list_all (λ place. not (ltb place and) || int_le (pos 0) (depth_from up down ts place)) (places any_token ts)
+    && not (list_any (λ place. ltb place and && int_eq (depth_from up down ts place) (pos 0)) (places is_joining ts))
 
 answers-zero : (up down : ℕ) (ts : List Token) → answers up down ts 0 ≡ eqb up down
 answers-zero up down ts =
-    (λ i. (is_zero up down (level_from up down ts 0) (level_from-zero up down ts) i
-    && list_all (λ place. not (ltb-zero place i) || int_le (pos 0) (level_from up down ts place)) (places any_token ts))
-    && not (list_any (λ place. ltb-zero place i && int_eq (level_from up down ts place) (pos 0)) (places is_joining ts)))
+    (λ i. (is_zero up down (depth_from up down ts 0) (depth_from-zero up down ts) i
+    && list_all (λ place. not (ltb-zero place i) || int_le (pos 0) (depth_from up down ts place)) (places any_token ts))
+    && not (list_any (λ place. ltb-zero place i && int_eq (depth_from up down ts place) (pos 0)) (places is_joining ts)))
     ∙ (λ i. (eqb up down && all-true (places any_token ts) i) && not (any-false (places is_joining ts) i))
     ∙ and-true (eqb up down && true) ∙ and-true (eqb up down)
 
@@ -67,16 +67,16 @@ answers-suc : (up down : ℕ) (token : Token) (ts : List Token) (and : ℕ)
     ≡ ((leb down up && not (is_joining token && eqb up down)) && answers (up + weight raises token) (down + weight lowers token) ts and)
 answers-suc up down token ts and =
     let whole = token ∷ ts in
-    let here = level_from up down whole 0 in
-    let front = level_from-zero up down whole in
-    (λ i. (int_eq (level_from up down whole (suc and)) (pos 0)
-    && each_place (λ place. not (ltb place (suc and)) || int_le (pos 0) (level_from up down whole place)) true (places any_token ts) i)
-    && not (any_place (λ place. ltb place (suc and) && int_eq (level_from up down whole place) (pos 0)) (is_joining token) (places is_joining ts) i))
-    ∙ (λ i. (int_eq (level_from-suc up down token ts and i) (pos 0)
+    let here = depth_from up down whole 0 in
+    let front = depth_from-zero up down whole in
+    (λ i. (int_eq (depth_from up down whole (suc and)) (pos 0)
+    && each_place (λ place. not (ltb place (suc and)) || int_le (pos 0) (depth_from up down whole place)) true (places any_token ts) i)
+    && not (any_place (λ place. ltb place (suc and) && int_eq (depth_from up down whole place) (pos 0)) (is_joining token) (places is_joining ts) i))
+    ∙ (λ i. (int_eq (depth_from-suc up down token ts and i) (pos 0)
     && ((not (ltb-first and i) || is_at_least_0 up down here front i)
-    && list_all (λ place. not (ltb-suc place and i) || int_le (pos 0) (level_from-suc up down token ts place i)) (places any_token ts)))
+    && list_all (λ place. not (ltb-suc place and i) || int_le (pos 0) (depth_from-suc up down token ts place i)) (places any_token ts)))
     && not ((is_joining token && (ltb-first and i && is_zero up down here front i))
-    || list_any (λ place. ltb-suc place and i && int_eq (level_from-suc up down token ts place i) (pos 0)) (places is_joining ts)))
+    || list_any (λ place. ltb-suc place and i && int_eq (depth_from-suc up down token ts place i) (pos 0)) (places is_joining ts)))
     ∙ rearranged _ (leb down up) (is_joining token && eqb up down) _ _
 
 answered-is : (up down : ℕ) (ts : List Token) → list_any (answers up down ts) (places is_and ts) ≡ is_answered up down ts
@@ -118,8 +118,8 @@ le-shift w x y x' y' left right = elim (cases_Bool (int_le x y)) [
 abbrev rise : Token → ℤ
 rise token = pos (weight raises token) -ℤ pos (weight lowers token)
 
-level-suc : (token : Token) (ts : List Token) (place : ℕ) → level (token ∷ ts) (suc place) ≡ rise token +ℤ level ts place
-level-suc token ts place =
+depth_at-suc : (token : Token) (ts : List Token) (place : ℕ) → depth_at (token ∷ ts) (suc place) ≡ rise token +ℤ depth_at ts place
+depth_at-suc token ts place =
     let more = sum_by-cons (weight raises) token (take place ts) in
     let less = sum_by-cons (weight lowers) token (take place ts) in
     omega (arith, ints, more, less)
@@ -127,27 +127,27 @@ level-suc token ts place =
 and_of-suc : (token : Token) (ts : List Token) (between and : ℕ) → is_and_of (token ∷ ts) (suc between) (suc and) ≡ is_and_of ts between and
 and_of-suc token ts between and =
     let whole = token ∷ ts in
-    let up = level-suc token ts in
+    let up = depth_at-suc token ts in
     (λ i. ((ltb-suc between and i && eq-shift (rise token) _ _ _ _ (up and) (up between) i)
-    && each_place (λ place. not (is_between (suc between) (suc and) place) || int_le (level whole (suc between)) (level whole place)) true
+    && each_place (λ place. not (is_between (suc between) (suc and) place) || int_le (depth_at whole (suc between)) (depth_at whole place)) true
     (places any_token ts) i)
-    && not (any_place (λ place. is_between (suc between) (suc and) place && int_eq (level whole place) (level whole (suc between))) (is_joining token)
+    && not (any_place (λ place. is_between (suc between) (suc and) place && int_eq (depth_at whole place) (depth_at whole (suc between))) (is_joining token)
     (places is_joining ts) i))
-    ∙ (λ i. ((ltb between and && int_eq (level ts and) (level ts between))
-    && ((not (ltb-zero (suc between) i && ltb 0 (suc and)) || int_le (level whole (suc between)) (level whole 0))
+    ∙ (λ i. ((ltb between and && int_eq (depth_at ts and) (depth_at ts between))
+    && ((not (ltb-zero (suc between) i && ltb 0 (suc and)) || int_le (depth_at whole (suc between)) (depth_at whole 0))
     && list_all (λ place. not (ltb-suc between place i && ltb-suc place and i) || le-shift (rise token) _ _ _ _ (up between) (up place) i)
     (places any_token ts)))
-    && not ((is_joining token && ((ltb-zero (suc between) i && ltb 0 (suc and)) && int_eq (level whole 0) (level whole (suc between))))
+    && not ((is_joining token && ((ltb-zero (suc between) i && ltb 0 (suc and)) && int_eq (depth_at whole 0) (depth_at whole (suc between))))
     || list_any (λ place. (ltb-suc between place i && ltb-suc place and i) && eq-shift (rise token) _ _ _ _ (up place) (up between) i) (places is_joining ts)))
-    ∙ (λ i. ((ltb between and && int_eq (level ts and) (level ts between))
-    && list_all (λ place. not (is_between between and place) || int_le (level ts between) (level ts place)) (places any_token ts))
-    && not (and-false (is_joining token) i || list_any (λ place. is_between between and place && int_eq (level ts place) (level ts between))
+    ∙ (λ i. ((ltb between and && int_eq (depth_at ts and) (depth_at ts between))
+    && list_all (λ place. not (is_between between and place) || int_le (depth_at ts between) (depth_at ts place)) (places any_token ts))
+    && not (and-false (is_joining token) i || list_any (λ place. is_between between and place && int_eq (depth_at ts place) (depth_at ts between))
     (places is_joining ts)))
 
 and_of-none : (token : Token) (ts : List Token) (between : ℕ) → is_and_of ts between 0 ≡ false
-and_of-none token ts between = λ i. ((ltb-zero between i && int_eq (level ts 0) (level ts between))
-    && list_all (λ place. not (is_between between 0 place) || int_le (level ts between) (level ts place)) (places any_token ts))
-    && not (list_any (λ place. is_between between 0 place && int_eq (level ts place) (level ts between)) (places is_joining ts))
+and_of-none token ts between = λ i. ((ltb-zero between i && int_eq (depth_at ts 0) (depth_at ts between))
+    && list_all (λ place. not (is_between between 0 place) || int_le (depth_at ts between) (depth_at ts place)) (places any_token ts))
+    && not (list_any (λ place. is_between between 0 place && int_eq (depth_at ts place) (depth_at ts between)) (places is_joining ts))
 
 -- a token is not two keywords, nor a keyword and a sign
 pub word_apart : (one other : List ℕ) (token : Token) → str_eq_ignore_ascii_case one other ≡ false → is_word one token ≡ true → is_word other token ≡ false
@@ -206,13 +206,13 @@ and_of-first : (token : Token) (ts : List Token) (and : ℕ) → raises token �
     → is_and_of (token ∷ ts) 0 (suc and) ≡ answers 0 0 ts and
 and_of-first token ts and flat_up flat_down =
     let whole = token ∷ ts in
-    let at : (place : ℕ) → level whole (suc place) ≡ level_from 0 0 ts place = λ place.
-    sym (level_from-start whole (suc place)) ∙ level_from-suc 0 0 token ts place
-    ∙ (λ i. level_from (0 + cond (flat_up i) 1 0) (0 + cond (flat_down i) 1 0) ts place) in
+    let at : (place : ℕ) → depth_at whole (suc place) ≡ depth_from 0 0 ts place = λ place.
+    sym (depth_from-start whole (suc place)) ∙ depth_from-suc 0 0 token ts place
+    ∙ (λ i. depth_from (0 + cond (flat_up i) 1 0) (0 + cond (flat_down i) 1 0) ts place) in
     (λ i. ((ltb-first and i && int_eq (at and i) (pos 0))
-    && each_place (λ place. not (is_between 0 (suc and) place) || int_le (level whole 0) (level whole place)) true (places any_token ts) i)
-    && not (any_place (λ place. is_between 0 (suc and) place && int_eq (level whole place) (level whole 0)) (is_joining token) (places is_joining ts) i))
-    ∙ (λ i. (int_eq (level_from 0 0 ts and) (pos 0)
+    && each_place (λ place. not (is_between 0 (suc and) place) || int_le (depth_at whole 0) (depth_at whole place)) true (places any_token ts) i)
+    && not (any_place (λ place. is_between 0 (suc and) place && int_eq (depth_at whole place) (depth_at whole 0)) (is_joining token) (places is_joining ts) i))
+    ∙ (λ i. (int_eq (depth_from 0 0 ts and) (pos 0)
     && list_all (λ place. not (ltb-first place i && ltb-suc place and i) || int_le (pos 0) (at place i)) (places any_token ts))
     && not (and-false (is_joining token) i || list_any (λ place. (ltb-first place i && ltb-suc place and i) && int_eq (at place i) (pos 0))
     (places is_joining ts)))

@@ -10,9 +10,10 @@ use Rattle.std.proofs.Math.Bool.{and_assoc, and-false, and-true}
 use Rattle.std.proofs.Math.IntN.{suc_ℤ, pred_ℤ, +ℤ_one, suc-pred}
 use Rattle.sql_parts.specs.Tokens.{Token, begins_with, is_empty}
 use Rattle.sql_parts.specs.Fragments as fragments
-use Rattle.sql_parts.specs.Fragments.{Placed, any_token, as_placed, is_joining, is_outer, is_whole, is_word, level, lowers, places, raises, weight}
-use Rattle.sql_parts.proofs.fragments.DepthCountLemmas as levels
-use Rattle.sql_parts.proofs.fragments.DepthCountLemmas.{each_place, is_level_from, level_from, level_from-start, level_from-suc, level_from-zero, outer_from}
+use Rattle.sql_parts.specs.Fragments.{Placed, any_token, as_placed, is_joining, at_top_level, is_whole, is_word, depth_at, lowers, places, raises, weight}
+use Rattle.sql_parts.proofs.fragments.DepthCountLemmas as depths
+use Rattle.sql_parts.proofs.fragments.DepthCountLemmas.{each_place, brackets_match_from, depth_from, depth_from-start, depth_from-suc, depth_from-zero}
+use Rattle.sql_parts.proofs.fragments.DepthCountLemmas.{top_level_from}
 use Rattle.sql_parts.proofs.fragments.BetweenLemmas.{raises-alone}
 
 -- the depth after a token, from the depth before it
@@ -46,8 +47,8 @@ placed_from l (t ∷ ts) = as_placed (is_zero l) t ∷ placed_from (after l t) t
 abbrev pub placed : List Token → List Placed
 placed ts = placed_from (pos 0) ts
 
-abbrev pub has_outer : (Token → Bool) → List Token → Bool
-has_outer test ts = list_any (is_outer test) (placed ts)
+abbrev pub has_top_level : (Token → Bool) → List Token → Bool
+has_top_level test ts = list_any (at_top_level test) (placed ts)
 
 -- from depth l on, the depth is at least 0 after each token, and 0 after the last
 abbrev pub closes_from : ℤ → List Token → Bool
@@ -67,7 +68,7 @@ abbrev pub is_balanced : List Token → Bool
 is_balanced ts = not (is_empty ts) && is_even ts
 
 abbrev pub is_operand : List Token → Bool
-is_operand ts = is_balanced ts && (not (has_outer is_joining ts) && not (begins_with (is_word (codes "NOT")) ts))
+is_operand ts = is_balanced ts && (not (has_top_level is_joining ts) && not (begins_with (is_word (codes "NOT")) ts))
 
 -- ---- by places, and along the tokens
 
@@ -87,19 +88,19 @@ least-is : (l : ℤ) (n m : ℕ) → l ≡ pos n -ℤ pos m → is_at_least_0 l 
 least-is (pos k) n m is = elim (cases_Bool (leb m n)) [ inl e ↦ sym e | inr e ↦ let more = leb-false m n e in absurd (omega (arith, ints, is, more)) ]
 least-is (negsuc k) n m is = elim (cases_Bool (leb m n)) [ inl e ↦ let fewer = leb-true m n e in absurd (omega (arith, ints, is, fewer)) | inr e ↦ sym e ]
 
-outer-place : (test : Token → Bool) (outer : Bool) (t : Token) → is_outer test (as_placed outer t) ≡ (test t && outer)
-outer-place test true t = sym (and-true (test t))
-outer-place test false t = sym (and-false (test t))
+top_level-place : (test : Token → Bool) (at_top : Bool) (t : Token) → at_top_level test (as_placed at_top t) ≡ (test t && at_top)
+top_level-place test true t = sym (and-true (test t))
+top_level-place test false t = sym (and-false (test t))
 
-outer-from-is : (test : Token → Bool) (l : ℤ) (n m : ℕ) (ts : List Token) → l ≡ pos n -ℤ pos m
-    → list_any (is_outer test) (placed_from l ts) ≡ outer_from test n m ts
-outer-from-is test l n m [] is = refl
-outer-from-is test l n m (t ∷ ts) is =
-    (λ i. is_outer test (as_placed (zero-is l n m is i) t)
-    || outer-from-is test (after l t) (n + weight raises t) (m + weight lowers t) ts (step (raises t) (lowers t) l n m (raises-alone t) is) i)
-    ∙ ap (λ b. b || outer_from test (n + weight raises t) (m + weight lowers t) ts) (outer-place test (eqb n m) t)
+top_level-from-is : (test : Token → Bool) (l : ℤ) (n m : ℕ) (ts : List Token) → l ≡ pos n -ℤ pos m
+    → list_any (at_top_level test) (placed_from l ts) ≡ top_level_from test n m ts
+top_level-from-is test l n m [] is = refl
+top_level-from-is test l n m (t ∷ ts) is =
+    (λ i. at_top_level test (as_placed (zero-is l n m is i) t)
+    || top_level-from-is test (after l t) (n + weight raises t) (m + weight lowers t) ts (step (raises t) (lowers t) l n m (raises-alone t) is) i)
+    ∙ ap (λ b. b || top_level_from test (n + weight raises t) (m + weight lowers t) ts) (top_level-place test (eqb n m) t)
 
-closes-from-is : (l : ℤ) (n m : ℕ) (ts : List Token) → l ≡ pos n -ℤ pos m → closes_from l ts ≡ is_level_from n m ts
+closes-from-is : (l : ℤ) (n m : ℕ) (ts : List Token) → l ≡ pos n -ℤ pos m → closes_from l ts ≡ brackets_match_from n m ts
 closes-from-is l n m [] is = zero-is l n m is
 closes-from-is l n m (t ∷ ts) is =
     let next = step (raises t) (lowers t) l n m (raises-alone t) is in
@@ -111,56 +112,56 @@ places-map : {X : Type 0} (f : ℕ → X) (later : List ℕ) → map f (map suc 
 places-map f [] = refl
 places-map f (place ∷ later) = ap (λ xs. f (suc place) ∷ xs) (places-map f later)
 
-abbrev outer_places : ℕ → ℕ → List Token → List Bool
-outer_places n m ts = map (λ place. int_eq (level_from n m ts place) (pos 0)) (places any_token ts)
+abbrev top_level_places : ℕ → ℕ → List Token → List Bool
+top_level_places n m ts = map (λ place. int_eq (depth_from n m ts place) (pos 0)) (places any_token ts)
 
-outer_places-cons : (l : ℤ) (n m : ℕ) (t : Token) (ts : List Token) → l ≡ pos n -ℤ pos m
-    → outer_places n m (t ∷ ts) ≡ is_zero l ∷ outer_places (n + weight raises t) (m + weight lowers t) ts
-outer_places-cons l n m t ts is =
-    let first : int_eq (level_from n m (t ∷ ts) 0) (pos 0) ≡ is_zero l = levels.is_zero n m _ (level_from-zero n m (t ∷ ts)) ∙ sym (zero-is l n m is) in
-    (λ i. first i ∷ places-map (λ place. int_eq (level_from n m (t ∷ ts) place) (pos 0)) (places any_token ts) i)
-    ∙ (λ i. is_zero l ∷ map (λ place. int_eq (level_from-suc n m t ts place i) (pos 0)) (places any_token ts))
+top_level_places-cons : (l : ℤ) (n m : ℕ) (t : Token) (ts : List Token) → l ≡ pos n -ℤ pos m
+    → top_level_places n m (t ∷ ts) ≡ is_zero l ∷ top_level_places (n + weight raises t) (m + weight lowers t) ts
+top_level_places-cons l n m t ts is =
+    let first : int_eq (depth_from n m (t ∷ ts) 0) (pos 0) ≡ is_zero l = depths.is_zero n m _ (depth_from-zero n m (t ∷ ts)) ∙ sym (zero-is l n m is) in
+    (λ i. first i ∷ places-map (λ place. int_eq (depth_from n m (t ∷ ts) place) (pos 0)) (places any_token ts) i)
+    ∙ (λ i. is_zero l ∷ map (λ place. int_eq (depth_from-suc n m t ts place i) (pos 0)) (places any_token ts))
 
 abbrev as_placed_all : List (Bool × Token) → List Placed
 as_placed_all found = map (λ (f : Bool × Token). as_placed f.0 f.1) found
 
-placed_from-is : (l : ℤ) (n m : ℕ) (ts : List Token) → l ≡ pos n -ℤ pos m → as_placed_all (zip (outer_places n m ts) ts) ≡ placed_from l ts
+placed_from-is : (l : ℤ) (n m : ℕ) (ts : List Token) → l ≡ pos n -ℤ pos m → as_placed_all (zip (top_level_places n m ts) ts) ≡ placed_from l ts
 placed_from-is l n m [] is = refl
 placed_from-is l n m (t ∷ ts) is =
-    ap (λ outer. as_placed_all (zip outer (t ∷ ts))) (outer_places-cons l n m t ts is)
+    ap (λ at_top. as_placed_all (zip at_top (t ∷ ts))) (top_level_places-cons l n m t ts is)
     ∙ ap (λ ms. as_placed (is_zero l) t ∷ ms)
     (placed_from-is (after l t) (n + weight raises t) (m + weight lowers t) ts (step (raises t) (lowers t) l n m (raises-alone t) is))
 
 pub placed-is : (ts : List Token) → fragments.placed ts ≡ placed ts
 placed-is ts =
-    (λ i. as_placed_all (zip (map (λ place. int_eq (sym (level_from-start ts place) i) (pos 0)) (places any_token ts)) ts))
+    (λ i. as_placed_all (zip (map (λ place. int_eq (sym (depth_from-start ts place) i) (pos 0)) (places any_token ts)) ts))
     ∙ placed_from-is (pos 0) 0 0 ts refl
 
-pub has_outer-is : (test : Token → Bool) (ts : List Token) → fragments.has_outer test ts ≡ has_outer test ts
-has_outer-is test ts = levels.has_outer-is test ts ∙ sym (outer-from-is test (pos 0) 0 0 ts refl)
+pub has_top_level-is : (test : Token → Bool) (ts : List Token) → fragments.has_top_level test ts ≡ has_top_level test ts
+has_top_level-is test ts = depths.has_top_level-is test ts ∙ sym (top_level-from-is test (pos 0) 0 0 ts refl)
 
-is_level-closes : (ts : List Token) → fragments.is_level ts ≡ closes_from (pos 0) ts
-is_level-closes ts = levels.is_level-is ts ∙ sym (closes-from-is (pos 0) 0 0 ts refl)
+brackets_match-closes : (ts : List Token) → fragments.brackets_match ts ≡ closes_from (pos 0) ts
+brackets_match-closes ts = depths.brackets_match-is ts ∙ sym (closes-from-is (pos 0) 0 0 ts refl)
 
 pub is_balanced-is : (ts : List Token) → fragments.is_balanced ts ≡ is_balanced ts
 is_balanced-is ts =
-    (λ i. not (is_empty ts) && list_all is_whole ts && is_level-closes ts i)
+    (λ i. not (is_empty ts) && list_all is_whole ts && brackets_match-closes ts i)
     ∙ and_assoc (not (is_empty ts)) (list_all is_whole ts) (closes_from (pos 0) ts)
 
 pub is_operand-is : (ts : List Token) → fragments.is_operand ts ≡ is_operand ts
 is_operand-is ts =
-    (λ i. is_balanced-is ts i && not (has_outer-is is_joining ts i) && not (begins_with (is_word (codes "NOT")) ts))
-    ∙ and_assoc (is_balanced ts) (not (has_outer is_joining ts)) (not (begins_with (is_word (codes "NOT")) ts))
+    (λ i. is_balanced-is ts i && not (has_top_level-is is_joining ts i) && not (begins_with (is_word (codes "NOT")) ts))
+    ∙ and_assoc (is_balanced ts) (not (has_top_level is_joining ts)) (not (begins_with (is_word (codes "NOT")) ts))
 
 -- the depth behind the last token
-end-from-is : (l : ℤ) (n m : ℕ) (ts : List Token) → l ≡ pos n -ℤ pos m → int_eq (level_from n m ts (length ts)) (pos 0) ≡ is_zero (at_end l ts)
-end-from-is l n m [] is = levels.is_zero n m _ (level_from-zero n m []) ∙ sym (zero-is l n m is)
+end-from-is : (l : ℤ) (n m : ℕ) (ts : List Token) → l ≡ pos n -ℤ pos m → int_eq (depth_from n m ts (length ts)) (pos 0) ≡ is_zero (at_end l ts)
+end-from-is l n m [] is = depths.is_zero n m _ (depth_from-zero n m []) ∙ sym (zero-is l n m is)
 end-from-is l n m (t ∷ ts) is =
-    (λ i. int_eq (level_from-suc n m t ts (length ts) i) (pos 0))
+    (λ i. int_eq (depth_from-suc n m t ts (length ts) i) (pos 0))
     ∙ end-from-is (after l t) (n + weight raises t) (m + weight lowers t) ts (step (raises t) (lowers t) l n m (raises-alone t) is)
 
-pub end-is : (ts : List Token) → fragments.is_outer_place ts (length ts) ≡ is_zero (at_end (pos 0) ts)
-end-is ts = (λ i. int_eq (sym (level_from-start ts (length ts)) i) (pos 0)) ∙ end-from-is (pos 0) 0 0 ts refl
+pub end-is : (ts : List Token) → fragments.is_top_level ts (length ts) ≡ is_zero (at_end (pos 0) ts)
+end-is ts = (λ i. int_eq (sym (depth_from-start ts (length ts)) i) (pos 0)) ∙ end-from-is (pos 0) 0 0 ts refl
 
 -- the depth is at least 1 behind each token
 one-yes : (l : ℤ) → pos 1 ≤ℤ l → int_le (pos 1) l ≡ true
@@ -175,16 +176,16 @@ one-is (pos (suc n)) k is = one-yes k (omega (arith, ints, is))
 one-is (negsuc n) k is = one-no k (omega (arith, ints, is))
 
 inside-from-is : (l : ℤ) (n m : ℕ) (ts : List Token) → l ≡ pos n -ℤ pos m
-    → list_all (λ place. int_le (pos 1) (level_from n m ts (suc place))) (places any_token ts) ≡ stays_inside l ts
+    → list_all (λ place. int_le (pos 1) (depth_from n m ts (suc place))) (places any_token ts) ≡ stays_inside l ts
 inside-from-is l n m [] is = refl
 inside-from-is l n m (t ∷ ts) is =
     let more = n + weight raises t in
     let less = m + weight lowers t in
     let next = step (raises t) (lowers t) l n m (raises-alone t) is in
-    (λ i. list_all (λ place. int_le (pos 1) (level_from-suc n m t ts place i)) (places any_token (t ∷ ts)))
-    ∙ each_place (λ place. int_le (pos 1) (level_from more less ts place)) true (places any_token ts)
-    ∙ (λ i. one-is (after l t) (level_from more less ts 0) (level_from-zero more less ts ∙ sym next) i && inside-from-is (after l t) more less ts next i)
+    (λ i. list_all (λ place. int_le (pos 1) (depth_from-suc n m t ts place i)) (places any_token (t ∷ ts)))
+    ∙ each_place (λ place. int_le (pos 1) (depth_from more less ts place)) true (places any_token ts)
+    ∙ (λ i. one-is (after l t) (depth_from more less ts 0) (depth_from-zero more less ts ∙ sym next) i && inside-from-is (after l t) more less ts next i)
 
-pub inside-is : (ts : List Token) → list_all (λ place. int_le (pos 1) (level ts (suc place))) (places any_token ts) ≡ stays_inside (pos 0) ts
+pub inside-is : (ts : List Token) → list_all (λ place. int_le (pos 1) (depth_at ts (suc place))) (places any_token ts) ≡ stays_inside (pos 0) ts
 inside-is ts =
-    (λ i. list_all (λ place. int_le (pos 1) (sym (level_from-start ts (suc place)) i)) (places any_token ts)) ∙ inside-from-is (pos 0) 0 0 ts refl
+    (λ i. list_all (λ place. int_le (pos 1) (sym (depth_from-start ts (suc place)) i)) (places any_token ts)) ∙ inside-from-is (pos 0) 0 0 ts refl

@@ -11,7 +11,7 @@ use Rattle.std.proofs.lemmas.Bool.{and_from, and_parts, cases_Bool, false≢true
 use Rattle.std.proofs.lemmas.Bool.Decides.{nat_tests}
 use Rattle.std.proofs.lemmas.Int.Digits.{all_below_base_digits_of, digits_of_step}
 use Rattle.sql_parts.specs.Templates.{literal_tokens}
-use Rattle.sql_parts.specs.Fragments.{as_placed, is_clause_word, is_joining, is_outer, is_whole, is_word, lowers, operand, raises}
+use Rattle.sql_parts.specs.Fragments.{as_placed, is_clause_word, is_joining, at_top_level, is_whole, is_word, lowers, operand, raises}
 use Rattle.sql_parts.specs.Literal.{LiteralValue, null, truth, whole, words, literal_text}
 use Rattle.sql_parts.specs.Name.{Name, alias_tokens, fits_form, is_plain, name_parts, name_text, name_tokens, safe_form, safe_text, tokens_in, word_tokens}
 use Rattle.sql_parts.specs.Name.{written_in}
@@ -28,7 +28,7 @@ use Rattle.sql_parts.specs.declared.roles.Role.TheVariants as role
 use Rattle.sql_parts.proofs.fragments.KeywordLemmas.{answers, has-role, initials, other-plain}
 use Rattle.sql_parts.proofs.tokens.NameFacts.{name_closed, name_is, plain-tokens, safe_fits}
 use Rattle.sql_parts.proofs.tokens.TokenFacts.{between-tokens, between_closed}
-use Rattle.sql_parts.proofs.fragments.DepthFacts.{after, closes_from, has_outer, has_outer-is, is_at_least_0, is_balanced, is_balanced-is, is_operand}
+use Rattle.sql_parts.proofs.fragments.DepthFacts.{after, closes_from, has_top_level, has_top_level-is, is_at_least_0, is_balanced, is_balanced-is, is_operand}
 use Rattle.sql_parts.proofs.fragments.DepthFacts.{is_operand-is, is_zero}
 use Rattle.sql_parts.proofs.fragments.DepthFacts.{placed_from}
 use Rattle.sql_parts.proofs.tokens.LiteralFacts.{decimal-glyphs, literal-closed, literal-is}
@@ -63,15 +63,15 @@ inert-none test none [] all = refl
 inert-none test none (t ∷ ts) all = or_from _ _ (none t all.0) (inert-none test none ts all.1)
 
 -- what no token is, no top-level token is
-outer-none : (test : Token → Bool) (outer : Bool) (t : Token) → test t ≡ false → is_outer test (as_placed outer t) ≡ false
-outer-none test true t none = none
-outer-none test false t none = refl
+top_level-none : (test : Token → Bool) (at_top : Bool) (t : Token) → test t ≡ false → at_top_level test (as_placed at_top t) ≡ false
+top_level-none test true t none = none
+top_level-none test false t none = refl
 
-none-outer : (test : Token → Bool) (l : ℤ) (ts : List Token) → list_any test ts ≡ false → list_any (is_outer test) (placed_from l ts) ≡ false
-none-outer test l [] none = refl
-none-outer test l (t ∷ ts) none =
+none-top_level : (test : Token → Bool) (l : ℤ) (ts : List Token) → list_any test ts ≡ false → list_any (at_top_level test) (placed_from l ts) ≡ false
+none-top_level test l [] none = refl
+none-top_level test l (t ∷ ts) none =
     let both = or_parts (test t) (list_any test ts) none in
-    or_from _ _ (outer-none test (is_zero l) t both.0) (none-outer test (after l t) ts both.1)
+    or_from _ _ (top_level-none test (is_zero l) t both.0) (none-top_level test (after l t) ts both.1)
 
 no_not : (ts : List Token) → AllInert ts → begins_with (is_word (codes "NOT")) ts ≡ false
 no_not [] all = refl
@@ -84,7 +84,7 @@ inert-balanced ts some all = and_from _ _ some (and_from _ _ (inert-whole ts all
 inert-operand : (ts : List Token) → not (is_empty ts) ≡ true → AllInert ts → is_operand ts ≡ true
 inert-operand ts some all =
     and_from _ _ (inert-balanced ts some all)
-    (and_from _ _ (not_from_false _ (none-outer is_joining (pos 0) ts (inert-none is_joining (λ t inert. inert.joining) ts all)))
+    (and_from _ _ (not_from_false _ (none-top_level is_joining (pos 0) ts (inert-none is_joining (λ t inert. inert.joining) ts all)))
     (not_from_false _ (no_not ts all)))
 
 pub serves : (text : List ℕ) (ts : List Token) → tokens text ≡ ts → not (is_empty ts) ≡ true → AllInert ts → closed text ≡ true → ServesAsOperand text
@@ -93,8 +93,8 @@ serves text ts are some all shut = record {
   is_balanced = is_balanced-is (tokens text) ∙ ap is_balanced are ∙ inert-balanced ts some all;
   is_closed = shut;
   no_clause_word =
-      not_from_false _ (has_outer-is is_clause_word (tokens text) ∙ ap (has_outer is_clause_word) are
-      ∙ none-outer is_clause_word (pos 0) ts (inert-none is_clause_word (λ t inert. inert.clause) ts all));
+      not_from_false _ (has_top_level-is is_clause_word (tokens text) ∙ ap (has_top_level is_clause_word) are
+      ∙ none-top_level is_clause_word (pos 0) ts (inert-none is_clause_word (λ t inert. inert.clause) ts all));
 }
 
 -- ---- literals
@@ -206,20 +206,20 @@ parts-between quotes [] = tt
 parts-between quotes (part ∷ parts) = ((quoted-inert quotes part, tt), parts-between quotes parts)
 
 -- a word that is an operand by itself, without a clause word
-no-levels : (up down : Bool) → is_zero (cond up (suc_ℤ (pos 0)) (cond down (pred_ℤ (pos 0)) (pos 0))) ≡ true → (up ≡ false) × (down ≡ false)
-no-levels true down h = absurd (false≢true h)
-no-levels false true h = absurd (false≢true h)
-no-levels false false h = (refl, refl)
+no-change : (up down : Bool) → is_zero (cond up (suc_ℤ (pos 0)) (cond down (pred_ℤ (pos 0)) (pos 0))) ≡ true → (up ≡ false) × (down ≡ false)
+no-change true down h = absurd (false≢true h)
+no-change false true h = absurd (false≢true h)
+no-change false false h = (refl, refl)
 
-token-inert : (t : Token) → is_operand (t ∷ []) ≡ true → not (has_outer is_clause_word (t ∷ [])) ≡ true → Inert t
+token-inert : (t : Token) → is_operand (t ∷ []) ≡ true → not (has_top_level is_clause_word (t ∷ [])) ≡ true → Inert t
 token-inert t operand none =
     let parts = and_parts (is_balanced (t ∷ [])) _ operand in
     let even = and_parts (list_all is_whole (t ∷ [])) (closes_from (pos 0) (t ∷ [])) parts.0 in
-    let words = and_parts (not (has_outer is_joining (t ∷ []))) _ parts.1 in
-    let levels = no-levels (raises t) (lowers t) (and_parts (is_at_least_0 (after (pos 0) t)) (is_zero (after (pos 0) t)) even.1).1 in
+    let words = and_parts (not (has_top_level is_joining (t ∷ []))) _ parts.1 in
+    let change = no-change (raises t) (lowers t) (and_parts (is_at_least_0 (after (pos 0) t)) (is_zero (after (pos 0) t)) even.1).1 in
     record {
-      raising = levels.0;
-      lowering = levels.1;
+      raising = change.0;
+      lowering = change.1;
       joining = (or_parts (is_joining t) false (not-true _ words.0)).0;
       negating = not-true _ words.1;
       clause = (or_parts (is_clause_word t) false (not-true _ none)).0;
@@ -234,7 +234,7 @@ bare-inert (byte ∷ text) plain bare =
       (
         token-inert (Word (byte ∷ text))
             (ap is_operand (sym are) ∙ sym (is_operand-is (tokens (byte ∷ text))) ∙ both.0)
-            (ap (λ ts. not (has_outer is_clause_word ts)) (sym are) ∙ ap not (sym (has_outer-is is_clause_word (tokens (byte ∷ text)))) ∙ both.1),
+            (ap (λ ts. not (has_top_level is_clause_word ts)) (sym are) ∙ ap not (sym (has_top_level-is is_clause_word (tokens (byte ∷ text)))) ∙ both.1),
         tt,
       ),
       refl,

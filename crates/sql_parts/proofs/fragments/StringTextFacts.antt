@@ -6,8 +6,10 @@ use Rattle.std.specs.Prelude.{int_le, nat_lt, if◌then◌else◌}
 use Rattle.std.proofs.lemmas.List.Sums.{sum_by-cons}
 use Rattle.std.proofs.lemmas.List.{length-map, take-map}
 use Rattle.sql_parts.specs.StringTexts.{BlankSomewhere, IgnoresStrings, are_strings, blank, blank_at, blank_token, nowhere}
-use Rattle.sql_parts.specs.Fragments.{any_token, has_ands, has_left_sides, has_outer, has_right_sides, is_at, is_balanced, is_before, is_between, is_closing}
-use Rattle.sql_parts.specs.Fragments.{is_dangling, is_joining, is_level, is_opening, is_operand, is_whole, is_word, level, lowers, needs_left, needs_right}
+use Rattle.sql_parts.specs.Fragments.{any_token, has_ands, has_left_sides, has_top_level, has_right_sides, is_at, is_balanced, is_before, is_between}
+use Rattle.sql_parts.specs.Fragments.{is_closing}
+use Rattle.sql_parts.specs.Fragments.{is_dangling, is_joining, brackets_match, is_opening, is_operand, is_whole, is_word, depth_at, lowers, needs_left}
+use Rattle.sql_parts.specs.Fragments.{needs_right}
 use Rattle.sql_parts.specs.Fragments.{places, raises, weight}
 use Rattle.sql_parts.specs.Tokens.{Token, Word, Str, Name, Symbol, Open, begins_with, ends_with, is_empty}
 
@@ -73,27 +75,27 @@ raised ts place = ap (count_by raises) (take-map blank_token place ts) ∙ count
 lowered : (ts : List Token) (place : ℕ) → count_by lowers (take place (blank ts)) ≡ count_by lowers (take place ts)
 lowered ts place = ap (count_by lowers) (take-map blank_token place ts) ∙ count-blank lowers (λ text. refl) (take place ts)
 
-pub level-blank : (ts : List Token) → level (blank ts) ≡ level ts
-level-blank ts = λ i place. pos (raised ts place i) -ℤ pos (lowered ts place i)
+pub depth_at-blank : (ts : List Token) → depth_at (blank ts) ≡ depth_at ts
+depth_at-blank ts = λ i place. pos (raised ts place i) -ℤ pos (lowered ts place i)
 
-pub has_outer-blank : (test : Token → Bool) → Ignores test → (ts : List Token) → has_outer test (blank ts) ≡ has_outer test ts
-has_outer-blank test same ts = λ i. list_any (λ place. int_eq (level-blank ts i place) (pos 0)) (places-blank test same ts i)
+pub has_top_level-blank : (test : Token → Bool) → Ignores test → (ts : List Token) → has_top_level test (blank ts) ≡ has_top_level test ts
+has_top_level-blank test same ts = λ i. list_any (λ place. int_eq (depth_at-blank ts i place) (pos 0)) (places-blank test same ts i)
 
 every : (ts : List Token) → places any_token (blank ts) ≡ places any_token ts
 every ts = places-blank any_token (λ text. refl) ts
 
-is_level-blank : (ts : List Token) → is_level (blank ts) ≡ is_level ts
-is_level-blank ts =
-    λ i. list_all (λ place. int_le (pos 0) (level-blank ts i (suc place))) (every ts i) && int_eq (level-blank ts i (length-map ts blank_token i)) (pos 0)
+brackets_match-blank : (ts : List Token) → brackets_match (blank ts) ≡ brackets_match ts
+brackets_match-blank ts =
+    λ i. list_all (λ place. int_le (pos 0) (depth_at-blank ts i (suc place))) (every ts i) && int_eq (depth_at-blank ts i (length-map ts blank_token i)) (pos 0)
 
 -- ---- what is asked of fragments
 
 pub is_balanced-blank : (ts : List Token) → is_balanced (blank ts) ≡ is_balanced ts
-is_balanced-blank ts = λ i. not (empty-blank ts i) && all-blank is_whole (λ text. refl) ts i && is_level-blank ts i
+is_balanced-blank ts = λ i. not (empty-blank ts i) && all-blank is_whole (λ text. refl) ts i && brackets_match-blank ts i
 
 pub is_operand-blank : (ts : List Token) → is_operand (blank ts) ≡ is_operand ts
 is_operand-blank ts =
-    λ i. is_balanced-blank ts i && not (has_outer-blank is_joining (λ text. refl) ts i) && not (begins-blank (is_word (codes "NOT")) (λ text. refl) ts i)
+    λ i. is_balanced-blank ts i && not (has_top_level-blank is_joining (λ text. refl) ts i) && not (begins-blank (is_word (codes "NOT")) (λ text. refl) ts i)
 
 left_sides-blank : (ts : List Token) → has_left_sides (blank ts) ≡ has_left_sides ts
 left_sides-blank ts =
@@ -109,9 +111,9 @@ ands-blank ts =
     (λ between. list_any
     (λ and.
     nat_lt between and
-    && int_eq (level-blank ts i and) (level-blank ts i between)
-    && list_all (λ place. not (is_between between and place) || int_le (level-blank ts i between) (level-blank ts i place)) (every ts i)
-    && not (list_any (λ place. is_between between and place && int_eq (level-blank ts i place) (level-blank ts i between))
+    && int_eq (depth_at-blank ts i and) (depth_at-blank ts i between)
+    && list_all (λ place. not (is_between between and place) || int_le (depth_at-blank ts i between) (depth_at-blank ts i place)) (every ts i)
+    && not (list_any (λ place. is_between between and place && int_eq (depth_at-blank ts i place) (depth_at-blank ts i between))
     (places-blank is_joining (λ text. refl) ts i)))
     (places-blank (is_word (codes "AND")) (λ text. refl) ts i))
     (places-blank (is_word (codes "BETWEEN")) (λ text. refl) ts i)

@@ -87,8 +87,8 @@ below = refl
 subquery : tests (codes "(SELECT id FROM b WHERE (p OR q) AND (r))") ≡ (true, false, true, false)
 subquery = refl
 
-outer_again : tests (codes "a) ( FROM b") ≡ (false, false, false, true)
-outer_again = refl
+top_level_again : tests (codes "a) ( FROM b") ≡ (false, false, false, true)
+top_level_again = refl
 
 range_below : tests (codes "a) x BETWEEN 1 (b AND 2") ≡ (false, true, false, false)
 range_below = refl

@@ -11,8 +11,8 @@ use Rattle.sql_parts.specs.Tokens.{tokens}
 use Rattle.callers.proofs.lists.books_where.Goals as goal
 
 -- what the two tests said of a text
-asked : (text : List ℕ) (level words : Bool) → level ≡ balanced text → level ≡ true → words ≡ has_clause_word text → words ≡ false → is_fit (Bare text) ≡ true
-asked text level words is holds are none = and_from _ _ (sym is ∙ holds) (ap not (sym are ∙ none))
+asked : (text : List ℕ) (fits words : Bool) → fits ≡ balanced text → fits ≡ true → words ≡ has_clause_word text → words ≡ false → is_fit (Bare text) ≡ true
+asked text fits words is holds are none = and_from _ _ (sym is ∙ holds) (ap not (sym are ∙ none))
 
 -- the two conditions, each as a group
 texts_fit : (one other : List ℕ) → is_fit (Bare one) ≡ true → is_fit (Bare other) ≡ true

@@ -1,9 +1,10 @@
 use Rattle.std.specs.List.{count_by, list_any}
 use Rattle.std.proofs.Common.{not, refl}
-use Rattle.sql_parts.specs.Fragments.{has_outer, is_balanced, is_clause_word, is_dangling, is_operand}
+use Rattle.sql_parts.specs.Fragments.{has_top_level, is_balanced, is_clause_word, is_dangling, is_operand}
 use Rattle.sql_parts.specs.StringTexts.{blank}
 use Rattle.sql_parts.specs.Tokens.{is_open, is_semicolon}
-use Rattle.sql_parts.proofs.fragments.StringTextFacts.{any-blank, count-blank, has_outer-blank, ignores, is_balanced-blank, is_dangling-blank, is_operand-blank}
+use Rattle.sql_parts.proofs.fragments.StringTextFacts.{any-blank, count-blank, has_top_level-blank, ignores, is_balanced-blank, is_dangling-blank}
+use Rattle.sql_parts.proofs.fragments.StringTextFacts.{is_operand-blank}
 use Rattle.sql_parts.proofs.templates.BoundTextFacts.{arguments-differ, bound_places-kept, bound_texts-apart, bound_texts-ignored, bound_texts-strings}
 use Rattle.sql_parts.proofs.templates.BoundTextFacts.{names-differ}
 use Rattle.sql_parts.proofs.laws.bound_texts_do_not_interfere.Goals as goal
@@ -20,7 +21,7 @@ returns c = record {
       (ignores (λ ts. not (list_any is_open ts)) (λ ts i. not (any-blank is_open (λ text. refl) ts i)));
   balanced = bound_texts-ignored is_balanced (ignores is_balanced is_balanced-blank);
   operand = bound_texts-ignored is_operand (ignores is_operand is_operand-blank);
-  clause_word = bound_texts-ignored (has_outer is_clause_word) (ignores (has_outer is_clause_word) (has_outer-blank is_clause_word (λ text. refl)));
+  clause_word = bound_texts-ignored (has_top_level is_clause_word) (ignores (has_top_level is_clause_word) (has_top_level-blank is_clause_word (λ text. refl)));
   dangling = bound_texts-ignored is_dangling (ignores is_dangling is_dangling-blank);
   arguments = arguments-differ;
   names = names-differ;

@@ -1,10 +1,11 @@
 use Rattle.std.specs.List.{count_by, list_any}
 use Rattle.std.proofs.Common.{length, not, refl}
 use Rattle.std.proofs.lemmas.List.{length-map}
-use Rattle.sql_parts.specs.Fragments.{has_outer, is_balanced, is_clause_word, is_dangling, is_operand}
+use Rattle.sql_parts.specs.Fragments.{has_top_level, is_balanced, is_clause_word, is_dangling, is_operand}
 use Rattle.sql_parts.specs.StringTexts.{blank_token}
 use Rattle.sql_parts.specs.Tokens.{is_open, is_semicolon}
-use Rattle.sql_parts.proofs.fragments.StringTextFacts.{any-blank, count-blank, has_outer-blank, ignores, is_balanced-blank, is_dangling-blank, is_operand-blank}
+use Rattle.sql_parts.proofs.fragments.StringTextFacts.{any-blank, count-blank, has_top_level-blank, ignores, is_balanced-blank, is_dangling-blank}
+use Rattle.sql_parts.proofs.fragments.StringTextFacts.{is_operand-blank}
 use Rattle.sql_parts.proofs.fragments.StringTextFacts.{somewhere}
 use Rattle.sql_parts.proofs.laws.string_texts_decide_nothing.Goals as goal
 
@@ -16,6 +17,6 @@ returns c = record {
   closed = ignores (λ ts. not (list_any is_open ts)) (λ ts i. not (any-blank is_open (λ text. refl) ts i));
   balanced = ignores is_balanced is_balanced-blank;
   operand = ignores is_operand is_operand-blank;
-  clause_word = ignores (has_outer is_clause_word) (has_outer-blank is_clause_word (λ text. refl));
+  clause_word = ignores (has_top_level is_clause_word) (has_top_level-blank is_clause_word (λ text. refl));
   dangling = ignores is_dangling is_dangling-blank;
 }

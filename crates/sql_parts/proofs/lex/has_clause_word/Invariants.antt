@@ -3,7 +3,7 @@ use denote.Text.{Utf8}
 use Rattle.std.proofs.Common.{◌≡◌, ◌+◌, ◌≤◌, length}
 use Rattle.sql_parts.specs.Fragments.{has_clause_word, is_clause_word}
 use Rattle.sql_parts.specs.Tokens.{tokens}
-use Rattle.sql_parts.proofs.fragments.DepthCountLemmas.{outer_from}
+use Rattle.sql_parts.proofs.fragments.DepthCountLemmas.{top_level_from}
 use Rattle.sql_parts.proofs.lex.has_clause_word.Given as goal
 
 abbrev pub invariant-loop-role : goal.invariant-loop-role
@@ -11,7 +11,7 @@ invariant-loop-role l = record {
   text : shadow (Utf8 l.rest);
   raised : l.depth.raised + length l.rest ≤ length l.fn.text;
   lowered : l.depth.lowered + length l.rest ≤ length l.fn.text;
-  same : outer_from is_clause_word l.depth.raised l.depth.lowered (tokens l.rest) ≡ has_clause_word l.text;
+  same : top_level_from is_clause_word l.depth.raised l.depth.lowered (tokens l.rest) ≡ has_clause_word l.text;
 }
 
 abbrev pub decreases-loop-role : goal.decreases-loop-role
