@@ -19,12 +19,12 @@ parts_at test [] = record { lead = []; rest = [] }
 parts_at test (found ∷ more) = with_front (at_top_level test found) (token_of found) (parts_at test more)
 
 -- the tokens before the first divider, between each and the next, and after the last
-abbrev pub pieces_of : Parts → List (List Token)
-pieces_of parts = parts.lead ∷ map (λ part. part.1) parts.rest
+abbrev pub all_parts : Parts → List (List Token)
+all_parts parts = parts.lead ∷ map (λ part. part.1) parts.rest
 
--- the pieces between the dividers
-abbrev pub pieces_at : (Token → Bool) → List Placed → List (List Token)
-pieces_at test ms = pieces_of (parts_at test ms)
+-- the parts between the dividers
+abbrev pub parts_between : (Token → Bool) → List Placed → List (List Token)
+parts_between test ms = all_parts (parts_at test ms)
 
 -- the tokens before the first divider, with their places
 abbrev pub before_top_level : (Token → Bool) → List Placed → List Placed

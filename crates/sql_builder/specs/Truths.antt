@@ -6,7 +6,7 @@ use Rattle.std.specs.Str.{bytes_eq}
 use Rattle.sql_parts.specs.Fragments.{Placed, TopLevel, Nested, any_token, has_top_level, is_clause_word, at_top_level, is_symbol, is_word, depth_at}
 use Rattle.sql_parts.specs.Fragments.{placed, places}
 use Rattle.sql_parts.specs.Tokens.{Token, Word, Str, Name, Symbol, Open, begins_with, ends_with}
-use Rattle.sql_builder.specs.TokenParts.{but_last, pieces_at}
+use Rattle.sql_builder.specs.TokenParts.{but_last, parts_between}
 
 -- A truth value.
 pub data Truth : Type 0 where
@@ -122,7 +122,7 @@ is_bracketed ts =
     begins_with (is_symbol (code "(")) ts && ends_with (is_symbol (code ")")) ts && is_inside (but_last ts)
     && not (has_top_level is_clause_word (inside ts))
 
--- How a condition is made: of pieces joined by OR, of pieces joined by AND, of NOT and what it negates, of brackets and what
+-- How a condition is made: of parts joined by OR, of parts joined by AND, of NOT and what it negates, of brackets and what
 -- they hold, or of nothing else.
 pub data Form : Type 0 where
   AnyOf : List (List Token) → Form
@@ -134,8 +134,8 @@ pub data Form : Type 0 where
 -- the first of the five that fits, from the tokens with their places and from whether they are bracketed
 abbrev pub form_of : List Placed → Bool → List Token → Form
 form_of ms bracketed ts =
-    if list_any (at_top_level is_or) ms then AnyOf (pieces_at is_or ms)
-    else (if list_any (at_top_level is_and) (without_owned false ms) then AllOf (pieces_at is_and (without_owned false ms))
+    if list_any (at_top_level is_or) ms then AnyOf (parts_between is_or ms)
+    else (if list_any (at_top_level is_and) (without_owned false ms) then AllOf (parts_between is_and (without_owned false ms))
     else (if begins_with is_not ts then Negated (drop 1 ts)
     else (if bracketed then Bracketed (inside ts)
     else Atom)))
@@ -144,10 +144,10 @@ form_of ms bracketed ts =
 abbrev pub form : List Token → Form
 form ts = form_of (placed ts) (is_bracketed ts) ts
 
--- the truth by the form, from the truth of its pieces and, for an atom, its value
+-- the truth by the form, from the truth of its parts and, for an atom, its value
 abbrev pub truth_by : (List Token → Truth) → Truth → Form → Truth
-truth_by truth_of value (AnyOf pieces) = or_all (map truth_of pieces)
-truth_by truth_of value (AllOf pieces) = and_all (map truth_of pieces)
+truth_by truth_of value (AnyOf parts) = or_all (map truth_of parts)
+truth_by truth_of value (AllOf parts) = and_all (map truth_of parts)
 truth_by truth_of value (Negated rest) = not3 (truth_of rest)
 truth_by truth_of value (Bracketed inner) = truth_of inner
 truth_by truth_of value Atom = value
@@ -157,7 +157,7 @@ abbrev pub truth_within : ℕ → Valuation → List Token → Truth
 truth_within zero facts ts = value_in facts ts
 truth_within (suc steps) facts ts = truth_by (truth_within steps facts) (value_in facts ts) (form ts)
 
--- The truth of tokens. Each piece is shorter than the whole, so as many steps as there are tokens are enough.
+-- The truth of tokens. Each part is shorter than the whole, so as many steps as there are tokens are enough.
 unfoldable pub truth : Valuation → List Token → Truth
 truth facts ts = truth_within (length ts) facts ts
 

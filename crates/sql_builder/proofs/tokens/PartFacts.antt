@@ -3,7 +3,7 @@ use Rattle.std.proofs.Common.{◌≡◌, refl, ◌∙◌, ap, Bool, true, false,
 use Rattle.std.proofs.lemmas.Bool.{or_parts, or_from, true≢false, and_parts, not-true, cond-false, cond-true}
 use Rattle.std.specs.List.{list_any, list_all}
 use Rattle.sql_parts.specs.Tokens.{Token, ends_with, is_semicolon}
-use Rattle.sql_builder.specs.TokenParts.{Parts, but_last, parts_at, pieces_at, pieces_of, with_front}
+use Rattle.sql_builder.specs.TokenParts.{Parts, but_last, parts_at, parts_between, all_parts, with_front}
 use Rattle.sql_builder.specs.Truths.{is_and, is_between, is_between_last, is_or, owns_next, without_owned}
 use Rattle.sql_parts.proofs.fragments.DepthFacts.{after, is_zero, placed_from}
 use Rattle.sql_parts.specs.Fragments.{as_placed, Nested, TopLevel, Placed, is_joining, at_top_level, token_of, clause_words, is_clause_word, is_whole}
@@ -51,13 +51,13 @@ map-append : (xs ys : List (Token × List Token)) → map (λ (part : Token × L
 map-append [] ys = refl
 map-append (x ∷ xs) ys = ap (λ zs. x.1 ∷ zs) (map-append xs ys)
 
-pub pieces-separator : (test : Token → Bool) (a : List Placed) (t : Token) (b : List Placed) → test t ≡ true → pieces_at test (a ++ TopLevel t ∷ b)
-    ≡ pieces_at test a ++ pieces_at test b
+pub parts_between-separator : (test : Token → Bool) (a : List Placed) (t : Token) (b : List Placed) → test t ≡ true → parts_between test (a ++ TopLevel t ∷ b)
+    ≡ parts_between test a ++ parts_between test b
 unfolding parts_then
-pieces-separator test a t b h =
+parts_between-separator test a t b h =
     let parted = parts_at test a in
     let more = parts_at test b in
-    ap pieces_of (parts-separator test a t b h) ∙ ap (λ zs. parted.lead ∷ zs) (map-append parted.rest ((t, more.lead) ∷ more.rest))
+    ap all_parts (parts-separator test a t b h) ∙ ap (λ zs. parted.lead ∷ zs) (map-append parted.rest ((t, more.lead) ∷ more.rest))
 
 pub parts-none : (test : Token → Bool) (a : List Placed) → list_any (at_top_level test) a ≡ false
     → parts_at test a ≡ record { lead = map token_of a; rest = [] }

@@ -7,10 +7,10 @@ use Rattle.sql_parts.specs.Tokens.{Token}
 use Rattle.sql_builder.specs.WhereTokens.{in_brackets}
 use Rattle.sql_builder.proofs.tokens.WhereWords.{and_word, has_clause, left_bracket, not_word, or_word, right_bracket}
 use Rattle.sql_builder.proofs.tokens.DepthFacts.{placed_from-append, at_end-closes, placed_from-suc, after-suc, at_end-suc, at_end-append}
-use Rattle.sql_builder.proofs.tokens.PartFacts.{but_last-push, ends_with-push, pieces-separator, parts-none, tokens-placed_from, tokens-without_owned}
+use Rattle.sql_builder.proofs.tokens.PartFacts.{but_last-push, ends_with-push, parts_between-separator, parts-none, tokens-placed_from, tokens-without_owned}
 use Rattle.sql_builder.proofs.tokens.PartFacts.{without_owned-plain, none-inner, none-append, none_narrower, without_owned-append}
 use Rattle.sql_builder.proofs.truth.FormLemmas.{truth_is, is_bracketed, placed_ands}
-use Rattle.sql_builder.specs.TokenParts.{pieces_at, pieces_of}
+use Rattle.sql_builder.specs.TokenParts.{parts_between, all_parts}
 use Rattle.sql_builder.specs.Truths.{False, True, Truth, Unknown, not3, or3, or_all, is_and, is_or, and_all, and3, truth, truth_by, value_in, without_owned}
 use Rattle.sql_builder.specs.Truths.{Valuation, is_between, owns_next}
 use Rattle.sql_parts.proofs.fragments.DepthFacts.{after, at_end, closes_from, has_top_level, is_at_least_0, is_at_least_1, placed, placed_from, stays_inside}
@@ -52,30 +52,30 @@ and_all-append : (f : List Token → Truth) (xs ys : List (List Token)) → and_
 and_all-append f [] ys = refl
 and_all-append f (x ∷ xs) ys = ap (and3 (f x)) (and_all-append f xs ys) ∙ sym (and3_assoc (f x) _ _)
 
--- no separator: the one piece is the whole
-one_piece : (test : Token → Bool) (ts : List Token) → has_top_level test ts ≡ false → pieces_at test (placed ts) ≡ ts ∷ []
-one_piece test ts h = ap pieces_of (parts-none test (placed ts) h) ∙ ap (λ us. us ∷ []) (tokens-placed_from (pos 0) ts)
+-- no separator: the one part is the whole
+one_part : (test : Token → Bool) (ts : List Token) → has_top_level test ts ≡ false → parts_between test (placed ts) ≡ ts ∷ []
+one_part test ts h = ap all_parts (parts-none test (placed ts) h) ∙ ap (λ us. us ∷ []) (tokens-placed_from (pos 0) ts)
 
-one_piece_and : (ts : List Token) → list_any (at_top_level is_and) (placed_ands ts) ≡ false → pieces_at is_and (placed_ands ts) ≡ ts ∷ []
-one_piece_and ts h = ap pieces_of (parts-none is_and (placed_ands ts) h)
+one_part_and : (ts : List Token) → list_any (at_top_level is_and) (placed_ands ts) ≡ false → parts_between is_and (placed_ands ts) ≡ ts ∷ []
+one_part_and ts h = ap all_parts (parts-none is_and (placed_ands ts) h)
     ∙ ap (λ us. us ∷ []) (tokens-without_owned false (placed ts) ∙ tokens-placed_from (pos 0) ts)
 
--- the OR of the pieces between the top-level ORs, also where there is none
-pub truth_any : (facts : Valuation) (ts : List Token) → truth facts ts ≡ or_all (map (truth facts) (pieces_at is_or (placed ts)))
+-- the OR of the parts between the top-level ORs, also where there is none
+pub truth_any : (facts : Valuation) (ts : List Token) → truth facts ts ≡ or_all (map (truth facts) (parts_between is_or (placed ts)))
 truth_any facts ts = by (has_top_level is_or ts) refl
   where
-    by : (b : Bool) → has_top_level is_or ts ≡ b → truth facts ts ≡ or_all (map (truth facts) (pieces_at is_or (placed ts)))
+    by : (b : Bool) → has_top_level is_or ts ≡ b → truth facts ts ≡ or_all (map (truth facts) (parts_between is_or (placed ts)))
     by true e = truth_is facts ts ∙ ap (truth_by (truth facts) (value_in facts ts)) (cond-true _ _ _ e)
-    by false e = sym (ap (λ ps. or_all (map (truth facts) ps)) (one_piece is_or ts e) ∙ or3-False (truth facts ts))
+    by false e = sym (ap (λ ps. or_all (map (truth facts) ps)) (one_part is_or ts e) ∙ or3-False (truth facts ts))
 
 -- the same of the top-level ANDs, where there is no top-level OR
 pub truth_all : (facts : Valuation) (ts : List Token) → has_top_level is_or ts ≡ false → truth facts ts
-    ≡ and_all (map (truth facts) (pieces_at is_and (placed_ands ts)))
+    ≡ and_all (map (truth facts) (parts_between is_and (placed_ands ts)))
 truth_all facts ts h = by (list_any (at_top_level is_and) (placed_ands ts)) refl
   where
-    by : (b : Bool) → list_any (at_top_level is_and) (placed_ands ts) ≡ b → truth facts ts ≡ and_all (map (truth facts) (pieces_at is_and (placed_ands ts)))
+    by : (b : Bool) → list_any (at_top_level is_and) (placed_ands ts) ≡ b → truth facts ts ≡ and_all (map (truth facts) (parts_between is_and (placed_ands ts)))
     by true e = truth_is facts ts ∙ ap (truth_by (truth facts) (value_in facts ts)) (cond-false _ _ _ h ∙ cond-true _ _ _ e)
-    by false e = sym (ap (λ ps. and_all (map (truth facts) ps)) (one_piece_and ts e) ∙ and3-True (truth facts ts))
+    by false e = sym (ap (λ ps. and_all (map (truth facts) ps)) (one_part_and ts e) ∙ and3-True (truth facts ts))
 
 -- what ends at depth 0, and more
 pub placed-then : (a b : List Token) → at_end (pos 0) a ≡ pos 0 → placed (a ++ b) ≡ placed a ++ placed b
@@ -85,10 +85,10 @@ placed-then a b h = placed_from-append (pos 0) a b ∙ ap (λ l. placed a ++ pla
 pub truth_or : (facts : Valuation) (a b : List Token) → at_end (pos 0) a ≡ pos 0 → truth facts (a ++ or_word ∷ b) ≡ or3 (truth facts a) (truth facts b)
 truth_or facts a b h =
     truth_any facts (a ++ or_word ∷ b)
-    ∙ ap (λ ms. or_all (map (truth facts) (pieces_at is_or ms))) (placed-then a (or_word ∷ b) h)
-    ∙ ap (λ ps. or_all (map (truth facts) ps)) (pieces-separator is_or (placed a) or_word (placed b) refl)
-    ∙ or_all-append (truth facts) (pieces_at is_or (placed a)) (pieces_at is_or (placed b))
-    ∙ ap (λ x. or3 x (or_all (map (truth facts) (pieces_at is_or (placed b))))) (sym (truth_any facts a))
+    ∙ ap (λ ms. or_all (map (truth facts) (parts_between is_or ms))) (placed-then a (or_word ∷ b) h)
+    ∙ ap (λ ps. or_all (map (truth facts) ps)) (parts_between-separator is_or (placed a) or_word (placed b) refl)
+    ∙ or_all-append (truth facts) (parts_between is_or (placed a)) (parts_between is_or (placed b))
+    ∙ ap (λ x. or3 x (or_all (map (truth facts) (parts_between is_or (placed b))))) (sym (truth_any facts a))
     ∙ ap (or3 (truth facts a)) (sym (truth_any facts b))
 
 -- no top-level OR, AND or BETWEEN: no top-level OR, and no top-level AND
@@ -108,13 +108,13 @@ pub truth_and : (facts : Valuation) (a b : List Token) → at_end (pos 0) a ≡ 
 truth_and facts a b h no_or_a free no_or_b =
     let both : placed (a ++ and_word ∷ b) ≡ placed a ++ TopLevel and_word ∷ placed b = placed-then a (and_word ∷ b) h in
     truth_all facts (a ++ and_word ∷ b) (ap (list_any (at_top_level is_or)) both ∙ none-append is_or (placed a) (TopLevel and_word ∷ placed b) no_or_a no_or_b)
-    ∙ ap (λ ms. and_all (map (truth facts) (pieces_at is_and (without_owned false ms)))) both
-    ∙ ap (λ ms. and_all (map (truth facts) (pieces_at is_and ms)))
+    ∙ ap (λ ms. and_all (map (truth facts) (parts_between is_and (without_owned false ms)))) both
+    ∙ ap (λ ms. and_all (map (truth facts) (parts_between is_and ms)))
     (without_owned-append false (placed a) (TopLevel and_word ∷ placed b)
     ∙ ap (λ owned. placed_ands a ++ without_owned owned (TopLevel and_word ∷ placed b)) free)
-    ∙ ap (λ ps. and_all (map (truth facts) ps)) (pieces-separator is_and (placed_ands a) and_word (placed_ands b) refl)
-    ∙ and_all-append (truth facts) (pieces_at is_and (placed_ands a)) (pieces_at is_and (placed_ands b))
-    ∙ ap (λ x. and3 x (and_all (map (truth facts) (pieces_at is_and (placed_ands b))))) (sym (truth_all facts a no_or_a))
+    ∙ ap (λ ps. and_all (map (truth facts) ps)) (parts_between-separator is_and (placed_ands a) and_word (placed_ands b) refl)
+    ∙ and_all-append (truth facts) (parts_between is_and (placed_ands a)) (parts_between is_and (placed_ands b))
+    ∙ ap (λ x. and3 x (and_all (map (truth facts) (parts_between is_and (placed_ands b))))) (sym (truth_all facts a no_or_a))
     ∙ ap (and3 (truth facts a)) (sym (truth_all facts b no_or_b))
 
 -- what has no top-level OR, AND or BETWEEN owns nothing

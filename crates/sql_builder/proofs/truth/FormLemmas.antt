@@ -1,11 +1,11 @@
--- Each piece is shorter, so that more steps change no truth.
+-- The parts of a form are shorter than the whole, so that more steps change no truth.
 use Prim.Native.Char.{code}
 use Rattle.std.proofs.Common.{not, ◌&&◌, ◌≡◌, refl, sym, ◌∙◌, ap, subst, ℕ, zero, suc, ◌+◌, ◌<◌, ◌≤◌, Bool, true, false, cond, List, [], ◌∷◌, map, length, drop}
 use Rattle.std.proofs.Common.{◌⊎◌, inl, inr, arith, pos, ℤ}
 use Rattle.std.proofs.lemmas.Bool.{or_cases, false≢true}
 use Rattle.std.specs.List.{list_any, AllByRecursion}
 use Rattle.sql_parts.specs.Tokens.{Token, begins_with, ends_with}
-use Rattle.sql_builder.specs.TokenParts.{Parts, but_last, parts_at, pieces_at, with_front}
+use Rattle.sql_builder.specs.TokenParts.{Parts, but_last, parts_at, parts_between, with_front}
 use Rattle.sql_builder.specs.Truths.{AllOf, AnyOf, Atom, Bracketed, Fact, Form, Negated, Truth, not3, form, form_of, or_all, inside, is_and, is_between_last}
 use Rattle.sql_builder.specs.Truths.{is_not, is_or, and_all, truth, truth_by, truth_within, value_in, without_owned}
 use Rattle.std.proofs.Math.Bool.{and_assoc}
@@ -63,13 +63,13 @@ weight_all test (m ∷ ms) = weight_front (at_top_level test m) (token_of m) (pa
 
 -- the lists are shorter than n
 abbrev Below : ℕ → List (List Token) → Type 0
-Below n pieces = AllByRecursion (λ (p : List Token). length p < n) pieces
+Below n parts = AllByRecursion (λ (p : List Token). length p < n) parts
 
 rest_below : (n : ℕ) (parts : List (Token × List Token)) → weight parts ≤ n → Below n (map (λ (part : Token × List Token). part.1) parts)
 rest_below n [] h = tt
 rest_below n (part ∷ parts) h = (omega arith, rest_below n parts (omega arith))
 
--- there is a separator, so that each piece is shorter
+-- there is a separator, so that each part is shorter
 front_weight : (is : Bool) (t : Token) (parts : Parts) → (is ≡ true) ⊎ (1 ≤ weight parts.rest) → 1 ≤ weight (with_front is t parts).rest
 front_weight true t parts h = omega arith
 front_weight false t parts (inl h) = absurd (false≢true h)
@@ -83,19 +83,19 @@ some_weight : (test : Token → Bool) (ms : List Placed) → list_any (at_top_le
 some_weight test [] h = absurd (false≢true h)
 some_weight test (m ∷ ms) h = front_weight (at_top_level test m) (token_of m) (parts_at test ms) (later (some_weight test ms) (or_cases _ _ h))
 
-pieces_below : (test : Token → Bool) (ms : List Placed) → list_any (at_top_level test) ms ≡ true → Below (length ms) (pieces_at test ms)
-pieces_below test ms h =
+parts_below : (test : Token → Bool) (ms : List Placed) → list_any (at_top_level test) ms ≡ true → Below (length ms) (parts_between test ms)
+parts_below test ms h =
     let some : 1 ≤ weight (parts_at test ms).rest = some_weight test ms h in
     let all : length (parts_at test ms).lead + weight (parts_at test ms).rest ≡ length ms = weight_all test ms in
     (omega arith, rest_below (length ms) (parts_at test ms).rest (omega arith))
 
--- the pieces that a form has
-abbrev pieces_in : Form → List (List Token)
-pieces_in (AnyOf pieces) = pieces
-pieces_in (AllOf pieces) = pieces
-pieces_in (Negated rest) = rest ∷ []
-pieces_in (Bracketed inner) = inner ∷ []
-pieces_in Atom = []
+-- the parts that a form has
+abbrev parts_in : Form → List (List Token)
+parts_in (AnyOf parts) = parts
+parts_in (AllOf parts) = parts
+parts_in (Negated rest) = rest ∷ []
+parts_in (Bracketed inner) = inner ∷ []
+parts_in Atom = []
 
 length-but_last : (ts : List Token) → length (but_last ts) ≤ length ts
 length-but_last [] = omega arith
@@ -110,12 +110,12 @@ inside_below : (ts : List Token) → is_bracketed ts ≡ true → length (inside
 inside_below [] h = absurd (false≢true h)
 inside_below (t ∷ ts) h = let short : length (but_last ts) ≤ length ts = length-but_last ts in omega arith
 
-any_below : (ts : List Token) → has_top_level is_or ts ≡ true → Below (length ts) (pieces_at is_or (placed ts))
-any_below ts h = subst (λ n. Below n (pieces_at is_or (placed ts))) (length-placed (pos 0) ts) (pieces_below is_or (placed ts) h)
+any_below : (ts : List Token) → has_top_level is_or ts ≡ true → Below (length ts) (parts_between is_or (placed ts))
+any_below ts h = subst (λ n. Below n (parts_between is_or (placed ts))) (length-placed (pos 0) ts) (parts_below is_or (placed ts) h)
 
-all_below : (ts : List Token) → list_any (at_top_level is_and) (placed_ands ts) ≡ true → Below (length ts) (pieces_at is_and (placed_ands ts))
-all_below ts h = subst (λ n. Below n (pieces_at is_and (placed_ands ts))) (length-without_owned false (placed ts) ∙ length-placed (pos 0) ts)
-    (pieces_below is_and (placed_ands ts) h)
+all_below : (ts : List Token) → list_any (at_top_level is_and) (placed_ands ts) ≡ true → Below (length ts) (parts_between is_and (placed_ands ts))
+all_below ts h = subst (λ n. Below n (parts_between is_and (placed_ands ts))) (length-without_owned false (placed ts) ∙ length-placed (pos 0) ts)
+    (parts_below is_and (placed_ands ts) h)
 
 -- the choice of a form by four tests
 choose : (P : Form → Type 0) (any all negated bracketed : Bool) (a b c d : Form) → (any ≡ true → P a) → (all ≡ true → P b) → (negated ≡ true → P c)
@@ -126,32 +126,32 @@ choose P false false true bracketed a b c d f g h k e = h refl
 choose P false false false true a b c d f g h k e = k refl
 choose P false false false false a b c d f g h k e = e
 
--- each piece of a form is shorter than the whole
-form_by_depth_below : (ts : List Token) → Below (length ts) (pieces_in (form_by_depth ts))
-form_by_depth_below ts = choose (λ s. Below (length ts) (pieces_in s)) (has_top_level is_or ts) (list_any (at_top_level is_and) (placed_ands ts))
-    (begins_with is_not ts) (is_bracketed ts) (AnyOf (pieces_at is_or (placed ts))) (AllOf (pieces_at is_and (placed_ands ts))) (Negated (drop 1 ts))
+-- each part of a form is shorter than the whole
+form_by_depth_below : (ts : List Token) → Below (length ts) (parts_in (form_by_depth ts))
+form_by_depth_below ts = choose (λ s. Below (length ts) (parts_in s)) (has_top_level is_or ts) (list_any (at_top_level is_and) (placed_ands ts))
+    (begins_with is_not ts) (is_bracketed ts) (AnyOf (parts_between is_or (placed ts))) (AllOf (parts_between is_and (placed_ands ts))) (Negated (drop 1 ts))
     (Bracketed (inside ts)) (any_below ts) (all_below ts) (λ h. (drop_below is_not ts h, tt)) (λ h. (inside_below ts h, tt)) tt
 
-form_below : (ts : List Token) → Below (length ts) (pieces_in (form ts))
-form_below ts = subst (λ s. Below (length ts) (pieces_in s)) (sym (form-is ts)) (form_by_depth_below ts)
+form_below : (ts : List Token) → Below (length ts) (parts_in (form ts))
+form_below ts = subst (λ s. Below (length ts) (parts_in s)) (sym (form-is ts)) (form_by_depth_below ts)
 
-map_same : (f g : List Token → Truth) (pieces : List (List Token)) → AllByRecursion (λ (p : List Token). f p ≡ g p) pieces → map f pieces ≡ map g pieces
+map_same : (f g : List Token → Truth) (parts : List (List Token)) → AllByRecursion (λ (p : List Token). f p ≡ g p) parts → map f parts ≡ map g parts
 map_same f g [] h = refl
-map_same f g (p ∷ pieces) (e, h) = cc (map_same f g pieces h)
+map_same f g (p ∷ parts) (e, h) = cc (map_same f g parts h)
 
--- only the truths of the pieces count
-truth_by_same : (f g : List Token → Truth) (value : Truth) (s : Form) → AllByRecursion (λ (p : List Token). f p ≡ g p) (pieces_in s) → truth_by f value s
+-- only the truths of the parts count
+truth_by_same : (f g : List Token → Truth) (value : Truth) (s : Form) → AllByRecursion (λ (p : List Token). f p ≡ g p) (parts_in s) → truth_by f value s
     ≡ truth_by g value s
-truth_by_same f g value (AnyOf pieces) h = ap or_all (map_same f g pieces h)
-truth_by_same f g value (AllOf pieces) h = ap and_all (map_same f g pieces h)
+truth_by_same f g value (AnyOf parts) h = ap or_all (map_same f g parts h)
+truth_by_same f g value (AllOf parts) h = ap and_all (map_same f g parts h)
 truth_by_same f g value (Negated rest) h = ap not3 h.0
 truth_by_same f g value (Bracketed inner) h = h.0
 truth_by_same f g value Atom h = refl
 
-same_below : (f g : List Token → Truth) (n : ℕ) → ((p : List Token) → length p < n → f p ≡ g p) → (pieces : List (List Token)) → Below n pieces
-    → AllByRecursion (λ (p : List Token). f p ≡ g p) pieces
+same_below : (f g : List Token → Truth) (n : ℕ) → ((p : List Token) → length p < n → f p ≡ g p) → (parts : List (List Token)) → Below n parts
+    → AllByRecursion (λ (p : List Token). f p ≡ g p) parts
 same_below f g n same [] h = tt
-same_below f g n same (p ∷ pieces) h = (same p h.0, same_below f g n same pieces h.1)
+same_below f g n same (p ∷ parts) h = (same p h.0, same_below f g n same parts h.1)
 
 empty_within : (m : ℕ) (facts : List Fact) → truth_within m facts [] ≡ value_in facts []
 empty_within zero facts = refl
@@ -166,14 +166,14 @@ truth_within_same (suc n) zero facts (t ∷ ts) h k = absurd (omega arith)
 truth_within_same (suc n) (suc m) facts ts h k =
     truth_by_same (truth_within n facts) (truth_within m facts) (value_in facts ts) (form ts)
     (same_below (truth_within n facts) (truth_within m facts) (length ts) (λ p short. truth_within_same n m facts p (omega arith) (omega arith))
-    (pieces_in (form ts)) (form_below ts))
+    (parts_in (form ts)) (form_below ts))
 
--- the truth is by the form, from the truths of the pieces
+-- the truth is by the form, from the truths of the parts
 pub truth_is : (facts : List Fact) (ts : List Token) → truth facts ts ≡ truth_by (truth facts) (value_in facts ts) (form_by_depth ts)
 unfolding truth
 truth_is facts [] = refl
 truth_is facts (t ∷ ts) =
     truth_by_same (truth_within (length ts) facts) (truth facts) (value_in facts (t ∷ ts)) (form (t ∷ ts))
     (same_below (truth_within (length ts) facts) (truth facts) (length (t ∷ ts))
-    (λ p short. truth_within_same (length ts) (length p) facts p (omega arith) (omega arith)) (pieces_in (form (t ∷ ts))) (form_below (t ∷ ts)))
+    (λ p short. truth_within_same (length ts) (length p) facts p (omega arith) (omega arith)) (parts_in (form (t ∷ ts))) (form_below (t ∷ ts)))
     ∙ ap (truth_by (truth facts) (value_in facts (t ∷ ts))) (form-is (t ∷ ts))
