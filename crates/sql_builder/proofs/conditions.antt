@@ -1,2 +1,2 @@
 pub mod ConditionLemmas
-pub mod MaskFacts
+pub mod QuotedMaskFacts

@@ -1,4 +1,4 @@
 pub mod LaterCallLemmas
 pub mod NextCallLemmas
 pub mod RunLemmas
-pub mod StatementLaws
+pub mod StatementLawLemmas

@@ -1,4 +1,4 @@
 pub mod BalancedFacts
 pub mod DepthFacts
 pub mod PartFacts
-pub mod WhereWords
+pub mod WhereTokenFacts

@@ -2,5 +2,5 @@ pub mod AtomLemmas
 pub mod ConditionGroupLemmas
 pub mod ConnectiveLemmas
 pub mod FormLemmas
-pub mod TruthLaws
+pub mod TruthLemmas
 pub mod WhereLemmas

@@ -240,7 +240,7 @@ pub(crate) fn is_not_null(alloc: Global, field: &str) -> Result<String, SqlBuild
 }
 
 /// A field that is like a mask, which is quoted with its percent signs.
-#[tactic(auto, using(crate::proofs::conditions::MaskFacts::quoted_mask))]
+#[tactic(auto, using(crate::proofs::conditions::QuotedMaskFacts::quoted_mask))]
 pub(crate) fn like<'a>(
     alloc: Global,
     negated: bool,

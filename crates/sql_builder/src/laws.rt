@@ -125,7 +125,7 @@ pub fn only_the_end_is_a_semicolon()
 /// What `sql`, `query` and `query_values` print of a list of calls parses back as the clauses that
 /// the list says, where its fragments before the first UNION are fit.
 /// `has_clause_word("a FROM b")` → `true`
-#[tactic(auto, using(crate::proofs::statements::StatementLaws::statements_read_back))]
+#[tactic(auto, using(crate::proofs::statements::StatementLawLemmas::statements_read_back))]
 pub fn statements_read_back()
     ensures { StatementsReadBack }
 {}
@@ -133,7 +133,7 @@ pub fn statements_read_back()
 /// Where each fragment that is printed is closed, a statement has the tokens of its pieces, where a
 /// text that was quoted is one token that parses back as that text, and is closed.
 /// `SqlBuilder::update_table(alloc, "t")?.set_str("a", "b; c")?.sql()?` → `UPDATE t SET a = 'b; c';`
-#[tactic(auto, using(crate::proofs::statements::StatementLaws::statements_keep_tokens, crate::proofs::statements::StatementLaws::statements_are_closed))]
+#[tactic(auto, using(crate::proofs::statements::StatementLawLemmas::statements_keep_tokens, crate::proofs::statements::StatementLawLemmas::statements_are_closed))]
 pub fn statements_keep_tokens()
     ensures shape { StatementsKeepTokens }
     ensures closed { StatementsAreClosed }
@@ -144,7 +144,7 @@ pub fn statements_keep_tokens()
 /// groups, each the OR of its conditions, in SQL's three-valued logic.
 /// `SqlBuilder::select_from(alloc, "t")?.and_where("a")?.or_where("b")?.and_where("c")?.sql()?` →
 /// `SELECT * FROM t WHERE (a OR b) AND (c);`
-#[tactic(auto, using(crate::proofs::statements::StatementLaws::statements_have_truth))]
+#[tactic(auto, using(crate::proofs::statements::StatementLawLemmas::statements_have_truth))]
 pub fn statements_have_truth()
     ensures { StatementsHaveTruth }
 {}
@@ -152,7 +152,7 @@ pub fn statements_have_truth()
 /// Where each fragment is balanced, what `query` and `subquery_as` print is balanced, and what
 /// `subquery` prints is an operand without a top-level clause keyword.
 /// `begin(alloc, &Start::SelectFrom(String::from_str(alloc, "t")?))?.subquery()?` → `(SELECT * FROM t)`
-#[tactic(auto, using(crate::proofs::statements::StatementLaws::statements_nest))]
+#[tactic(auto, using(crate::proofs::statements::StatementLawLemmas::statements_nest))]
 pub fn statements_nest()
     ensures { StatementsNest }
 {}
@@ -161,7 +161,7 @@ pub fn statements_nest()
 /// statement of that start and these calls, or fails with its error.
 /// `print(&begin(alloc, &Start::SelectFrom(String::from_str(alloc, "t")?))?, &Finish::Query)?` →
 /// `SELECT * FROM t`
-#[tactic(auto, using(crate::proofs::statements::StatementLaws::builders_follow_calls, crate::proofs::statements::StatementLaws::builders_print_statements))]
+#[tactic(auto, using(crate::proofs::statements::StatementLawLemmas::builders_follow_calls, crate::proofs::statements::StatementLawLemmas::builders_print_statements))]
 pub fn builders_print_statements()
     ensures calls { BuildersFollowCalls }
     ensures printed { BuildersPrintStatements }
@@ -217,7 +217,7 @@ pub fn selects_need_group_by()
 /// conditions.
 /// `SqlBuilder::select_from(alloc, "t")?.and_where("a")?.or_where("b")?.and_where("c")?.sql()?` →
 /// `SELECT * FROM t WHERE (a OR b) AND (c);`
-#[tactic(auto, using(crate::proofs::truth::TruthLaws::of_or, crate::proofs::truth::TruthLaws::of_and, crate::proofs::truth::TruthLaws::of_not, crate::proofs::truth::TruthLaws::of_brackets, crate::proofs::truth::TruthLaws::of_where))]
+#[tactic(auto, using(crate::proofs::truth::TruthLemmas::of_or, crate::proofs::truth::TruthLemmas::of_and, crate::proofs::truth::TruthLemmas::of_not, crate::proofs::truth::TruthLemmas::of_brackets, crate::proofs::truth::TruthLemmas::of_where))]
 pub fn truth_follows_the_form()
     ensures of_or { TruthOfOr }
     ensures of_and { TruthOfAnd }
@@ -229,7 +229,7 @@ pub fn truth_follows_the_form()
 /// What is balanced is an operand between brackets, without a top-level clause keyword, whatever it
 /// holds.
 /// `is_operand("(a OR b)")` → `true`
-#[tactic(auto, using(crate::proofs::truth::TruthLaws::brackets_make_operands))]
+#[tactic(auto, using(crate::proofs::truth::TruthLemmas::brackets_make_operands))]
 pub fn brackets_make_operands()
     ensures { BracketsMakeOperands }
 {}

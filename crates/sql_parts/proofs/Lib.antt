@@ -1,6 +1,6 @@
+pub mod bytes
 pub mod chains
 pub mod fragments
 pub mod rows
 pub mod templates
-pub mod texts
 pub mod tokens

@@ -1,4 +1,4 @@
-pub mod Automaton
+pub mod AutomatonFacts
 pub mod AutomatonLemmas
 pub mod BackslashFacts
 pub mod FirstTokenLemmas

@@ -78,7 +78,7 @@ fn split_delimiters(text: &str, delimiter: char) -> (&str, &str)
 }
 
 // Appends the text, and the delimiter twice behind it.
-#[tactic(auto, using(crate::proofs::texts::DoublingLemmas::starts_with_more))]
+#[tactic(auto, using(crate::proofs::bytes::DoublingLemmas::starts_with_more))]
 fn push_with_delimiter(out: &mut String, text: &str, delimiter: char) -> Result<(), AllocError>
     requires one_byte { delimiter < 128 }
     ensures text { OnOk result
@@ -93,7 +93,7 @@ fn push_with_delimiter(out: &mut String, text: &str, delimiter: char) -> Result<
 }
 
 // Appends delimiters that follow one another, each written twice.
-#[tactic(auto, using(crate::proofs::texts::DoublingLemmas::starts_with_more))]
+#[tactic(auto, using(crate::proofs::bytes::DoublingLemmas::starts_with_more))]
 fn push_twice(out: &mut String, delimiters: &str) -> Result<(), AllocError>
     ensures text { OnOk result
         (string_bytes out.new ≡ string_bytes out.old ++ delimiters.now ++ delimiters.now) }
@@ -107,7 +107,7 @@ fn push_twice(out: &mut String, delimiters: &str) -> Result<(), AllocError>
 }
 
 /// Appends the text with each `delimiter` in it written twice. Room for a closing delimiter is taken too.
-#[tactic(auto, using(crate::proofs::texts::DoublingLemmas::starts_with_more))]
+#[tactic(auto, using(crate::proofs::bytes::DoublingLemmas::starts_with_more))]
 pub(crate) fn push_doubled(out: &mut String, delimiter: char, text: &str) -> Result<(), AllocError>
     requires one_byte { delimiter < 128 }
     ensures text { OnOk result

@@ -13,7 +13,7 @@ use std::alloc::{AllocError, Global};
 use std::borrow::CowStr;
 
 /// Appends the text between its delimiters, with each closing delimiter in it written twice.
-#[tactic(auto, using(crate::proofs::texts::DoublingLemmas::starts_with_more))]
+#[tactic(auto, using(crate::proofs::bytes::DoublingLemmas::starts_with_more))]
 pub(crate) fn push_enclosed(out: &mut String, quotes: Quotes, text: &str) -> Result<(), AllocError>
     ensures text { OnOk result
         (string_bytes out.new ≡ string_bytes out.old ++ between quotes text.now) }

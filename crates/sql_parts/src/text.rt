@@ -184,28 +184,28 @@ impl ToText for char {
 }
 
 // Decimal texts of numbers. Each takes its number by value, so that its range is known.
-#[tactic(auto, using(crate::proofs::texts::DecimalFacts::unsigned_text))]
+#[tactic(auto, using(crate::proofs::bytes::DecimalFacts::unsigned_text))]
 fn u64_text(alloc: Global, number: u64) -> Result<String, AllocError>
     ensures { IfOk result (λ s. string_bytes s ≡ decimal_text number) }
 {
     number.to_string(alloc)
 }
 
-#[tactic(auto, using(crate::proofs::texts::DecimalFacts::signed_text))]
+#[tactic(auto, using(crate::proofs::bytes::DecimalFacts::signed_text))]
 fn i64_text(alloc: Global, number: i64) -> Result<String, AllocError>
     ensures { IfOk result (λ s. string_bytes s ≡ number_text number) }
 {
     number.to_string(alloc)
 }
 
-#[tactic(auto, using(crate::proofs::texts::DecimalFacts::unsigned_text))]
+#[tactic(auto, using(crate::proofs::bytes::DecimalFacts::unsigned_text))]
 fn u128_text(alloc: Global, number: u128) -> Result<String, AllocError>
     ensures { IfOk result (λ s. string_bytes s ≡ decimal_text number) }
 {
     number.to_string(alloc)
 }
 
-#[tactic(auto, using(crate::proofs::texts::DecimalFacts::signed_text))]
+#[tactic(auto, using(crate::proofs::bytes::DecimalFacts::signed_text))]
 fn i128_text(alloc: Global, number: i128) -> Result<String, AllocError>
     ensures { IfOk result (λ s. string_bytes s ≡ number_text number) }
 {

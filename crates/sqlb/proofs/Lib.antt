@@ -1,2 +1,2 @@
 pub mod bytes
-pub mod runs
+pub mod outcomes

@@ -30,7 +30,7 @@ use Rattle.sql_builder.proofs.pieces.ShapeLemmas.{AllInside, Inside, closing-las
 use Rattle.sql_builder.proofs.pieces.ShapeLemmas.{text-append, texts_of_raw, words-following, words-between, words-last}
 use Rattle.sql_builder.proofs.reading.ClauseWordLemmas.{shape-even}
 use Rattle.sql_builder.proofs.reading.SectionLemmas.{Neutral}
-use Rattle.sql_builder.proofs.tokens.WhereWords.{and_word, between_word, in_word, not_word}
+use Rattle.sql_builder.proofs.tokens.WhereTokenFacts.{and_word, between_word, in_word, not_word}
 use Rattle.sql_builder.proofs.truth.AtomLemmas.{atom_between, atom_in, atom_like, atom_not_between, atom_not_in, atom_not_like, atom_not_null, atom_null}
 use Rattle.sql_builder.proofs.truth.AtomLemmas.{atom_plain, operand_plain}
 

@@ -19,7 +19,7 @@ use Rattle.sql_builder.specs.Steps.{AddsBinary}
 use Rattle.sql_builder.specs.Pieces.{fixed_piece, pieces_text, raw_piece}
 use Rattle.sql_builder.specs.declared.steps.BinaryClause.TheVariants as binary
 use Rattle.sql_builder.proofs.statements.RunLemmas.{clauses-push, clauses_start, statement_printed, text_of_layout}
-use Rattle.sql_builder.proofs.statements.StatementLaws.{of_statement, statements_are_closed, statements_keep_tokens}
+use Rattle.sql_builder.proofs.statements.StatementLawLemmas.{of_statement, statements_are_closed, statements_keep_tokens}
 
 -- the clauses after calls, one after another
 abbrev pub with_calls : List CallText → ClauseTexts → ClauseTexts

@@ -28,7 +28,7 @@ use Rattle.sql_builder.proofs.for_callers.ChainLemmas.{Chain, with_calls}
 use Rattle.sql_builder.proofs.lists.AllFacts.{all-weaker}
 use Rattle.sql_builder.proofs.fragments.FitLemmas.{fit_conditions, fit_fragments}
 use Rattle.sql_builder.proofs.fragments.TextTestLemmas.{fit_texts_are_closed, plain_texts_end, selects_need_group_by}
-use Rattle.sql_builder.proofs.statements.StatementLaws.{statements_have_truth}
+use Rattle.sql_builder.proofs.statements.StatementLawLemmas.{statements_have_truth}
 
 -- ---- calls that are made only if a value is given
 

@@ -37,7 +37,7 @@ use Rattle.sql_builder.proofs.reading.SectionLemmas.{AllOpen, Neutral, Opens, se
 use Rattle.sql_builder.proofs.reading.ClauseWordLemmas as own_words
 use Rattle.sql_builder.proofs.tokens.DepthFacts.{at_end-append}
 use Rattle.sql_builder.proofs.reading.ReadBackLemmas.{layout}
-use Rattle.sql_builder.proofs.tokens.WhereWords.{has_clause}
+use Rattle.sql_builder.proofs.tokens.WhereTokenFacts.{has_clause}
 use Rattle.sql_builder.proofs.fragments.PassLemmas.{printed-passes}
 use Rattle.sql_builder.proofs.pieces.LayoutShapeLemmas as layouts
 

@@ -26,7 +26,7 @@ use Rattle.sql_builder.proofs.reading.ClauseWordLemmas.{fragments_closed}
 use Rattle.sql_builder.proofs.fragments.PassLemmas.{printed-passes}
 use Rattle.sql_builder.proofs.fragments.PropertyLemmas.{Passes}
 use Rattle.sql_builder.proofs.reading.ReadBackLemmas.{layout}
-use Rattle.sql_builder.proofs.statements.StatementLaws.{of_pieces}
+use Rattle.sql_builder.proofs.statements.StatementLawLemmas.{of_pieces}
 
 -- ---- one call after another
 

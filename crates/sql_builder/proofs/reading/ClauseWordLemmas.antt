@@ -14,7 +14,7 @@ use Rattle.sql_builder.specs.Pieces.{Pieces, Fixed, Quoted, Raw, Piece}
 use Rattle.sql_builder.proofs.tokens.DepthFacts.{after-suc, at_end-append, at_end-closes, at_end-suc, placed_from-append}
 use Rattle.sql_builder.proofs.tokens.PartFacts.{tokens-placed_from}
 use Rattle.sql_builder.proofs.tokens.BalancedFacts.{high, balanced_even, even_text, balanced_closed}
-use Rattle.sql_builder.proofs.tokens.WhereWords.{has_clause}
+use Rattle.sql_builder.proofs.tokens.WhereTokenFacts.{has_clause}
 use Rattle.sql_builder.specs.RawFragments.{is_balanced_piece, own_tokens, are_fit, are_fit_after, is_fit_after, own, has_balanced_fragments}
 use Rattle.sql_builder.specs.TokenParts.{Parts, parts_at, with_front}
 use Rattle.sql_builder.specs.Reading.{own_placed}

@@ -40,7 +40,7 @@ use Rattle.sql_builder.proofs.reading.ClauseWordLemmas.{are_fit-is, are_fit_from
 use Rattle.sql_builder.proofs.tokens.DepthFacts.{at_end-closes}
 use Rattle.sql_builder.proofs.tokens.PartFacts.{semicolon-none, semicolon-one}
 use Rattle.sql_builder.proofs.pieces.ShapeLemmas.{pieces_tokens-append}
-use Rattle.sql_builder.proofs.statements.StatementLaws.{of_pieces}
+use Rattle.sql_builder.proofs.statements.StatementLawLemmas.{of_pieces}
 
 -- ---- the parts of lists that are joined
 

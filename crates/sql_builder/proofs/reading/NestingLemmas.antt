@@ -15,7 +15,7 @@ use Rattle.sql_builder.specs.RawFragments.{own, has_balanced_fragments, is_balan
 use Rattle.sql_builder.proofs.reading.ClauseWordLemmas.{own-append, shape-even, fragments_closed}
 use Rattle.sql_builder.proofs.pieces.ShapeLemmas.{pieces_tokens-brackets}
 use Rattle.sql_builder.specs.WhereTokens as where_tokens
-use Rattle.sql_builder.proofs.tokens.WhereWords.{has_clause}
+use Rattle.sql_builder.proofs.tokens.WhereTokenFacts.{has_clause}
 use Rattle.sql_builder.specs.Meaning.{Nests}
 use Rattle.sql_parts.proofs.fragments.DepthFacts.{is_balanced, is_even, is_operand, has_top_level-is, is_balanced-is, is_operand-is}
 use Rattle.sql_parts.specs.Fragments.{is_clause_word}

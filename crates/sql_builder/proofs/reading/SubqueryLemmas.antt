@@ -26,8 +26,8 @@ use Rattle.sql_builder.proofs.reading.LayoutLemmas.{query-even}
 use Rattle.sql_builder.proofs.reading.ClauseWordLemmas.{fragments_closed, shape-even}
 use Rattle.sql_builder.proofs.reading.ReadBackLemmas.{layout}
 use Rattle.sql_builder.proofs.pieces.ShapeLemmas.{pieces_tokens-append}
-use Rattle.sql_builder.proofs.statements.StatementLaws.{of_pieces}
-use Rattle.sql_builder.proofs.tokens.WhereWords.{has_clause}
+use Rattle.sql_builder.proofs.statements.StatementLawLemmas.{of_pieces}
+use Rattle.sql_builder.proofs.tokens.WhereTokenFacts.{has_clause}
 
 module _ (r : Clauses Pieces) (parts : NeutralParts r) where
   -- the query in brackets, AS and the name

@@ -6,7 +6,7 @@ use Rattle.std.proofs.lemmas.List.Folds.{list_all-append}
 use Rattle.std.specs.List.{list_any, list_all}
 use Rattle.sql_parts.specs.Tokens.{Token, is_empty, tokens, closed, is_open, is_semicolon}
 use Rattle.sql_builder.specs.WhereTokens.{group_tokens, in_brackets, joined}
-use Rattle.sql_builder.proofs.tokens.WhereWords.{is_condition, is_group, has_clause, or_word, right_bracket}
+use Rattle.sql_builder.proofs.tokens.WhereTokenFacts.{is_condition, is_group, has_clause, or_word, right_bracket}
 use Rattle.sql_builder.proofs.tokens.DepthFacts.{closes_from-append, at_end-closes, after-suc}
 use Rattle.sql_builder.proofs.tokens.PartFacts.{none-append, any-append}
 use Rattle.sql_builder.proofs.truth.ConnectiveLemmas.{none-brackets, placed-then}

@@ -8,7 +8,7 @@ use Rattle.sql_builder.specs.Truths.{is_and, is_between, is_between_last, is_or,
 use Rattle.sql_parts.proofs.fragments.DepthFacts.{after, is_zero, placed_from}
 use Rattle.sql_parts.specs.Fragments.{as_placed, Nested, TopLevel, Placed, is_joining, at_top_level, token_of, clause_words, is_clause_word, is_whole}
 use Rattle.sql_parts.specs.Fragments.{is_word}
-use Rattle.sql_builder.proofs.tokens.WhereWords.{semicolon}
+use Rattle.sql_builder.proofs.tokens.WhereTokenFacts.{semicolon}
 use Rattle.sql_builder.specs.Reading.{is_union, without_semicolon}
 
 pub any-append : (test : Token → Bool) (a b : List Placed)

@@ -4,7 +4,7 @@ use Rattle.std.proofs.lemmas.Bool.{and_parts, and_left, and_right, false≢true,
 use Rattle.std.specs.List.{list_any}
 use Rattle.sql_parts.specs.Tokens.{Token, begins_with, ends_with}
 use Rattle.sql_builder.specs.WhereTokens.{in_brackets}
-use Rattle.sql_builder.proofs.tokens.WhereWords.{and_word, between_word, has_clause, in_word, is_null_word, like_word, not_word, null_word}
+use Rattle.sql_builder.proofs.tokens.WhereTokenFacts.{and_word, between_word, has_clause, in_word, is_null_word, like_word, not_word, null_word}
 use Rattle.sql_builder.proofs.tokens.DepthFacts.{at_end-closes}
 use Rattle.sql_builder.proofs.tokens.PartFacts.{but_last-append, none-append, without_owned-plain}
 use Rattle.sql_builder.proofs.truth.FormLemmas.{truth_is, is_bracketed, placed_ands}

@@ -23,7 +23,7 @@ use Rattle.sql_builder.proofs.pieces.ShapeLemmas.{pieces_tokens-append, pieces_t
 use Rattle.sql_builder.proofs.truth.WhereLemmas.{truth_where}
 use Rattle.sql_builder.specs.WhereTokens as where_tokens
 use Rattle.sql_builder.specs.WhereTokens.{group_tokens, joined}
-use Rattle.sql_builder.proofs.tokens.WhereWords.{are_groups, is_condition, is_group, and_word, has_clause, or_word}
+use Rattle.sql_builder.proofs.tokens.WhereTokenFacts.{are_groups, is_condition, is_group, and_word, has_clause, or_word}
 use Rattle.sql_builder.specs.RawFragments.{has_fit_conditions, has_fit_groups, are_fit}
 use Rattle.sql_builder.specs.Meaning.{condition_groups, text_groups, where_truths}
 use Rattle.sql_builder.specs.Reading.{own_placed}

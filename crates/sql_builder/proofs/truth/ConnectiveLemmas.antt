@@ -5,7 +5,7 @@ use Rattle.std.proofs.lemmas.Bool.{and_parts, and_from, or_parts, or_from, false
 use Rattle.std.specs.List.{list_any}
 use Rattle.sql_parts.specs.Tokens.{Token}
 use Rattle.sql_builder.specs.WhereTokens.{in_brackets}
-use Rattle.sql_builder.proofs.tokens.WhereWords.{and_word, has_clause, left_bracket, not_word, or_word, right_bracket}
+use Rattle.sql_builder.proofs.tokens.WhereTokenFacts.{and_word, has_clause, left_bracket, not_word, or_word, right_bracket}
 use Rattle.sql_builder.proofs.tokens.DepthFacts.{placed_from-append, at_end-closes, placed_from-suc, after-suc, at_end-suc, at_end-append}
 use Rattle.sql_builder.proofs.tokens.PartFacts.{but_last-push, ends_with-push, parts_between-separator, parts-none, tokens-placed_from, tokens-without_owned}
 use Rattle.sql_builder.proofs.tokens.PartFacts.{without_owned-plain, none-inner, none-append, none_narrower, without_owned-append}

@@ -11,7 +11,7 @@ use Rattle.sql_builder.specs.Truths.{is_not, is_or, and_all, truth, truth_by, tr
 use Rattle.std.proofs.Math.Bool.{and_assoc}
 use Rattle.sql_builder.specs.Truths as truths
 use Rattle.sql_parts.proofs.fragments.DepthFacts.{after, has_top_level, has_top_level-is, inside-is, placed, placed-is, placed_from, stays_inside}
-use Rattle.sql_builder.proofs.tokens.WhereWords.{has_clause}
+use Rattle.sql_builder.proofs.tokens.WhereTokenFacts.{has_clause}
 use Rattle.sql_parts.specs.Fragments.{Nested, TopLevel, Placed, is_clause_word, at_top_level, is_symbol, token_of}
 
 -- the tokens with their places, where the ANDs of BETWEEN do not count

@@ -4,7 +4,7 @@ use Rattle.std.proofs.lemmas.Bool.{and_parts, false≢true, not-true}
 use Rattle.std.specs.List.{list_any, list_all}
 use Rattle.sql_parts.specs.Tokens.{Token}
 use Rattle.sql_builder.specs.WhereTokens.{in_brackets, joined, group_tokens, where_tokens}
-use Rattle.sql_builder.proofs.tokens.WhereWords.{is_condition, is_group, are_groups, and_word, has_clause}
+use Rattle.sql_builder.proofs.tokens.WhereTokenFacts.{is_condition, is_group, are_groups, and_word, has_clause}
 use Rattle.sql_builder.proofs.tokens.DepthFacts.{at_end-closes}
 use Rattle.sql_builder.proofs.tokens.BalancedFacts.{is_condition-group}
 use Rattle.sql_builder.proofs.tokens.PartFacts.{none-append}

@@ -2,7 +2,7 @@
 use Rattle.std.specs.Prelude.{◌≡◌, ◌^◌, ◌-◌, pos, negsuc, Some, None, true, codes, refl, ◌∷◌}
 use Rattle.std.proofs.Common.{arith, ap, sym, ◌∙◌}
 use Rattle.std.specs.Fmt.{decimal, digits}
-use Rattle.sql_parts.proofs.texts.DecimalFacts.{unsigned_text}
+use Rattle.sql_parts.proofs.bytes.DecimalFacts.{unsigned_text}
 use Rattle.sql_parts.specs.Literal.{literal_or_null, literal_text, literal_value, null, truth, whole, words}
 use Rattle.sql_parts.specs.Quoting.{baquoted, brquoted, dquoted, escaped, quoted}
 use Rattle.sql_parts.specs.Text.{bool_text, number_text}

@@ -11,7 +11,7 @@ use Rattle.sql_parts.specs.Tokens.{Token, Word, Symbol, Open, comment, first, in
 use Rattle.sql_parts.specs.Tokens.{quoted_token}
 use Rattle.sql_parts.specs.declared.delimiters.Quotes.{Quotes}
 use Rattle.sql_parts.specs.declared.delimiters.Quotes.TheVariants.{Single, Back, Square, Double}
-use Rattle.sql_parts.proofs.tokens.Automaton.{Mode, Between, InWord, InQuotes, InLine, InBlock, AtStar, behind_token, read, start}
+use Rattle.sql_parts.proofs.tokens.AutomatonFacts.{Mode, Between, InWord, InQuotes, InLine, InBlock, AtStar, behind_token, read, start}
 
 -- a byte that doesn't go on with a token ends it, and begins anew
 ended : (more : Bool) (further : List Token × Mode) (token : Token) (byte : ℕ) (text : List ℕ) → more ≡ false

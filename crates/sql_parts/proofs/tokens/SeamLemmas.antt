@@ -9,8 +9,8 @@ use Rattle.sql_parts.specs.Quoting.{closing, doubled}
 use Rattle.sql_parts.specs.Tokens.{Token, begins_with, clean, ends_with, is_edge, is_empty, is_one_of, is_open, is_word_byte, quoted_token}
 use Rattle.sql_parts.specs.declared.delimiters.Quotes.{Quotes}
 use Rattle.sql_parts.specs.declared.delimiters.Quotes.TheVariants.{Single, Back, Square, Double}
-use Rattle.sql_parts.proofs.tokens.Automaton.{Mode, Between, InWord, InQuotes, AtDelimiter, AtDash, AtSlash, InLine, InBlock, AtStar, after, behind_token}
-use Rattle.sql_parts.proofs.tokens.Automaton.{finish, read, start, step, whole}
+use Rattle.sql_parts.proofs.tokens.AutomatonFacts.{Mode, Between, InWord, InQuotes, AtDelimiter, AtDash, AtSlash, InLine, InBlock, AtStar, after, behind_token}
+use Rattle.sql_parts.proofs.tokens.AutomatonFacts.{finish, read, start, step, whole}
 
 -- a text is read up to its end, and then what follows it
 read-append : (mode : Mode) (one other : List ℕ) → read mode (one ++ other) ≡ whole mode one ++ read (after mode one) other

@@ -12,7 +12,7 @@ use Rattle.sqlb.specs.Utf8.{BeginsText}
 use Rattle.std.proofs.Math.Nat.{pow-succ'}
 use Rattle.std.proofs.lemmas.Bool.{cases_lt}
 use Rattle.std.proofs.lemmas.Simd.{bit_mask_l, mask_l-lt}
-use Rattle.sqlb.proofs.bytes.MaskFacts.{bit, bit_is, mask, number}
+use Rattle.sqlb.proofs.bytes.ByteMaskFacts.{bit, bit_is, mask, number}
 
 pub text_more : (xs : List ℕ) (at run : ℕ) → IsUtf8 (take at xs) → IsUtf8 (take run (drop at xs)) → IsUtf8 (take (at + run) xs)
 text_more xs at run front more = rw take-add (IsUtf8-append (take at xs) (take run (drop at xs)) front more)

@@ -6,7 +6,7 @@ use Rattle.sql_builder.specs.declared.condition.Relation.TheVariants.{Eq, Ge}
 use Rattle.sql_builder.proofs.for_callers.ChainLemmas.{made_statement}
 use Rattle.sql_builder.proofs.for_callers.SoundCallLemmas.{Sound, asked_sound, compared_sound, given_sound, one_sound, sound_allowed, sound_closed, sound_ends}
 use Rattle.sql_builder.proofs.for_callers.SoundCallLemmas.{sound_truth, then_sound}
-use Rattle.sql_builder.proofs.statements.StatementLaws.{of_statement, statements_are_closed}
+use Rattle.sql_builder.proofs.statements.StatementLawLemmas.{of_statement, statements_are_closed}
 use Rattle.callers.specs.Searches.{calls, priced_from, stocked, titled, written_by}
 use Rattle.callers.specs.declared.searches.Search.{Search}
 use Rattle.callers.proofs.searches.search_printed.Goals as goal

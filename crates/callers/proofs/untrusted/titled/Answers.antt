@@ -6,7 +6,7 @@ use Rattle.sql_builder.specs.Meaning.{HasTruthOf, condition_groups}
 use Rattle.sql_builder.specs.declared.condition.Family.TheVariants.{And}
 use Rattle.sql_builder.specs.declared.condition.Relation.TheVariants.{Eq}
 use Rattle.sql_builder.proofs.for_callers.ChainLemmas.{chain_call, chain_start, chain_closed, chain_statement, chain_tokens, one_semicolon}
-use Rattle.sql_builder.proofs.statements.StatementLaws.{of_statement, statements_have_truth}
+use Rattle.sql_builder.proofs.statements.StatementLawLemmas.{of_statement, statements_have_truth}
 use Rattle.sql_parts.specs.Operands.{ServesAsOperand}
 use Rattle.sql_parts.specs.Tokens.{tokens}
 use Rattle.callers.proofs.untrusted.titled.Goals as goal

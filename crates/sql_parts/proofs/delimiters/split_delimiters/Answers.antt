@@ -1,5 +1,5 @@
 use Rattle.std.proofs.Common.{◌≡◌, ℕ, ◌<◌, ◌≤◌, List, length, get_or, subst}
-use Rattle.sql_parts.proofs.texts.DoublingLemmas.{boundary-behind_delimiters, doubled-delimiters}
+use Rattle.sql_parts.proofs.bytes.DoublingLemmas.{boundary-behind_delimiters, doubled-delimiters}
 use Rattle.sql_parts.proofs.delimiters.split_delimiters.Goals as goal
 
 pub split_at-requires : goal.split_at-requires

@@ -1,4 +1,4 @@
-use Rattle.sql_parts.proofs.texts.MaskFacts.{escape-low, escape-plain, matches-end, matches-inside, matches-start, matches-text}
+use Rattle.sql_parts.proofs.bytes.LikeMaskFacts.{escape-low, escape-plain, matches-end, matches-inside, matches-start, matches-text}
 use Rattle.sql_parts.specs.Like.{escape_character}
 use Rattle.sql_parts.proofs.laws.escaped_masks_match_their_text.Goals as goal
 

@@ -1,4 +1,4 @@
-use Rattle.sql_parts.proofs.texts.DoublingLemmas.{doubled-injective, enclosed-injective}
+use Rattle.sql_parts.proofs.bytes.DoublingLemmas.{doubled-injective, enclosed-injective}
 use Rattle.sql_parts.proofs.laws.quoting_is_injective.Goals as goal
 
 pub returns-clause-esc : goal.returns-clause-esc

@@ -2,7 +2,7 @@ use Rattle.std.proofs.Common.{◌≡◌, ◌+◌, ◌<◌, ◌++◌, ◌∷◌, 
 use Rattle.std.specs.Str.{IsCharBoundary}
 use Rattle.std.proofs.lemmas.Str.{IsCharBoundary-before_ascii, IsCharBoundary-start, encode_ascii}
 use Rattle.sql_parts.specs.Like.{is_special}
-use Rattle.sql_parts.proofs.texts.EscapingLemmas.{run, special-low, written-plain, written-special}
+use Rattle.sql_parts.proofs.bytes.EscapingLemmas.{run, special-low, written-plain, written-special}
 use Rattle.sql_parts.proofs.like.push_like_escaped.Goals as goal
 use Rattle.sql_parts.proofs.like.push_like_escaped.Goals.{then-is_special+in_ok-push_str+in_ok-push, else-is_special}
 

@@ -1,4 +1,4 @@
-use Rattle.sql_parts.proofs.texts.LaneLemmas.{front_bits-past, front_bits-place}
+use Rattle.sql_parts.proofs.bytes.LaneLemmas.{front_bits-past, front_bits-place}
 use Rattle.sql_parts.proofs.search.fronts.Goals as goal
 
 pub returns : goal.returns

@@ -6,7 +6,7 @@ use Rattle.std.proofs.lemmas.Bool.Decides.{Decides-eqb}
 use Rattle.std.proofs.lemmas.Slice.Eq.{starts_is}
 use Rattle.sql_parts.specs.Search.{front_of, gap, has_front}
 use Rattle.sql_parts.specs.declared.search.Front.{Front}
-use Rattle.sql_parts.proofs.texts.SplitLemmas.{cut-before, cut-behind, lacks-by-front, lacks-by-room, lacks-here, split-at}
+use Rattle.sql_parts.proofs.bytes.SplitLemmas.{cut-before, cut-behind, lacks-by-front, lacks-by-room, lacks-here, split-at}
 use Rattle.sql_parts.proofs.search.split_at_first.Goals as goal
 use Rattle.sql_parts.proofs.search.split_at_first.Goals.{Then-begins_at}
 

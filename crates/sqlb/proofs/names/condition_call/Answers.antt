@@ -1,5 +1,5 @@
 use Rattle.std.proofs.Common.{ap, sym, ◌∙◌, ◌++◌}
-use Rattle.sqlb.proofs.runs.NameFacts.{called, no_call}
+use Rattle.sqlb.proofs.outcomes.PrefixFacts.{called, no_call}
 use Rattle.sqlb.proofs.names.condition_call.Goals as goal
 
 pub returns-in_err-ending : goal.returns-in_err-ending

@@ -3,9 +3,9 @@ use Rattle.std.specs.Io.KnownBytes.{Appends}
 use Rattle.std.proofs.KnownBytes.{Appends-nil}
 use Rattle.std.proofs.lemmas.Result.{err_from_is_err_and}
 use Rattle.sqlb.specs.Lines.{lines}
-use Rattle.sqlb.proofs.runs.CommandFacts.{command_of-no_text, rejected-holds_no_memory}
-use Rattle.sqlb.proofs.runs.ProgressFacts.{command_of-line, ends-closed, ends-open, fails-in, line_text, progress-first, progress-next, rejects, runs_out}
-use Rattle.sqlb.proofs.runs.ProgressFacts.{unread_first}
+use Rattle.sqlb.proofs.outcomes.CommandFacts.{command_of-no_text, rejected-holds_no_memory}
+use Rattle.sqlb.proofs.outcomes.ProgressFacts.{command_of-line, ends-closed, ends-open, fails-in, line_text, progress-first, progress-next, rejects, runs_out}
+use Rattle.sqlb.proofs.outcomes.ProgressFacts.{unread_first}
 use Rattle.sqlb.proofs.run.run_lines.Goals as goal
 
 pub lines-init : goal.lines-init

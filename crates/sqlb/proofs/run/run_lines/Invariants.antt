@@ -1,5 +1,5 @@
 use Rattle.std.proofs.Common.{◌≡◌, ◌+◌, ◌^◌, ◌<◌, ◌++◌, List, ℕ, [], false, length}
-use Rattle.sqlb.proofs.runs.ProgressFacts.{Progress, UnreadLines}
+use Rattle.sqlb.proofs.outcomes.ProgressFacts.{Progress, UnreadLines}
 use Rattle.sqlb.specs.Lines.{lines}
 use Rattle.sqlb.proofs.run.run_lines.Given as goal
 

@@ -1,4 +1,4 @@
-use Rattle.sqlb.proofs.bytes.MaskFacts.{lanes_within}
+use Rattle.sqlb.proofs.bytes.ByteMaskFacts.{lanes_within}
 use Rattle.sqlb.proofs.utf8.bytes_within.Goals as goal
 
 pub returns : goal.returns

@@ -1,5 +1,5 @@
 use Rattle.sql_builder.specs.Calls.{Cond}
-use Rattle.sqlb.proofs.runs.ScriptFacts.{makes_condition, runs_call}
+use Rattle.sqlb.proofs.outcomes.ScriptFacts.{makes_condition, runs_call}
 use Rattle.sqlb.proofs.script.Script.take.Goals as goal
 
 pub returns-in_ok-condition-in-Where-clause-ran : goal.returns-in_ok-condition-in-Where-clause-ran

@@ -2,5 +2,5 @@ pub mod DecimalFacts
 pub mod DoublingLemmas
 pub mod EscapingLemmas
 pub mod LaneLemmas
-pub mod MaskFacts
+pub mod LikeMaskFacts
 pub mod SplitLemmas

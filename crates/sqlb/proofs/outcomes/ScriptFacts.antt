@@ -5,7 +5,7 @@ use Rattle.sql_builder.specs.Builder.{ClauseTexts, with_call}
 use Rattle.sql_builder.specs.Calls.{CallText, Cond}
 use Rattle.sql_builder.specs.Condition.{ConditionText}
 use Rattle.sql_builder.proofs.statements.RunLemmas.{clauses-push, clauses_start}
-use Rattle.sql_builder.proofs.statements.StatementLaws.{builders_print_statements}
+use Rattle.sql_builder.proofs.statements.StatementLawLemmas.{builders_print_statements}
 use Rattle.sqlb.specs.Lines.{CommandResult, Starts, Calls, Finishes}
 use Rattle.sqlb.specs.Output.{OpenStatement, answer, finish_answer}
 use Rattle.sqlb.specs.Script.{Runs, Adds, given, given_after, given_answer}

@@ -1,6 +1,6 @@
 pub mod CommandFacts
-pub mod NameFacts
 pub mod OutputRows
+pub mod PrefixFacts
 pub mod ProgressFacts
 pub mod ResultFacts
 pub mod ScriptFacts

@@ -5,7 +5,7 @@ use Rattle.std.proofs.lemmas.Grind.{flat_map-append}
 use Rattle.std.proofs.lemmas.Bool.Decides.{nat_tests}
 use Rattle.std.proofs.lemmas.List.{get_or-drop, take_more}
 use Rattle.sql_parts.specs.Like.{is_special, like_escaped}
-use Rattle.sql_parts.proofs.texts.MaskFacts.{each}
+use Rattle.sql_parts.proofs.bytes.LikeMaskFacts.{each}
 
 -- the run from one place to another
 abbrev pub run : List ℕ → ℕ → ℕ → List ℕ

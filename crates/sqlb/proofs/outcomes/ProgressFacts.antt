@@ -26,8 +26,8 @@ use Rattle.sqlb.specs.declared.fault.Fault.TheVariants.{At, Memory, Read, Write}
 use Rattle.sqlb.specs.declared.fault.Reason.{Reason}
 use Rattle.sqlb.specs.declared.fault.Reason.TheVariants.{NoEnd}
 use Rattle.sqlb.proofs.bytes.StreamFacts.{begins}
-use Rattle.sqlb.proofs.runs.CommandFacts.{command_of-text}
-use Rattle.sqlb.proofs.runs.ScriptFacts.{open_after, given-after, given-answer, given-is_some}
+use Rattle.sqlb.proofs.outcomes.CommandFacts.{command_of-text}
+use Rattle.sqlb.proofs.outcomes.ScriptFacts.{open_after, given-after, given-answer, given-is_some}
 
 -- an open statement with these calls after its own
 abbrev with_calls : List CallText → OpenStatement → OpenStatement

@@ -15,7 +15,7 @@ use Rattle.std.proofs.Math.Seq.{drop-append_seam, take-append_seam}
 use Rattle.std.proofs.lemmas.Bool.{and_from, and_parts, cases_Bool, cases_lt, eq-eqb, eqb-true, ne_eqb, or_cases, or_left, or_parts, or_right}
 use Rattle.std.proofs.lemmas.Str.{IsUtf8-take, IsCharBoundary-at_seam, chars-append, chars-nil, chars-encodes, encode_ascii, encodes-append}
 use Rattle.std.proofs.lemmas.Str.{encodes-chars, scalars-chars, inside_one}
-use Rattle.sql_parts.proofs.texts.SplitLemmas.{cut-before}
+use Rattle.sql_parts.proofs.bytes.SplitLemmas.{cut-before}
 use Rattle.sql_parts.specs.Like.{escape_character, Part, AnyRun, Exactly, fits, is_special, like_escaped, matches, parts, unescaped_part}
 use Rattle.sql_parts.specs.declared.like.LikeEscape.{LikeEscape}
 use Rattle.sql_parts.specs.declared.like.LikeEscape.TheVariants.{Exclamation, Hash, Slash, Caret, Bar, Tilde}

@@ -17,7 +17,7 @@ use Rattle.sqlb.specs.RunResults.{status_of}
 use Rattle.sqlb.specs.declared.fault.Fault.TheVariants.{At, Memory, Read, Write}
 use Rattle.sqlb.specs.declared.fault.Reason.{Reason}
 use Rattle.sqlb.specs.declared.fault.Reason.TheVariants.{UnknownCall, WrongArguments, NoStatement, StatementOpen, NoEnd, NotUtf8, Builder}
-use Rattle.sqlb.proofs.runs.CommandFacts.{command_of-text}
+use Rattle.sqlb.proofs.outcomes.CommandFacts.{command_of-text}
 
 abbrev is_ascii : List ℕ → Bool
 is_ascii text = list_all (λ byte. nat_lt byte 128) text

@@ -13,7 +13,7 @@ use Rattle.sql_builder.proofs.tokens.BalancedFacts.{balanced_even, even_closes, 
 use Rattle.sql_builder.proofs.truth.ConnectiveLemmas.{no_and, no_or, truth_and, truth_brackets, truth_not, truth_or, without_owned-all}
 use Rattle.sql_builder.proofs.tokens.DepthFacts.{at_end-closes}
 use Rattle.sql_builder.proofs.truth.WhereLemmas.{truth_where}
-use Rattle.sql_builder.proofs.tokens.WhereWords.{are_groups, is_condition, is_group}
+use Rattle.sql_builder.proofs.tokens.WhereTokenFacts.{are_groups, is_condition, is_group}
 
 even : (ts : List Token) → fragments.is_balanced ts ≡ true → is_even ts ≡ true
 even ts h = balanced_even ts (sym (is_balanced-is ts) ∙ h)
