@@ -184,7 +184,7 @@ fn statements_are_printed_behind_each_other(rt: HostRuntime) -> Result<(), Fail>
 }
 
 /// Why a finish prints nothing, or that it does.
-fn refusal(builder: &SqlBuilder, finish: &Finish, text: &mut String) -> &'static str {
+fn error_of(builder: &SqlBuilder, finish: &Finish, text: &mut String) -> &'static str {
     match print_to(builder, finish, text) {
         Ok(()) => "is printed",
         Err(error) => error.message(),
@@ -197,8 +197,8 @@ fn a_text_stays_where_a_statement_is_not_printed(rt: HostRuntime) -> Result<(), 
     let mut builder = SqlBuilder::update_table(alloc, "t")?;
     builder.having("a")?;
     let mut text = String::from_str(alloc, "-- ")?;
-    let sql = refusal(&builder, &Finish::Sql, &mut text);
-    let query = refusal(&builder, &Finish::Query, &mut text);
+    let sql = error_of(&builder, &Finish::Sql, &mut text);
+    let query = error_of(&builder, &Finish::Query, &mut text);
     assert_eq!(rt;
         (sql, query, text.as_str()),
         ("No set fields", "No group by", "-- ")

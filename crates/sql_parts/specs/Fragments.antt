@@ -191,7 +191,7 @@ is_dangling ts = not (has_left_sides ts && has_right_sides ts && has_ands ts)
 
 -- how a test fails that stores a truth value for each depth: because memory runs out, and only where a token raises the depth
 abbrev pub IsMemoryForNesting : List ℕ → SqlBuilderError → Type 0
-IsMemoryForNesting text refusal = IsMemory refusal × IsTrue (list_any raises (tokens text))
+IsMemoryForNesting text error = IsMemory error × IsTrue (list_any raises (tokens text))
 
 -- a text whose tokens dangle
 abbrev pub dangling : List ℕ → Bool

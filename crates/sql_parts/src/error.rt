@@ -59,7 +59,7 @@ impl From<AllocError> for SqlBuilderError {
     ghost use Rattle.std.specs.Prelude.{◌≡◌};
     ghost use Rattle.sql_parts.specs.declared.error.SqlBuilderError.TheVariants.{Memory};
 
-    ghost from_gives = { λ error refusal. refusal ≡ Memory error };
+    ghost from_gives = { λ failed error. error ≡ Memory failed };
 
     fn from(error: AllocError) -> SqlBuilderError {
         SqlBuilderError::Memory(error)
@@ -70,7 +70,7 @@ impl<T: Drop> From<AllocFailed<T>> for SqlBuilderError {
     ghost use Rattle.std.specs.Prelude.{◌≡◌, alloc_error};
     ghost use Rattle.sql_parts.specs.declared.error.SqlBuilderError.TheVariants.{Memory};
 
-    ghost from_gives = { λ _ refusal. refusal ≡ Memory alloc_error };
+    ghost from_gives = { λ _ error. error ≡ Memory alloc_error };
 
     fn from(_: AllocFailed<T>) -> SqlBuilderError {
         SqlBuilderError::Memory(AllocError)

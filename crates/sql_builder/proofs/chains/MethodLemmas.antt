@@ -76,7 +76,7 @@ module _ {M : Type 1} (𝓤 : Ura M) (𝓛 : Logic 𝓤) (𝓜 : Model 𝓤 𝓛
     asked-unary κs a = (unary_step.clauses S s d d' 𝓛 𝓜.mem 𝓡.returns κs a).requires tt
 
     abbrev effect-unary : (κs : Lfts 2) → Denots (types_at (unary_step.signature S).params κs) → Effect ClauseTexts
-    effect-unary κs a = record { leaves = λ builder. builder ≡ with_unary a.1.0 (s.text a.1.1.0) a.0.now; refuses = IsUnaryError a.1.0 a.0.now }
+    effect-unary κs a = record { leaves = λ builder. builder ≡ with_unary a.1.0 (s.text a.1.1.0) a.0.now; fails = IsUnaryError a.1.0 a.0.now }
 
     pub by_unary : calls.Code-unary builder 𝓛 𝓜 𝓡 1 [] (constant 𝓛 unary_clause.the_type unary_clause_laws.the_plain X) (generic 𝓛 2 0 S LS)
         asked-unary effect-unary (inst_fn types-unary fn) (unary_code.name types-unary) release (name types-unary)
@@ -95,7 +95,7 @@ module _ {M : Type 1} (𝓤 : Ura M) (𝓛 : Logic 𝓤) (𝓜 : Model 𝓤 𝓛
     asked-returning_id κs a = (returning_id_step.clauses 𝓛 𝓜.mem 𝓡.returns κs a).requires tt
 
     abbrev effect-returning_id : (κs : Lfts 1) → Denots (types_at returning_id_step.signature.params κs) → Effect ClauseTexts
-    effect-returning_id κs a = record { leaves = λ builder. builder ≡ with_returning (codes "id") a.0.now; refuses = IsMemory }
+    effect-returning_id κs a = record { leaves = λ builder. builder ≡ with_returning (codes "id") a.0.now; fails = IsMemory }
 
     pub by_returning_id : calls.Code-nullary builder 𝓛 𝓜 𝓡 0 []
         asked-returning_id effect-returning_id fn returning_id_code.name release name
@@ -119,7 +119,7 @@ module _ {M : Type 1} (𝓤 : Ura M) (𝓛 : Logic 𝓤) (𝓜 : Model 𝓤 𝓛
     asked-binary κs a = (binary_step.clauses S T s d t e d' e' 𝓛 𝓜.mem 𝓡.returns κs a).requires tt
 
     abbrev effect-binary : (κs : Lfts 3) → Denots (types_at (binary_step.signature S T).params κs) → Effect ClauseTexts
-    effect-binary κs a = record { leaves = AddsBinary a.1.0 (s.text a.1.1.0) (t.text a.1.1.1.0) a.0.now; refuses = IsBinaryError a.1.0 a.0.now }
+    effect-binary κs a = record { leaves = AddsBinary a.1.0 (s.text a.1.1.0) (t.text a.1.1.1.0) a.0.now; fails = IsBinaryError a.1.0 a.0.now }
 
     pub by_binary : calls.Code-binary builder 𝓛 𝓜 𝓡 2 [] (constant 𝓛 binary_clause.the_type binary_clause_laws.the_plain X) (generic 𝓛 3 0 S LS)
         (generic 𝓛 3 1 T LT)
@@ -145,7 +145,7 @@ module _ {M : Type 1} (𝓤 : Ura M) (𝓛 : Logic 𝓤) (𝓜 : Model 𝓤 𝓛
     asked-variadic κs a = (variadic_step.clauses S s d d' 𝓛 𝓜.mem 𝓡.returns κs a).requires tt
 
     abbrev effect-variadic : (κs : Lfts 3) → Denots (types_at (variadic_step.signature S).params κs) → Effect ClauseTexts
-    effect-variadic κs a = record { leaves = λ builder. builder ≡ with_variadic a.1.0 (map s.text a.1.1.0.now) a.0.now; refuses = IsMemory }
+    effect-variadic κs a = record { leaves = λ builder. builder ≡ with_variadic a.1.0 (map s.text a.1.1.0.now) a.0.now; fails = IsMemory }
 
     pub by_variadic : calls.Code-variadic builder 𝓛 𝓜 𝓡 2 ((variadic_step.signature S).outlives)
         (constant 𝓛 variadic_clause.the_type variadic_clause_laws.the_plain X) (slice 𝓛 3 1 tt 0 S)
@@ -173,7 +173,7 @@ module _ {M : Type 1} (𝓤 : Ura M) (𝓛 : Logic 𝓤) (𝓜 : Model 𝓤 𝓛
     asked-order κs a = (order_step.clauses S s d d' 𝓛 𝓜.mem 𝓡.returns κs a).requires tt
 
     abbrev effect-order : (κs : Lfts 2) → Denots (types_at (order_step.signature S).params κs) → Effect ClauseTexts
-    effect-order κs a = record { leaves = λ builder. builder ≡ with_order a.1.1.0 (s.text a.1.0) a.0.now; refuses = IsMemory }
+    effect-order κs a = record { leaves = λ builder. builder ≡ with_order a.1.1.0 (s.text a.1.0) a.0.now; fails = IsMemory }
 
     pub by_order : calls.Code-flagged builder 𝓛 𝓜 𝓡 1 [] (generic 𝓛 2 0 S LS) (boolean 𝓛 2)
         asked-order effect-order (inst_fn types-order fn) (order_code.name types-order) release (name types-order)
@@ -205,10 +205,10 @@ module _ {M : Type 1} (𝓤 : Ura M) (𝓛 : Logic 𝓤) (𝓜 : Model 𝓤 𝓛
     Args-unary κs = MutBor ClauseTexts × Denots (types_at {n = 2} (also 𝓛 (F-unary ∷ []) (plain A-unary.row ∷ [])) κs)
 
     abbrev step_effect-adds_unary : (κs : Lfts 2) → Args-unary κs → Effect ClauseTexts
-    step_effect-adds_unary κs a = record { leaves = AddsConditionOpaque a.1.0 (condition (s.text a.1.1.0)) a.0.now; refuses = IsMemory }
+    step_effect-adds_unary κs a = record { leaves = AddsConditionOpaque a.1.0 (condition (s.text a.1.1.0)) a.0.now; fails = IsMemory }
 
     abbrev effect-adds_unary : (κs : Lfts 2) → Args-unary κs → Effect ClauseTexts
-    effect-adds_unary κs a = record { leaves = AddsCondition a.1.0 (condition (s.text a.1.1.0)) a.0.now; refuses = IsMemory }
+    effect-adds_unary κs a = record { leaves = AddsCondition a.1.0 (condition (s.text a.1.1.0)) a.0.now; fails = IsMemory }
 
     pub adds_unary : (asked : (κs : Lfts 2) → Args-unary κs → SProp 𝓤)
         → calls.StepMeets builder 𝓛 𝓜 𝓡 1 [] (F-unary ∷ []) (plain A-unary.row ∷ []) (A-unary.kept, tt) asked step_effect-adds_unary (step types-adds_unary)
@@ -248,12 +248,12 @@ module _ {M : Type 1} (𝓤 : Ura M) (𝓛 : Logic 𝓤) (𝓜 : Model 𝓤 𝓛
 
     abbrev step_effect-adds_chosen_binary : (κs : Lfts 3) → Args-binary κs → Effect ClauseTexts
     step_effect-adds_chosen_binary κs a = record
-        { leaves = AddsConditionOpaque a.1.0 (condition a.1.1.0 (s.text a.1.1.1.0) (t.text a.1.1.1.1.0)) a.0.now; refuses = IsMemory }
+        { leaves = AddsConditionOpaque a.1.0 (condition a.1.1.0 (s.text a.1.1.1.0) (t.text a.1.1.1.1.0)) a.0.now; fails = IsMemory }
 
     abbrev effect-adds_chosen_binary : (κs : Lfts 3) → Args-binary κs → Effect ClauseTexts
     effect-adds_chosen_binary κs a = record {
       leaves = AddsCondition a.1.0 (condition a.1.1.0 (s.text a.1.1.1.0) (t.text a.1.1.1.1.0)) a.0.now;
-      refuses =
+      fails =
           IsMemory;
     }
 
@@ -297,13 +297,13 @@ module _ {M : Type 1} (𝓤 : Ura M) (𝓛 : Logic 𝓤) (𝓜 : Model 𝓤 𝓛
 
     abbrev step_effect-adds_chosen_listed : (κs : Lfts 4) → Args-listed κs → Effect ClauseTexts
     step_effect-adds_chosen_listed κs a = record
-        { leaves = AddsConditionOpaque a.1.0 (condition a.1.1.0 (s.text a.1.1.1.0) (map t.text a.1.1.1.1.0.now)) a.0.now; refuses = IsMemory }
+        { leaves = AddsConditionOpaque a.1.0 (condition a.1.1.0 (s.text a.1.1.1.0) (map t.text a.1.1.1.1.0.now)) a.0.now; fails = IsMemory }
 
     abbrev effect-adds_chosen_listed : (κs : Lfts 4) → Args-listed κs → Effect ClauseTexts
     effect-adds_chosen_listed κs a = record {
       leaves =
           AddsCondition a.1.0 (condition a.1.1.0 (s.text a.1.1.1.0) (map t.text a.1.1.1.1.0.now)) a.0.now;
-      refuses = IsMemory;
+      fails = IsMemory;
     }
 
     pub adds_chosen_listed : (asked : (κs : Lfts 4) → Args-listed κs → SProp 𝓤)
@@ -350,13 +350,13 @@ module _ {M : Type 1} (𝓤 : Ura M) (𝓛 : Logic 𝓤) (𝓜 : Model 𝓤 𝓛
 
     abbrev step_effect-adds_chosen_ternary : (κs : Lfts 4) → Args-ternary κs → Effect ClauseTexts
     step_effect-adds_chosen_ternary κs a = record
-        { leaves = AddsConditionOpaque a.1.0 (condition a.1.1.0 (s.text a.1.1.1.0) (t.text a.1.1.1.1.0) (u.text a.1.1.1.1.1.0)) a.0.now; refuses = IsMemory }
+        { leaves = AddsConditionOpaque a.1.0 (condition a.1.1.0 (s.text a.1.1.1.0) (t.text a.1.1.1.1.0) (u.text a.1.1.1.1.1.0)) a.0.now; fails = IsMemory }
 
     abbrev effect-adds_chosen_ternary : (κs : Lfts 4) → Args-ternary κs → Effect ClauseTexts
     effect-adds_chosen_ternary κs a = record {
       leaves =
           AddsCondition a.1.0 (condition a.1.1.0 (s.text a.1.1.1.0) (t.text a.1.1.1.1.0) (u.text a.1.1.1.1.1.0)) a.0.now;
-      refuses = IsMemory;
+      fails = IsMemory;
     }
 
     pub adds_chosen_ternary : (asked : (κs : Lfts 4) → Args-ternary κs → SProp 𝓤)

@@ -90,26 +90,26 @@ pub made_statement : {Z : Type 0} (start : StartText) (calls : List CallText) {r
     (result : Result (String Z) SqlBuilderError)
     → r ≡ made_by start calls → IfOk result (λ s. string_bytes s ≡ text_at finish r) → IfSome (error_at finish r) (λ e. result ≡ Err e)
     → IfOk result (λ s. statement start calls finish ≡ Ok (string_bytes s))
-made_statement start calls finish result made printed refused =
+made_statement start calls finish result made printed failed =
     statement_printed finish (clauses start calls) result
     (subst (λ (q : ClauseTexts). IfOk result (λ s. string_bytes s ≡ text_at finish q)) made printed)
-    (subst (λ (q : ClauseTexts). IfSome (error_at finish q) (λ e. result ≡ Err e)) made refused)
+    (subst (λ (q : ClauseTexts). IfSome (error_at finish q) (λ e. result ≡ Err e)) made failed)
 
 -- and so is what a chain of these calls prints
 pub chain_statement : {Z : Type 0} {start : StartText} {calls : List CallText} {r : ClauseTexts} (finish : FinishText)
     (result : Result (String Z) SqlBuilderError) → Chain start calls r
     → IfOk result (λ s. string_bytes s ≡ text_at finish r) → IfSome (error_at finish r) (λ e. result ≡ Err e)
     → IfOk result (λ s. statement start calls finish ≡ Ok (string_bytes s))
-chain_statement {start = start} {calls = calls} finish result chain printed refused =
-    made_statement start calls finish result (chain.is ∙ with_calls-read start calls) printed refused
+chain_statement {start = start} {calls = calls} finish result chain printed failed =
+    made_statement start calls finish result (chain.is ∙ with_calls-read start calls) printed failed
 
 -- the tokens of what is printed, where each fragment is closed
 pub chain_tokens : {Z : Type 0} {start : StartText} {calls : List CallText} {r : ClauseTexts} {ts : List Token} (finish : FinishText)
     (result : Result (String Z) SqlBuilderError) → Chain start calls r
     → IfOk result (λ s. string_bytes s ≡ text_at finish r) → IfSome (error_at finish r) (λ e. result ≡ Err e)
     → HasClosedFragments start calls finish → shape start calls finish ≡ Ok ts → IfOk result (λ s. tokens (string_bytes s) ≡ ts)
-chain_tokens {Z = Z} {start = start} {calls = calls} {ts = ts} finish result chain printed refused all is =
-    by result (of_statement start calls finish _ result (chain_statement finish result chain printed refused) (statements_keep_tokens start calls finish all))
+chain_tokens {Z = Z} {start = start} {calls = calls} {ts = ts} finish result chain printed failed all is =
+    by result (of_statement start calls finish _ result (chain_statement finish result chain printed failed) (statements_keep_tokens start calls finish all))
   where
     by : (result : Result (String Z) SqlBuilderError) → IfOk result (λ s. shape start calls finish ≡ Ok (tokens (string_bytes s)))
         → IfOk result (λ s. tokens (string_bytes s) ≡ ts)
@@ -121,8 +121,8 @@ pub chain_closed : {Z : Type 0} {start : StartText} {calls : List CallText} {r :
     (result : Result (String Z) SqlBuilderError) → Chain start calls r
     → IfOk result (λ s. string_bytes s ≡ text_at finish r) → IfSome (error_at finish r) (λ e. result ≡ Err e)
     → HasClosedFragments start calls finish → IfOk result (λ s. IsTrue (closed (string_bytes s)))
-chain_closed {start = start} {calls = calls} finish result chain printed refused all =
-    of_statement start calls finish _ result (chain_statement finish result chain printed refused) (statements_are_closed start calls finish all)
+chain_closed {start = start} {calls = calls} finish result chain printed failed all =
+    of_statement start calls finish _ result (chain_statement finish result chain printed failed) (statements_are_closed start calls finish all)
 
 -- the last of the tokens is a `;`, and no other is
 pub one_semicolon : {Z E : Type 0} {ts : List Token} (result : Result (String Z) E) → IfOk result (λ s. tokens (string_bytes s) ≡ ts)
@@ -135,8 +135,8 @@ pub chain_answer : {X Z : Type 0} {start : StartText} {calls : List CallText} {r
     (finish : FinishText) (result : Result (String Z) SqlBuilderError) → Chain start calls r
     → IfOk result (λ s. string_bytes s ≡ text_at finish r) → IfSome (error_at finish r) (λ e. result ≡ Err e)
     → (answer : List ℕ → X) → answer_of answer start calls finish ≡ Ok x → IfOk result (λ s. answer (string_bytes s) ≡ x)
-chain_answer {X = X} {Z = Z} {start = start} {calls = calls} {x = x} finish result chain printed refused answer is =
-    by result (chain_statement finish result chain printed refused)
+chain_answer {X = X} {Z = Z} {start = start} {calls = calls} {x = x} finish result chain printed failed answer is =
+    by result (chain_statement finish result chain printed failed)
   where
     by : (result : Result (String Z) SqlBuilderError) → IfOk result (λ s. statement start calls finish ≡ Ok (string_bytes s))
         → IfOk result (λ s. answer (string_bytes s) ≡ x)

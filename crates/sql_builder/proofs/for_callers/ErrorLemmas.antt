@@ -20,7 +20,7 @@ may_cause_error _ = false
 
 -- there is no error
 abbrev Allows : Option SqlBuilderError → Type 0
-Allows refused = IsNone refused
+Allows failed = IsNone failed
 
 -- where the one has no error, the other has none
 abbrev Keeps : Option SqlBuilderError → Option SqlBuilderError → Type 0

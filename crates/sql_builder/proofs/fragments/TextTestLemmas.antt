@@ -102,15 +102,15 @@ grouped (c ∷ calls) = by (group_fields_in c) (grouped calls)
     by [] rest = rest
     by (field ∷ fields) rest = refl
 
-refused : (having : Option Pieces) (fields : List Pieces)
+failed : (having : Option Pieces) (fields : List Pieces)
     → no_group_by_error (option_map pieces_text having) (map pieces_text fields)
     ≡ (if is_some having && not (not (is_empty fields)) then Some NoGroupBy else None)
-refused None fields = refl
-refused (Some condition) [] = refl
-refused (Some condition) (field ∷ fields) = refl
+failed None fields = refl
+failed (Some condition) [] = refl
+failed (Some condition) (field ∷ fields) = refl
 
 pub selects_need_group_by : SelectsNeedGroupBy
 selects_need_group_by [] calls some = absurd (false≢true some)
 selects_need_group_by (byte ∷ bytes) calls some =
-    refused (last_given having_in calls) (flat_map group_fields_in calls)
+    failed (last_given having_in calls) (flat_map group_fields_in calls)
     ∙ (λ i. if having_given calls None i && not (grouped calls i) then Some NoGroupBy else None)

@@ -282,16 +282,16 @@ module _ (one other : Pieces) (same : blanks one ≡ blanks other) where
       ap (blank_at (places_in one)) (shaped.shape_is is) ∙ tokens-blank one ∙ ap pieces_tokens same ∙ sym (tokens-blank other)
       ∙ (λ i. blank_at (sym same_places i) (sym (also.shape_is (same_closed is)) i))
 
-unless-places : (refused : Option SqlBuilderError) (one other : Pieces) → blanks one ≡ blanks other
-    → places_unless_error (unless_error refused one) ≡ places_unless_error (unless_error refused other)
+unless-places : (failed : Option SqlBuilderError) (one other : Pieces) → blanks one ≡ blanks other
+    → places_unless_error (unless_error failed one) ≡ places_unless_error (unless_error failed other)
 unless-places None one other same = same_places one other same
 unless-places (Some error) one other same = refl
 
-unless-tokens : (refused : Option SqlBuilderError) (one other : Pieces) → blanks one ≡ blanks other → Shaped one → Shaped other
-    → IfOk (unless_error refused one) (λ printed. IsTrue (has_closed_fragments printed))
-    → let but = tokens_but (places_unless_error (unless_error refused one)) in
-    result_map_both but (λ e. e) (text_unless_error (unless_error refused one))
-    ≡ result_map_both but (λ e. e) (text_unless_error (unless_error refused other))
+unless-tokens : (failed : Option SqlBuilderError) (one other : Pieces) → blanks one ≡ blanks other → Shaped one → Shaped other
+    → IfOk (unless_error failed one) (λ printed. IsTrue (has_closed_fragments printed))
+    → let but = tokens_but (places_unless_error (unless_error failed one)) in
+    result_map_both but (λ e. e) (text_unless_error (unless_error failed one))
+    ≡ result_map_both but (λ e. e) (text_unless_error (unless_error failed other))
 unless-tokens None one other same shaped also is = ap Ok (same_tokens one other same shaped also is)
 unless-tokens (Some error) one other same shaped also is = refl
 
@@ -299,27 +299,27 @@ module _ (start : StartText) (one other : List CallText) (finish : FinishText) (
   abbrev laid : List CallText → Pieces
   laid calls = layout_at fixed_piece raw_piece finish (clauses start calls)
 
-  abbrev refused : List CallText → Option SqlBuilderError
-  refused calls = error_at finish (printed_texts (clauses start calls))
+  abbrev failed : List CallText → Option SqlBuilderError
+  failed calls = error_at finish (printed_texts (clauses start calls))
 
   same_layouts : blanks (laid one) ≡ blanks (laid other)
   same_layouts =
       layout-blank finish (clauses start one) ∙ ap (layout_at fixed_piece raw_piece finish) (clauses-blank start one other differ)
       ∙ sym (layout-blank finish (clauses start other))
 
-  same_errors : refused one ≡ refused other
+  same_errors : failed one ≡ failed other
   same_errors =
       sym (error_at-blank finish (clauses start one)) ∙ ap (λ r. error_at finish (printed_texts r)) (clauses-blank start one other differ)
       ∙ error_at-blank finish (clauses start other)
 
   pub quoted_places-same : quoted_places start one finish ≡ quoted_places start other finish
   quoted_places-same =
-      unless-places (refused one) (laid one) (laid other) same_layouts ∙ ap (λ e. places_unless_error (unless_error e (laid other))) same_errors
+      unless-places (failed one) (laid one) (laid other) same_layouts ∙ ap (λ e. places_unless_error (unless_error e (laid other))) same_errors
 
   pub quoted_texts-apart : IfOk (pieces start one finish) (λ printed. IsTrue (has_closed_fragments printed))
       → answer_of (tokens_but (quoted_places start one finish)) start one finish ≡ answer_of (tokens_but (quoted_places start one finish)) start other finish
   quoted_texts-apart is =
-      unless-tokens (refused one) (laid one) (laid other) same_layouts (printed-shaped start one finish) (printed-shaped start other finish) is
+      unless-tokens (failed one) (laid one) (laid other) same_layouts (printed-shaped start one finish) (printed-shaped start other finish) is
       ∙ ap (λ e. result_map_both (tokens_but (quoted_places start one finish)) (λ error. error)
       (text_unless_error (unless_error e (laid other)))) same_errors
 
@@ -330,10 +330,10 @@ piece-strings (text.Fixed words ∷ printed) = strings-first (tokens words) (pla
 piece-strings (text.Quoted quoted ∷ printed) = piece-strings printed
 piece-strings (text.Raw raw ∷ printed) = strings-first (tokens raw) (places_in printed) (pieces_tokens printed) ∙ piece-strings printed
 
-unless-strings : (refused : Option SqlBuilderError) (printed : Pieces) → Shaped printed
-    → IfOk (unless_error refused printed) (λ printed. IsTrue (has_closed_fragments printed))
-    → IfOk (text_unless_error (unless_error refused printed))
-    (λ text. IsTrue (are_strings (places_unless_error (unless_error refused printed)) (tokens text)))
+unless-strings : (failed : Option SqlBuilderError) (printed : Pieces) → Shaped printed
+    → IfOk (unless_error failed printed) (λ printed. IsTrue (has_closed_fragments printed))
+    → IfOk (text_unless_error (unless_error failed printed))
+    (λ text. IsTrue (are_strings (places_unless_error (unless_error failed printed)) (tokens text)))
 unless-strings None printed shaped is = ap (are_strings (places_in printed)) (shaped.shape_is is) ∙ piece-strings printed
 unless-strings (Some error) printed shaped is = tt
 

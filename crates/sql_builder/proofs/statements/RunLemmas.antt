@@ -123,9 +123,9 @@ statement_printed {Z = Z} f r result = by result (error_at f (map_clauses pieces
         → IfSome o (λ e. result ≡ Err e)
         → IfOk result
         (λ s. text_unless_error (unless_error o (layout_at fixed_piece raw_piece f r)) ≡ Ok (string_bytes s))
-    by (Err e) o text refused = tt
-    by (Ok s) None text refused = ap Ok (text_of_layout f r ∙ sym text)
-    by (Ok s) (Some e) text refused = cc
+    by (Err e) o text failed = tt
+    by (Ok s) None text failed = ap Ok (text_of_layout f r ∙ sym text)
+    by (Ok s) (Some e) text failed = cc
 
 -- the builder's error is that of the statement, or `Memory`
 pub statement_error : {T : Type 0} (f : FinishText) (r : Clauses Pieces) (result : Result T SqlBuilderError)
@@ -138,6 +138,6 @@ statement_error {T = T} f r result = by result (error_at f (map_clauses pieces_t
         → (IsNone o → FailsOnlyByMemory result)
         → IfErr result
         (λ e. IsMemory e ⊎ (text_unless_error (unless_error o (layout_at fixed_piece raw_piece f r)) ≡ Err e))
-    by (Ok s) o refused memory = tt
-    by (Err e) None refused memory = inl (memory refl)
-    by (Err e) (Some g) refused memory = inr cc
+    by (Ok s) o failed memory = tt
+    by (Err e) None failed memory = inl (memory refl)
+    by (Err e) (Some g) failed memory = inr cc

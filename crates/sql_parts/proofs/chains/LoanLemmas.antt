@@ -93,7 +93,7 @@ release_name L = release_code.name (layouts (a_type ∷ []) (passed_row L, tt))
 -- what a call does: what holds of the value that it leaves where it succeeds, and how it fails
 pub record Effect (D : Type 0) : Type 1 where
   pub leaves : D → Type 0
-  pub refuses : SqlBuilderError → Type 0
+  pub fails : SqlBuilderError → Type 0
 
 module _ {M : Type 1} {𝓤 : Ura M} (𝓛 : Logic 𝓤) where
   result_Lawful : (A B : RattleType) → Lawful 𝓛 A → Lawful 𝓛 B → Lawful 𝓛 (RS.the_row A B)
@@ -128,10 +128,10 @@ module _ {M : Type 1} {𝓤 : Ura M} (𝓛 : Logic 𝓤) where
     -- the clauses of `hold_x`, and those of `x`
     module _ (s : MutBor L.row.Denot) (x : Effect L.row.Denot) where
       abbrev pub held_says : Holds → SProp 𝓤
-      held_says r = sep 𝓤 (sem 𝓛 (IsUnchangedIfHeldErr L.row s r)) (sep 𝓤 (fact 𝓤 (IsHeldChangedSoThat s x.leaves r)) (fact 𝓤 (IfErr r x.refuses)))
+      held_says r = sep 𝓤 (sem 𝓛 (IsUnchangedIfHeldErr L.row s r)) (sep 𝓤 (fact 𝓤 (IsHeldChangedSoThat s x.leaves r)) (fact 𝓤 (IfErr r x.fails)))
 
       abbrev pub says : Lends → SProp 𝓤
-      says r = sep 𝓤 (sem 𝓛 (IsUnchangedIfErr L.row s r)) (sep 𝓤 (fact 𝓤 (IsChangedSoThat s x.leaves r)) (fact 𝓤 (IfErr r x.refuses)))
+      says r = sep 𝓤 (sem 𝓛 (IsUnchangedIfErr L.row s r)) (sep 𝓤 (fact 𝓤 (IsChangedSoThat s x.leaves r)) (fact 𝓤 (IfErr r x.fails)))
 
       passes : (r : Holds) → ent 𝓤 (held_says r) (says (released r))
       passes (Ok h) = id⊢ 𝓤 _

@@ -54,7 +54,7 @@ module _ {M : Type 1} (𝓤 : Ura M) (𝓛 : Logic 𝓤) (𝓜 : Model 𝓤 𝓛
   asked κs a = (step.clauses S s d d' 𝓛 𝓜.mem 𝓡.returns κs a).requires tt
 
   abbrev tells : (κs : Lfts 2) → Denots (types_at (step.signature S).params κs) → Effect Name
-  tells κs a = record { leaves = λ name. name ≡ with_change a.1.0 (s.text a.1.1.0) a.0.now; refuses = IsMemory }
+  tells κs a = record { leaves = λ name. name ≡ with_change a.1.0 (s.text a.1.1.0) a.0.now; fails = IsMemory }
 
   pub by_change : calls.Code-unary name 𝓛 𝓜 𝓡 1 [] (constant 𝓛 change.the_type change_laws.the_plain X) (generic 𝓛 2 0 S LS)
       asked tells (inst_fn types fn) (step_code.name types) release (callee types)

@@ -61,8 +61,8 @@ first_some = refl
 cycle_touching : bound (codes "??") (Cycle 2) (listed (words (codes "a") ∷ words (codes "b") ∷ [])) ≡ Some (codes "'a''b'")
 cycle_touching = refl
 
-cycle_refused : bound (codes "?") (Cycle 0) (listed []) ≡ None
-cycle_refused = refl
+cycle_fails : bound (codes "?") (Cycle 0) (listed []) ≡ None
+cycle_fails = refl
 
 cycle_without : bound (codes "x") (Cycle 0) (listed []) ≡ Some (codes "x")
 cycle_without = refl
