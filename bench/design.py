@@ -10,7 +10,7 @@ from picture import escape, fonts
 WIDTH, HEIGHT = 880, 356
 ROOT = os.path.dirname(os.path.dirname(os.path.realpath(__file__)))
 HEADING = "How the crates and the proof fit together"
-TOLD = (
+DESCRIPTION = (
     "On the left the crates, each above those that it uses: the standard library, sql_parts, sql_builder, and on top sqlb, callers and "
     "your program. On the right how each crate is checked: the prover reads code with contracts, definitions and proofs; what it can't "
     "prove is an error; it must refuse the mutants; only what is proved is compiled."
@@ -99,7 +99,7 @@ def proof():
 
 def svg():
     head = f'<svg xmlns="http://www.w3.org/2000/svg" viewBox="0 0 {WIDTH} {HEIGHT}" width="{WIDTH}" height="{HEIGHT}"'
-    parts = [f'{head} role="img" aria-labelledby="title desc">', f'<title id="title">{HEADING}</title>', f'<desc id="desc">{TOLD}</desc>']
+    parts = [f'{head} role="img" aria-labelledby="title desc">', f'<title id="title">{HEADING}</title>', f'<desc id="desc">{DESCRIPTION}</desc>']
     return "\n".join([*parts, style(), *crates(), *proof(), "</svg>", ""])
 
 

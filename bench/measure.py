@@ -53,6 +53,6 @@ def count(words, source, file):
 def profile(file, most):
     """The functions that took the most instructions of a run, each with its part, of the file that callgrind wrote."""
     words = ["callgrind_annotate", "--threshold=100", file]
-    told = subprocess.run(words, capture_output=True, text=True, check=True).stdout
-    found = re.findall(r"^ *[\d,]+ \( *([\d.]+)%\) +\S*?:([^/\n]*?) \[", told, re.MULTILINE)
+    printed = subprocess.run(words, capture_output=True, text=True, check=True).stdout
+    found = re.findall(r"^ *[\d,]+ \( *([\d.]+)%\) +\S*?:([^/\n]*?) \[", printed, re.MULTILINE)
     return [f"{float(part):5.1f} % {name}" for part, name in found[:most]]

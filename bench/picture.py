@@ -132,5 +132,5 @@ def svg(groups):
         height += HEAD + ROW * len(rows)
     size = f'viewBox="0 0 {WIDTH} {height + MARGIN}" width="{WIDTH}" height="{height + MARGIN}"'
     head = f'<svg xmlns="http://www.w3.org/2000/svg" {size} role="img" aria-labelledby="title desc">'
-    told = [f'<title id="title">{HEADING}</title>', f'<desc id="desc">{described(workloads)}</desc>']
-    return "\n".join([head, *told, style(), *parts, "</svg>", ""])
+    names = [f'<title id="title">{HEADING}</title>', f'<desc id="desc">{described(workloads)}</desc>']
+    return "\n".join([head, *names, style(), *parts, "</svg>", ""])

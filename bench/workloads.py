@@ -144,7 +144,7 @@ TEMPLATES = {
     "bind_names": "title = :title: AND price > :least: OR sold = :sold:",
 }
 QUOTINGS = ("esc", "quote", "baquote", "brquote", "dquote")
-MARKERS = {"binds": "?", "bind_num": "$1", "bind_nums": "$1", "bind_name": ":title:", "bind_names": ":title:"}
+PLACEHOLDERS = {"binds": "?", "bind_num": "$1", "bind_nums": "$1", "bind_name": ":title:", "bind_names": ":title:"}
 PLAIN = " AND the_first_column = the_second_column OR another_column IS NOT NULL AND "
 
 
@@ -166,12 +166,12 @@ def template(call, text):
     return named(text) if call in ("binds", "bind_nums", "bind_names") else repeated(text)
 
 
-def numbered(count, name, marker):
-    """As many names and markers, each with its number, of as many digits."""
+def numbered(count, name, placeholder):
+    """As many names and placeholders, each with its number, of as many digits."""
 
     def text(times):
         numbers = [f"{number:07}" for number in range(1, count * times + 1)]
-        return "\n".join(" ".join(it.format(number) for number in numbers) for it in (name, marker))
+        return "\n".join(" ".join(it.format(number) for number in numbers) for it in (name, placeholder))
 
     return text
 
@@ -200,13 +200,13 @@ CALLS = [
     Calls("`bind_name`, 4 KB among other names", "bind_name", 5_000, 0.75, repeated(filled("(:name:, :sold:), ", "(:title:)"))),
     Calls("`bind_name`, 4 KB among other colons", "bind_name", 5_000, 0.75, repeated(filled("('12:30:59'), ", "(:title:)"))),
     *(
-        Calls(f"`{call}`, 100,000 markers side by side", call, 50, 0.9, template(call, marker * 100_000))
-        for call, marker in MARKERS.items()
+        Calls(f"`{call}`, 100,000 placeholders side by side", call, 50, 0.9, template(call, placeholder * 100_000))
+        for call, placeholder in PLACEHOLDERS.items()
     ),
     Calls("`bind_nums` of 100,000 arguments", "bind_nums", 50, 0.9, numbered(100_000, "n{}", "${}")),
     Calls("`bind_names` of a map of 1,000 names", "bind_names", 50, 0.9, numbered(1_000, "n{}", ":n{}:")),
     Calls("`bind_names` of 1,000 pairs", "bind_pairs", 50, 0.9, numbered(1_000, "n{}", ":n{}:")),
-    Calls("`bind_names` of 1,000 pairs, one marker", "bind_pairs", 500, 0.9, lambda times: f"{NAMES(times)}:n0000001:"),
+    Calls("`bind_names` of 1,000 pairs, one placeholder", "bind_pairs", 500, 0.9, lambda times: f"{NAMES(times)}:n0000001:"),
     Calls("`clone` of a SELECT of 6,000 items", "clone", 500, 0.9, repeated("x" * 1_000)),
 ]
 

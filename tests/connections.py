@@ -41,7 +41,7 @@ def declare(lib, **functions):
         getattr(lib, name).restype, getattr(lib, name).argtypes = gives, takes
 
 
-def told(message):
+def first_line(message):
     """The first line of a database's message."""
     return message.decode(errors="replace").split("\n")[0].removeprefix("ERROR:").strip()
 
@@ -103,7 +103,7 @@ class Sqlite(Database):
         while at < end:
             made, tail = POINTER(), POINTER()
             if self.lib.sqlite3_prepare_v2(self.db, at, end - at, ctypes.byref(made), ctypes.byref(tail)):
-                raise Refused(told(self.lib.sqlite3_errmsg(self.db)))
+                raise Refused(first_line(self.lib.sqlite3_errmsg(self.db)))
             rows += self.rows(made) if made else []
             # it goes no further where it meets a zero character
             if tail.value == at:
@@ -115,7 +115,7 @@ class Sqlite(Database):
         rows, width = [], range(self.lib.sqlite3_column_count(made))
         while (status := self.lib.sqlite3_step(made)) == 100:  # SQLITE_ROW
             rows.append(tuple(self.field(made, it) for it in width))
-        why = told(self.lib.sqlite3_errmsg(self.db))
+        why = first_line(self.lib.sqlite3_errmsg(self.db))
         self.lib.sqlite3_finalize(made)
         if status != 101:  # SQLITE_DONE
             raise Refused(why)
@@ -170,7 +170,7 @@ class Postgres(Database):
         try:
             # of nothing, of a statement without rows, of one with rows
             if self.lib.PQresultStatus(result) not in (0, 1, 2):
-                raise Refused(told(self.lib.PQresultErrorMessage(result)))
+                raise Refused(first_line(self.lib.PQresultErrorMessage(result)))
             width = range(self.lib.PQnfields(result))
             return [tuple(self.field(result, row, it) for it in width) for row in range(self.lib.PQntuples(result))]
         finally:
@@ -238,7 +238,7 @@ class Maria(Database):
                 self.lib.mysql_free_result(result)
             status = self.lib.mysql_errno(self.db) or self.lib.mysql_next_result(self.db)
         if status != -1:  # the end of the results
-            raise Refused(told(self.lib.mysql_error(self.db)))
+            raise Refused(first_line(self.lib.mysql_error(self.db)))
         return rows
 
     def rows(self, result):
