@@ -55,12 +55,12 @@ pub fn added_texts_keep_tokens()
     ensures counts { CountsKeepTokens }
 {}
 
-/// Untrusted texts don't interfere. Of two lists of calls that differ only in texts that `set_str`,
-/// the LIKE calls and the `_in_quoted` calls quote, and whose raw fragments are closed, `run` prints
-/// the same tokens, but for the texts of the string tokens at these places, or returns the same
-/// error, since it returns the statement of which this is said; so does a builder that these calls
-/// made. Neither the number of tokens nor that of `;`, nor the clauses that are parsed back, nor a
-/// test of fragments depends on texts that calls quote.
+/// Untrusted texts don't interfere. Of two lists of calls that differ only in texts that calls
+/// quote, and whose raw fragments are closed, `run` prints the same tokens, but for the texts of the
+/// string tokens at these places, or returns the same error, since it returns the statement of which
+/// this is said; so does a builder that these calls made. Neither the number of tokens nor that of
+/// `;`, nor the clauses that are parsed back, nor a test of fragments depends on texts that calls
+/// quote.
 /// `SqlBuilder::update_table(alloc, "t")?.set_str("a", "x', b = 'y")?.sql()?` →
 /// `UPDATE t SET a = 'x'', b = ''y';`
 pub fn quoted_texts_do_not_interfere()
