@@ -60,7 +60,7 @@ abbrev pub is_before : (Token → Bool) → List Token → ℕ → Bool
 is_before test ts zero = false
 is_before test ts (suc place) = is_at test ts place
 
--- the place is at the top depth_at: its depth is 0
+-- the place is at the top level: its depth is 0
 abbrev pub is_top_level : List Token → ℕ → Bool
 is_top_level ts place = int_eq (depth_at ts place) (pos 0)
 
@@ -73,7 +73,7 @@ pub data Placed : Type 0 where
   TopLevel : Token → Placed
   Nested : Token → Placed
 
--- a token, from whether its place is at the top depth_at
+-- a token, from whether its place is at the top level
 abbrev pub as_placed : Bool → Token → Placed
 as_placed true token = TopLevel token
 as_placed false token = Nested token
