@@ -1,5 +1,5 @@
 -- How a run ends, by what it read and what it wrote.
-use Rattle.std.specs.Prelude.{◌≡◌, ◌≢◌, ℕ, Bool, true, false, List, [], ◌∷◌, ◌++◌, Option, Some, None, Result, Ok, Err, filter_map, flat_map}
+use Rattle.std.specs.Prelude.{◌≡◌, ◌≢◌, ◌+◌, ℕ, Bool, true, false, List, [], ◌∷◌, ◌++◌, Option, Some, None, Result, Ok, Err, filter_map, flat_map}
 use Rattle.std.specs.Io.{StartsWith}
 use Rattle.std.specs.Io.KnownBytes.{Appends, Consumes, append_known}
 use Rattle.sql_builder.specs.Error.{IsMemory}
@@ -8,7 +8,7 @@ use Rattle.sqlb.specs.Output.{Answer, Output, accepted_answers, output, output_t
 use Rattle.sqlb.specs.declared.fault.Fault.{Fault}
 use Rattle.sqlb.specs.declared.fault.Fault.TheVariants.{At, Memory, Read, Write}
 use Rattle.sqlb.specs.declared.fault.Reason.{Reason}
-use Rattle.sqlb.specs.declared.fault.Reason.TheVariants.{Builder}
+use Rattle.sqlb.specs.declared.fault.Reason.TheVariants.{Builder, NoEnd, NotUtf8}
 
 -- whole statements from the beginning, one after another
 abbrev pub AreWhole : List ℕ → List (List ℕ) → Type 0
@@ -41,6 +41,13 @@ abbrev pub EndsUnlessStopped : {T : Type 0} → Result T Fault → List ℕ → 
 EndsUnlessStopped (Err Memory) written ended = written ≢ [] → ended ≡ true
 EndsUnlessStopped (Err Read) written ended = ended ≡ false
 EndsUnlessStopped _ written ended = ended ≡ true
+
+-- What a run returns at the end of its text, by how many lines that has, whether a line that is not UTF-8 follows, and whether a
+-- statement is open.
+abbrev pub result_at_end : ℕ → Bool → Bool → Result (Unit {0}) Fault
+result_at_end number true is_open = Err (At (number + 1) NotUtf8)
+result_at_end number false true = Err (At number NoEnd)
+result_at_end number false false = Ok tt
 
 -- A run that reads nothing returns `Write` exactly where the writer has failed.
 abbrev pub FailsOnlyToWrite : {T : Type 0} → Result T Fault → Bool → Type 0

@@ -1,10 +1,10 @@
 //! Runs an input, from its bytes to the statements that it prints.
-ghost use Rattle.std.specs.Prelude.{◌≡◌, ◌↔◌, ℕ, List, None, true, false, IfErr, IsErrOf};
+ghost use Rattle.std.specs.Prelude.{◌≡◌, ◌↔◌, ◌<◌, ◌^◌, ℕ, List, None, true, false, IfErr, IsErrOf};
 ghost use Rattle.std.specs.Io.KnownBytes.{Appends, Consumes, IsAtEnd};
 ghost use Rattle.std.specs.Io.Buffered.{writer_contents};
 ghost use Rattle.sqlb.specs.Output.{output};
 ghost use Rattle.sqlb.specs.RunResults.{EndsUnlessStopped, FailsOnlyToWrite, NamesNoMemory, MemoryRunsOutInLine};
-ghost use Rattle.sqlb.specs.RunResults.{AgreesWithOutput, RunsBuffered};
+ghost use Rattle.sqlb.specs.RunResults.{AgreesWithOutput, RunsBuffered, result_at_end};
 
 use crate::arguments::Arguments;
 use crate::fault::{Fault, LineError, Reason};
@@ -50,6 +50,14 @@ fn run_lines<W: Write>(
     let is_open = script.is_open();
     // The process ends soon: to drop a million conditions before takes a fifth of a run.
     forget(script);
+    check_end(number, has_invalid_line, is_open)
+}
+
+// What a run returns at the end of its text, which has so many lines.
+fn check_end(number: usize, has_invalid_line: bool, is_open: bool) -> Result<(), Fault>
+    requires counted { number < 2 ^ 63 }
+    ensures end { result ≡ result_at_end number has_invalid_line is_open }
+{
     if has_invalid_line {
         return Err(Fault::At(number + 1, Reason::NotUtf8));
     }

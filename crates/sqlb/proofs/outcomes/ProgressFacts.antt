@@ -1,7 +1,7 @@
 -- How far a run of the lines of an input has come, and how it ends.
 use Rattle.std.proofs.Common.{◌≡◌, ℕ, ◌+◌, ◌-◌, Bool, true, false, List, [], ◌∷◌, ◌++◌, Option, None, Some, Result, Ok, Err, if◌then◌else◌, length, take, map}
 use Rattle.std.proofs.Common.{filter_map, flat_map, refl, sym, ap, ap₂, ◌∙◌, append_assoc, arith, add-zero, codes, length-append, subst}
-use Rattle.std.specs.Prelude.{IsOk, IsTrue, IsUtf8, is_err, is_some, option_map}
+use Rattle.std.specs.Prelude.{IfErr, IsOk, IsTrue, IsUtf8, is_err, is_some, option_map}
 use Rattle.std.specs.Io.{StartsWith}
 use Rattle.std.specs.Io.KnownBytes.{Appends}
 use Rattle.std.specs.List.{enumerate_from}
@@ -17,7 +17,7 @@ use Rattle.sqlb.specs.Arguments.{IsNextLine, Remaining}
 use Rattle.sqlb.specs.Lines.{lines, CommandResult, command_in_parts, command_of, Starts, Calls, Finishes}
 use Rattle.sqlb.specs.Output.{Answer, OpenStatement, accepted_answers, answer, answer_at, answers, call_in, end_fault, fault_at, first, is_finish, is_inside}
 use Rattle.sqlb.specs.Output.{is_start, open_statement, open_statement_in, output, output_text, printed_line, start_in}
-use Rattle.sqlb.specs.RunResults.{AgreesWithOutput, AreWhole, MemoryRunsOutInLine}
+use Rattle.sqlb.specs.RunResults.{AgreesWithOutput, AreWhole, FailsOnlyToWrite, MemoryRunsOutInLine, NamesNoMemory, result_at_end}
 use Rattle.sqlb.specs.Script.{given, given_after, given_answer}
 use Rattle.sqlb.specs.Streams.{WritesOrFails}
 use Rattle.sqlb.specs.Utf8.{EndsBeforeInvalidLine}
@@ -26,7 +26,7 @@ use Rattle.sqlb.specs.declared.fault.Fault.TheVariants.{At, Memory, Read, Write}
 use Rattle.sqlb.specs.declared.fault.Reason.{Reason}
 use Rattle.sqlb.specs.declared.fault.Reason.TheVariants.{NoEnd}
 use Rattle.sqlb.proofs.bytes.StreamFacts.{begins}
-use Rattle.sqlb.proofs.outcomes.CommandFacts.{command_of-text}
+use Rattle.sqlb.proofs.outcomes.CommandFacts.{command_of-no_text, command_of-text}
 use Rattle.sqlb.proofs.outcomes.ScriptFacts.{open_after, given-after, given-answer, given-is_some}
 
 -- an open statement with these calls after its own
@@ -142,6 +142,11 @@ progress-first old text ahead is = record {
   written = Appends-nil old;
 }
 
+-- the lines behind those of a text: none where the text is the whole input, and else first one that is not UTF-8
+abbrev pub UnreadLines : Bool → List (List ℕ) → Type 0
+UnreadLines false unread = unread ≡ []
+UnreadLines true unread = (line : List ℕ) × (behind : List (List ℕ)) × (unread ≡ line ∷ behind) × ¬ (IsUtf8 line)
+
 -- a run has ended so: what is written agrees with its answer
 abbrev pub Ends : {T : Type 0} → Option (List ℕ) → Option (List ℕ) → List ℕ → Result T Fault → Type 0
 Ends old new text result =
@@ -194,10 +199,10 @@ module _ {old new : Option (List ℕ)} {text : List ℕ} {number : ℕ} {script 
         fault none_ahead
         ∙ ap₂ (λ (b : Bool) (n : ℕ). first (if b then (n, NoEnd) ∷ [] else [])) stays (ap length all_done ∙ sym progress.counted.0)
 
-    pub ends-open : is_some script ≡ true → Ends {T = Unit {0}} old new text (Err (At number NoEnd))
+    ends-open : is_some script ≡ true → Ends {T = Unit {0}} old new text (Err (At number NoEnd))
     ends-open still = (joined_texts progress.texts, progress.written, (end_fault-is true still, all_written none_ahead refl), tt)
 
-    pub ends-closed : is_some script ≡ false → Ends {T = Unit {0}} old new text (Ok tt)
+    ends-closed : is_some script ≡ false → Ends {T = Unit {0}} old new text (Ok tt)
     ends-closed none = (joined_texts progress.texts, progress.written, (end_fault-is false none, all_written none_ahead refl), tt)
 
   -- a line is next
@@ -275,10 +280,25 @@ module _ {old new : Option (List ℕ)} {text : List ℕ} {number : ℕ} {script 
     fails-in newer t Memory result failed accepts wrote is = absurd wrote.2
     fails-in newer t (At n reason) result failed accepts wrote is = absurd wrote.2
 
--- the lines behind those of a text: none where the text is the whole input, and else first one that is not UTF-8
-abbrev pub UnreadLines : Bool → List (List ℕ) → Type 0
-UnreadLines false unread = unread ≡ []
-UnreadLines true unread = (line : List ℕ) × (behind : List (List ℕ)) × (unread ≡ line ∷ behind) × ¬ (IsUtf8 line)
+-- where no line of the text is left, a run ends by the result at its end
+pub ends-at_end : {old new : Option (List ℕ)} {text : List ℕ} {number : ℕ} {script : Option ClauseTexts} {ahead unread : List (List ℕ)}
+    → Progress old new text number script ahead → (has_invalid_line is_open : Bool) → UnreadLines has_invalid_line unread → ahead ≡ unread
+    → is_some script ≡ is_open → Ends old new text (result_at_end number has_invalid_line is_open)
+ends-at_end progress true is_open left is still = rejects progress (command_of-no_text left.0 left.3) (is ∙ left.2) refl
+ends-at_end progress false true left is still = ends-open progress (is ∙ left) still
+ends-at_end progress false false left is still = ends-closed progress (is ∙ left) still
+
+-- what stops it there is no stream and no memory
+pub at_end-fails_only_to_write : (number : ℕ) (has_invalid_line is_open : Bool) {failed : Bool} → failed ≡ false
+    → FailsOnlyToWrite (result_at_end number has_invalid_line is_open) failed
+at_end-fails_only_to_write number true is_open is = is
+at_end-fails_only_to_write number false true is = is
+at_end-fails_only_to_write number false false is = is
+
+pub at_end-no_memory : (number : ℕ) (has_invalid_line is_open : Bool) → IfErr (result_at_end number has_invalid_line is_open) NamesNoMemory
+at_end-no_memory number true is_open = tt
+at_end-no_memory number false true = tt
+at_end-no_memory number false false = tt
 
 pub unread_first : (has_invalid_line : Bool) (input text : List ℕ) → (has_invalid_line ≡ false → text ≡ input)
     → (IsTrue has_invalid_line → EndsBeforeInvalidLine input text)

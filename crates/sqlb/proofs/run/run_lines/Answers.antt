@@ -1,11 +1,11 @@
-use Rattle.std.proofs.Common.{◌++◌, ◌<◌, ◌^◌, ℕ, List, arith, refl, ap, ap₂, ◌∙◌, sym, subst, length}
+use Rattle.std.proofs.Common.{◌++◌, ◌<◌, ◌^◌, ℕ, List, arith, refl, ap, ◌∙◌, sym, subst, length}
 use Rattle.std.specs.Io.KnownBytes.{Appends}
 use Rattle.std.proofs.KnownBytes.{Appends-nil}
 use Rattle.std.proofs.lemmas.Result.{err_from_is_err_and}
 use Rattle.sqlb.specs.Lines.{lines}
-use Rattle.sqlb.proofs.outcomes.CommandFacts.{command_of-no_text, rejected-holds_no_memory}
-use Rattle.sqlb.proofs.outcomes.ProgressFacts.{command_of-line, ends-closed, ends-open, fails-in, line_text, progress-first, progress-next, rejects, runs_out}
-use Rattle.sqlb.proofs.outcomes.ProgressFacts.{unread_first}
+use Rattle.sqlb.proofs.outcomes.CommandFacts.{rejected-holds_no_memory}
+use Rattle.sqlb.proofs.outcomes.ProgressFacts.{at_end-fails_only_to_write, at_end-no_memory, command_of-line, ends-at_end, fails-in, line_text, progress-first}
+use Rattle.sqlb.proofs.outcomes.ProgressFacts.{progress-next, rejects, runs_out, unread_first}
 use Rattle.sqlb.proofs.run.run_lines.Goals as goal
 
 pub lines-init : goal.lines-init
@@ -86,20 +86,13 @@ returns-in-Err-Memory-clause-ran g c =
     let accepts = rw c.in-Err-Memory.field-0-is at c.in-Err-Memory.ensures.answer in
     runs_out c.lines.invariant.ahead.2 (command_of-line _ _ next) ahead accepts
 
-pub returns-then-has_invalid_line-clause-ran : goal.returns-then-has_invalid_line-clause-ran
-returns-then-has_invalid_line-clause-ran g c =
-    let unread = rw c.if-has_invalid_line.true at c.lines.invariant.ahead.1 in
-    let ahead = ap (λ (rest : List ℕ). lines rest ++ c.lines.invariant.ahead.0) (c.next_line.ensures.none c.lines-test.false) ∙ unread.2 in
-    rejects c.lines.invariant.ahead.2 (command_of-no_text unread.0 unread.3) ahead refl
-
-pub returns-then-is_open-clause-ran : goal.returns-then-is_open-clause-ran
-returns-then-is_open-clause-ran g c =
-    let unread = rw c.if-has_invalid_line.false at c.lines.invariant.ahead.1 in
-    let end = ap₂ (λ (rest : List ℕ) (unread : List (List ℕ)). lines rest ++ unread) (c.next_line.ensures.none c.lines-test.false) unread in
-    ends-open c.lines.invariant.ahead.2 end (sym c.is_open-is_open.ensures.is_open ∙ c.if-is_open.true)
-
 pub returns-clause-ran : goal.returns-clause-ran
 returns-clause-ran g c =
-    let unread = rw c.if-has_invalid_line.false at c.lines.invariant.ahead.1 in
-    let end = ap₂ (λ (rest : List ℕ) (unread : List (List ℕ)). lines rest ++ unread) (c.next_line.ensures.none c.lines-test.false) unread in
-    ends-closed c.lines.invariant.ahead.2 end (sym c.is_open-is_open.ensures.is_open ∙ c.if-is_open.false)
+    let ahead = ap (λ (rest : List ℕ). lines rest ++ c.lines.invariant.ahead.0) (c.next_line.ensures.none c.lines-test.false) in
+    rw c.check_end.ensures.end (ends-at_end c.lines.invariant.ahead.2 _ _ c.lines.invariant.ahead.1 ahead (sym c.is_open-is_open.ensures.is_open))
+
+pub returns-clause-failed : goal.returns-clause-failed
+returns-clause-failed g c = rw c.check_end.ensures.end (at_end-fails_only_to_write _ _ _ c.lines.invariant.not_failed)
+
+pub returns-clause-no_memory : goal.returns-clause-no_memory
+returns-clause-no_memory g c = rw c.check_end.ensures.end (at_end-no_memory _ _ _)
