@@ -68,6 +68,7 @@ module _ (finish : FinishText) (r : Clauses Pieces) (parts : NeutralParts r) (in
   text-reads : is_unenclosed finish ≡ true → ReadsBack (layout finish r) text
   text-reads bare fit = ap read (ap tokens is) ∙ layout-reads finish r parts inside_parts bare fit
 
+  -- its WHERE, parsed back, is that of the groups
   pub text-wheres : prints_where finish r.kind ≡ true → has_fit_fragments (layout finish r) ≡ true → clause_bodies (codes "WHERE") (read (tokens text))
       ≡ where_bodies r.groups
   text-wheres prints fit = ap (clause_bodies (codes "WHERE")) (text-reads (sql-bare finish r.kind prints) fit)
