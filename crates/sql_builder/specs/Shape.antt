@@ -1,10 +1,10 @@
 -- The tokens of what is printed, piece by piece.
 use Prim.Native.Char.{code}
-use Rattle.std.specs.Prelude.{◌≡◌, ℕ, List, [], ◌∷◌, ◌++◌, Bool, true, false, not, IfOk, IsTrue, Result, flat_map}
-use Rattle.std.specs.List.{list_all, list_any}
+use Rattle.std.specs.Prelude.{◌≡◌, ℕ, List, [], ◌∷◌, ◌++◌, false, IfOk, IsTrue, Result, flat_map}
+use Rattle.std.specs.List.{list_any}
 use Rattle.std.specs.Result.{result_map_both}
 use Rattle.sql_parts.specs.declared.error.SqlBuilderError.{SqlBuilderError}
-use Rattle.sql_parts.specs.Tokens.{Token, Str, Symbol, closed, has_semicolon, is_semicolon, tokens}
+use Rattle.sql_parts.specs.Tokens.{Token, Str, Symbol, closed, is_semicolon, tokens}
 use Rattle.sql_builder.specs.Builder.{ClauseTexts}
 use Rattle.sql_builder.specs.Calls.{CallText, FinishText, StartText}
 use Rattle.sql_builder.specs.Clauses.{Clauses, map_clauses}

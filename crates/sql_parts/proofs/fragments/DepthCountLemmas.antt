@@ -9,7 +9,7 @@ use Rattle.std.proofs.lemmas.Bool.{eqb-true, eq-eqb, le-leb, leb-true, leb-false
 use Rattle.std.proofs.lemmas.Bool.Decides.{same_from_decides, Decides-int_eq}
 use Rattle.std.proofs.lemmas.List.Folds.{list_all-map}
 use Rattle.std.proofs.lemmas.List.Sums.{sum_by-cons}
-use Rattle.std.proofs.Math.Bool.{and_assoc, and-false, and-true}
+use Rattle.std.proofs.Math.Bool.{and_assoc, and-true}
 use Rattle.sql_parts.specs.Tokens.{Token, begins_with}
 use Rattle.sql_parts.specs.Fragments.{any_token, has_top_level, is_balanced, brackets_match, is_top_level, is_whole, depth_at, lowers, places, raises, weight}
 
