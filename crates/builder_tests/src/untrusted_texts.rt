@@ -1,9 +1,9 @@
-//! What untrusted text needs beside quotes: a test for backslashes, and masks of LIKE.
+//! What untrusted text needs beside quotes: tests for backslashes and zero bytes, and masks of LIKE.
 
 use sql_builder::SqlBuilderError;
 use sql_builder::lex::has_backslash;
 use sql_builder::prelude::*;
-use sql_builder::text::{LikeEscape, escape_like};
+use sql_builder::text::{LikeEscape, escape_like, has_zero};
 use std::alloc::Global;
 use std::test::Fail;
 
@@ -11,6 +11,13 @@ use std::test::Fail;
 fn finds_a_backslash(rt: HostRuntime) -> Result<(), Fail> {
     assert!(rt; has_backslash("\\'; DROP TABLE t; --"));
     assert!(rt; !has_backslash("'; DROP TABLE t; --"));
+    Ok(())
+}
+
+#[test]
+fn finds_a_zero_byte(rt: HostRuntime) -> Result<(), Fail> {
+    assert!(rt; has_zero("x\0"));
+    assert!(rt; !has_zero("); DROP TABLE t; --0\\0"));
     Ok(())
 }
 

@@ -1,3 +1,4 @@
+pub mod ByteFacts
 pub mod DecimalFacts
 pub mod DoublingLemmas
 pub mod EscapingLemmas

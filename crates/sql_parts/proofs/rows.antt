@@ -6,4 +6,5 @@ pub mod LiteralRows
 pub mod NameRows
 pub mod OperandRows
 pub mod TemplateRows
+pub mod TextRows
 pub mod TokenRows

@@ -1,11 +1,11 @@
 -- String literals for a reader that takes a backslash and the character behind it as one character, as MySQL and MariaDB do by default.
 use Prim.Native.Char.{code}
 use Rattle.std.specs.Prelude.{ℕ, suc, ◌==◌, Bool, List, [], ◌∷◌, if◌then◌else◌, Option, Some, None, option_map}
-use Rattle.std.specs.List.{list_any}
+use Rattle.sql_parts.specs.Text.{has_byte}
 
 -- a text has a backslash
 abbrev pub has_backslash : List ℕ → Bool
-has_backslash text = list_any (λ byte. byte == code "\\") text
+has_backslash text = has_byte (code "\\") text
 
 -- Behind the quote that opens a literal: the text up to the quote that closes it, and how many bytes reach to the end of that quote.
 -- A backslash and the character behind it stand for that character, and two quotes for one. Databases give some characters behind

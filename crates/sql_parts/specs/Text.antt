@@ -2,6 +2,7 @@
 use Rattle.std.specs.Prelude.{ℕ, suc, ℤ, pos, negsuc, ◌+◌, List, [], ◌∷◌, ◌++◌, Bool, ◌==◌, if◌then◌else◌, Option, Some, None, option_map, flat_map, map, codes}
 use Rattle.std.specs.Prelude.{String, Vec, string_bytes}
 use Rattle.std.specs.Int.Digits.{digits_of}
+use Rattle.std.specs.List.{list_any}
 
 -- a natural number of any size in decimal, without leading zeros
 abbrev pub decimal_text : ℕ → List ℕ
@@ -15,6 +16,10 @@ number_text (negsuc n) = 45 ∷ decimal_text (suc n)
 -- a truth value in small letters
 abbrev pub bool_text : Bool → List ℕ
 bool_text value = if value then codes "true" else codes "false"
+
+-- a text has this byte
+abbrev pub has_byte : ℕ → List ℕ → Bool
+has_byte byte text = list_any (λ it. it == byte) text
 
 -- the bytes of each text
 abbrev pub texts : {Z : Type 0} → List (String Z) → List (List ℕ)

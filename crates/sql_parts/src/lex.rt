@@ -14,7 +14,7 @@ use crate::depth::Depth;
 use crate::error::SqlBuilderError;
 use crate::placeholders::{Marks, Place, first_place, prefix};
 use crate::roles::{Role, first_role};
-use crate::search::{Front, split_at_first};
+use crate::search::{Front, find_byte};
 use crate::substitution::lacks_arguments;
 pub use crate::tokenizer::is_closed;
 use crate::tokenizer::{Token, first_token};
@@ -222,8 +222,9 @@ pub fn stands_apart(
 /// Whether the text has a backslash, which some databases take to escape the character behind it in
 /// a literal, as MySQL and MariaDB do by default. It can't fail.
 /// `has_backslash("a\\b")` → `true`
+#[tactic(auto, using(crate::proofs::bytes::ByteFacts::found_byte))]
 pub fn has_backslash(text: &str) -> bool
     ensures { result ≡ has_backslash text.now }
 {
-    split_at_first(text, "\\", Front::of("\\")).is_some()
+    find_byte(text.as_bytes(), b'\\').is_some()
 }

@@ -5,12 +5,13 @@ ghost use Rattle.std.specs.Char.{encode_utf8};
 ghost use Rattle.std.specs.Cow.{cow_str_bytes};
 ghost use Rattle.sql_parts.specs.Error.{FailsOnlyByMemory};
 ghost use Rattle.sql_parts.specs.Like.{escape_character, like_escaped};
-ghost use Rattle.sql_parts.specs.Text.{bool_text, decimal_text, number_text, optional_text, texts};
+ghost use Rattle.sql_parts.specs.Text.{bool_text, decimal_text, has_byte, number_text, optional_text, texts};
 
 pub use crate::delimiters::Quotes;
 use crate::error::SqlBuilderError;
 pub use crate::like::LikeEscape;
 use crate::like::push_like_escaped;
+use crate::search::find_byte;
 use std::alloc::{AllocError, Global};
 use std::borrow::CowStr;
 
@@ -94,6 +95,17 @@ pub fn copy(alloc: Global, text: &Option<String>) -> Result<Option<String>, SqlB
         Some(text) => Ok(Some(text.to_text(alloc)?)),
         None => Ok(None),
     }
+}
+
+/// Whether the text has a zero byte. Programs that read statements from their input, as `sqlite3` and
+/// `psql` do, drop what is behind one on its line, and with it the quote that closes a literal. It
+/// can't fail.
+/// `has_zero("x\0")` → `true`
+#[tactic(auto, using(crate::proofs::bytes::ByteFacts::found_byte))]
+pub fn has_zero(text: &str) -> bool
+    ensures { result ≡ has_byte 0 text.now }
+{
+    find_byte(text.as_bytes(), 0).is_some()
 }
 
 // Room for so many characters that are escaped is taken at once, and for wildcards behind them.

@@ -1,13 +1,9 @@
 -- Literals without a backslash read alike whether a backslash escapes or not.
 use Prim.Native.Char.{code}
-use Rattle.std.proofs.Common.{◌≡◌, ℕ, suc, ◌<◌, true, false, List, [], ◌∷◌, ◌++◌, length, Option, Some, None, refl, sym, ap, ◌∙◌, cond, inl, inr}
+use Rattle.std.proofs.Common.{◌≡◌, ℕ, suc, false, List, [], ◌∷◌, ◌++◌, length, Option, Some, refl, ap, ◌∙◌, cond, inl, inr}
 use Rattle.std.proofs.Common.{append_assoc, arith, length-append}
-use Rattle.std.specs.Prelude.{◌==◌, codes, option_map, MatchOption}
-use Rattle.std.specs.Borrow.{Bor}
-use Rattle.std.specs.Option.{is_some}
-use Rattle.std.specs.Str.Pattern.{LacksTextAt}
-use Rattle.std.proofs.lemmas.Bool.{cases_Bool, eqb-true, or_parts, or_right}
-use Rattle.std.proofs.lemmas.List.Folds.{list_any-append}
+use Rattle.std.specs.Prelude.{◌==◌, option_map}
+use Rattle.std.proofs.lemmas.Bool.{cases_Bool, eqb-true, or_parts}
 use Rattle.sql_parts.specs.Backslash.{has_backslash, inside, literal}
 use Rattle.sql_parts.specs.Quoting.{doubled, quoted}
 use Rattle.sql_parts.specs.Tokens as tokens
@@ -56,20 +52,3 @@ inside-same (byte ∷ next ∷ text) plain =
       | inl is ↦ rw (here.0, is) (ap (λ found. cond (next == code "'") (twice found) (Some ([], 1))) (inside-same text later.1))
       | inr isnt ↦ rw (here.0, isnt) (ap (option_map (λ found. (byte ∷ found.0, suc found.1))) (inside-same (next ∷ text) here.1))
     ]
-
-lacks-none : (text : List ℕ) → ((k : ℕ) → LacksTextAt (codes "\\") text k) → false ≡ has_backslash text
-lacks-none [] lacks = refl
-lacks-none (byte ∷ text) lacks =
-    elim (cases_Bool (byte == code "\\")) [
-      | inl is ↦ absurd (lacks 0 text (ap (λ b. b ∷ text) (eqb-true byte (code "\\") is)))
-      | inr isnt ↦ rw isnt (lacks-none text (λ k. lacks (suc k)))
-    ]
-
--- a text is split at its first backslash, if it has one
-pub found-backslash : (text : List ℕ) (parts : Option (Bor (List ℕ) × Bor (List ℕ)))
-    → MatchOption parts ((k : ℕ) → LacksTextAt (codes "\\") text k)
-    (λ p. (text ≡ p.0.now ++ (codes "\\" ++ p.1.now)) × ((k : ℕ) → k < length p.0.now → LacksTextAt (codes "\\") text k))
-    → is_some parts ≡ has_backslash text
-found-backslash text None lacks = lacks-none text lacks
-found-backslash text (Some p) found =
-    sym (ap has_backslash found.0 ∙ list_any-append (λ byte. byte == code "\\") p.0.now (codes "\\" ++ p.1.now) ∙ or_right (has_backslash p.0.now) true refl)
