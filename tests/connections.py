@@ -47,8 +47,8 @@ def first_line(message):
 
 
 class Database:
-    """A connection. `run` runs all statements of a text and gives their rows, each value as its bytes or None, and `text_of` is an
-    expression for a text that needs no quoting."""
+    """A connection. `run` runs all statements of a text and gives their rows, each value as its bytes or None, `text_of` is an
+    expression for a text that needs no quoting, and `words` start the database's command-line program, with `variables`."""
 
     # What the database is measured with, by `set`.
     settings = ("",)
@@ -57,8 +57,15 @@ class Database:
     # The type of a column of texts that are compared byte by byte.
     column = "TEXT"
 
+    variables = {}
+
     def set(self, setting):
         pass
+
+    def is_silent(self, script):
+        """Gives a script to the command-line program. Whether that finds no fault in it."""
+        done = subprocess.run(self.words(), input=script.encode(), env={**os.environ, **self.variables}, capture_output=True)
+        return not done.returncode and not done.stderr
 
     def shown(self, statement):
         """The first value of each row, to be shown, or why there is none."""
@@ -70,7 +77,8 @@ class Database:
 
 
 class Sqlite(Database):
-    def __init__(self):
+    def __init__(self, folder):
+        self.path = f"{folder}/database"
         self.lib = library("sqlite3")
         declare(
             self.lib,
@@ -87,10 +95,15 @@ class Sqlite(Database):
             sqlite3_column_bytes=(INT, POINTER, INT),
         )
         self.db = POINTER()
-        self.lib.sqlite3_open(b":memory:", ctypes.byref(self.db))
+        self.lib.sqlite3_open(self.path.encode(), ctypes.byref(self.db))
         self.name = f"SQLite {self.lib.sqlite3_libversion().decode()}"
         # as it is in the other databases
         self.run("PRAGMA case_sensitive_like = ON")
+        # nothing has to outlive the run
+        self.run("PRAGMA synchronous = OFF; PRAGMA journal_mode = MEMORY")
+
+    def words(self):
+        return [program("sqlite3"), self.path]
 
     def text_of(self, text):
         return f"CAST(x'{text.encode().hex()}' AS TEXT)"
@@ -135,6 +148,7 @@ class Postgres(Database):
     settings = ("on", "off")
 
     def __init__(self, folder):
+        self.variables = {"PGHOST": folder, "PGUSER": "tester"}
         self.lib = library("pq")
         declare(
             self.lib,
@@ -161,6 +175,9 @@ class Postgres(Database):
         self.run(f"SET standard_conforming_strings = {setting}")
         self.escapes = setting == "off"
         self.name = f"PostgreSQL {self.shown('SHOW server_version').split()[0]}, standard_conforming_strings {setting}"
+
+    def words(self):
+        return [program("psql"), "-qX", "postgres"]
 
     def text_of(self, text):
         return f"convert_from(decode('{text.encode().hex()}', 'hex'), 'UTF8')"
@@ -189,6 +206,7 @@ class Maria(Database):
     settings = ("default mode", "NO_BACKSLASH_ESCAPES")
 
     def __init__(self, folder):
+        self.socket = f"{folder}/socket"
         self.lib = library("mariadb", "mysqlclient")
         declare(
             self.lib,
@@ -209,7 +227,7 @@ class Maria(Database):
         self.db = self.lib.mysql_init(None)
         self.lib.mysql_options(self.db, 7, b"utf8mb4")  # MYSQL_SET_CHARSET_NAME
         several = 1 << 16  # CLIENT_MULTI_STATEMENTS, without which a second statement is always refused
-        if not self.lib.mysql_real_connect(self.db, None, b"root", None, None, 0, f"{folder}/socket".encode(), several):
+        if not self.lib.mysql_real_connect(self.db, None, b"root", None, None, 0, self.socket.encode(), several):
             self.close()
             raise Refused("no connection")
         version = self.shown("SELECT VERSION()")
@@ -224,6 +242,9 @@ class Maria(Database):
         if not self.escapes:
             self.run(f"SET SESSION sql_mode = CONCAT(@@sql_mode, ',{setting}')")
         self.name = f"{self.product}, {setting}"
+
+    def words(self):
+        return [program("mariadb", "mysql"), "--no-defaults", f"--socket={self.socket}", "--user=root", "texts"]
 
     def text_of(self, text):
         return f"CONVERT(x'{text.encode().hex()}' USING utf8mb4)"
@@ -314,8 +335,10 @@ def program(*names):
     return found
 
 
+@contextlib.contextmanager
 def sqlite():
-    return contextlib.closing(Sqlite())
+    with tempfile.TemporaryDirectory(prefix="databases-") as folder, contextlib.closing(Sqlite(folder)) as db:
+        yield db
 
 
 @contextlib.contextmanager
