@@ -1,12 +1,13 @@
 -- Readers go through the same states outside of untrusted texts.
-use Rattle.std.proofs.Common.{◌≡◌, ℕ, Bool, true, false, List, [], ◌∷◌, ◌++◌, refl, sym, ap, subst, ◌∙◌, inl, inr, map}
+use Rattle.std.proofs.Common.{◌≡◌, ℕ, Bool, true, false, List, [], ◌∷◌, ◌++◌, refl, sym, ap, subst, ◌∙◌, inl, inr, length, map}
 use Rattle.std.specs.Prelude.{◌==◌}
 use Rattle.std.specs.List.{list_all}
 use Rattle.std.proofs.lemmas.Bool.{and_parts, cases_Bool, eqb-false}
+use Rattle.std.proofs.lemmas.List.{length-append, length-map}
 use Rattle.sql_parts.specs.Quoting.{between, closing, doubled, opening}
 use Rattle.sql_parts.specs.ReaderLaws.{IsInsideUntilItsEnd, LeadsAsNoText, ReadersIgnoreDoubledTexts, StaysInside}
 use Rattle.sql_parts.specs.Readers.{Part, Constant, Doubled, Reader, DifferInDoubledTexts, IsInside, IsInsideAtEach, OpensLiteral, after, emptied}
-use Rattle.sql_parts.specs.Readers.{has_plain_text, inner_states, marks, outer_states, parts_bytes, states}
+use Rattle.sql_parts.specs.Readers.{has_plain_text, inner_states, marks, outer_states, part_bytes, part_marks, parts_bytes, states}
 use Rattle.sql_parts.specs.declared.delimiters.Quotes.{Quotes}
 
 module _ (next : Reader) where
@@ -113,6 +114,15 @@ module _ (next : Reader) where
           marked-first state (doubled delimiter text) (marks one) (parts_bytes one) ∙ ap (λ s. Outer s one) one_stays ∙ later.1
               ∙ ap (λ s. Outer s other) (sym other_stays) ∙ sym (marked-first state (doubled delimiter other_text) (marks other) (parts_bytes other)),
         )
+
+-- a mark for each byte
+part-length : (part : Part) → length (part_marks part) ≡ length (part_bytes part)
+part-length (Constant text) = length-map text (λ byte. false)
+part-length (Doubled delimiter text) = length-map (doubled delimiter text) (λ byte. true)
+
+pub marks-length : (parts : List Part) → length (marks parts) ≡ length (parts_bytes parts)
+marks-length [] = refl
+marks-length (part ∷ parts) = simp (length-append, part-length, marks-length parts)
 
 pub readers-alike : ReadersIgnoreDoubledTexts
 readers-alike next plain state one other differ one_plain other_plain inside = parts-alike next plain state one other differ one_plain other_plain inside
