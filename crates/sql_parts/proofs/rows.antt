@@ -5,6 +5,7 @@ pub mod LikeRows
 pub mod LiteralRows
 pub mod NameRows
 pub mod OperandRows
+pub mod ReaderRows
 pub mod TemplateRows
 pub mod TextRows
 pub mod TokenRows

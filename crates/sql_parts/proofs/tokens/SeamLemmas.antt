@@ -18,7 +18,7 @@ read-append mode [] other = refl
 read-append mode (byte ∷ one) other = ap (λ rest. (step mode byte).0 ++ rest) (read-append (step mode byte).1 one other)
     ∙ sym (append_assoc (step mode byte).0 (whole (step mode byte).1 one) _)
 
-read-finish : (mode : Mode) (text : List ℕ) → read mode text ≡ whole mode text ++ finish (after mode text)
+pub read-finish : (mode : Mode) (text : List ℕ) → read mode text ≡ whole mode text ++ finish (after mode text)
 read-finish mode [] = refl
 read-finish mode (byte ∷ text) = ap (λ rest. (step mode byte).0 ++ rest) (read-finish (step mode byte).1 text)
     ∙ sym (append_assoc (step mode byte).0 (whole (step mode byte).1 text) _)
@@ -27,7 +27,7 @@ abbrev pub has_open : List Token → Bool
 has_open tokens = list_any is_open tokens
 
 -- what holds of each byte of a list holds of a byte that is one of them
-one_of : (P : ℕ → Type 0) (bytes : List ℕ) → AllByRecursion P bytes → (byte : ℕ) → is_one_of bytes byte ≡ true → P byte
+pub one_of : (P : ℕ → Type 0) (bytes : List ℕ) → AllByRecursion P bytes → (byte : ℕ) → is_one_of bytes byte ≡ true → P byte
 one_of P [] holds byte is = absurd (false≢true is)
 one_of P (other ∷ bytes) holds byte is =
     elim (or_cases (byte == other) (is_one_of bytes byte) is) [

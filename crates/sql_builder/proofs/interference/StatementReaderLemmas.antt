@@ -1,0 +1,89 @@
+-- Readers go through the same states outside of the texts that calls quote.
+use Rattle.std.proofs.Common.{◌≡◌, refl, sym, ◌∙◌, ap, subst, ℕ, Bool, List, [], ◌∷◌, ◌++◌, Option, None, Some, Result, Ok, Err, map, length}
+use Rattle.std.specs.Prelude.{IfOk, IsTrue}
+use Rattle.std.specs.List.{list_all}
+use Rattle.std.specs.Result.{result_map_both}
+use Rattle.std.proofs.lemmas.List.{append_assoc}
+use Rattle.sql_parts.specs.Quoting.{doubled}
+use Rattle.sql_parts.specs.Readers.{Constant, Doubled, Reader, DifferInDoubledTexts, IsInsideAtEach, emptied, has_plain_text, marks, outer_states}
+use Rattle.sql_parts.specs.Readers.{parts_bytes}
+use Rattle.sql_parts.specs.declared.error.SqlBuilderError.{SqlBuilderError}
+use Rattle.sql_parts.proofs.tokens.ReaderLemmas.{marks-length, readers-alike}
+use Rattle.sql_builder.specs.Pieces as text
+use Rattle.sql_builder.specs.Pieces.{Pieces, pieces_text}
+use Rattle.sql_builder.specs.Statement.{pieces, statement, text_unless_error, unless_error}
+use Rattle.sql_builder.specs.StatementReaders.{QuotedBytesAreBytes, ReadersIgnoreQuotedTexts, bytes_unless_error, parts_in, printed_by}
+use Rattle.sql_builder.proofs.interference.QuotedTextLemmas.{blanks, failed, laid, same_errors, same_layouts}
+use Rattle.sql_builder.proofs.statements.StatementLawLemmas.{builders_print_statements}
+
+-- ---- parts of pieces
+
+parts_in-blank : (printed : Pieces) → map emptied (parts_in printed) ≡ parts_in (blanks printed)
+parts_in-blank [] = refl
+parts_in-blank (text.Fixed words ∷ printed) = ap (λ more. Constant words ∷ more) (parts_in-blank printed)
+parts_in-blank (text.Quoted quoted ∷ printed) =
+    ap (λ more. Constant (39 ∷ []) ∷ Doubled 39 [] ∷ Constant (39 ∷ []) ∷ more) (parts_in-blank printed)
+parts_in-blank (text.Raw raw ∷ printed) = ap (λ more. Constant raw ∷ more) (parts_in-blank printed)
+
+parts_in-bytes : (printed : Pieces) → parts_bytes (parts_in printed) ≡ pieces_text printed
+parts_in-bytes [] = refl
+parts_in-bytes (text.Fixed words ∷ printed) = ap (λ more. words ++ more) (parts_in-bytes printed)
+parts_in-bytes (text.Quoted quoted ∷ printed) =
+    ap (λ more. 39 ∷ (doubled 39 quoted ++ (39 ∷ more))) (parts_in-bytes printed)
+    ∙ ap (λ all. 39 ∷ all) (sym (append_assoc (doubled 39 quoted) (39 ∷ []) (pieces_text printed)))
+parts_in-bytes (text.Raw raw ∷ printed) = ap (λ more. raw ++ more) (parts_in-bytes printed)
+
+differ : (one other : Pieces) → blanks one ≡ blanks other → DifferInDoubledTexts (parts_in one) (parts_in other)
+differ one other same = parts_in-blank one ∙ ap parts_in same ∙ sym (parts_in-blank other)
+
+-- ---- what is printed, or the error
+
+module _ (next : Reader) (plain : ℕ → Bool) (state : ℕ) where
+  abbrev Plain : Result Pieces SqlBuilderError → Type 0
+  Plain printed = IfOk printed (λ pieces. IsTrue (list_all (has_plain_text plain) (parts_in pieces)))
+
+  abbrev Opens : Result Pieces SqlBuilderError → Type 0
+  Opens printed = IfOk printed (λ pieces. IsInsideAtEach next plain state (parts_in pieces))
+
+  abbrev outside : Result Pieces SqlBuilderError → Result (List ℕ) SqlBuilderError
+  outside printed = result_map_both (outer_states next state (bytes_unless_error printed)) (λ error. error) (text_unless_error printed)
+
+  pub unless-alike : (failed : Option SqlBuilderError) (one other : Pieces) → blanks one ≡ blanks other → Plain (unless_error failed one)
+      → Plain (unless_error failed other) → Opens (unless_error failed one)
+      → Opens (unless_error failed other) × (outside (unless_error failed one) ≡ outside (unless_error failed other))
+  unless-alike None one other same one_plain other_plain opens =
+      let alike = readers-alike next plain state (parts_in one) (parts_in other) (differ one other same) one_plain other_plain opens in
+      let states : Pieces → List ℕ → List ℕ = λ printed bytes. outer_states next state (marks (parts_in printed)) bytes in (
+        alike.0,
+        ap Ok (ap (states one) (sym (parts_in-bytes one)) ∙ alike.1 ∙ ap (states other) (parts_in-bytes other)),
+      )
+  unless-alike (Some error) one other same one_plain other_plain opens = (tt, refl)
+
+pub statements-alike : ReadersIgnoreQuotedTexts statement
+statements-alike next plain state start one other finish differ one_plain other_plain opens =
+    let Goal : Option SqlBuilderError → Type 0 =
+    λ e. Plain next plain state (unless_error e (laid start one other finish differ other))
+    → Opens next plain state (unless_error e (laid start one other finish differ other))
+    × (outside next plain state (unless_error (failed start one other finish differ one) (laid start one other finish differ one))
+    ≡ outside next plain state (unless_error e (laid start one other finish differ other))) in
+    subst Goal (same_errors start one other finish differ)
+    (λ plain_other. unless-alike next plain state (failed start one other finish differ one) (laid start one other finish differ one)
+    (laid start one other finish differ other) (same_layouts start one other finish differ) one_plain plain_other opens) other_plain
+
+printed_by-statement : statement ≡ printed_by
+printed_by-statement = λ i start calls finish. sym (builders_print_statements start calls finish) i
+
+pub printed-alike : ReadersIgnoreQuotedTexts printed_by
+printed-alike = subst ReadersIgnoreQuotedTexts printed_by-statement statements-alike
+
+-- ---- a mark for each byte
+
+pub bytes-marked : QuotedBytesAreBytes statement
+bytes-marked start calls finish = by (pieces start calls finish)
+  where
+    by : (printed : Result Pieces SqlBuilderError) → IfOk (text_unless_error printed) (λ text. length (bytes_unless_error printed) ≡ length text)
+    by (Ok printed) = marks-length (parts_in printed) ∙ ap length (parts_in-bytes printed)
+    by (Err error) = tt
+
+pub printed-marked : QuotedBytesAreBytes printed_by
+printed-marked = subst QuotedBytesAreBytes printed_by-statement bytes-marked

@@ -1,0 +1,5 @@
+use Rattle.sql_builder.proofs.interference.StatementReaderLemmas.{bytes-marked, printed-alike, printed-marked, statements-alike}
+use Rattle.sql_builder.proofs.laws.readers_ignore_quoted_texts.Goals as goal
+
+pub returns : goal.returns
+returns c = record { statements = statements-alike; printed = printed-alike; bytes = bytes-marked; printed_bytes = printed-marked }
