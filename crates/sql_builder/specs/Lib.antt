@@ -38,6 +38,8 @@ pub use Rattle.sql_parts.specs.Operands
 pub use Rattle.sql_parts.specs.Pairs
 pub use Rattle.sql_parts.specs.Placeholders
 pub use Rattle.sql_parts.specs.Quoting
+pub use Rattle.sql_parts.specs.ReaderLaws
+pub use Rattle.sql_parts.specs.Readers
 pub use Rattle.sql_parts.specs.Templates
 pub use Rattle.sql_parts.specs.Tokens
 pub use Rattle.sql_parts.specs.NameLoans

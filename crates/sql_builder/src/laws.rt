@@ -19,9 +19,10 @@ ghost use Rattle.sql_parts.specs.Tokens.{closed, tokens};
 
 pub use sql_parts::laws::{
     bound_texts_do_not_interfere, bound_texts_keep_the_count, doubling_is_undone,
-    escaped_masks_match_their_text, literals_are_operands, literals_without_backslashes_read_alike,
-    quoted_names_are_operands, quoting_is_injective, string_texts_decide_nothing,
-    tokens_join_at_edges, unmarked_is_unchanged,
+    escaped_masks_match_their_text, literals_are_operands, literals_end_for_any_reader,
+    literals_without_backslashes_read_alike, quoted_names_are_operands, quoting_is_injective,
+    readers_ignore_quoted_parts, string_texts_decide_nothing, tokens_join_at_edges,
+    unmarked_is_unchanged,
 };
 
 /// `fields` of a list and then of another is `fields` of the two joined.

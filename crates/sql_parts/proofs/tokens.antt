@@ -5,5 +5,6 @@ pub mod FirstTokenLemmas
 pub mod JoinFacts
 pub mod LiteralFacts
 pub mod NameFacts
+pub mod ReaderLemmas
 pub mod SeamLemmas
 pub mod TokenFacts

@@ -1,5 +1,5 @@
 //! Facts about the definitions that the contracts of this crate speak of.
-ghost use Rattle.std.specs.Prelude.{◌≡◌, ◌++◌, Bool, IsTrue, List, codes, length, nat_eq, not, ℕ, ℤ};
+ghost use Rattle.std.specs.Prelude.{◌≡◌, ◌++◌, ◌∷◌, [], Bool, IsTrue, List, codes, length, nat_eq, not, ℕ, ℤ};
 ghost use Rattle.std.specs.List.{count_by, ends_with, list_any, starts_with};
 ghost use Rattle.std.specs.Str.Iter.{HasSubslice};
 ghost use Rattle.sql_parts.specs.Fragments.{balanced, dangling, has_clause_word, has_top_level, is_balanced, is_clause_word, is_dangling, is_operand, operand};
@@ -7,6 +7,8 @@ ghost use Rattle.sql_parts.specs.StringTexts.{ArgumentsDifferInTexts, BlankSomew
 ghost use Rattle.sql_parts.specs.StringTexts.{BoundTextsKeepTheirPlaces, IgnoresBoundTexts, IgnoresStrings, NamesDifferInTexts, outline, semicolon_count};
 ghost use Rattle.sql_parts.specs.TextLaws.{DifferInTexts, EndsAsWritten, HasOneReading, LeavesTextWithout, MasksMatch, UndoesDoubling, IsInjective, colon};
 ghost use Rattle.sql_parts.specs.TextLaws.{dollar, question_mark, token_count};
+ghost use Rattle.sql_parts.specs.ReaderLaws.{IsInsideUntilItsEnd, LeadsAsNoText, ReadersIgnoreDoubledTexts, StaysInside};
+ghost use Rattle.sql_parts.specs.declared.delimiters.Quotes.TheVariants.{Back, Double, Single, Square};
 ghost use Rattle.sql_parts.specs.Quoting.{baquoted, brquoted, dquoted, escaped, quoted};
 ghost use Rattle.sql_parts.specs.Literal.{LiteralValue, literal_text, words};
 ghost use Rattle.sql_parts.specs.Name.{Name, safe_text};
@@ -145,4 +147,32 @@ pub fn escaped_masks_match_their_text()
     ensures begins { MasksMatch (λ mask. mask ++ codes "%") (λ other text. IsTrue (starts_with nat_eq other text)) }
     ensures ends { MasksMatch (λ mask. codes "%" ++ mask) (λ other text. IsTrue (ends_with nat_eq other text)) }
     ensures contains { MasksMatch (λ mask. codes "%" ++ mask ++ codes "%") (λ other text. HasSubslice other text) }
+{}
+
+/// Whatever reads it: where a reader opens a literal, as a database's lexer does at a quote, it goes
+/// through a text that `quote`, `baquote`, `brquote` or `dquote` gives, or `esc` between single
+/// quotes, to where it comes through no text between these quotes, and is inside of the literal until
+/// then. Each byte of the text has to be plain to the reader: a backslash is not where it escapes. It
+/// does nothing when it runs.
+/// `quote(alloc, "it's; --")?` → `'it''s; --'`
+pub fn literals_end_for_any_reader()
+    ensures quote { LeadsAsNoText Single quoted }
+    ensures baquote { LeadsAsNoText Back baquoted }
+    ensures brquote { LeadsAsNoText Square brquoted }
+    ensures dquote { LeadsAsNoText Double dquoted }
+    ensures esc { LeadsAsNoText Single (λ text. codes "'" ++ escaped text ++ codes "'") }
+    ensures quote_inside { IsInsideUntilItsEnd Single quoted }
+    ensures baquote_inside { IsInsideUntilItsEnd Back baquoted }
+    ensures brquote_inside { IsInsideUntilItsEnd Square brquoted }
+    ensures dquote_inside { IsInsideUntilItsEnd Double dquoted }
+    ensures esc_inside { IsInsideUntilItsEnd Single (λ text. codes "'" ++ escaped text ++ codes "'") }
+    ensures esc_stays { StaysInside Single escaped }
+{}
+
+/// Whatever reads them: of two texts that differ only in texts which are quoted, or escaped inside of
+/// quotes, where a reader is inside of a literal at each of these in the one, it is so in the other,
+/// and goes through the same states outside of them. It does nothing when it runs.
+/// `quote(alloc, "b), (")?` → `'b), ('`
+pub fn readers_ignore_quoted_parts()
+    ensures { ReadersIgnoreDoubledTexts }
 {}
