@@ -52,3 +52,12 @@ def run(given=b"", *words, folder=None, **settings):
     done = subprocess.run([*shell, *variables, *(words or [SQLB])], cwd=folder, input=given, capture_output=True)
     with open(f"{folder}/said", "rb") as it:
         return Ran(done.stdout, done.stderr, done.returncode, it.read())
+
+
+def printed(all_lines):
+    """The statements that sqlb makes of these, each the lines of one."""
+    done = run("".join(all_lines).encode())
+    made = done.out.decode().split("\n")
+    if done.status or len(made) != len(all_lines) + 1:
+        sys.exit(f"FAILED: sqlb printed {len(made) - 1} statements for {len(all_lines)}, and said: {done.err.decode()}")
+    return made[:-1]

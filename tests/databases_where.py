@@ -10,19 +10,18 @@ SKIPPED.
 sqlb has to be built. The arguments are how many statements are made (5,000 without one) and a seed. The last line counts the
 statements that found these rows and those that found others, and the status is 0 where none found others and some were run."""
 
+import functools
 import itertools
-import os
 import random
-import subprocess
 import sys
-from dataclasses import dataclass
+from dataclasses import dataclass, field
 from typing import Any, Callable
 
 sys.dont_write_bytecode = True
+from built import printed
 from connections import Broken, Refused, Skipped, maria, postgres, sqlite
 from tally import Tally
 
-ROOT = os.path.dirname(os.path.dirname(os.path.realpath(__file__)))
 NUMBERS, TEXTS = (None, 0, 1, 2), (None, "", "a", "ab", "b'a", "a%b")
 COLUMNS = ("a", "b", "c")
 ROWS = [dict(zip((*COLUMNS, "d"), it)) for it in itertools.product(NUMBERS, NUMBERS, NUMBERS, TEXTS)]
@@ -79,12 +78,13 @@ def matches(text, mask):
 
 @dataclass
 class Condition:
-    """A condition: the ending of its call with the arguments, its text, and its truth for a row."""
+    """A condition: the ending of its call with the arguments, its text, its truth for a row, and the texts that are quoted in it."""
 
     call: str
     arguments: list
     text: str
     truth: Callable[[dict], Any]
+    texts: list = field(default_factory=list)
 
 
 def negated(name, words, truth, is_not):
@@ -135,7 +135,7 @@ class Maker:
         mask = MASKS[name].format(part)
         truth = lambda row: None if row["d"] is None else matches(row["d"], mask)
         call, words, truth = negated(name, f"LIKE {quoted(mask)}", truth, is_not)
-        return Condition(f"_{call}", ["d", part], f"d {words}", truth)
+        return Condition(f"_{call}", ["d", part], f"d {words}", truth, [mask])
 
     def some(self, make):
         return [make() for _ in range(self.chance.randint(1, 3))]
@@ -152,7 +152,7 @@ class Maker:
         items = self.some(self.text)
         words = f"IN ({', '.join(map(quoted, items))})"
         call, words, truth = negated("in_quoted", words, lambda row: is_in(row["d"], items), self.chance.random() < 0.4)
-        return Condition(f"_{call}", ["d", *items], f"d {words}", truth)
+        return Condition(f"_{call}", ["d", *items], f"d {words}", truth, items)
 
     def between(self):
         (name, value), (least, x), (most, y) = self.column(), self.number(), self.number()
@@ -162,13 +162,13 @@ class Maker:
 
     def nested(self):
         """An IN of a query, whose rows its own groups give."""
-        (name, value), (field, found) = self.column(), self.column()
+        (name, value), (selected, found) = self.column(), self.column()
         groups = self.groups(2, self.plain)
-        query = f"SELECT {field} FROM w WHERE {where_text(groups)}"
-        values = [found(row) for row in ROWS if where_truth(groups, row) is True]
-        truth = lambda row: is_in(value(row), values)
+        query = f"SELECT {selected} FROM w WHERE {where_text(groups)}"
+        values = functools.cache(lambda: [found(row) for row in ROWS if where_truth(groups, row) is True])
+        truth = lambda row: is_in(value(row), values())
         call, words, truth = negated("in_query", f"IN ({query})", truth, self.chance.random() < 0.4)
-        return Condition(f"_{call}", [name, query], f"{name} {words}", truth)
+        return Condition(f"_{call}", [name, query], f"{name} {words}", truth, texts_of(itertools.chain(*groups)))
 
     def plain(self):
         return self.chance.choice((self.comparison, self.null, self.like, self.listed, self.listed_texts, self.between))()
@@ -180,20 +180,23 @@ class Maker:
         one, other, third = (self.own(depth - 1) for _ in range(3))
         kind = self.chance.randrange(5)
         if kind == 0:
-            return Condition("", [], f"{one.text} OR {other.text}", lambda row: or3((one.truth(row), other.truth(row))))
-        if kind == 1:
-            return Condition("", [], f"({one.text}) AND ({other.text})", lambda row: and3((one.truth(row), other.truth(row))))
-        if kind == 2:
-            return Condition("", [], f"NOT ({one.text})", lambda row: not3(one.truth(row)))
-        if kind == 3:
-            text = f"CASE WHEN {one.text} THEN {other.text} ELSE {third.text} END"
-            return Condition("", [], text, lambda row: (other if one.truth(row) is True else third).truth(row))
-        text = f"CASE WHEN {one.text} THEN 1 ELSE 0 END = {self.chance.randrange(2)}"
-        return Condition("", [], text, lambda row: (one.truth(row) is True) == text.endswith("1"))
+            text, of, truth = f"{one.text} OR {other.text}", (one, other), lambda row: or3((one.truth(row), other.truth(row)))
+        elif kind == 1:
+            text, of, truth = f"({one.text}) AND ({other.text})", (one, other), lambda row: and3((one.truth(row), other.truth(row)))
+        elif kind == 2:
+            text, of, truth = f"NOT ({one.text})", (one,), lambda row: not3(one.truth(row))
+        elif kind == 3:
+            text, of = f"CASE WHEN {one.text} THEN {other.text} ELSE {third.text} END", (one, other, third)
+            truth = lambda row: (other if one.truth(row) is True else third).truth(row)
+        else:
+            result = self.chance.randrange(2)
+            text, of = f"CASE WHEN {one.text} THEN 1 ELSE 0 END = {result}", (one,)
+            truth = lambda row: (one.truth(row) is True) == bool(result)
+        return Condition("", [], text, truth, texts_of(of))
 
     def raw(self):
         made = self.own()
-        return Condition("", [made.text], made.text, made.truth)
+        return Condition("", [made.text], made.text, made.truth, made.texts)
 
     def condition(self):
         kind = self.chance.random()
@@ -201,6 +204,11 @@ class Maker:
 
     def groups(self, most, make):
         return [[make() for _ in range(self.chance.randint(1, 3))] for _ in range(self.chance.randint(1, most))]
+
+
+def texts_of(conditions):
+    """The texts that are quoted in these."""
+    return [text for it in conditions for text in it.texts]
 
 
 def where_text(groups):
@@ -212,13 +220,16 @@ def where_truth(groups, row):
     return and3(or3(it.truth(row) for it in group) for group in groups)
 
 
-def lines(groups):
-    """The lines of sqlb that ask for the numbers of the rows that these groups find."""
-    made = ["select_from\tw", "field\tid"]
+def where_lines(groups):
+    """The lines of sqlb that add these groups."""
     for group in groups:
         for number, it in enumerate(group):
-            made.append("\t".join([f"{'or' if number else 'and'}_where{it.call}", *it.arguments]))
-    return "\n".join([*made, "order_asc\tid", "sql\n"])
+            yield "\t".join([f"{'or' if number else 'and'}_where{it.call}", *it.arguments])
+
+
+def lines(groups):
+    """The lines of sqlb that ask for the numbers of the rows that these groups find."""
+    return "\n".join(["select_from\tw", "field\tid", *where_lines(groups), "order_asc\tid", "sql\n"])
 
 
 def prepare(db):
@@ -246,12 +257,7 @@ def main():
     maker = Maker(random.Random(seed))
     all_groups = [maker.groups(3, maker.condition) for _ in range(count)]
     wanted = [[number for number, row in enumerate(ROWS) if where_truth(groups, row) is True] for groups in all_groups]
-    made = subprocess.run(
-        [f"{ROOT}/crates/sqlb/out/sqlb"], input="".join(map(lines, all_groups)).encode(), stdout=subprocess.PIPE, check=True
-    )
-    statements = made.stdout.decode().splitlines()
-    if len(statements) != count:
-        raise Broken(f"sqlb printed {len(statements)} statements for {count}")
+    statements = printed([*map(lines, all_groups)])
     some = sum(bool(it) and len(it) < len(ROWS) for it in wanted)
     print(f"{count} statements over {len(ROWS)} rows, of which {some} find some of the rows and not all")
     tally = Tally("databases_where")
