@@ -15,6 +15,7 @@ pub mod laws;
 pub mod lex;
 mod like;
 pub mod loan;
+mod misfits;
 pub mod name;
 mod placeholders;
 mod quoting;
