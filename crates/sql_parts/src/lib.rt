@@ -11,6 +11,7 @@ mod dangling;
 mod delimiters;
 mod depth;
 pub mod error;
+mod fragment;
 pub mod laws;
 pub mod lex;
 mod like;
@@ -25,7 +26,7 @@ mod substitution;
 pub mod text;
 mod tokenizer;
 
-pub use arg::{Literal, SqlArg};
+pub use arg::{Literal, SqlArg, Value};
 pub use bind::{Bind, BindNames, Marks};
 pub use error::SqlBuilderError;
 pub use name::SqlName;
