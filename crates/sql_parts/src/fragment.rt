@@ -1,8 +1,11 @@
 //! Texts whose types say that they fit where a statement takes a fragment or an operand.
-ghost use Rattle.std.specs.Prelude.{◌≡◌, string_bytes, IsTrue};
-ghost use Rattle.sql_parts.specs.Operands.{ServesAsOperand, is_fragment};
+ghost use Rattle.std.specs.Prelude.{◌≡◌, is_ok, string_bytes, IfErr, IfOk, IsTrue, Some};
+ghost use Rattle.sql_parts.specs.Misfits.{misfit};
+ghost use Rattle.sql_parts.specs.Operands.{ServesAsOperand, is_bare_operand, is_fragment};
+ghost use Rattle.sql_parts.specs.declared.misfits.Demand.TheVariants as demand;
 
 use crate::error::SqlBuilderError;
+use crate::lex::{Demand, Misfit, misfit};
 use crate::text::ToText;
 use std::alloc::Global;
 use std::borrow::CowStr;
@@ -45,6 +48,19 @@ impl<'a> Fragment<'a> {
     {
         Fragment { text }
     }
+
+    /// The text as a fragment, or why it is none. It takes no memory, and reads a text that fits once.
+    /// `Fragment::new("a UNION SELECT b")` fails with `Misfit::ClauseWord`
+    pub fn new(text: &'a str) -> Result<Fragment<'a>, Misfit>
+        ensures fits { is_ok result ≡ is_fragment text.entry.now }
+        ensures text { IfOk result (λ fragment. fragment.text ≡ text.entry) }
+        ensures misfit { IfErr result (λ reason. misfit demand.Fragment text.entry.now ≡ Some reason) }
+    {
+        match misfit(text, Demand::Fragment) {
+            None => Ok(Fragment { text }),
+            Some(reason) => Err(reason),
+        }
+    }
 }
 
 impl<'a> Operand<'a> {
@@ -55,6 +71,20 @@ impl<'a> Operand<'a> {
         ensures { result.text ≡ text.entry }
     {
         Operand { text }
+    }
+
+    /// The text as an operand without a top-level clause keyword, or why it is none. It takes no
+    /// memory, and reads a text that fits once.
+    /// `Operand::new("a OR 1=1")` fails with `Misfit::Joined`
+    pub fn new(text: &'a str) -> Result<Operand<'a>, Misfit>
+        ensures fits { is_ok result ≡ is_bare_operand text.entry.now }
+        ensures text { IfOk result (λ operand. operand.text ≡ text.entry) }
+        ensures misfit { IfErr result (λ reason. misfit demand.Operand text.entry.now ≡ Some reason) }
+    {
+        match misfit(text, Demand::Operand) {
+            None => Ok(Operand { text }),
+            Some(reason) => Err(reason),
+        }
     }
 
     /// An operand is a fragment. It can't fail.

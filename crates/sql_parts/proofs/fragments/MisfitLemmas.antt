@@ -2,11 +2,12 @@
 use Rattle.std.proofs.Common.{◌≡◌, refl, sym, ◌∙◌, ap, ℕ, ◌+◌, Bool, true, false, not, ◌&&◌, ◌||◌, eqb, List, [], ◌∷◌, Option, None, Some, codes, arith}
 use Rattle.std.specs.Prelude.{find, is_none, if◌then◌else◌}
 use Rattle.std.specs.List.{list_all, list_any}
+use Rattle.std.proofs.lemmas.Bool.{and_parts}
 use Rattle.std.proofs.Math.Bool.{and-true, not-not, or-false}
 use Rattle.sql_parts.specs.Fragments.{balanced, brackets_match, has_clause_word, has_top_level, is_balanced, is_clause_word, is_joining, is_whole, is_word}
-use Rattle.sql_parts.specs.Fragments.{lowers, raises, weight}
+use Rattle.sql_parts.specs.Fragments.{lowers, operand, raises, weight}
 use Rattle.sql_parts.specs.Misfits.{holds_of, meets, misfit, reasons}
-use Rattle.sql_parts.specs.Operands.{is_bare_operand, is_fragment}
+use Rattle.sql_parts.specs.Operands.{ServesAsOperand, is_bare_operand, is_fragment}
 use Rattle.sql_parts.specs.Tokens.{Token, begins_with, closed, has_semicolon, is_empty, is_open, is_semicolon, tokens}
 use Rattle.sql_parts.specs.declared.misfits.Demand.{Demand}
 use Rattle.sql_parts.specs.declared.misfits.Demand.TheVariants as demand
@@ -123,3 +124,20 @@ no_misfit asked text is = none_is (misfit asked text) (met asked text ∙ is)
     none_is : (given : Option Misfit) → is_none given ≡ true → given ≡ None
     none_is None none = refl
     none_is (Some first) none = cc
+
+-- a balanced text is closed and has no `;`
+pub balanced_whole : (text : List ℕ) → balanced text ≡ true → (closed text ≡ true) × (not (has_semicolon text) ≡ true)
+balanced_whole text is =
+    let ts = tokens text in
+    let front = and_parts (not (is_empty ts) && list_all is_whole ts) (brackets_match ts) is in
+    let whole = and_parts (not (is_empty ts)) (list_all is_whole ts) front.0 in
+    and_parts (not (list_any is_open ts)) (not (list_any is_semicolon ts)) (sym (all_whole ts) ∙ whole.1)
+
+-- what is an operand without a top-level clause keyword serves as one
+pub serves : (text : List ℕ) → is_bare_operand text ≡ true → ServesAsOperand text
+serves text is =
+    let ts = tokens text in
+    let both = and_parts (operand text) (not (has_clause_word text)) is in
+    let front = and_parts (balanced text && not (has_top_level is_joining ts)) (not (begins_with (is_word (codes "NOT")) ts)) both.0 in
+    let balance = and_parts (balanced text) (not (has_top_level is_joining ts)) front.0 in
+    record { is_operand = both.0; is_balanced = balance.0; is_closed = (balanced_whole text balance.0).0; no_clause_word = both.1 }
