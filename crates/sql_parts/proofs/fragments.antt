@@ -2,6 +2,7 @@ pub mod BetweenLemmas
 pub mod DepthCountLemmas
 pub mod DepthFacts
 pub mod KeywordLemmas
+pub mod MisfitLemmas
 pub mod OpenRangeLemmas
 pub mod OperandFacts
 pub mod SideLemmas

@@ -3,6 +3,7 @@ pub mod BoundTextRows
 pub mod FragmentRows
 pub mod LikeRows
 pub mod LiteralRows
+pub mod MisfitRows
 pub mod NameRows
 pub mod OperandRows
 pub mod ReaderRows

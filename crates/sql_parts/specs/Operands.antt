@@ -12,6 +12,10 @@ pub record ServesAsOperand (text : List ℕ) : Type 0 where
   pub is_closed : IsTrue (closed text)
   pub no_clause_word : IsTrue (not (has_clause_word text))
 
+-- a text is balanced and has no top-level clause keyword
+abbrev pub is_fragment : List ℕ → Bool
+is_fragment text = balanced text && not (has_clause_word text)
+
 -- a text that is written bare is an operand without a top-level clause keyword
 abbrev pub is_bare_operand : List ℕ → Bool
 is_bare_operand text = operand text && not (has_clause_word text)

@@ -26,6 +26,12 @@ pub enum Literal {
     Text(String),
 }
 
+/// A value in a statement, whose text is its literal: a text is quoted, a number is written in
+/// decimal, and what isn't there is NULL. Where a call takes a text, untrusted text goes in so.
+/// `Value("it's").to_text(alloc)?` → `'it''s'`
+#[derive(Clone, Copy, Drop)]
+pub struct Value<A>(pub A);
+
 /// A value that has a literal. Implement it for types of your own.
 pub trait SqlArg: Drop {
     /// The literal.
@@ -224,6 +230,22 @@ impl SqlArg for Literal {
             Literal::Whole(number) => number.push_sql_arg(alloc, out),
             Literal::Text(text) => text.push_sql_arg(alloc, out),
         }
+    }
+}
+
+impl ToText for Literal {
+    ghost text = { λ literal. literal_text (literal_value literal) };
+
+    fn to_text(&self, alloc: Global) -> Result<String, SqlBuilderError> {
+        self.sql_arg(alloc)
+    }
+}
+
+impl<A: SqlArg> ToText for Value<A> {
+    ghost text = { λ value. literal_text (A.literal value.0) };
+
+    fn to_text(&self, alloc: Global) -> Result<String, SqlBuilderError> {
+        self.0.sql_arg(alloc)
     }
 }
 

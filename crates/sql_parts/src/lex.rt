@@ -1,17 +1,19 @@
 //! Tests of fragments, which read a text as the tokens of SQL.
-ghost use Rattle.std.specs.Prelude.{◌≡◌, ◌&&◌, IfErr, IfOk, codes, not, true};
+ghost use Rattle.std.specs.Prelude.{◌≡◌, ◌&&◌, ◌||◌, IfErr, IfOk, codes, is_none, not, true};
 ghost use Rattle.sql_parts.specs.Backslash.{has_backslash};
 ghost use Rattle.sql_parts.specs.Error.{FailsOnlyByMemory};
-ghost use Rattle.sql_parts.specs.Fragments.{IsMemoryForNesting, balanced, dangling, has_clause_word, has_top_level, is_balanced, is_joining, is_word, operand};
+ghost use Rattle.sql_parts.specs.Fragments.{IsMemoryForNesting, balanced, dangling, has_clause_word, has_top_level, is_balanced, is_clause_word, is_joining, is_word, operand};
+ghost use Rattle.sql_parts.specs.Misfits.{meets, misfit};
 ghost use Rattle.sql_parts.specs.Placeholders.{marks_of};
 ghost use Rattle.sql_parts.specs.Roles.{HasRole};
 ghost use Rattle.sql_parts.specs.Templates.{resolved_from, apart, segment_apart, segments_apart};
 ghost use Rattle.sql_parts.specs.Tokens as tokens;
-ghost use Rattle.sql_parts.specs.Tokens.{begins_with, ends_with, has_semicolon, is_separator};
+ghost use Rattle.sql_parts.specs.Tokens.{begins_with, ends_with, has_semicolon, is_empty, is_separator};
 
 use crate::dangling::{OpenRanges, Sides};
 use crate::depth::Depth;
 use crate::error::SqlBuilderError;
+pub use crate::misfits::{Demand, Misfit};
 use crate::placeholders::{Marks, Place, first_place, prefix};
 use crate::roles::{Role, first_role};
 use crate::search::{Front, find_byte};
@@ -42,19 +44,21 @@ fn bars_first(operand: bool, role: Role) -> bool
     operand && role.is_not()
 }
 
-// Whether the token may not be at depth 0, where the text is to be an operand.
-fn bars_top_level(operand: bool, role: Role) -> bool
-    ensures { (defined : tokens.Token) → HasRole role defined → result ≡ (operand && is_joining defined) }
+// Whether the token may not be at depth 0, where the text is to have no clause keyword there, or to
+// be an operand.
+fn bars_top_level(bare: bool, operand: bool, role: Role) -> bool
+    ensures { (defined : tokens.Token) → HasRole role defined
+        → result ≡ ((bare && is_clause_word defined) || (operand && is_joining defined)) }
 {
-    operand && role.joins()
+    bare && role.is_clause() || operand && role.joins()
 }
 
-// Whether the text is balanced and, where it is to be an operand, has no OR, AND or BETWEEN at
-// depth 0 and doesn't begin with NOT.
+// Whether the text is balanced, has no clause keyword at depth 0 where it is to be bare, and, where
+// it is to be an operand, has no OR, AND or BETWEEN at depth 0 and doesn't begin with NOT.
 #[inline(always)]
-fn is_balanced_as(text: &str, operand: bool) -> bool
+fn is_balanced_as(text: &str, bare: bool, operand: bool) -> bool
     ensures { result ≡ (is_balanced (tokens.tokens text.now)
-        && not (has_top_level (λ token. operand && is_joining token) (tokens.tokens text.now))
+        && not (has_top_level (λ token. (bare && is_clause_word token) || (operand && is_joining token)) (tokens.tokens text.now))
         && not (begins_with (λ token. operand && is_word (codes "NOT") token) (tokens.tokens text.now))) }
 {
     let mut depth = Depth::start();
@@ -62,7 +66,7 @@ fn is_balanced_as(text: &str, operand: bool) -> bool
     let mut rest = text;
     while let Some((role, behind)) = first_role(rest) {
         if is_empty && bars_first(operand, role)
-            || depth.is_top_level() && bars_top_level(operand, role)
+            || depth.is_top_level() && bars_top_level(bare, operand, role)
         {
             return false;
         }
@@ -83,7 +87,7 @@ fn is_balanced_as(text: &str, operand: bool) -> bool
 pub fn is_balanced(text: &str) -> bool
     ensures { result ≡ balanced text.now }
 {
-    is_balanced_as(text, false)
+    is_balanced_as(text, false, false)
 }
 
 /// Whether the text is balanced, has no OR, AND or BETWEEN at depth 0, and doesn't begin with NOT.
@@ -92,7 +96,7 @@ pub fn is_balanced(text: &str) -> bool
 pub fn is_operand(text: &str) -> bool
     ensures { result ≡ operand text.now }
 {
-    is_balanced_as(text, true)
+    is_balanced_as(text, false, true)
 }
 
 /// Whether a clause keyword is at depth 0 of the text: as many `(` and CASE precede it as `)` and
@@ -111,6 +115,63 @@ pub fn has_clause_word(text: &str) -> bool
         rest = behind;
     }
     false
+}
+
+// Whether the text meets the demand, in one reading.
+fn meets(text: &str, demand: Demand) -> bool
+    ensures { result ≡ meets demand text.now }
+{
+    match demand {
+        Demand::Balanced => is_balanced(text),
+        Demand::Fragment => is_balanced_as(text, true, false),
+        Demand::Operand => is_balanced_as(text, true, true),
+    }
+}
+
+fn is_blank(text: &str) -> bool
+    ensures { result ≡ is_empty (tokens.tokens text.now) }
+{
+    first_token(text).is_none()
+}
+
+// Why the text doesn't meet the demand, in as many readings as there are reasons.
+#[cold]
+#[tactic(auto, unfolding(crate::specs::Misfits::misfit))]
+fn reason(text: &str, demand: Demand) -> Option<Misfit>
+    ensures { result ≡ misfit demand text.now }
+{
+    if is_blank(text) {
+        return Some(Misfit::Blank);
+    }
+    if !is_closed(text) {
+        return Some(Misfit::Open);
+    }
+    if has_semicolon(text) {
+        return Some(Misfit::Semicolon);
+    }
+    if !is_balanced(text) {
+        return Some(Misfit::Brackets);
+    }
+    match demand {
+        Demand::Fragment | Demand::Operand if has_clause_word(text) => Some(Misfit::ClauseWord),
+        Demand::Operand if !is_operand(text) => Some(Misfit::Joined),
+        _ => None,
+    }
+}
+
+/// Why the text doesn't meet the demand, if it doesn't. It can't fail, takes no memory, and reads the
+/// text once where that fits.
+/// `misfit("a UNION SELECT b", Demand::Fragment)` → `Some(ClauseWord)`
+/// `misfit("a OR 1=1", Demand::Operand)` → `Some(Joined)`
+pub fn misfit(text: &str, demand: Demand) -> Option<Misfit>
+    ensures reason { result ≡ misfit demand text.now }
+    ensures fits { is_none result ≡ meets demand text.now }
+{
+    if meets(text, demand) {
+        None
+    } else {
+        reason(text, demand)
+    }
 }
 
 /// Whether an OR or AND is the first token of the text or follows a token that opens, an OR, AND or

@@ -5,14 +5,14 @@ ghost use Rattle.sql_parts.specs.Error.{FailsOnlyByMemory};
 ghost use Rattle.sql_parts.specs.Name.{alias_text, fits_form, is_plain, name_of, name_parts, name_text, name_token, name_tokens, safe_form, safe_text};
 ghost use Rattle.sql_parts.specs.Name.{safe_tokens};
 ghost use Rattle.sql_parts.specs.Name.{str_token, tokens_in, with_alias, with_part, with_change, written_in};
-ghost use Rattle.sql_parts.specs.Quoting.{baquoted, brquoted, dquoted, quoted};
-ghost use Rattle.sql_parts.specs.Text.{optional_texts, texts};
+ghost use Rattle.sql_parts.specs.Quoting.{baquoted, between, brquoted, dquoted, quoted};
+ghost use Rattle.sql_parts.specs.Text.{join_with, optional_texts, texts};
 ghost use Rattle.sql_parts.specs.Tokens.{closed, tokens};
 
 use crate::error::SqlBuilderError;
 use crate::loan::{Held, release};
 use crate::quoting::push_enclosed;
-use crate::text::{Quotes, ToText, copies, copy};
+use crate::text::{OwnedOperand, Quotes, ToText, copies, copy};
 use std::alloc::{AllocError, Global};
 use std::marker::Model;
 
@@ -249,6 +249,21 @@ impl SqlName {
         ensures memory { FailsOnlyByMemory result }
     {
         self.print(Form::Between(Quotes::Double))
+    }
+
+    /// The parts of the name between these quotes, without the alias: as a type that says that it is an
+    /// operand, whatever the parts are. It fails only if memory runs out.
+    /// `SqlName::new(alloc, "a\"b")?.operand(Quotes::Double)?.text` → `"a""b"`
+    pub fn operand(&self, quotes: Quotes) -> Result<OwnedOperand, SqlBuilderError>
+        ensures text { IfOk result (λ name. string_bytes name.text
+            ≡ join_with (codes ".") (map (between quotes) (name_parts self.now))) }
+        ensures memory { FailsOnlyByMemory result }
+    {
+        let mut text = String::with_capacity(self.alloc, self.room())?;
+        let form = Form::Between(quotes);
+        form.push_part(&mut text, self.first.as_str())?;
+        self.push_rest(&mut text, form)?;
+        Ok(OwnedOperand { text })
     }
 
     fn safe_form(&self) -> Form

@@ -9,6 +9,7 @@ ghost use Rattle.sql_parts.specs.Text.{bool_text, decimal_text, has_byte, number
 
 pub use crate::delimiters::Quotes;
 use crate::error::SqlBuilderError;
+pub use crate::fragment::{Fragment, Operand, OwnedOperand};
 pub use crate::like::LikeEscape;
 use crate::like::push_like_escaped;
 use crate::search::find_byte;

@@ -1,7 +1,7 @@
 -- Tokens that no test of fragments distinguishes from a text between quotes make an operand: those of literals, and of names
 -- between quotes.
 use Rattle.std.proofs.Common.{◌≡◌, ◌<◌, ℕ, suc, zero, ◌+◌, ◌/◌, ◌%◌, Bool, true, false, not, cond, ◌||◌, List, [], ◌∷◌, ◌++◌, Option, Some, None, map, pos}
-use Rattle.std.proofs.Common.{negsuc, ℤ, refl, sym, ap, ◌∙◌, subst, arith, inl, inr, codes, eqb, leb, ne_eqb}
+use Rattle.std.proofs.Common.{negsuc, ℤ, refl, sym, ap, ◌∙◌, subst, arith, inl, inr, codes, eqb, leb, ne_eqb, append-nil}
 use Rattle.std.specs.Prelude.{flat_map, if◌then◌else◌}
 use Rattle.std.specs.Char.{to_ascii_lowercase}
 use Rattle.std.specs.Int.Digits.{AllBelowBase, digits_of}
@@ -15,10 +15,10 @@ use Rattle.sql_parts.specs.Fragments.{as_placed, is_clause_word, is_joining, at_
 use Rattle.sql_parts.specs.Literal.{LiteralValue, null, truth, whole, words, literal_text}
 use Rattle.sql_parts.specs.Name.{Name, alias_tokens, fits_form, is_plain, name_parts, name_text, name_tokens, safe_form, safe_text, tokens_in, word_tokens}
 use Rattle.sql_parts.specs.Name.{written_in}
-use Rattle.sql_parts.specs.Operands.{ServesAsOperand, has_operand_parts, is_bare_operand, is_operand_alias}
+use Rattle.sql_parts.specs.Operands.{ServesAsOperand, has_operand_parts, is_bare_operand, is_fragment, is_operand_alias}
 use Rattle.sql_parts.specs.Quoting.{between}
 use Rattle.sql_parts.specs.Roles.{HasRole}
-use Rattle.sql_parts.specs.Text.{bool_text, decimal_text}
+use Rattle.sql_parts.specs.Text.{bool_text, decimal_text, join_with}
 use Rattle.sql_parts.specs.Tokens.{Token, Word, Str, Symbol, begins_with, closed, is_empty, quoted_token, tokens}
 use Rattle.sql_parts.specs.declared.name.Form.{Form}
 use Rattle.sql_parts.specs.declared.name.Form.TheVariants.{Bare, Between}
@@ -179,6 +179,10 @@ pub bool-serves : (value : Bool) → ServesAsOperand (bool_text value)
 bool-serves true = record { is_operand = refl; is_balanced = refl; is_closed = refl; no_clause_word = refl }
 bool-serves false = record { is_operand = refl; is_balanced = refl; is_closed = refl; no_clause_word = refl }
 
+-- an operand is a fragment
+pub is-fragment : {text : List ℕ} → ServesAsOperand text → is_fragment text ≡ true
+is-fragment operand = and_from _ _ operand.is_balanced operand.no_clause_word
+
 -- ---- names
 
 append-inert : (a b : List Token) → AllInert a → AllInert b → AllInert (a ++ b)
@@ -288,6 +292,12 @@ between-parts quotes name = record { some = refl; inert_parts = parts-between qu
 
 pub quoted-name-serves : (quotes : Quotes) (name : Name) → is_operand_alias name.alias ≡ true → ServesAsOperand (name_text (between quotes) name)
 quoted-name-serves quotes name alias = name-serves (Between quotes) name refl (between-parts quotes name) alias
+
+-- the parts between quotes, without an alias
+pub parts-serve : (quotes : Quotes) (name : Name) → ServesAsOperand (join_with (codes ".") (map (between quotes) (name_parts name)))
+parts-serve quotes name =
+    subst ServesAsOperand (append-nil (join_with (codes ".") (map (between quotes) (name_parts name))))
+    (quoted-name-serves quotes (record { first = name.first; rest = name.rest; alias = None }) refl)
 
 -- a name in its safe form
 bare-parts : (name : Name) → list_all is_plain (name_parts name) ≡ true → list_all is_bare_operand (name_parts name) ≡ true → Parts Bare name

@@ -1,0 +1,143 @@
+-- A text meets what is asked of it exactly where no reason against it holds.
+use Rattle.std.proofs.Common.{◌≡◌, refl, sym, ◌∙◌, ap, ℕ, ◌+◌, Bool, true, false, not, ◌&&◌, ◌||◌, eqb, List, [], ◌∷◌, Option, None, Some, codes, arith}
+use Rattle.std.specs.Prelude.{find, is_none, if◌then◌else◌}
+use Rattle.std.specs.List.{list_all, list_any}
+use Rattle.std.proofs.lemmas.Bool.{and_parts}
+use Rattle.std.proofs.Math.Bool.{and-true, not-not, or-false}
+use Rattle.sql_parts.specs.Fragments.{balanced, brackets_match, has_clause_word, has_top_level, is_balanced, is_clause_word, is_joining, is_whole, is_word}
+use Rattle.sql_parts.specs.Fragments.{lowers, operand, raises, weight}
+use Rattle.sql_parts.specs.Misfits.{holds_of, meets, misfit, reasons}
+use Rattle.sql_parts.specs.Operands.{ServesAsOperand, is_bare_operand, is_fragment}
+use Rattle.sql_parts.specs.Tokens.{Token, begins_with, closed, has_semicolon, is_empty, is_open, is_semicolon, tokens}
+use Rattle.sql_parts.specs.declared.misfits.Demand.{Demand}
+use Rattle.sql_parts.specs.declared.misfits.Demand.TheVariants as demand
+use Rattle.sql_parts.specs.declared.misfits.Misfit.{Misfit}
+use Rattle.sql_parts.proofs.fragments.DepthCountLemmas.{has_top_level-is, top_level_from}
+
+-- each token is whole where none is open and none is a `;`
+pub all_whole : (ts : List Token) → list_all is_whole ts ≡ (not (list_any is_open ts) && not (list_any is_semicolon ts))
+all_whole [] = refl
+all_whole (token ∷ ts) =
+    ap (λ b. is_whole token && b) (all_whole ts) ∙ parted (is_open token) (is_semicolon token) (list_any is_open ts) (list_any is_semicolon ts)
+  where
+    parted : (shut semicolon shuts semicolons : Bool)
+        → ((not shut && not semicolon) && (not shuts && not semicolons)) ≡ (not (shut || shuts) && not (semicolon || semicolons))
+    parted shut semicolon shuts semicolons = grind arith
+
+-- a top-level token that passes one of two tests
+any_of : (one other : Token → Bool) (up down : ℕ) (ts : List Token)
+    → top_level_from (λ token. one token || other token) up down ts ≡ (top_level_from one up down ts || top_level_from other up down ts)
+any_of one other up down [] = refl
+any_of one other up down (token ∷ ts) =
+    let more = up + weight raises token in
+    let less = down + weight lowers token in
+    ap (λ b. ((one token || other token) && eqb up down) || b) (any_of one other more less ts)
+    ∙ parted (one token) (other token) (eqb up down) (top_level_from one more less ts) (top_level_from other more less ts)
+  where
+    parted : (first second even later last : Bool)
+        → (((first || second) && even) || (later || last)) ≡ (((first && even) || later) || ((second && even) || last))
+    parted first second even later last = grind arith
+
+either_top_level : (one other : Token → Bool) (ts : List Token)
+    → has_top_level (λ token. one token || other token) ts ≡ (has_top_level one ts || has_top_level other ts)
+either_top_level one other ts =
+    has_top_level-is (λ token. one token || other token) ts ∙ any_of one other 0 0 ts
+    ∙ (λ i. sym (has_top_level-is one ts) i || sym (has_top_level-is other ts) i)
+
+-- what one reading says of a fragment, and of an operand without a top-level clause keyword
+pub fragment_read : (text : List ℕ)
+    → (is_balanced (tokens text) && not (has_top_level (λ token. is_clause_word token || false) (tokens text)) && not (begins_with (λ token. false) (tokens text)))
+    ≡ is_fragment text
+fragment_read text =
+    (λ i. is_balanced (tokens text) && not (has_top_level (λ token. or-false (is_clause_word token) i) (tokens text)) && not (never-first (tokens text) i))
+    ∙ and-true _
+  where
+    never-first : (ts : List Token) → begins_with (λ token. false) ts ≡ false
+    never-first [] = refl
+    never-first (token ∷ ts) = refl
+
+pub operand_read : (text : List ℕ)
+    → (is_balanced (tokens text) && not (has_top_level (λ token. is_clause_word token || is_joining token) (tokens text))
+    && not (begins_with (is_word (codes "NOT")) (tokens text))) ≡ is_bare_operand text
+operand_read text =
+    ap (λ b. is_balanced (tokens text) && not b && not (begins_with (is_word (codes "NOT")) (tokens text))) (either_top_level is_clause_word is_joining (tokens text))
+    ∙ spread (balanced text) (has_clause_word text) (has_top_level is_joining (tokens text)) (begins_with (is_word (codes "NOT")) (tokens text))
+  where
+    spread : (balance word joins first : Bool) → (balance && not (word || joins) && not first) ≡ ((balance && not joins && not first) && not word)
+    spread balance word joins first = grind arith
+
+-- none is found where none passes
+cond_none : {X : Type 0} (passes : Bool) (x : X) (later : Option X) (none : Bool) → is_none later ≡ none
+    → is_none (if passes then Some x else later) ≡ not (passes || not none)
+cond_none true x later none is = refl
+cond_none false x later true is = is
+cond_none false x later false is = is
+
+none_found : {X : Type 0} (test : X → Bool) (xs : List X) → is_none (find test xs) ≡ not (list_any test xs)
+none_found test [] = refl
+none_found test (x ∷ xs) = cond_none (test x) x (find test xs) (not (list_any test xs)) (none_found test xs) ∙ ap (λ b. not (test x || b)) (not-not (list_any test xs))
+
+-- no reason holds of a text that meets what is asked
+unbroken : (empty shut semicolon match whole : Bool) → whole ≡ (shut && not semicolon)
+    → (more : Bool) → not (empty || (not shut || (semicolon || (not match || more)))) ≡ ((not empty && whole && match) && not more)
+unbroken empty shut semicolon match whole is more =
+    shuffled empty shut semicolon match more ∙ ap (λ b. (not empty && b && match) && not more) (sym is)
+  where
+    shuffled : (empty shut semicolon match more : Bool)
+        → not (empty || (not shut || (semicolon || (not match || more)))) ≡ ((not empty && (shut && not semicolon) && match) && not more)
+    shuffled empty shut semicolon match more = grind arith
+
+pub met : (asked : Demand) (text : List ℕ) → is_none (misfit asked text) ≡ meets asked text
+unfolding misfit
+met asked text = none_found (holds_of text) (reasons asked) ∙ by_demand asked
+  where
+    spread : (more : Bool) → not (is_empty (tokens text) || (not (closed text) || (has_semicolon text || (not (brackets_match (tokens text)) || more))))
+        ≡ (balanced text && not more)
+    spread = unbroken (is_empty (tokens text)) (closed text) (has_semicolon text) (brackets_match (tokens text)) (list_all is_whole (tokens text))
+        (all_whole (tokens text))
+
+    regroup : (balance word joins first : Bool) → (balance && not (word || ((joins || first) || false))) ≡ ((balance && not joins && not first) && not word)
+    regroup balance word joins first = grind arith
+
+    by_demand : (asked : Demand) → not (list_any (holds_of text) (reasons asked)) ≡ meets asked text
+    by_demand demand.Balanced = spread false ∙ and-true (balanced text)
+    by_demand demand.Fragment = spread (has_clause_word text || false) ∙ ap (λ b. balanced text && not b) (or-false (has_clause_word text))
+    by_demand demand.Operand =
+        let joins = has_top_level is_joining (tokens text) in
+        let first = begins_with (is_word (codes "NOT")) (tokens text) in
+        spread (has_clause_word text || ((joins || first) || false)) ∙ regroup (balanced text) (has_clause_word text) joins first
+
+-- what is left where a text has a token, is closed and has no `;`, and isn't balanced
+pub unmatched : (text : List ℕ) → is_empty (tokens text) ≡ false → closed text ≡ true → has_semicolon text ≡ false → balanced text ≡ false
+    → brackets_match (tokens text) ≡ false
+unmatched text some shut plain fails = left (is_empty (tokens text)) (closed text) (has_semicolon text) (brackets_match (tokens text))
+    (list_all is_whole (tokens text)) (all_whole (tokens text)) some shut plain fails
+  where
+    left : (empty shut semicolon match whole : Bool) → whole ≡ (shut && not semicolon)
+        → empty ≡ false → shut ≡ true → semicolon ≡ false → (not empty && whole && match) ≡ false → match ≡ false
+    left empty shut semicolon match whole is some is_shut plain fails = grind arith
+
+-- a text that meets what is asked of it has no misfit
+pub no_misfit : (asked : Demand) (text : List ℕ) → meets asked text ≡ true → misfit asked text ≡ None
+no_misfit asked text is = none_is (misfit asked text) (met asked text ∙ is)
+  where
+    none_is : (given : Option Misfit) → is_none given ≡ true → given ≡ None
+    none_is None none = refl
+    none_is (Some first) none = cc
+
+-- a balanced text is closed and has no `;`
+pub balanced_whole : (text : List ℕ) → balanced text ≡ true → (closed text ≡ true) × (not (has_semicolon text) ≡ true)
+balanced_whole text is =
+    let ts = tokens text in
+    let front = and_parts (not (is_empty ts) && list_all is_whole ts) (brackets_match ts) is in
+    let whole = and_parts (not (is_empty ts)) (list_all is_whole ts) front.0 in
+    and_parts (not (list_any is_open ts)) (not (list_any is_semicolon ts)) (sym (all_whole ts) ∙ whole.1)
+
+-- what is an operand without a top-level clause keyword serves as one
+pub serves : (text : List ℕ) → is_bare_operand text ≡ true → ServesAsOperand text
+serves text is =
+    let ts = tokens text in
+    let both = and_parts (operand text) (not (has_clause_word text)) is in
+    let front = and_parts (balanced text && not (has_top_level is_joining ts)) (not (begins_with (is_word (codes "NOT")) ts)) both.0 in
+    let balance = and_parts (balanced text) (not (has_top_level is_joining ts)) front.0 in
+    record { is_operand = both.0; is_balanced = balance.0; is_closed = (balanced_whole text balance.0).0; no_clause_word = both.1 }

@@ -1,0 +1,145 @@
+//! Texts whose types say that they fit where a statement takes a fragment or an operand.
+ghost use Rattle.std.specs.Prelude.{◌≡◌, is_ok, string_bytes, IfErr, IfOk, IsTrue, Some};
+ghost use Rattle.sql_parts.specs.Misfits.{misfit};
+ghost use Rattle.sql_parts.specs.Operands.{ServesAsOperand, is_bare_operand, is_fragment};
+ghost use Rattle.sql_parts.specs.declared.misfits.Demand.TheVariants as demand;
+
+use crate::error::SqlBuilderError;
+use crate::lex::{Demand, Misfit, misfit};
+use crate::text::ToText;
+use std::alloc::Global;
+use std::borrow::CowStr;
+
+/// A borrowed text that is balanced and has no top-level clause keyword, as that of a table. That a
+/// constant is one is proved where it is written, and costs nothing when the program runs.
+/// `Fragment::of("books AS b").text` → `books AS b`
+#[derive(Clone, Copy)]
+pub struct Fragment<'a> {
+    /// The text.
+    pub text: &'a str,
+    pub ghost fits: { IsTrue (is_fragment text.now) },
+}
+
+/// A borrowed text that is an operand without a top-level clause keyword: a field, or a value. That a
+/// constant is one is proved where it is written, and costs nothing when the program runs.
+/// `Operand::of("price").text` → `price`
+#[derive(Clone, Copy)]
+pub struct Operand<'a> {
+    /// The text.
+    pub text: &'a str,
+    pub ghost fits: { ServesAsOperand text.now },
+}
+
+/// A text of its own that is an operand without a top-level clause keyword: a name between quotes, or
+/// a query in brackets.
+#[derive(Drop)]
+pub struct OwnedOperand {
+    /// The text.
+    pub text: String,
+    pub ghost fits: { ServesAsOperand (string_bytes text) },
+}
+
+impl<'a> Fragment<'a> {
+    /// The fragment of this text, which fits. It can't fail.
+    /// `Fragment::of("books AS b").text` → `books AS b`
+    pub fn of(text: &'a str) -> Fragment<'a>
+        requires fits { IsTrue (is_fragment text.now) }
+        ensures { result.text ≡ text.entry }
+    {
+        Fragment { text }
+    }
+
+    /// The text as a fragment, or why it is none. It takes no memory, and reads a text that fits once.
+    /// `Fragment::new("a UNION SELECT b")` fails with `Misfit::ClauseWord`
+    pub fn new(text: &'a str) -> Result<Fragment<'a>, Misfit>
+        ensures fits { is_ok result ≡ is_fragment text.entry.now }
+        ensures text { IfOk result (λ fragment. fragment.text ≡ text.entry) }
+        ensures misfit { IfErr result (λ reason. misfit demand.Fragment text.entry.now ≡ Some reason) }
+    {
+        match misfit(text, Demand::Fragment) {
+            None => Ok(Fragment { text }),
+            Some(reason) => Err(reason),
+        }
+    }
+}
+
+impl<'a> Operand<'a> {
+    /// The operand of this text, which fits. It can't fail.
+    /// `Operand::of("price").text` → `price`
+    pub fn of(text: &'a str) -> Operand<'a>
+        requires fits { ServesAsOperand text.now }
+        ensures { result.text ≡ text.entry }
+    {
+        Operand { text }
+    }
+
+    /// The text as an operand without a top-level clause keyword, or why it is none. It takes no
+    /// memory, and reads a text that fits once.
+    /// `Operand::new("a OR 1=1")` fails with `Misfit::Joined`
+    pub fn new(text: &'a str) -> Result<Operand<'a>, Misfit>
+        ensures fits { is_ok result ≡ is_bare_operand text.entry.now }
+        ensures text { IfOk result (λ operand. operand.text ≡ text.entry) }
+        ensures misfit { IfErr result (λ reason. misfit demand.Operand text.entry.now ≡ Some reason) }
+    {
+        match misfit(text, Demand::Operand) {
+            None => Ok(Operand { text }),
+            Some(reason) => Err(reason),
+        }
+    }
+
+    /// An operand is a fragment. It can't fail.
+    /// `Operand::of("books").as_fragment().text` → `books`
+    pub fn as_fragment(self) -> Fragment<'a>
+        ensures { result.text ≡ self.entry.text }
+    {
+        Fragment { text: self.text }
+    }
+}
+
+impl OwnedOperand {
+    /// The same operand, borrowed. It can't fail.
+    /// `SqlName::new(alloc, "a")?.operand(Quotes::Double)?.as_operand().text` → `"a"`
+    pub fn as_operand(&self) -> Operand<'_>
+        ensures { result.text.now ≡ string_bytes self.now.text }
+    {
+        Operand {
+            text: self.text.as_str(),
+        }
+    }
+}
+
+impl ToText for Fragment<'_> {
+    ghost text = { λ fragment. fragment.text.now };
+
+    fn to_text(&self, alloc: Global) -> Result<String, SqlBuilderError> {
+        self.text.to_text(alloc)
+    }
+
+    fn as_text(&self, _alloc: Global) -> Result<CowStr<'_>, SqlBuilderError> {
+        Ok(CowStr::Borrowed(self.text))
+    }
+}
+
+impl ToText for Operand<'_> {
+    ghost text = { λ operand. operand.text.now };
+
+    fn to_text(&self, alloc: Global) -> Result<String, SqlBuilderError> {
+        self.text.to_text(alloc)
+    }
+
+    fn as_text(&self, _alloc: Global) -> Result<CowStr<'_>, SqlBuilderError> {
+        Ok(CowStr::Borrowed(self.text))
+    }
+}
+
+impl ToText for OwnedOperand {
+    ghost text = { λ operand. string_bytes operand.text };
+
+    fn to_text(&self, alloc: Global) -> Result<String, SqlBuilderError> {
+        self.text.to_text(alloc)
+    }
+
+    fn as_text(&self, _alloc: Global) -> Result<CowStr<'_>, SqlBuilderError> {
+        Ok(CowStr::Borrowed(self.text.as_str()))
+    }
+}
