@@ -16,6 +16,7 @@ class Workload:
     crate: ClassVar = None
     limit: ClassVar = None
     memory: ClassVar = 1.0
+    growth: ClassVar = 10.5
 
     def is_right(self, _printed):
         return True
@@ -97,15 +98,27 @@ class Calls(Workload):
 
 
 @dataclass
-class Tests(Calls):
-    """Tests of fragments, which the crate doesn't have: what is aimed at is the greatest number of instructions for a byte.
-    Each goes through the whole text: those whose names begin with `has_` answer false there, the others true."""
+class Sorted(Calls):
+    """Turns of a step that sorts what it reads, so ten times of it are a little more than ten times the instructions."""
+
+    growth: ClassVar = 14
+
+
+@dataclass
+class Own(Calls):
+    """Steps that the crate doesn't have: what is aimed at is the greatest number of instructions for a byte."""
 
     crate: ClassVar = None
     unit: ClassVar = "byte"
 
     def units(self, turns, text):
         return turns * len(text)
+
+
+@dataclass
+class Tests(Own):
+    """Tests of fragments. Each goes through the whole text: those whose names begin with `has_` answer false there, the others
+    true."""
 
     def is_right(self, printed):
         return int(printed.readline()) == (0 if self.step.startswith("has_") else self.count)
@@ -177,6 +190,14 @@ def numbered(count, name, placeholder):
 
 
 NAMES = numbered(1_000, "n{}", "")
+# Names that begin with these bytes and have seven digits behind them collide in std's `HashMap`, whose seed is fixed.
+COLLIDING = "sltgzdusqyrawqsbxl4ePHbk0"
+
+
+def colons(name, text):
+    """A line with a name of so many colons and a letter, and as many colons again and again."""
+    return lambda times: f"{':' * name}x\n{':' * text * times}"
+
 
 CALLS = [
     Calls("a SELECT with a join and three conditions", "select", 100_000, 0.33),
@@ -205,15 +226,37 @@ CALLS = [
     ),
     Calls("`bind_nums` of 100,000 arguments", "bind_nums", 50, 0.9, numbered(100_000, "n{}", "${}")),
     Calls("`bind_names` of a map of 1,000 names", "bind_names", 50, 0.9, numbered(1_000, "n{}", ":n{}:")),
-    Calls("`bind_names` of 1,000 pairs", "bind_pairs", 50, 0.9, numbered(1_000, "n{}", ":n{}:")),
-    Calls("`bind_names` of 1,000 pairs, one placeholder", "bind_pairs", 500, 0.9, lambda times: f"{NAMES(times)}:n0000001:"),
+    Sorted("`bind_names` of 1,000 pairs", "bind_pairs", 50, 0.9, numbered(1_000, "n{}", ":n{}:")),
+    Sorted("`bind_names` of 1,000 pairs, one placeholder", "bind_pairs", 500, 0.9, lambda times: f"{NAMES(times)}:n0000001:"),
+    Sorted("`bind_names` of 1,000 pairs that collide", "bind_pairs", 50, 0.9, numbered(1_000, f"{COLLIDING}{{}}", f":{COLLIDING}{{}}:")),
+    *(
+        Calls(f"`bind_name` of {count:,} colons in 100,000 colons", "bind_only", 50, 0.9, colons(count, 100_000))
+        for count in (10, 100, 1_000)
+    ),
+    Calls("`sql_arg` of an i128 above 64 bits", "arg_wide", 200_000, 1.0),
+    Calls("`sql_arg` of a small i128", "arg_narrow", 200_000, 1.0),
+    Calls("`sql_arg` of an u64", "arg_u64", 200_000, 1.0),
+    Calls("`sql_arg` of a `Some(u64)`", "arg_some", 200_000, 1.0),
+    Calls("`sql_arg` of a `Literal::Whole`", "arg_whole", 200_000, 1.0),
+    Calls("`sql_arg` of a bool", "arg_bool", 200_000, 1.0),
+    *(Calls(f"IN of 1,000 {of}", f"in_{of}", 500, 1.0, repeated("x" * 1_000)) for of in ("u8", "u32", "i64", "i128")),
     Calls("`clone` of a SELECT of 6,000 items", "clone", 500, 0.9, repeated("x" * 1_000)),
 ]
 
 CONDITION = "(price > 100 AND title LIKE 'it''s%') OR CASE WHEN a THEN b ELSE c END = 3 AND cost BETWEEN 1 AND 2 OR "
 TESTS = {"is_closed": 20, "has_semicolon": 20, "is_balanced": 30, "has_clause_word": 30, "is_operand": 30, "has_dangling": 30}
 
-FRAGMENTS = [
+KINDS = {"symbols": "+=<>,|&^", "brackets": "(((())))", "quotes": "'it''s'\"a\""}
+
+OWN = [
     *(Tests(f"`{test}`", test, 5_000, aim, repeated(f"({CONDITION * 40}a = b)")) for test, aim in TESTS.items()),
     Tests("`stands_apart`", "stands_apart", 5_000, 30, repeated(filled(TEMPLATES["binds"] + PLAIN, "a = b"))),
+    *(
+        Tests(f"`{test}` on {kind}", test, 5_000, aim, repeated(text * 500))
+        for test, aim in (("is_closed", 40), ("is_operand", 60))
+        for kind, text in KINDS.items()
+    ),
+    Tests("`has_backslash`", "has_backslash", 5_000, 1, repeated("x" * 4096)),
+    Own("`escape_like`", "escape_like", 5_000, 3, repeated("x" * 4096)),
+    Own("`escape_like` of wildcards", "escape_like", 5_000, 10, repeated("100%_" * 800)),
 ]

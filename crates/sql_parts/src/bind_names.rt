@@ -2,6 +2,7 @@
 ghost use Rattle.std.specs.Prelude.{◌≡◌, ◌<◌, ◌++◌, ℕ, List, Option, IfOk, OnOk, length, option_copied, option_map, string_bytes, unwrap_or, ⊤};
 ghost use Rattle.std.specs.Borrow.{Bor};
 ghost use Rattle.std.specs.HashMap.{get_by};
+ghost use Rattle.std.specs.Map.{lookup};
 ghost use Rattle.std.specs.Str.{bytes_eq};
 ghost use Rattle.sql_parts.specs.Error.{FailsOnlyByMemory};
 ghost use Rattle.sql_parts.specs.Literal.{LiteralValue, literal_text, null};
@@ -10,9 +11,11 @@ ghost use Rattle.sql_parts.specs.Pairs.{ArePlaces, last_value};
 use crate::arg::SqlArg;
 use crate::error::SqlBuilderError;
 use std::alloc::Global;
-use std::collections::HashMap;
+use std::collections::{BTreeMap, HashMap};
 
 /// What binds names to literals: a map, or pairs of which the last one with a name counts.
+/// Pairs are found in n log n, whatever their names are. The time of a map is the map's own: that of
+/// std has a fixed seed, so in one that has names from users they can collide, and pairs are safer.
 pub trait BindNames {
     /// The literal of each name that has one.
     ghost literals: { Self → List ℕ → Option LiteralValue };
@@ -32,12 +35,12 @@ pub trait BindNames {
     /// where the names are found as fast without. It fails only if memory runs out.
     /// `{ let mut names: Vec<(&str, Box<dyn SqlArg>)> = Vec::new(alloc); names.push(("a", Box::new(alloc, 1)?))?; names }.places(alloc)?.len()` →
     /// `0`
-    fn places(&self, alloc: Global) -> Result<HashMap<&str, usize>, SqlBuilderError>
+    fn places(&self, alloc: Global) -> Result<BTreeMap<&str, usize>, SqlBuilderError>
         ensures places { IfOk result (λ places. 0 < length places.entries
             → are_places self.now places.entries) }
         ensures memory { FailsOnlyByMemory result }
     {
-        Ok(HashMap::new(alloc))
+        Ok(BTreeMap::new(alloc))
     }
 
     /// Appends the literal of the name, or NULL where it has none. The places are those that
@@ -50,7 +53,7 @@ pub trait BindNames {
     fn push_named(
         &self,
         alloc: Global,
-        places: &HashMap<&str, usize>,
+        places: &BTreeMap<&str, usize>,
         name: &str,
         out: &mut String,
     ) -> Result<(), SqlBuilderError>
@@ -114,25 +117,32 @@ fn last_value<'a, V>(pairs: &'a [(&str, V)], name: &str) -> Option<&'a V>
 fn places_of<'a, V>(
     alloc: Global,
     pairs: &'a [(&'a str, V)],
-) -> Result<HashMap<&'a str, usize>, SqlBuilderError>
+) -> Result<BTreeMap<&'a str, usize>, SqlBuilderError>
     ensures places { IfOk result (λ places. 0 < length places.entries
         → ArePlaces pairs.now places.entries) }
     ensures memory { FailsOnlyByMemory result }
 {
     if pairs.len() < LONG {
-        return Ok(HashMap::new(alloc));
+        return Ok(BTreeMap::new(alloc));
     }
-    let mut places = HashMap::with_capacity(alloc, pairs.len())?;
+    let mut places = BTreeMap::new(alloc);
     for (place, (name, _)) in pairs.iter().enumerate() {
         let _ = places.insert(*name, place)?;
     }
     Ok(places)
 }
 
+// The place of the name.
+fn place_of(places: &BTreeMap<&str, usize>, name: &str) -> Option<usize>
+    ensures { result ≡ lookup (λ key. bytes_eq name.now key.now) places.now.entries }
+{
+    places.get(name).copied()
+}
+
 // The value of the last pair with the name, by their places.
 fn value_by<'a, V>(
     pairs: &'a [(&str, V)],
-    places: &HashMap<&str, usize>,
+    places: &BTreeMap<&str, usize>,
     name: &str,
 ) -> Option<&'a V>
     requires places { 0 < length places.now.entries → ArePlaces pairs.now places.now.entries }
@@ -141,8 +151,8 @@ fn value_by<'a, V>(
     if places.is_empty() {
         return last_value(pairs, name);
     }
-    let place = places.get(name)?;
-    let (_, value) = pairs.get(*place)?;
+    let place = place_of(places, name)?;
+    let (_, value) = pairs.get(place)?;
     Some(value)
 }
 
@@ -165,7 +175,7 @@ impl BindNames for HashMap<&str, Box<dyn SqlArg>> {
     fn push_named(
         &self,
         alloc: Global,
-        _places: &HashMap<&str, usize>,
+        _places: &BTreeMap<&str, usize>,
         name: &str,
         out: &mut String,
     ) -> Result<(), SqlBuilderError> {
@@ -183,14 +193,14 @@ impl BindNames for Vec<(&str, Box<dyn SqlArg>)> {
         found_text(alloc, last_value(self.as_slice(), name))
     }
 
-    fn places(&self, alloc: Global) -> Result<HashMap<&str, usize>, SqlBuilderError> {
+    fn places(&self, alloc: Global) -> Result<BTreeMap<&str, usize>, SqlBuilderError> {
         places_of(alloc, self.as_slice())
     }
 
     fn push_named(
         &self,
         alloc: Global,
-        places: &HashMap<&str, usize>,
+        places: &BTreeMap<&str, usize>,
         name: &str,
         out: &mut String,
     ) -> Result<(), SqlBuilderError> {
@@ -208,14 +218,14 @@ impl BindNames for &[(&str, Box<dyn SqlArg>)] {
         found_text(alloc, last_value(whole(self), name))
     }
 
-    fn places(&self, alloc: Global) -> Result<HashMap<&str, usize>, SqlBuilderError> {
+    fn places(&self, alloc: Global) -> Result<BTreeMap<&str, usize>, SqlBuilderError> {
         places_of(alloc, whole(self))
     }
 
     fn push_named(
         &self,
         alloc: Global,
-        places: &HashMap<&str, usize>,
+        places: &BTreeMap<&str, usize>,
         name: &str,
         out: &mut String,
     ) -> Result<(), SqlBuilderError> {
@@ -232,14 +242,14 @@ impl<N: BindNames> BindNames for &N {
         (**self).look_up(alloc, name)
     }
 
-    fn places(&self, alloc: Global) -> Result<HashMap<&str, usize>, SqlBuilderError> {
+    fn places(&self, alloc: Global) -> Result<BTreeMap<&str, usize>, SqlBuilderError> {
         (**self).places(alloc)
     }
 
     fn push_named(
         &self,
         alloc: Global,
-        places: &HashMap<&str, usize>,
+        places: &BTreeMap<&str, usize>,
         name: &str,
         out: &mut String,
     ) -> Result<(), SqlBuilderError> {

@@ -116,8 +116,28 @@ fn begins_at(bytes: &[u8], place: usize, sought: &[u8]) -> bool
     sought.len() <= 2 || bytes[place..].starts_with(sought)
 }
 
+// Whether the places that failed took more than eight bytes for each one that was passed, but for
+// the first hundreds, if at each of them all bytes were compared.
+#[inline(always)]
+fn wastes_time(compared: usize, passed: usize) -> bool {
+    compared / 8 > passed.saturating_add(128)
+}
+
+// The text before the first place of another one, and the text behind it, in a time that grows with
+// the text alone.
+#[cold]
+fn split_linearly<'t>(text: &'t str, sought: &str) -> Option<(&'t str, &'t str)>
+    requires { 0 < length sought.now }
+    ensures { MatchOption result ((k : ℕ) → LacksTextAt sought.now text.now k)
+        (λ parts. (text.now ≡ parts.0.now ++ (sought.now ++ parts.1.now))
+        × ((k : ℕ) → k < length parts.0.now → LacksTextAt sought.now text.now k)) }
+{
+    text.split_once(sought)
+}
+
 /// The text before the first place of another one, and the text behind it. It is `split_once`, made
-/// for texts that are short, and for one that is there often: its first bytes are read once.
+/// for texts that are short, and for one that is there often: its first bytes are read once. Where
+/// they are at many places that fail, `split_once` itself goes on.
 #[inline(always)]
 pub(crate) fn split_at_first<'t>(
     text: &'t str,
@@ -131,13 +151,18 @@ pub(crate) fn split_at_first<'t>(
         × ((k : ℕ) → k < length parts.0.now → LacksTextAt sought.now text.now k)) }
 {
     let bytes = text.as_bytes();
-    let sought = sought.as_bytes();
+    let needle = sought.as_bytes();
     let mut at = 0;
+    let mut compared = 0_usize;
     while let Some(place) = next_place(bytes, at, front) {
-        if begins_at(bytes, place, sought) {
-            return Some((&text[..place], &text[place + sought.len()..]));
+        if begins_at(bytes, place, needle) {
+            return Some((&text[..place], &text[place + needle.len()..]));
         }
         at = place + 1;
+        compared = compared.saturating_add(needle.len());
+        if wastes_time(compared, at) {
+            return split_linearly(text, sought);
+        }
     }
     None
 }

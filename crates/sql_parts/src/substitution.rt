@@ -12,7 +12,7 @@ use crate::error::SqlBuilderError;
 use crate::placeholders::{Marks, Place, Value, first_place, prefix};
 use crate::search::Front;
 use std::alloc::{AllocError, Global};
-use std::collections::HashMap;
+use std::collections::BTreeMap;
 
 /// The literals of the values of a template.
 pub(crate) trait Literals: Drop {
@@ -114,7 +114,7 @@ impl Literals for &[Box<dyn SqlArg>] {
 #[derive(Drop)]
 pub(crate) struct LookedUp<'a, N> {
     pub(crate) names: N,
-    pub(crate) places: HashMap<&'a str, usize>,
+    pub(crate) places: BTreeMap<&'a str, usize>,
 }
 
 impl<N: BindNames + Drop> Literals for LookedUp<'_, N> {
@@ -136,21 +136,28 @@ impl<N: BindNames + Drop> Literals for LookedUp<'_, N> {
     }
 }
 
-/// Below so many bytes a template has few names, and finds them faster than their places are stored.
+/// A template of so few bytes, or with so few colons, has few names, and finds them faster than their
+/// places are stored.
 const SHORT: usize = 64;
+
+const FEW: usize = 32;
+
+fn has_few_names(template: &str) -> bool {
+    template.len() < SHORT || template.bytes().filter(|byte| *byte == b':').count() < FEW
+}
 
 /// The places of the names, or none. It fails only if memory runs out.
 pub(crate) fn places_for<'a, N: BindNames>(
     alloc: Global,
     template: &str,
     names: &'a N,
-) -> Result<HashMap<&'a str, usize>, SqlBuilderError>
+) -> Result<BTreeMap<&'a str, usize>, SqlBuilderError>
     ensures places { IfOk result (λ places. 0 < length places.entries
         → N.are_places names.now places.entries) }
     ensures memory { FailsOnlyByMemory result }
 {
-    if template.len() < SHORT {
-        return Ok(HashMap::new(alloc));
+    if has_few_names(template) {
+        return Ok(BTreeMap::new(alloc));
     }
     names.places(alloc)
 }

@@ -1,6 +1,6 @@
 //! Does one workload of the crate so many times: `library WORKLOAD TURNS`, with its text on standard input. Prints how many
 //! bytes all turns made, and what the last one made. Of a call that binds several values the first line has a name for each,
-//! and of `clone` and `insert` the text is as long as the builder has items.
+//! of `bind_only` it is the name, and of `clone`, `insert` and IN the text is as long as the builder or the list has items.
 use sql_builder::prelude::*;
 use sql_builder::{baname, baquote, brname, brquote, dname, dquote, esc, name, qname};
 use std::collections::HashMap;
@@ -9,7 +9,7 @@ use std::{env, io};
 /// What a turn makes of the text and its number.
 type Step = fn(&str, u64) -> String;
 
-const STEPS: [(&str, Step); 17] = [
+const STEPS: [(&str, Step); 23] = [
     ("select", select),
     ("update", update),
     ("insert", insert),
@@ -29,6 +29,13 @@ const STEPS: [(&str, Step); 17] = [
     }),
     ("bind_num", |text, _| text.bind_num(1, &"it's")),
     ("bind_name", |text, _| text.bind_name(&"title", &"it's")),
+    ("arg_wide", |_, turn| (i128::MAX - i128::from(turn)).sql_arg()),
+    ("arg_narrow", |_, turn| i128::from(turn).sql_arg()),
+    ("arg_u64", |_, turn| turn.sql_arg()),
+    ("arg_some", |_, turn| Some(turn).sql_arg()),
+    // the crate has no type of literals
+    ("arg_whole", |_, turn| i128::from(turn).sql_arg()),
+    ("arg_bool", |_, turn| (turn % 2 == 0).sql_arg()),
 ];
 
 fn select(_: &str, turn: u64) -> String {
@@ -124,8 +131,20 @@ fn repeat_binding(call: &str, text: &str, turns: u64) -> (usize, String) {
             let list: Vec<_> = pairs.collect();
             repeat(turns, |_| template.bind_names(&list))
         }
+        "bind_only" => repeat(turns, |_| template.bind_name(&names, &"it's")),
         _ => panic!("not a workload: {call}"),
     }
+}
+
+/// The same of IN of as many numbers, which are made once.
+fn repeat_in<T: ToString>(turns: u64, numbers: impl Iterator<Item = T>) -> (usize, String) {
+    let numbers: Vec<T> = numbers.collect();
+    repeat(turns, |_| {
+        SqlBuilder::select_from("books")
+            .and_where_in("price", &numbers)
+            .sql()
+            .expect("a statement")
+    })
 }
 
 fn repeat_clone(items: usize, turns: u64) -> (usize, String) {
@@ -139,6 +158,14 @@ fn repeat_clone(items: usize, turns: u64) -> (usize, String) {
 fn work(name: &str, text: &str, turns: u64) -> (usize, String) {
     if name == "clone" {
         return repeat_clone(text.len(), turns);
+    }
+    let count = text.len() as u64;
+    match name {
+        "in_u8" => return repeat_in(turns, (0..count).map(|number| (number % 256) as u8)),
+        "in_u32" => return repeat_in(turns, (0..count).map(|number| (number % 1_000_000) as u32)),
+        "in_i64" => return repeat_in(turns, (0..count).map(|number| i64::MIN + (number % 1_000_000) as i64)),
+        "in_i128" => return repeat_in(turns, (0..count).map(|number| i128::MAX - i128::from(number))),
+        _ => {}
     }
     match STEPS.iter().find(|(known, _)| *known == name) {
         Some((_, step)) => repeat(turns, |turn| step(text, turn)),

@@ -1,13 +1,14 @@
 -- Where a text is cut at the first place of another one.
-use Rattle.std.proofs.Common.{◌≡◌, ℕ, ◌+◌, ◌<◌, ◌≤◌, false, List, [], ◌∷◌, ◌++◌, length, get_or, take, drop, refl, sym, ap, ap₂, ◌∙◌, subst, arith}
+use Rattle.std.proofs.Common.{◌≡◌, ℕ, ◌+◌, ◌<◌, ◌≤◌, false, List, [], ◌∷◌, ◌++◌, length, get_or, take, drop, refl, sym, ap, ap₂, ◌∙◌, subst, arith, inl, inr}
 use Rattle.std.proofs.Common.{append_assoc, length-append, length-drop}
-use Rattle.std.specs.Prelude.{◌&&◌, nat_eq}
+use Rattle.std.specs.Prelude.{◌&&◌, MatchOption, None, Option, Some, nat_eq}
+use Rattle.std.specs.Borrow.{Bor}
 use Rattle.std.specs.List.{starts_with}
 use Rattle.std.specs.Str.{IsCharBoundary, IsUtf8}
-use Rattle.std.specs.Str.Pattern.{LacksTextAt}
+use Rattle.std.specs.Str.Pattern.{FindsText, LacksTextAt, SplitsAroundMatch}
 use Rattle.std.proofs.Math.ListN.{get_or-append}
 use Rattle.std.proofs.Math.Seq.{drop-append_seam}
-use Rattle.std.proofs.lemmas.Bool.{eq-eqb, false≢true}
+use Rattle.std.proofs.lemmas.Bool.{cases_lt, eq-eqb, false≢true}
 use Rattle.std.proofs.lemmas.List.{drop-drop, get_or-drop, take-append-drop}
 use Rattle.std.proofs.lemmas.Str.{IsCharBoundary-from_drop, IsCharBoundary-start, IsUtf8-drop, IsUtf8-past_char}
 use lib.Utf8.{encode, encodes}
@@ -66,3 +67,17 @@ split-at sought text k is = sym (take-append-drop k text) ∙ ap (λ l. take k t
 -- where it doesn't begin what follows, a text lacks
 pub lacks-here : (sought text : List ℕ) (k : ℕ) → starts_with nat_eq (drop k text) sought ≡ false → LacksTextAt sought text k
 lacks-here sought text k differs rest is = false≢true (sym differs ∙ starts_with-yes (drop k text) sought rest is)
+
+-- where std cuts a text
+pub split-first : (sought text : List ℕ) (parts : Option (Bor (List ℕ) × Bor (List ℕ))) → 0 < length sought
+    → MatchOption parts (FindsText sought text None) (λ p. SplitsAroundMatch (FindsText sought) text p.0.now p.1.now)
+    → MatchOption parts ((k : ℕ) → LacksTextAt sought text k)
+    (λ p. (text ≡ p.0.now ++ (sought ++ p.1.now)) × ((k : ℕ) → k < length p.0.now → LacksTextAt sought text k))
+split-first sought text None some none = λ k. elim (cases_lt k (length text + 1)) [
+  | inl within ↦ none k (omega arith)
+  | inr past ↦ lacks-by-room sought text k some (omega arith)
+]
+split-first sought text (Some parts) some cut = (
+  sym (take-append-drop cut.0 text) ∙ (λ i. take cut.0 text ++ cut.2.1.split i) ∙ (λ i. sym cut.3 i ++ (sought ++ sym cut.4 i)),
+  λ k below. cut.2.0 k (omega (arith, cut.6)),
+)

@@ -3,12 +3,17 @@ use Rattle.std.proofs.Common.{◌≡◌, ℕ, ◌+◌, ◌<◌, List, [], ◌∷
 use Rattle.std.proofs.Common.{inr}
 use Rattle.std.specs.Prelude.{if◌then◌else◌}
 use Rattle.std.specs.Borrow.{Bor}
+use Rattle.std.specs.BTreeMap.{is_at}
+use Rattle.std.specs.Cmp.Lexicographic.{slice_cmp}
+use Rattle.std.specs.Map.{lookup}
+use Rattle.std.specs.Ordering.{nat_cmp}
 use Rattle.std.specs.Str.{bytes_eq}
 use Rattle.std.proofs.lemmas.Bool.{cases_Bool, false≢true}
 use Rattle.std.proofs.lemmas.List.{reverse-append, take_more}
+use Rattle.std.proofs.lemmas.Map.Text.{is_eq-slice_cmp}
 use Rattle.std.proofs.lemmas.Option.{slice_get_read}
 use Rattle.std.proofs.lemmas.Slice.Eq.{bytes_eq-Decides}
-use Rattle.sql_parts.specs.Pairs.{last_value, value_at}
+use Rattle.sql_parts.specs.Pairs.{ArePlaces, last_value, value_at}
 
 value-chosen : {K V : Type 0} (test : Bool) (pair : K × V) (rest : Option (K × V))
     → option_map (λ p. p.1) (if test then Some pair else rest) ≡ (if test then Some pair.1 else option_map (λ p. p.1) rest)
@@ -48,3 +53,14 @@ places-more pairs place pair name before after inside is put kept =
           ap (value_at pairs) (chosen ∙ ap (λ test. if test then Some place else before) other) ∙ kept
           ∙ sym (last ∙ ap (λ test. if test then Some pair.1 else last_value name (take place pairs)) other)
     ]
+
+-- a map by order finds what a search for the same bytes finds
+pub found-by-order : {X : Type 0} (name : List ℕ) (entries : List (Bor (List ℕ) × X))
+    → lookup (is_at (λ key. slice_cmp nat_cmp name key.now)) entries ≡ lookup (λ key. bytes_eq name key.now) entries
+found-by-order name entries = λ i. lookup (λ key. is_eq-slice_cmp name key.now i) entries
+
+-- places by order are places
+pub are-places : {V : Type 0} (pairs : List (Bor (List ℕ) × V)) (places : List (Bor (List ℕ) × ℕ))
+    → ((name : List ℕ) → value_at pairs (lookup (is_at (λ key. slice_cmp nat_cmp name key.now)) places) ≡ last_value name pairs)
+    → ArePlaces pairs places
+are-places pairs places are = λ name. ap (value_at pairs) (sym (found-by-order name places)) ∙ are name

@@ -5,10 +5,10 @@ use Rattle.sql_parts.proofs.search.split_at_first.Given as goal
 
 abbrev pub invariant-loop-place : goal.invariant-loop-place
 invariant-loop-place l = record {
-  some : 0 < length l.sought;
-  front : l.front ≡ front_of l.sought;
+  some : 0 < length l.needle;
+  front : l.front ≡ front_of l.needle;
   within : l.at ≤ length l.bytes;
-  before : (k : ℕ) → k < l.at → LacksTextAt l.sought l.bytes k;
+  before : (k : ℕ) → k < l.at → LacksTextAt l.needle l.bytes k;
 }
 
 abbrev pub decreases-loop-place : goal.decreases-loop-place
