@@ -104,26 +104,25 @@ impl<'a> Arguments<'a> {
     }
 
     /// The one part, if there are no others.
+    #[inline(always)]
     pub(crate) fn one(&mut self) -> Result<&'a str, Reason>
         ensures one { Checks (λ part. part.now) result (one_of self.old.parts) }
         ensures taken { OnOk result (IsTaken self.old self.new) }
     {
-        match (self.next(), self.next()) {
-            (Some(part), None) => Ok(part),
-            _ => Err(Reason::WrongArguments),
-        }
+        let part = self.first()?;
+        self.none()?;
+        Ok(part)
     }
 
     /// The two parts, if there are no others.
+    #[inline(always)]
     pub(crate) fn two(&mut self) -> Result<(&'a str, &'a str), Reason>
         ensures two { Checks (λ parts. (parts.0.now, parts.1.now)) result
             (two_of self.old.parts) }
         ensures taken { OnOk result (IsTaken self.old self.new) }
     {
-        match (self.next(), self.next(), self.next()) {
-            (Some(first), Some(second), None) => Ok((first, second)),
-            _ => Err(Reason::WrongArguments),
-        }
+        let first = self.first()?;
+        Ok((first, self.one()?))
     }
 
     /// The three parts, if there are no others.
@@ -132,10 +131,9 @@ impl<'a> Arguments<'a> {
             (three_of self.old.parts) }
         ensures taken { OnOk result (IsTaken self.old self.new) }
     {
-        match (self.next(), self.next(), self.next(), self.next()) {
-            (Some(first), Some(second), Some(third), None) => Ok((first, second, third)),
-            _ => Err(Reason::WrongArguments),
-        }
+        let first = self.first()?;
+        let (second, third) = self.two()?;
+        Ok((first, second, third))
     }
 
     /// The parts that are left, all of which are taken.

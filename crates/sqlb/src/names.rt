@@ -177,24 +177,10 @@ impl Ending {
         })
     }
 
-    /// The condition that the arguments make. Fails where they don't fit.
+    /// The condition that the arguments make. Fails where they don't fit. It is a part of its caller,
+    /// where it is made in place.
+    #[inline(always)]
     pub(crate) fn condition<'a>(
-        self,
-        arguments: &mut Arguments<'a>,
-    ) -> Result<BorrowedCondition<'a, Arguments<'a>>, Reason>
-        ensures condition { Checks (borrowed_view (λ left. left.parts)) result
-            (ok_or (condition_of self arguments.old.parts) WrongArguments) }
-        ensures taken { OnOk result (IsTaken arguments.old arguments.new) }
-    {
-        match self {
-            Ending::Raw => Ok(BorrowedCondition::Raw(arguments.one()?)),
-            _ => self.condition_of_field(arguments),
-        }
-    }
-
-    // The same of a condition on a field. A function of its own has less to clear on each line.
-    #[inline(never)]
-    fn condition_of_field<'a>(
         self,
         arguments: &mut Arguments<'a>,
     ) -> Result<BorrowedCondition<'a, Arguments<'a>>, Reason>
