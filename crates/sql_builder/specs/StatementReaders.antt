@@ -1,14 +1,17 @@
 -- What any reader makes of a statement, whatever texts its calls quote.
-use Rattle.std.specs.Prelude.{◌≡◌, ℕ, Bool, IfOk, IsTrue, List, [], ◌∷◌, Result, Ok, Err, flat_map, length}
+use Rattle.std.specs.Prelude.{◌≡◌, ℕ, Bool, IfOk, IsTrue, List, [], ◌∷◌, Result, Ok, Err, flat_map, length, map, true}
 use Rattle.std.specs.List.{list_all}
 use Rattle.std.specs.Result.{result_map_both}
-use Rattle.sql_parts.specs.Readers.{Part, Constant, Reader, IsInsideAtEach, between_parts, has_plain_text, marks, outer_states}
+use Rattle.sql_parts.specs.Readers.{Part, Constant, Reader, IsInsideAtEach, between_parts, emptied, has_plain_text, marks, outer_states, parts_bytes}
+use Rattle.sql_parts.specs.TokenReader.{token_reader}
 use Rattle.sql_parts.specs.declared.delimiters.Quotes.TheVariants.{Single}
 use Rattle.sql_parts.specs.declared.error.SqlBuilderError.{SqlBuilderError}
 use Rattle.sql_builder.specs.Calls.{CallText, FinishText, StartText}
+use Rattle.sql_builder.specs.Clauses.{Clauses, map_clauses}
 use Rattle.sql_builder.specs.Interference.{DifferInQuotedTexts}
 use Rattle.sql_builder.specs.Pieces.{Piece, Pieces, Fixed, Quoted, Raw}
-use Rattle.sql_builder.specs.Statement.{error_at, pieces, text_at, unless_error}
+use Rattle.sql_builder.specs.Shape.{HasClosedFragments}
+use Rattle.sql_builder.specs.Statement.{error_at, layout_at, pieces, text_at, unless_error}
 use Rattle.sql_builder.specs.StatementLaws.{made_by}
 
 -- the parts of a piece: a text that a call quotes is between quotes
@@ -56,3 +59,38 @@ ReadersIgnoreQuotedTexts printed = (next : Reader) (plain : ℕ → Bool) (state
 abbrev pub QuotedBytesAreBytes : (StartText → List CallText → FinishText → Result (List ℕ) SqlBuilderError) → Type 0
 QuotedBytesAreBytes printed = (start : StartText) (calls : List CallText) (finish : FinishText)
     → IfOk (printed start calls finish) (λ text. length (quoted_bytes start calls finish) ≡ length text)
+
+-- ---- texts that are quoted inside of fragments
+
+-- a text of the product's own, as a part
+abbrev pub constant_part : List ℕ → List Part
+constant_part text = Constant text ∷ []
+
+-- the parts that a finish prints of clauses whose texts are made of parts
+abbrev pub parts_at : FinishText → Clauses (List Part) → List Part
+parts_at finish r = layout_at constant_part constant_part finish r
+
+-- the text that a finish prints of them
+abbrev pub text_of_parts : FinishText → Clauses (List Part) → List ℕ
+text_of_parts finish r = text_at finish (map_clauses parts_bytes r)
+
+-- Builders whose texts are made of parts, and differ only in texts of plain bytes, where a reader is inside of a literal at each of these
+-- in what the one prints: it is so in what the other prints, and goes through the same states outside of these texts.
+abbrev pub ReadersIgnoreQuotedFragments : Type 0
+ReadersIgnoreQuotedFragments = (next : Reader) (plain : ℕ → Bool) (state : ℕ) (finish : FinishText) (one other : Clauses (List Part))
+    → map_clauses (map emptied) one ≡ map_clauses (map emptied) other
+    → IsTrue (list_all (has_plain_text plain) (parts_at finish one)) → IsTrue (list_all (has_plain_text plain) (parts_at finish other))
+    → IsInsideAtEach next plain state (parts_at finish one)
+    → let outside : Clauses (List Part) → List ℕ = λ r. outer_states next state (marks (parts_at finish r)) (text_of_parts finish r) in
+    IsInsideAtEach next plain state (parts_at finish other) × (outside one ≡ outside other)
+
+-- ---- the reader of tokens
+
+-- every byte is plain
+abbrev pub every_byte : ℕ → Bool
+every_byte byte = true
+
+-- where each fragment is closed, the reader of tokens opens a string at each quoted text
+abbrev pub ClosedFragmentsOpenStrings : Type 0
+ClosedFragmentsOpenStrings = (start : StartText) (calls : List CallText) (finish : FinishText) → HasClosedFragments start calls finish
+    → OpensStrings token_reader every_byte 0 start calls finish

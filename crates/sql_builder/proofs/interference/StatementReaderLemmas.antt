@@ -1,19 +1,30 @@
 -- Readers go through the same states outside of the texts that calls quote.
-use Rattle.std.proofs.Common.{◌≡◌, refl, sym, ◌∙◌, ap, subst, ℕ, Bool, List, [], ◌∷◌, ◌++◌, Option, None, Some, Result, Ok, Err, map, length}
+use Rattle.std.proofs.Common.{◌≡◌, refl, sym, ◌∙◌, ap, subst, ℕ, Bool, List, [], ◌∷◌, Option, None, Some, Result, Ok, Err, map, length}
 use Rattle.std.specs.Prelude.{IfOk, IsTrue}
 use Rattle.std.specs.List.{list_all}
 use Rattle.std.specs.Result.{result_map_both}
-use Rattle.std.proofs.lemmas.List.{append_assoc}
-use Rattle.sql_parts.specs.Quoting.{doubled}
-use Rattle.sql_parts.specs.Readers.{Constant, Doubled, Reader, DifferInDoubledTexts, IsInsideAtEach, emptied, has_plain_text, marks, outer_states}
-use Rattle.sql_parts.specs.Readers.{parts_bytes}
+use Rattle.std.proofs.lemmas.List.{append-nil, map-append}
+use Rattle.std.proofs.lemmas.Grind.{flat_map-append}
+use Rattle.sql_parts.specs.Readers.{Part, Constant, Doubled, Reader, DifferInDoubledTexts, IsInsideAtEach, emptied, has_plain_text, marks, outer_states}
+use Rattle.sql_parts.specs.Readers.{part_bytes, parts_bytes}
 use Rattle.sql_parts.specs.declared.error.SqlBuilderError.{SqlBuilderError}
 use Rattle.sql_parts.proofs.tokens.ReaderLemmas.{marks-length, readers-alike}
+use Rattle.sql_parts.specs.TokenReader.{token_reader}
+use Rattle.sql_builder.specs.Calls.{FinishText, clauses}
+use Rattle.sql_builder.specs.Clauses.{Clauses, map_clauses}
+use Rattle.sql_builder.specs.Layout.{byte_units}
 use Rattle.sql_builder.specs.Pieces as text
-use Rattle.sql_builder.specs.Pieces.{Pieces, pieces_text}
-use Rattle.sql_builder.specs.Statement.{pieces, statement, text_unless_error, unless_error}
-use Rattle.sql_builder.specs.StatementReaders.{QuotedBytesAreBytes, ReadersIgnoreQuotedTexts, bytes_unless_error, parts_in, printed_by}
+use Rattle.sql_builder.specs.Pieces.{Pieces, fixed_piece, pieces_text, raw_piece}
+use Rattle.sql_builder.specs.RawFragments.{has_closed_fragments}
+use Rattle.sql_builder.specs.Statement.{error_at, layout_at, pieces, statement, text_unless_error, unless_error}
+use Rattle.sql_builder.specs.StatementLaws.{made_by}
+use Rattle.sql_builder.specs.StatementReaders.{ClosedFragmentsOpenStrings, QuotedBytesAreBytes, ReadersIgnoreQuotedFragments, ReadersIgnoreQuotedTexts, bytes_unless_error, constant_part}
+use Rattle.sql_builder.specs.StatementReaders.{every_byte, parts_at, parts_in, printed_by, text_of_parts}
 use Rattle.sql_builder.proofs.interference.QuotedTextLemmas.{blanks, failed, laid, same_errors, same_layouts}
+use Rattle.sql_builder.proofs.pieces.PartLemmas.{parts_in-bytes}
+use Rattle.sql_builder.proofs.pieces.ClauseShapeLemmas.{printed-shaped}
+use Rattle.sql_builder.proofs.pieces.ShapeLemmas.{Shaped}
+use Rattle.sql_builder.proofs.pieces.LayoutMapLemmas.{layout_in_form}
 use Rattle.sql_builder.proofs.statements.StatementLawLemmas.{builders_print_statements}
 
 -- ---- parts of pieces
@@ -24,14 +35,6 @@ parts_in-blank (text.Fixed words ∷ printed) = ap (λ more. Constant words ∷ 
 parts_in-blank (text.Quoted quoted ∷ printed) =
     ap (λ more. Constant (39 ∷ []) ∷ Doubled 39 [] ∷ Constant (39 ∷ []) ∷ more) (parts_in-blank printed)
 parts_in-blank (text.Raw raw ∷ printed) = ap (λ more. Constant raw ∷ more) (parts_in-blank printed)
-
-parts_in-bytes : (printed : Pieces) → parts_bytes (parts_in printed) ≡ pieces_text printed
-parts_in-bytes [] = refl
-parts_in-bytes (text.Fixed words ∷ printed) = ap (λ more. words ++ more) (parts_in-bytes printed)
-parts_in-bytes (text.Quoted quoted ∷ printed) =
-    ap (λ more. 39 ∷ (doubled 39 quoted ++ (39 ∷ more))) (parts_in-bytes printed)
-    ∙ ap (λ all. 39 ∷ all) (sym (append_assoc (doubled 39 quoted) (39 ∷ []) (pieces_text printed)))
-parts_in-bytes (text.Raw raw ∷ printed) = ap (λ more. raw ++ more) (parts_in-bytes printed)
 
 differ : (one other : Pieces) → blanks one ≡ blanks other → DifferInDoubledTexts (parts_in one) (parts_in other)
 differ one other same = parts_in-blank one ∙ ap parts_in same ∙ sym (parts_in-blank other)
@@ -87,3 +90,31 @@ bytes-marked start calls finish = by (pieces start calls finish)
 
 pub printed-marked : QuotedBytesAreBytes printed_by
 printed-marked = subst QuotedBytesAreBytes printed_by-statement bytes-marked
+
+-- ---- texts that are quoted inside of fragments
+
+parts_at-emptied : (finish : FinishText) (r : Clauses (List Part)) → map emptied (parts_at finish r) ≡ parts_at finish (map_clauses (map emptied) r)
+parts_at-emptied finish r =
+    layout_in_form constant_part constant_part (map emptied) refl (map-append emptied) (λ w. refl) constant_part constant_part (λ t. refl) finish r
+
+parts_at-bytes : (finish : FinishText) (r : Clauses (List Part)) → parts_bytes (parts_at finish r) ≡ text_of_parts finish r
+parts_at-bytes finish r =
+    layout_in_form constant_part byte_units parts_bytes refl (flat_map-append part_bytes) append-nil constant_part byte_units append-nil finish r
+
+pub fragments-alike : ReadersIgnoreQuotedFragments
+fragments-alike next plain state finish one other same one_plain other_plain inside =
+    let differ = parts_at-emptied finish one ∙ ap (parts_at finish) same ∙ sym (parts_at-emptied finish other) in
+    let alike = readers-alike next plain state (parts_at finish one) (parts_at finish other) differ one_plain other_plain inside in
+    let read : Clauses (List Part) → List ℕ → List ℕ = λ r text. outer_states next state (marks (parts_at finish r)) text in
+    (alike.0, ap (read one) (sym (parts_at-bytes finish one)) ∙ alike.1 ∙ ap (read other) (parts_at-bytes finish other))
+
+-- ---- the reader of tokens
+
+pub closed-open : ClosedFragmentsOpenStrings
+closed-open start calls finish is = by (error_at finish (made_by start calls)) (layout_at fixed_piece raw_piece finish (clauses start calls)) (printed-shaped start calls finish) is
+  where
+    by : (failed : Option SqlBuilderError) (printed : Pieces) → Shaped printed
+        → IfOk (unless_error failed printed) (λ printed. IsTrue (has_closed_fragments printed))
+        → IfOk (unless_error failed printed) (λ printed. IsInsideAtEach token_reader every_byte 0 (parts_in printed))
+    by None printed shaped is = shaped.opens is
+    by (Some error) printed shaped is = tt

@@ -11,7 +11,7 @@ use Rattle.sql_parts.specs.Readers.{has_plain_text, inner_states, marks, outer_s
 use Rattle.sql_parts.specs.declared.delimiters.Quotes.{Quotes}
 
 module _ (next : Reader) where
-  after-append : (state : ℕ) (one other : List ℕ) → after next state (one ++ other) ≡ after next (after next state one) other
+  pub after-append : (state : ℕ) (one other : List ℕ) → after next state (one ++ other) ≡ after next (after next state one) other
   after-append state [] other = refl
   after-append state (byte ∷ one) other = after-append (next state byte) one other
 
@@ -75,6 +75,15 @@ module _ (next : Reader) where
           ∙ (λ i. inner-states (closing quotes) inside opens text all i ++ next (inner-after (closing quotes) inside opens text all i) (closing quotes) ∷ []))
 
     -- ---- parts
+
+    pub inside-append : (state : ℕ) (one other : List Part) → IsInsideAtEach next plain state one
+        → IsInsideAtEach next plain (after next state (parts_bytes one)) other → IsInsideAtEach next plain state (one ++ other)
+    inside-append state [] other here later = later
+    inside-append state (part ∷ one) other here later = (
+      here.0,
+      inside-append (after next state (part_bytes part)) one other here.1
+          (subst (λ s. IsInsideAtEach next plain s other) (after-append state (part_bytes part) (parts_bytes one)) later),
+    )
 
     abbrev Outer : ℕ → List Part → List ℕ
     Outer state parts = outer_states next state (marks parts) (parts_bytes parts)

@@ -1,5 +1,12 @@
-use Rattle.sql_builder.proofs.interference.StatementReaderLemmas.{bytes-marked, printed-alike, printed-marked, statements-alike}
+use Rattle.sql_builder.proofs.interference.StatementReaderLemmas.{bytes-marked, closed-open, fragments-alike, printed-alike, printed-marked, statements-alike}
 use Rattle.sql_builder.proofs.laws.readers_ignore_quoted_texts.Goals as goal
 
 pub returns : goal.returns
-returns c = record { statements = statements-alike; printed = printed-alike; bytes = bytes-marked; printed_bytes = printed-marked }
+returns c = record {
+  statements = statements-alike;
+  printed = printed-alike;
+  bytes = bytes-marked;
+  printed_bytes = printed-marked;
+  fragments = fragments-alike;
+  closed = closed-open;
+}
