@@ -1,8 +1,8 @@
 //! Texts that don't fit, and lists of calls that are tested before they are run.
 
 use sql_builder::calls::{
-    Call, CheckedError, Condition, Family, Finish, Place, Relation, Start, Unfit, check,
-    check_confined, run_checked, run_confined,
+    Call, CheckedError, Condition, Family, Finish, Place, Relation, Start, check, check_confined,
+    run_checked, run_confined,
 };
 use sql_builder::lex::{Demand, Misfit, misfit};
 use sql_builder::text::{Fragment, Operand};
@@ -113,5 +113,52 @@ fn runs_a_list_that_fits(rt: HostRuntime) -> Result<(), Fail> {
         is_unfit(&name, Place::Finish, 0, "Brackets don't match"),
         "the name"
     );
+    Ok(())
+}
+
+#[test]
+fn runs_an_insert_of_a_query(rt: HostRuntime) -> Result<(), Fail> {
+    let alloc = rt.alloc();
+    let start = Start::InsertInto(String::from_str(alloc, "t")?);
+    let field = Call::Field(String::from_str(alloc, "a")?);
+    let calls = [
+        field,
+        Call::Select(String::from_str(alloc, "SELECT b FROM u")?),
+    ];
+    let clause = "A top-level clause keyword";
+    let ran = run_checked(alloc, &start, &calls, &Finish::Sql);
+    assert!(rt; is_unfit(&ran, Place::Call(1), 0, clause), "run_checked");
+    assert!(rt; check(&start, &calls, &Finish::Sql).is_err(), "check");
+    assert!(rt;
+        check_confined(&start, &calls, &Finish::Sql).is_ok(),
+        "check_confined"
+    );
+    let ran = run_confined(alloc, &start, &calls, &Finish::Sql);
+    assert!(rt;
+        is_text(&ran, "INSERT INTO t (a) SELECT b FROM u;"),
+        "run_confined"
+    );
+    let calls = [Call::Select(String::from_str(alloc, "SELECT a; --")?)];
+    let ran = run_confined(alloc, &start, &calls, &Finish::Sql);
+    assert!(rt;
+        is_unfit(&ran, Place::Call(0), 0, "A quote or a comment has no end"),
+        "a comment"
+    );
+    Ok(())
+}
+
+#[test]
+fn fails_as_run_does(rt: HostRuntime) -> Result<(), Fail> {
+    let alloc = rt.alloc();
+    let start = Start::InsertInto(String::from_str(alloc, "t")?);
+    match run_checked(alloc, &start, &[], &Finish::Sql) {
+        Err(error) => {
+            assert!(rt;
+                format!(in alloc; "{error}")?.as_str() == "No values",
+                "its message"
+            );
+        }
+        Ok(_) => assert!(rt; false, "an INSERT of nothing"),
+    }
     Ok(())
 }

@@ -1,5 +1,5 @@
 //! Tests of the raw texts of a list of calls, and lists that are tested before they are run.
-ghost use Rattle.std.specs.Prelude.{◌≡◌, ◌+◌, ◌<◌, ◌^◌, [], ◌∷◌, is_ok, length, map, Err, IfErr, IfOk, IsTrue, Ok, if◌then◌else◌, string_bytes};
+ghost use Rattle.std.specs.Prelude.{◌≡◌, ◌<◌, [], ◌∷◌, is_ok, map, string_bytes, Err, IfErr, IfOk, IsTrue, Ok};
 ghost use Rattle.sql_parts.specs.Fragments.{balanced};
 ghost use Rattle.sql_parts.specs.Misfits.{misfit};
 ghost use Rattle.sql_parts.specs.Text.{texts};
@@ -146,7 +146,8 @@ impl Asked {
     // Texts of which the first has this index.
     fn test_list(self, first: usize, items: &[String], encloses: bool) -> Result<(), Unfit>
         requires { first < 2 }
-        ensures { result ≡ texts_test self.bare self.place first (map (field_text encloses) (texts items.now)) }
+        ensures { result ≡ texts_test self.bare self.place first
+            (map (field_text encloses) (texts items.now)) }
     {
         let mut index = first;
         let mut rest = items;
@@ -182,13 +183,15 @@ impl Asked {
 
     #[tactic(auto, using(crate::proofs::fragments::UnfitLemmas::alone))]
     fn test_field_alone(self, text: &str) -> Result<(), Unfit>
-        ensures { result ≡ texts_test self.bare self.place 0 (field_text self.encloses text.now ∷ []) }
+        ensures { result ≡ texts_test self.bare self.place 0
+            (field_text self.encloses text.now ∷ []) }
     {
         self.test_field(0, text, self.encloses)
     }
 
     fn test_condition(self, condition: &Condition) -> Result<(), Unfit>
-        ensures { result ≡ texts_test self.bare self.place 0 (condition_raw_texts (condition_view condition.now)) }
+        ensures { result ≡ texts_test self.bare self.place 0
+            (condition_raw_texts (condition_view condition.now)) }
     {
         match condition {
             Condition::Raw(text)
@@ -214,7 +217,8 @@ impl Asked {
     }
 
     fn test_call(self, call: &Call) -> Result<(), Unfit>
-        ensures { result ≡ texts_test self.bare self.place 0 (call_raw_texts self.encloses (call_view call.now)) }
+        ensures { result ≡ texts_test self.bare self.place 0
+            (call_raw_texts self.encloses (call_view call.now)) }
     {
         match call {
             Call::Natural
@@ -257,7 +261,8 @@ impl Asked {
     }
 
     fn test_start(self, start: &Start) -> Result<(), Unfit>
-        ensures { result ≡ texts_test self.bare self.place 0 (start_raw_texts (start_view start.now)) }
+        ensures { result ≡ texts_test self.bare self.place 0
+            (start_raw_texts (start_view start.now)) }
     {
         match start {
             Start::SelectValues(values) => self.test_list(0, values, false),
@@ -269,7 +274,8 @@ impl Asked {
     }
 
     fn test_finish(self, finish: &Finish) -> Result<(), Unfit>
-        ensures { result ≡ texts_test self.bare self.place 0 (finish_raw_texts (finish_view finish.now)) }
+        ensures { result ≡ texts_test self.bare self.place 0
+            (finish_raw_texts (finish_view finish.now)) }
     {
         match finish {
             Finish::Sql | Finish::Query | Finish::QueryValues | Finish::Subquery => Ok(()),
@@ -323,13 +329,13 @@ fn test_texts(bare: Demand, start: &Start, calls: &[Call], finish: &Finish) -> R
     end.test_finish(finish)
 }
 
-/// Whether each text that the statement of this list prints unchanged fits in its place, which makes
-/// its fragments fit for all that `run` says of them: each is balanced, and has no top-level clause
-/// keyword unless it is between brackets of the builder's own or behind UNION. Else which is the first
-/// that doesn't, and why. It takes no memory, and reads a text that fits once. It refuses each query
-/// of `select`, which `check_confined` passes.
-/// `check(&Start::SelectFrom(String::from_str(alloc, "t; u")?), &[], &Finish::Sql)` fails with
-/// `Unfit { place: Place::Start, text: 0, misfit: Misfit::Semicolon }`
+/// Whether each text that the statement of a list prints unchanged fits in its place: it is
+/// balanced, and has no top-level clause keyword unless brackets of the builder's own are round it,
+/// or UNION precedes it. The fragments are then fit for all that `run` says of them. It fails with
+/// the first text that doesn't fit, as each query of `select`. It takes no memory, and reads a text
+/// that fits once.
+/// `check(&Start::DeleteFrom(String::from_str(alloc, "t; u")?), &[], &Finish::Sql)` fails with
+/// `Unfit { place: Start, text: 0, misfit: Semicolon }`
 #[tactic(auto, using(crate::proofs::fragments::UnfitLemmas::list_is_fit))]
 pub fn check(start: &Start, calls: &[Call], finish: &Finish) -> Result<(), Unfit>
     ensures fit { is_ok result ≡ of_list has_fit_texts start.now calls.now finish.now }
@@ -338,11 +344,11 @@ pub fn check(start: &Start, calls: &[Call], finish: &Finish) -> Result<(), Unfit
     test_texts(Demand::Fragment, start, calls, finish)
 }
 
-/// Whether each text that the statement of this list prints unchanged is balanced, so that no quote,
-/// comment, `;` or bracket of it reaches beyond it. Else which is the first that isn't, and why. It
-/// takes no memory, and reads a text that fits once.
-/// `check_confined(&Start::SelectFrom(String::from_str(alloc, "t WHERE a")?), &[], &Finish::Sql)` →
-/// `Ok(())`
+/// Whether each text that the statement of a list prints unchanged is balanced, so that no quote,
+/// comment, `;` or bracket of it reaches beyond it. It fails with the first text that isn't. It takes
+/// no memory, and reads a text that is balanced once.
+/// `check_confined(&Start::DeleteFrom(String::from_str(alloc, "t)")?), &[], &Finish::Sql)` fails with
+/// `Unfit { place: Start, text: 0, misfit: Brackets }`
 #[tactic(auto, using(crate::proofs::fragments::UnfitLemmas::list_is_balanced))]
 pub fn check_confined(start: &Start, calls: &[Call], finish: &Finish) -> Result<(), Unfit>
     ensures balanced { is_ok result ≡ of_list (texts_pass balanced) start.now calls.now finish.now }
@@ -351,12 +357,14 @@ pub fn check_confined(start: &Start, calls: &[Call], finish: &Finish) -> Result<
     test_texts(Demand::Balanced, start, calls, finish)
 }
 
-/// Tests a list by `check`, and then runs it, which takes no premise: what it prints is the list's
-/// statement, is closed, has the tokens of its parts and, if `sql` prints it, one `;`, parses back as
-/// the clauses that were given, has the truth of its groups, and nests. It fails if a text doesn't fit
-/// in its place, and else as `run` does.
-/// `run_checked(alloc, &Start::SelectFrom(String::from_str(alloc, "t; u")?), &[], &Finish::Sql)` fails
-/// with `A semicolon`
+/// Tests a list by `check`, and then runs it, which takes no premise: what it prints is the
+/// statement of the list, is closed, has the tokens of its parts and, if `sql` prints it, one `;`,
+/// parses back as the clauses that were given, has the truth of its groups, and nests. It fails as
+/// `check` does, and else as `run`.
+/// ```
+/// let start = Start::DeleteFrom(String::from_str(alloc, "t")?);
+/// run_checked(alloc, &start, &[], &Finish::Sql); // DELETE FROM t;
+/// ```
 pub fn run_checked(
     alloc: Global,
     start: &Start,
@@ -379,8 +387,10 @@ pub fn run_checked(
     ensures clauses { IsTrue (is_unenclosed (finish_view finish.now)) → IfOk result (λ s.
         of_list clause_list start.now calls.now finish.now ≡ Ok (read (tokens (string_bytes s)))) }
     ensures truth { IsTrue (prints_where (finish_view finish.now) (kind_of (start_view start.now)))
-        → IfOk result (λ s. HasTruthOf (condition_groups (map call_view calls.now)) (string_bytes s)) }
-    ensures nests { IfOk result (λ s. IsTrue (is_nested (finish_view finish.now) (string_bytes s))) }
+        → IfOk result (λ s.
+        HasTruthOf (condition_groups (map call_view calls.now)) (string_bytes s)) }
+    ensures nests { IfOk result (λ s.
+        IsTrue (is_nested (finish_view finish.now) (string_bytes s))) }
     ensures nests_as_table { IsTrue (makes_table (finish_view finish.now)) → IfOk result (λ s.
         IsTrue (is_fit (Bare (string_bytes s)))) }
 {
@@ -388,11 +398,16 @@ pub fn run_checked(
     Ok(run(alloc, start, calls, finish)?)
 }
 
-/// The same by `check_confined`, for lists with a query that `select` gives an INSERT: what it prints
-/// is closed, has the tokens of its parts and, if `sql` prints it, one `;`, and nests. Which clauses it
-/// has, and the truth of its WHERE, its raw texts may then change.
-/// `run_confined(alloc, &Start::InsertInto(String::from_str(alloc, "t")?), &[Call::Select(String::from_str(alloc, "SELECT 1")?)], &Finish::Sql)?`
-/// → `INSERT INTO t SELECT 1;`
+/// Tests a list by `check_confined`, and then runs it, as one with a query that `select` gives an
+/// INSERT: what it prints is the statement of the list, is closed, has the tokens of its parts and,
+/// if `sql` prints it, one `;`, and nests. Its raw texts may change which clauses it has, and the
+/// truth of its WHERE. It fails as `check_confined` does, and else as `run`.
+/// ```
+/// let start = Start::InsertInto(String::from_str(alloc, "t")?);
+/// let field = Call::Field(String::from_str(alloc, "a")?);
+/// let query = Call::Select(String::from_str(alloc, "SELECT 1")?);
+/// run_confined(alloc, &start, &[field, query], &Finish::Sql); // INSERT INTO t (a) SELECT 1;
+/// ```
 pub fn run_confined(
     alloc: Global,
     start: &Start,
@@ -413,7 +428,8 @@ pub fn run_confined(
     ensures closed { IfOk result (λ s. IsTrue (closed (string_bytes s))) }
     ensures semicolon { finish_view finish.now ≡ Sql → IfOk result (λ s.
         EndsInOneSemicolon (tokens (string_bytes s))) }
-    ensures nests { IfOk result (λ s. IsTrue (is_nested (finish_view finish.now) (string_bytes s))) }
+    ensures nests { IfOk result (λ s.
+        IsTrue (is_nested (finish_view finish.now) (string_bytes s))) }
     ensures nests_as_table { IsTrue (makes_table (finish_view finish.now)) → IfOk result (λ s.
         IsTrue (is_fit (Bare (string_bytes s)))) }
 {

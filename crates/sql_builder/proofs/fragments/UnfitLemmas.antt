@@ -169,7 +169,8 @@ module _ (start : StartText) (calls : List CallText) (finish : FinishText) (all 
   balanced_parts : (all_pass balanced (start_raw_texts start) ≡ true) × (list_all (call_passes balanced) calls ≡ true)
       × (all_pass balanced (finish_raw_texts finish) ≡ true)
   balanced_parts =
-      let both = and_parts (all_pass balanced (start_raw_texts start) && list_all (call_passes balanced) calls) (all_pass balanced (finish_raw_texts finish)) all in
+      let both = and_parts (all_pass balanced (start_raw_texts start) && list_all (call_passes balanced) calls)
+      (all_pass balanced (finish_raw_texts finish)) all in
       let first = and_parts (all_pass balanced (start_raw_texts start)) (list_all (call_passes balanced) calls) both.0 in
       (first.0, first.1, both.1)
 
