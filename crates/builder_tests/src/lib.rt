@@ -9,6 +9,8 @@ mod binding;
 #[cfg(test)]
 mod borrowed_texts;
 #[cfg(test)]
+mod checked_lists;
+#[cfg(test)]
 mod clones;
 #[cfg(test)]
 mod conditions;

@@ -6,3 +6,4 @@ pub mod PassLemmas
 pub mod PreservationLemmas
 pub mod PropertyLemmas
 pub mod TextTestLemmas
+pub mod UnfitLemmas

@@ -8,6 +8,7 @@ pub mod Filters
 pub mod RawFragments
 pub mod RawTexts
 pub mod TextTests
+pub mod Unfits
 pub mod Inserts
 pub mod Interference
 pub mod BuilderLaws

@@ -14,6 +14,9 @@ ghost use Rattle.sql_builder.specs.Subqueries.{makes_table};
 ghost use Rattle.sql_parts.specs.Tokens.{closed, tokens};
 
 use crate::builder::SqlBuilder;
+pub use crate::checks::{
+    CheckedError, Place, Unfit, check, check_confined, run_checked, run_confined,
+};
 use crate::clauses::{JoinOperator, Kind};
 pub use crate::condition::{BorrowedCondition, Condition, Family, Percent, Relation};
 pub use crate::steps::{

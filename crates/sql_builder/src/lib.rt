@@ -6,6 +6,7 @@
 mod builder;
 pub mod calls;
 mod chain;
+mod checks;
 mod clauses;
 mod concat;
 mod condition;

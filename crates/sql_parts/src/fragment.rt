@@ -49,12 +49,14 @@ impl<'a> Fragment<'a> {
         Fragment { text }
     }
 
-    /// The text as a fragment, or why it is none. It takes no memory, and reads a text that fits once.
-    /// `Fragment::new("a UNION SELECT b")` fails with `Misfit::ClauseWord`
+    /// The text as a fragment, or why it is none. It takes no memory, and reads a text that fits
+    /// once.
+    /// `Fragment::new("a UNION SELECT b")` fails with `ClauseWord`
     pub fn new(text: &'a str) -> Result<Fragment<'a>, Misfit>
         ensures fits { is_ok result ≡ is_fragment text.entry.now }
         ensures text { IfOk result (λ fragment. fragment.text ≡ text.entry) }
-        ensures misfit { IfErr result (λ reason. misfit demand.Fragment text.entry.now ≡ Some reason) }
+        ensures misfit { IfErr result (λ reason.
+            misfit demand.Fragment text.entry.now ≡ Some reason) }
     {
         match misfit(text, Demand::Fragment) {
             None => Ok(Fragment { text }),
@@ -75,11 +77,12 @@ impl<'a> Operand<'a> {
 
     /// The text as an operand without a top-level clause keyword, or why it is none. It takes no
     /// memory, and reads a text that fits once.
-    /// `Operand::new("a OR 1=1")` fails with `Misfit::Joined`
+    /// `Operand::new("a OR 1=1")` fails with `Joined`
     pub fn new(text: &'a str) -> Result<Operand<'a>, Misfit>
         ensures fits { is_ok result ≡ is_bare_operand text.entry.now }
         ensures text { IfOk result (λ operand. operand.text ≡ text.entry) }
-        ensures misfit { IfErr result (λ reason. misfit demand.Operand text.entry.now ≡ Some reason) }
+        ensures misfit { IfErr result (λ reason.
+            misfit demand.Operand text.entry.now ≡ Some reason) }
     {
         match misfit(text, Demand::Operand) {
             None => Ok(Operand { text }),

@@ -58,8 +58,10 @@ fn bars_top_level(bare: bool, operand: bool, role: Role) -> bool
 #[inline(always)]
 fn is_balanced_as(text: &str, bare: bool, operand: bool) -> bool
     ensures { result ≡ (is_balanced (tokens.tokens text.now)
-        && not (has_top_level (λ token. (bare && is_clause_word token) || (operand && is_joining token)) (tokens.tokens text.now))
-        && not (begins_with (λ token. operand && is_word (codes "NOT") token) (tokens.tokens text.now))) }
+        && not (has_top_level (λ token. (bare && is_clause_word token)
+        || (operand && is_joining token)) (tokens.tokens text.now))
+        && not (begins_with (λ token. operand && is_word (codes "NOT") token)
+        (tokens.tokens text.now))) }
 {
     let mut depth = Depth::start();
     let mut is_empty = true;
@@ -159,8 +161,8 @@ fn reason(text: &str, demand: Demand) -> Option<Misfit>
     }
 }
 
-/// Why the text doesn't meet the demand, if it doesn't. It can't fail, takes no memory, and reads the
-/// text once where that fits.
+/// Why the text doesn't meet the demand, if it doesn't. It can't fail, takes no memory, and reads a
+/// text that fits once.
 /// `misfit("a UNION SELECT b", Demand::Fragment)` → `Some(ClauseWord)`
 /// `misfit("a OR 1=1", Demand::Operand)` → `Some(Joined)`
 pub fn misfit(text: &str, demand: Demand) -> Option<Misfit>

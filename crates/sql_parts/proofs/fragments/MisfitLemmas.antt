@@ -46,7 +46,8 @@ either_top_level one other ts =
 
 -- what one reading says of a fragment, and of an operand without a top-level clause keyword
 pub fragment_read : (text : List ℕ)
-    → (is_balanced (tokens text) && not (has_top_level (λ token. is_clause_word token || false) (tokens text)) && not (begins_with (λ token. false) (tokens text)))
+    → (is_balanced (tokens text) && not (has_top_level (λ token. is_clause_word token || false) (tokens text))
+    && not (begins_with (λ token. false) (tokens text)))
     ≡ is_fragment text
 fragment_read text =
     (λ i. is_balanced (tokens text) && not (has_top_level (λ token. or-false (is_clause_word token) i) (tokens text)) && not (never-first (tokens text) i))
@@ -60,7 +61,8 @@ pub operand_read : (text : List ℕ)
     → (is_balanced (tokens text) && not (has_top_level (λ token. is_clause_word token || is_joining token) (tokens text))
     && not (begins_with (is_word (codes "NOT")) (tokens text))) ≡ is_bare_operand text
 operand_read text =
-    ap (λ b. is_balanced (tokens text) && not b && not (begins_with (is_word (codes "NOT")) (tokens text))) (either_top_level is_clause_word is_joining (tokens text))
+    ap (λ b. is_balanced (tokens text) && not b && not (begins_with (is_word (codes "NOT")) (tokens text)))
+    (either_top_level is_clause_word is_joining (tokens text))
     ∙ spread (balanced text) (has_clause_word text) (has_top_level is_joining (tokens text)) (begins_with (is_word (codes "NOT")) (tokens text))
   where
     spread : (balance word joins first : Bool) → (balance && not (word || joins) && not first) ≡ ((balance && not joins && not first) && not word)
@@ -75,7 +77,8 @@ cond_none false x later false is = is
 
 none_found : {X : Type 0} (test : X → Bool) (xs : List X) → is_none (find test xs) ≡ not (list_any test xs)
 none_found test [] = refl
-none_found test (x ∷ xs) = cond_none (test x) x (find test xs) (not (list_any test xs)) (none_found test xs) ∙ ap (λ b. not (test x || b)) (not-not (list_any test xs))
+none_found test (x ∷ xs) = cond_none (test x) x (find test xs) (not (list_any test xs)) (none_found test xs)
+    ∙ ap (λ b. not (test x || b)) (not-not (list_any test xs))
 
 -- no reason holds of a text that meets what is asked
 unbroken : (empty shut semicolon match whole : Bool) → whole ≡ (shut && not semicolon)

@@ -11,8 +11,8 @@ invariant-loop-role l = record {
   text : shadow (Utf8 l.rest);
   raised : l.depth.raised + length l.rest ≤ length l.fn.text;
   lowered : l.depth.lowered + length l.rest ≤ length l.fn.text;
-  same : balances_from (λ token. (l.bare && is_clause_word token) || (l.operand && is_joining token)) (λ token. l.operand && is_word (codes "NOT") token) l.is_empty l.depth.raised l.depth.lowered
-      (tokens l.rest)
+  same : balances_from (λ token. (l.bare && is_clause_word token) || (l.operand && is_joining token)) (λ token. l.operand && is_word (codes "NOT") token)
+      l.is_empty l.depth.raised l.depth.lowered (tokens l.rest)
       ≡ (is_balanced (tokens l.text) && not (has_top_level (λ token. (l.bare && is_clause_word token) || (l.operand && is_joining token)) (tokens l.text))
       && not (begins_with (λ token. l.operand && is_word (codes "NOT") token) (tokens l.text)));
 }

@@ -1,0 +1,164 @@
+//! Texts that don't fit, and lists of calls that are tested before they are run.
+
+use sql_builder::calls::{
+    Call, CheckedError, Condition, Family, Finish, Place, Relation, Start, check, check_confined,
+    run_checked, run_confined,
+};
+use sql_builder::lex::{Demand, Misfit, misfit};
+use sql_builder::text::{Fragment, Operand};
+use std::alloc::{AllocError, Global};
+use std::test::Fail;
+
+/// Whether a text has this message as a fragment, and this as an operand; none where it fits.
+fn has_messages(text: &str, as_fragment: Option<&str>, as_operand: Option<&str>) -> bool {
+    let fragment = Fragment::new(text).err();
+    let operand = Operand::new(text).err();
+    message(misfit(text, Demand::Fragment)) == as_fragment
+        && message(fragment) == as_fragment
+        && message(misfit(text, Demand::Operand)) == as_operand
+        && message(operand) == as_operand
+}
+
+fn message(misfit: Option<Misfit>) -> Option<&'static str> {
+    match misfit {
+        Some(misfit) => Some(misfit.message()),
+        None => None,
+    }
+}
+
+#[test]
+fn says_why_a_text_does_not_fit(rt: HostRuntime) -> Result<(), Fail> {
+    let clause = Some("A top-level clause keyword");
+    let joined = Some("A top-level OR, AND or BETWEEN, or a leading NOT");
+    assert!(rt; has_messages("price", None, None), "a column");
+    assert!(rt; has_messages("a UNION SELECT b", clause, clause), "a union");
+    assert!(rt; has_messages("a OR 1=1", None, joined), "an OR");
+    assert!(rt; has_messages("NOT a", None, joined), "a NOT");
+    for (text, message) in [
+        ("", "No token"),
+        ("-- a\n", "No token"),
+        ("a'; --", "A quote or a comment has no end"),
+        ("a; DROP TABLE b", "A semicolon"),
+        ("a) OR (b", "Brackets don't match"),
+    ] {
+        assert!(rt; has_messages(text, Some(message), Some(message)), "{text}");
+    }
+    Ok(())
+}
+
+/// A SELECT from `t` of `a` where `b` is at most the value.
+fn run_list(
+    alloc: Global,
+    table: &str,
+    value: &str,
+    finish: &Finish,
+) -> Result<Result<String, CheckedError>, AllocError> {
+    let start = Start::SelectFrom(String::from_str(alloc, table)?);
+    let field = Call::Field(String::from_str(alloc, "a")?);
+    let condition = Condition::Compare(
+        Relation::Le,
+        String::from_str(alloc, "b")?,
+        String::from_str(alloc, value)?,
+    );
+    let calls = [field, Call::Cond(Family::And, condition)];
+    Ok(run_checked(alloc, &start, &calls, finish))
+}
+
+/// Whether the error is that this text doesn't fit, as its message says.
+fn is_unfit(ran: &Result<String, CheckedError>, place: Place, text: usize, message: &str) -> bool {
+    match ran {
+        Err(CheckedError::Unfit(unfit)) => {
+            is_same_place(unfit.place, place)
+                && unfit.text == text
+                && unfit.misfit.message() == message
+        }
+        _ => false,
+    }
+}
+
+fn is_same_place(one: Place, other: Place) -> bool {
+    match (one, other) {
+        (Place::Start, Place::Start) => true,
+        (Place::Call(one), Place::Call(other)) => one == other,
+        (Place::Finish, Place::Finish) => true,
+        _ => false,
+    }
+}
+
+fn is_text(ran: &Result<String, CheckedError>, wanted: &str) -> bool {
+    match ran {
+        Ok(text) => text.as_str() == wanted,
+        Err(_) => false,
+    }
+}
+
+#[test]
+fn runs_a_list_that_fits(rt: HostRuntime) -> Result<(), Fail> {
+    let alloc = rt.alloc();
+    let fits = run_list(alloc, "t", "5", &Finish::Sql)?;
+    assert!(rt; is_text(&fits, "SELECT a FROM t WHERE b <= 5;"), "fits");
+    let table = run_list(alloc, "t; u", "5", &Finish::Sql)?;
+    assert!(rt;
+        is_unfit(&table, Place::Start, 0, "A semicolon"),
+        "the table"
+    );
+    let value = run_list(alloc, "t", "5 UNION SELECT 1", &Finish::Sql)?;
+    assert!(rt;
+        is_unfit(&value, Place::Call(1), 1, "A top-level clause keyword"),
+        "the value"
+    );
+    let name = Finish::SubqueryAs(String::from_str(alloc, "s)")?);
+    let name = run_list(alloc, "t", "5", &name)?;
+    assert!(rt;
+        is_unfit(&name, Place::Finish, 0, "Brackets don't match"),
+        "the name"
+    );
+    Ok(())
+}
+
+#[test]
+fn runs_an_insert_of_a_query(rt: HostRuntime) -> Result<(), Fail> {
+    let alloc = rt.alloc();
+    let start = Start::InsertInto(String::from_str(alloc, "t")?);
+    let field = Call::Field(String::from_str(alloc, "a")?);
+    let calls = [
+        field,
+        Call::Select(String::from_str(alloc, "SELECT b FROM u")?),
+    ];
+    let clause = "A top-level clause keyword";
+    let ran = run_checked(alloc, &start, &calls, &Finish::Sql);
+    assert!(rt; is_unfit(&ran, Place::Call(1), 0, clause), "run_checked");
+    assert!(rt; check(&start, &calls, &Finish::Sql).is_err(), "check");
+    assert!(rt;
+        check_confined(&start, &calls, &Finish::Sql).is_ok(),
+        "check_confined"
+    );
+    let ran = run_confined(alloc, &start, &calls, &Finish::Sql);
+    assert!(rt;
+        is_text(&ran, "INSERT INTO t (a) SELECT b FROM u;"),
+        "run_confined"
+    );
+    let calls = [Call::Select(String::from_str(alloc, "SELECT a; --")?)];
+    let ran = run_confined(alloc, &start, &calls, &Finish::Sql);
+    assert!(rt;
+        is_unfit(&ran, Place::Call(0), 0, "A quote or a comment has no end"),
+        "a comment"
+    );
+    Ok(())
+}
+
+#[test]
+fn fails_as_run_does(rt: HostRuntime) -> Result<(), Fail> {
+    let alloc = rt.alloc();
+    let start = Start::InsertInto(String::from_str(alloc, "t")?);
+    match run_checked(alloc, &start, &[], &Finish::Sql) {
+        Err(error) => {
+            assert!(rt;
+                format!(in alloc; "{error}")?.as_str() == "No values",
+                "its message"
+            );
+        }
+        Ok(_) => assert!(rt; false, "an INSERT of nothing"),
+    }
+    Ok(())
+}

@@ -1,0 +1,37 @@
+use Rattle.std.proofs.Common.{IfOk, List, map, Result, subst, sym, ℕ}
+use Rattle.sql_parts.specs.Tokens.{tokens}
+use Rattle.sql_parts.specs.declared.error.SqlBuilderError.{SqlBuilderError}
+use Rattle.sql_builder.specs.Calls.{call_view, finish_view, start_view}
+use Rattle.sql_builder.specs.Shape.{EndsInOneSemicolon}
+use Rattle.sql_builder.proofs.fragments.UnfitLemmas.{balanced_fragments, closed_fragments, ends_in_semicolon}
+use Rattle.sql_builder.proofs.checks.run_confined.Goals as goal
+
+pub returns-clause-shape : goal.returns-clause-shape
+returns-clause-shape c =
+    c.in_ok-run.ensures.shape
+    (closed_fragments (start_view c.args.start.now) (map call_view c.args.calls.now) (finish_view c.args.finish.now)
+    (sym c.in_ok-check_confined.ensures.balanced))
+
+pub returns-clause-closed : goal.returns-clause-closed
+returns-clause-closed c =
+    c.in_ok-run.ensures.closed
+    (closed_fragments (start_view c.args.start.now) (map call_view c.args.calls.now) (finish_view c.args.finish.now)
+    (sym c.in_ok-check_confined.ensures.balanced))
+
+pub returns-clause-semicolon : goal.returns-clause-semicolon
+returns-clause-semicolon c = λ is.
+    subst (λ (made : Result (List ℕ) SqlBuilderError). IfOk made (λ text. EndsInOneSemicolon (tokens text))) c.in_ok-run.ensures.text
+    (ends_in_semicolon (start_view c.args.start.now) (map call_view c.args.calls.now) (finish_view c.args.finish.now) is
+    (sym c.in_ok-check_confined.ensures.balanced))
+
+pub returns-clause-nests : goal.returns-clause-nests
+returns-clause-nests c =
+    c.in_ok-run.ensures.nests
+    (balanced_fragments (start_view c.args.start.now) (map call_view c.args.calls.now) (finish_view c.args.finish.now)
+    (sym c.in_ok-check_confined.ensures.balanced))
+
+pub returns-clause-nests_as_table : goal.returns-clause-nests_as_table
+returns-clause-nests_as_table c = λ table.
+    c.in_ok-run.ensures.nests_as_table table
+    (balanced_fragments (start_view c.args.start.now) (map call_view c.args.calls.now) (finish_view c.args.finish.now)
+    (sym c.in_ok-check_confined.ensures.balanced))

@@ -1,0 +1,208 @@
+-- The raw texts of a list of calls are fit, or balanced, exactly where its tests pass; and what a list whose texts are balanced prints.
+use Rattle.std.proofs.Common.{◌≡◌, refl, sym, ◌∙◌, ap, subst, ℕ, ◌+◌, Bool, true, false, not, map, ◌&&◌, List, [], ◌∷◌, Option, None, Some, IfOk, Result, Ok}
+use Rattle.std.proofs.Common.{Err}
+use Rattle.std.specs.Prelude.{IsTrue, is_none, is_ok}
+use Rattle.std.specs.List.{list_all}
+use Rattle.std.specs.Result.{result_and}
+use Rattle.std.proofs.Math.Bool.{and_assoc}
+use Rattle.std.proofs.lemmas.Bool.{and_from, and_parts}
+use Rattle.std.proofs.lemmas.Result.{IfOk-weaker}
+use Rattle.sql_parts.specs.Fragments.{balanced, has_clause_word}
+use Rattle.sql_parts.specs.Misfits.{meets, misfit}
+use Rattle.sql_parts.specs.Tokens.{tokens}
+use Rattle.sql_parts.specs.declared.misfits.Demand.{Demand}
+use Rattle.sql_parts.specs.declared.misfits.Demand.TheVariants as demand
+use Rattle.sql_parts.specs.declared.misfits.Misfit.{Misfit}
+use Rattle.sql_parts.proofs.fragments.MisfitLemmas.{balanced_whole, met}
+use Rattle.sql_builder.specs.Calls as call
+use Rattle.sql_builder.specs.Calls.{CallText, FinishText, StartText, Sql, Query, QueryValues, Subquery, SubqueryAs, call_raw_texts, clauses, field_text}
+use Rattle.sql_builder.specs.Calls.{finish_raw_texts, start_raw_texts}
+use Rattle.sql_builder.specs.Meaning.{HasBalancedFragments, is_unenclosed, prints_where}
+use Rattle.sql_builder.specs.RawFragments.{encloses_fields, has_balanced_fragments, has_closed_fragments, has_fit_texts, is_fit}
+use Rattle.sql_builder.specs.RawTexts.{RawText, Bare, Enclosed}
+use Rattle.sql_builder.specs.Shape.{EndsInOneSemicolon, HasClosedFragments}
+use Rattle.sql_builder.specs.Statement.{pieces, statement}
+use Rattle.sql_builder.specs.TextTests.{all_pass, call_passes, is_plain, raw_text, texts_pass}
+use Rattle.sql_builder.specs.Unfits.{calls_test, list_test, raw_test, texts_test, unless_misfit}
+use Rattle.sql_builder.specs.declared.checks.Place.{Place}
+use Rattle.sql_builder.specs.declared.checks.Place.TheVariants as place
+use Rattle.sql_builder.specs.declared.checks.Unfit.{Unfit}
+use Rattle.sql_builder.specs.declared.clauses.Kind.{Kind}
+use Rattle.sql_builder.proofs.fragments.FitLemmas.{unless}
+use Rattle.sql_builder.proofs.fragments.PassLemmas.{printed-passes}
+use Rattle.sql_builder.proofs.fragments.TextTestLemmas.{plain_texts_end}
+use Rattle.sql_builder.proofs.lists.AllFacts.{all-weaker}
+use Rattle.sql_builder.proofs.reading.ClauseWordLemmas.{fragments_closed}
+use Rattle.sql_builder.proofs.reading.ReadBackLemmas.{layout}
+
+-- with nothing behind it
+pub alone : (tested : Result (Unit {0}) Unfit) → tested ≡ result_and tested (Ok tt)
+alone (Ok done) = refl
+alone (Err unfit) = refl
+
+-- ---- where tests pass
+
+both_pass : (one other : Result (Unit {0}) Unfit) → is_ok (result_and one other) ≡ (is_ok one && is_ok other)
+both_pass (Ok done) other = refl
+both_pass (Err unfit) other = refl
+
+passes : (at : Place) (index : ℕ) (found : Option Misfit) → is_ok (unless_misfit at index found) ≡ is_none found
+passes at index None = refl
+passes at index (Some misfit) = refl
+
+-- a raw text meets what is asked of it in its place
+abbrev pub fits : Demand → RawText → Bool
+fits bare (Bare text) = meets bare text
+fits bare (Enclosed text) = balanced text
+
+raw_passes : (bare : Demand) (at : Place) (index : ℕ) (raw : RawText) → is_ok (raw_test bare at index raw) ≡ fits bare raw
+raw_passes bare at index (Bare text) = passes at index (misfit bare text) ∙ met bare text
+raw_passes bare at index (Enclosed text) = passes at index (misfit demand.Balanced text) ∙ met demand.Balanced text
+
+texts_fit : (bare : Demand) (at : Place) (index : ℕ) (raws : List RawText) → is_ok (texts_test bare at index raws) ≡ list_all (fits bare) raws
+texts_fit bare at index [] = refl
+texts_fit bare at index (raw ∷ more) =
+    both_pass (raw_test bare at index raw) (texts_test bare at (index + 1) more)
+    ∙ (λ i. raw_passes bare at index raw i && texts_fit bare at (index + 1) more i)
+
+calls_fit : (bare : Demand) (index : ℕ) (enclosed : Bool) (calls : List CallText)
+    → is_ok (calls_test bare index enclosed calls) ≡ list_all (λ c. list_all (fits bare) (call_raw_texts enclosed c)) calls
+calls_fit bare index enclosed [] = refl
+calls_fit bare index enclosed (c ∷ calls) =
+    both_pass (texts_test bare (place.Call index) 0 (call_raw_texts enclosed c)) (calls_test bare (index + 1) enclosed calls)
+    ∙ (λ i. texts_fit bare (place.Call index) 0 (call_raw_texts enclosed c) i && calls_fit bare (index + 1) enclosed calls i)
+
+list_passes : (bare : Demand) (start : StartText) (calls : List CallText) (finish : FinishText)
+    → is_ok (list_test bare start calls finish)
+    ≡ (list_all (fits bare) (start_raw_texts start) && list_all (λ c. list_all (fits bare) (call_raw_texts (encloses_fields start finish) c)) calls
+    && list_all (fits bare) (finish_raw_texts finish))
+list_passes bare start calls finish =
+    let first = texts_test bare place.Start 0 (start_raw_texts start) in
+    let middle = calls_test bare 0 (encloses_fields start finish) calls in
+    let last = texts_test bare place.Finish 0 (finish_raw_texts finish) in
+    both_pass first (result_and middle last)
+    ∙ ap (λ b. is_ok first && b) (both_pass middle last)
+    ∙ (λ i. texts_fit bare place.Start 0 (start_raw_texts start) i
+    && (calls_fit bare 0 (encloses_fields start finish) calls i && texts_fit bare place.Finish 0 (finish_raw_texts finish) i))
+    ∙ sym (and_assoc (list_all (fits bare) (start_raw_texts start)) _ _)
+
+-- tests that agree on each element
+each_same : {X : Type 0} (one other : X → Bool) → ((x : X) → one x ≡ other x) → (xs : List X) → list_all one xs ≡ list_all other xs
+each_same one other same [] = refl
+each_same one other same (x ∷ xs) = λ i. same x i && each_same one other same xs i
+
+fits_fit : (raw : RawText) → fits demand.Fragment raw ≡ is_fit raw
+fits_fit (Bare text) = refl
+fits_fit (Enclosed text) = refl
+
+fits_balanced : (raw : RawText) → fits demand.Balanced raw ≡ balanced (raw_text raw)
+fits_balanced (Bare text) = refl
+fits_balanced (Enclosed text) = refl
+
+pub list_is_fit : (start : StartText) (calls : List CallText) (finish : FinishText)
+    → is_ok (list_test demand.Fragment start calls finish) ≡ has_fit_texts start calls finish
+list_is_fit start calls finish =
+    let all = each_same (fits demand.Fragment) is_fit fits_fit in
+    let enclosed = encloses_fields start finish in
+    list_passes demand.Fragment start calls finish
+    ∙ (λ i. all (start_raw_texts start) i
+    && each_same (λ c. list_all (fits demand.Fragment) (call_raw_texts enclosed c)) (λ c. list_all is_fit (call_raw_texts enclosed c))
+    (λ c. all (call_raw_texts enclosed c)) calls i
+    && all (finish_raw_texts finish) i)
+
+-- whether a field is enclosed makes no difference to what is balanced
+fields_balanced : (enclosed : Bool) (fields : List (List ℕ))
+    → all_pass balanced (map (field_text enclosed) fields) ≡ all_pass balanced (map (field_text false) fields)
+fields_balanced enclosed [] = refl
+fields_balanced true (field ∷ fields) = ap (λ b. balanced field && b) (fields_balanced true fields)
+fields_balanced false (field ∷ fields) = refl
+
+call_balanced : (enclosed : Bool) (c : CallText) → all_pass balanced (call_raw_texts enclosed c) ≡ all_pass balanced (call_raw_texts false c)
+call_balanced enclosed (call.Fields fields) = fields_balanced enclosed fields
+call_balanced enclosed (call.SetFields fields) = fields_balanced enclosed fields
+call_balanced enclosed (call.Field field) = fields_balanced enclosed (field ∷ [])
+call_balanced enclosed (call.SetField field) = fields_balanced enclosed (field ∷ [])
+call_balanced enclosed (call.CountAs field name) = ap (λ b. balanced field && b) (fields_balanced enclosed (name ∷ []))
+call_balanced enclosed c = refl
+
+pub list_is_balanced : (start : StartText) (calls : List CallText) (finish : FinishText)
+    → is_ok (list_test demand.Balanced start calls finish) ≡ texts_pass balanced start calls finish
+list_is_balanced start calls finish =
+    let all = each_same (fits demand.Balanced) (λ raw. balanced (raw_text raw)) fits_balanced in
+    let enclosed = encloses_fields start finish in
+    list_passes demand.Balanced start calls finish
+    ∙ (λ i. all (start_raw_texts start) i
+    && each_same (λ c. list_all (fits demand.Balanced) (call_raw_texts enclosed c)) (call_passes balanced)
+    (λ c. all (call_raw_texts enclosed c) ∙ call_balanced enclosed c) calls i
+    && all (finish_raw_texts finish) i)
+
+-- fit texts are balanced
+fit_balanced : (raw : RawText) → is_fit raw ≡ true → balanced (raw_text raw) ≡ true
+fit_balanced (Bare text) fit = (and_parts (balanced text) (not (has_clause_word text)) fit).0
+fit_balanced (Enclosed text) fit = fit
+
+texts_balanced : (raws : List RawText) → list_all is_fit raws ≡ true → all_pass balanced raws ≡ true
+texts_balanced raws all = all-weaker is_fit (λ raw. balanced (raw_text raw)) fit_balanced raws all
+
+pub fit_texts_balanced : (start : StartText) (calls : List CallText) (finish : FinishText)
+    → has_fit_texts start calls finish ≡ true → texts_pass balanced start calls finish ≡ true
+fit_texts_balanced start calls finish all =
+    let enclosed = encloses_fields start finish in
+    let both = and_parts (list_all is_fit (start_raw_texts start) && list_all (λ c. list_all is_fit (call_raw_texts enclosed c)) calls)
+    (list_all is_fit (finish_raw_texts finish)) all in
+    let first = and_parts (list_all is_fit (start_raw_texts start)) (list_all (λ c. list_all is_fit (call_raw_texts enclosed c)) calls) both.0 in
+    and_from _ _
+    (and_from _ _ (texts_balanced (start_raw_texts start) first.0)
+    (all-weaker (λ (c : CallText). list_all is_fit (call_raw_texts enclosed c)) (call_passes balanced)
+    (λ c fit. sym (call_balanced enclosed c) ∙ texts_balanced (call_raw_texts enclosed c) fit) calls first.1))
+    (texts_balanced (finish_raw_texts finish) both.1)
+
+-- ---- what a list of calls prints whose raw texts are balanced
+
+raw_plain : (raw : RawText) → balanced (raw_text raw) ≡ true → is_plain (raw_text raw) ≡ true
+raw_plain raw is = (balanced_whole (raw_text raw) is).1
+
+plain_if_balanced : (raws : List RawText) → all_pass balanced raws ≡ true → all_pass is_plain raws ≡ true
+plain_if_balanced raws all = all-weaker (λ raw. balanced (raw_text raw)) (λ raw. is_plain (raw_text raw)) raw_plain raws all
+
+module _ (start : StartText) (calls : List CallText) (finish : FinishText) (all : texts_pass balanced start calls finish ≡ true) where
+  balanced_parts : (all_pass balanced (start_raw_texts start) ≡ true) × (list_all (call_passes balanced) calls ≡ true)
+      × (all_pass balanced (finish_raw_texts finish) ≡ true)
+  balanced_parts =
+      let both = and_parts (all_pass balanced (start_raw_texts start) && list_all (call_passes balanced) calls)
+      (all_pass balanced (finish_raw_texts finish)) all in
+      let first = and_parts (all_pass balanced (start_raw_texts start)) (list_all (call_passes balanced) calls) both.0 in
+      (first.0, first.1, both.1)
+
+  pub balanced_fragments : HasBalancedFragments start calls finish
+  balanced_fragments =
+      unless _ (layout finish (clauses start calls)) has_balanced_fragments
+      (printed-passes balanced false start calls finish balanced_parts.0 balanced_parts.1 balanced_parts.2)
+
+  pub closed_fragments : HasClosedFragments start calls finish
+  closed_fragments =
+      IfOk-weaker (pieces start calls finish) (λ printed. IsTrue (has_balanced_fragments printed)) (λ printed. IsTrue (has_closed_fragments printed))
+      fragments_closed balanced_fragments
+
+  plain_texts : texts_pass is_plain start calls finish ≡ true
+  plain_texts =
+      and_from _ _
+      (and_from _ _ (plain_if_balanced (start_raw_texts start) balanced_parts.0)
+      (all-weaker (call_passes balanced) (call_passes is_plain) (λ (c : CallText). plain_if_balanced (call_raw_texts false c)) calls balanced_parts.1))
+      (plain_if_balanced (finish_raw_texts finish) balanced_parts.2)
+
+-- what `sql` prints of them ends in its only `;`
+pub ends_in_semicolon : (start : StartText) (calls : List CallText) (finish : FinishText) → finish ≡ Sql → texts_pass balanced start calls finish ≡ true
+    → IfOk (statement start calls finish) (λ text. EndsInOneSemicolon (tokens text))
+ends_in_semicolon start calls finish is all =
+    let here : texts_pass balanced start calls Sql ≡ true = ap (texts_pass balanced start calls) (sym is) ∙ all in
+    subst (λ (last : FinishText). IfOk (statement start calls last) (λ text. EndsInOneSemicolon (tokens text))) (sym is)
+    (plain_texts_end start calls (closed_fragments start calls Sql here) (plain_texts start calls Sql here))
+
+-- a finish that prints a WHERE prints no brackets round it
+pub where_unenclosed : (finish : FinishText) (kind : Kind) → IsTrue (prints_where finish kind) → IsTrue (is_unenclosed finish)
+where_unenclosed Sql kind prints = refl
+where_unenclosed Query kind prints = refl
+where_unenclosed QueryValues kind prints = refl
+where_unenclosed Subquery kind prints = prints
+where_unenclosed (SubqueryAs name) kind prints = prints
