@@ -8,7 +8,7 @@ use Rattle.sql_parts.specs.declared.delimiters.Quotes.TheVariants.{Single}
 use Rattle.sql_parts.specs.declared.error.SqlBuilderError.{SqlBuilderError}
 use Rattle.sql_builder.specs.Calls.{CallText, FinishText, StartText}
 use Rattle.sql_builder.specs.Clauses.{Clauses, map_clauses}
-use Rattle.sql_builder.specs.Interference.{DifferInQuotedTexts}
+use Rattle.sql_builder.specs.Interference.{DifferInQuotedTexts, blank_call, call_quoted_texts}
 use Rattle.sql_builder.specs.Pieces.{Piece, Pieces, Fixed, Quoted, Raw}
 use Rattle.sql_builder.specs.Shape.{HasClosedFragments}
 use Rattle.sql_builder.specs.Statement.{error_at, layout_at, pieces, text_at, unless_error}
@@ -59,6 +59,24 @@ ReadersIgnoreQuotedTexts printed = (next : Reader) (plain : ℕ → Bool) (state
 abbrev pub QuotedBytesAreBytes : (StartText → List CallText → FinishText → Result (List ℕ) SqlBuilderError) → Type 0
 QuotedBytesAreBytes printed = (start : StartText) (calls : List CallText) (finish : FinishText)
     → IfOk (printed start calls finish) (λ text. length (quoted_bytes start calls finish) ≡ length text)
+
+-- each text that a call quotes is of plain bytes
+abbrev pub quotes_plain_texts : (ℕ → Bool) → List CallText → Bool
+quotes_plain_texts plain calls = list_all (λ c. list_all (list_all plain) (call_quoted_texts c)) calls
+
+-- then so is each that is printed
+abbrev pub PlainTextsArePrinted : Type 0
+PlainTextsArePrinted = (plain : ℕ → Bool) (start : StartText) (calls : List CallText) (finish : FinishText) → IsTrue (quotes_plain_texts plain calls)
+    → HasPlainTexts plain start calls finish
+
+-- Where a reader opens a string at each quoted text of the statement with no texts, it does so with any texts of plain bytes, and goes
+-- through the same states outside of them.
+abbrev pub NoTextsDecide : (StartText → List CallText → FinishText → Result (List ℕ) SqlBuilderError) → Type 0
+NoTextsDecide printed = (next : Reader) (plain : ℕ → Bool) (state : ℕ) (start : StartText) (calls : List CallText) (finish : FinishText)
+    → IsTrue (quotes_plain_texts plain calls) → OpensStrings next plain state start (map blank_call calls) finish
+    → let outside : List CallText → Result (List ℕ) SqlBuilderError =
+    λ calls. result_map_both (outer_states next state (quoted_bytes start calls finish)) (λ error. error) (printed start calls finish) in
+    OpensStrings next plain state start calls finish × (outside (map blank_call calls) ≡ outside calls)
 
 -- ---- texts that are quoted inside of fragments
 

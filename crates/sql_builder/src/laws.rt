@@ -11,7 +11,7 @@ ghost use Rattle.sql_builder.specs.Shape.{EndsInOneSemicolon};
 ghost use Rattle.sql_builder.specs.RawFragments.{has_closed_fragments, has_no_semicolons};
 ghost use Rattle.sql_builder.specs.Statement.{pieces, statement};
 ghost use Rattle.sql_builder.specs.StatementLaws.{BuildersFollowCalls, BuildersPrintStatements, StatementsAreClosed, StatementsHaveTruth, StatementsKeepTokens, StatementsNest};
-ghost use Rattle.sql_builder.specs.StatementReaders.{ClosedFragmentsOpenStrings, QuotedBytesAreBytes, ReadersIgnoreQuotedFragments, ReadersIgnoreQuotedTexts, printed_by};
+ghost use Rattle.sql_builder.specs.StatementReaders.{ClosedFragmentsOpenStrings, NoTextsDecide, PlainTextsArePrinted, QuotedBytesAreBytes, ReadersIgnoreQuotedFragments, ReadersIgnoreQuotedTexts, printed_by};
 ghost use Rattle.sql_builder.specs.Subqueries.{SubqueriesNestAsTables};
 ghost use Rattle.sql_builder.specs.Pieces.{pieces_text};
 ghost use Rattle.sql_parts.specs.Fragments.{balanced, dangling, has_clause_word, operand};
@@ -86,8 +86,7 @@ pub fn quoted_texts_do_not_interfere()
 /// printed of the other, and goes through the same states over the bytes outside of them; or both
 /// fail with the same error. It is so of what `run` prints, and of what `print` prints of the builder
 /// that `begin` and `make` make, and of any builder where texts are quoted inside of raw fragments. So
-/// a statement that a database reads as meant with one list of texts, as empty ones, is read so with
-/// every other.
+/// a statement that a database reads as meant with empty texts is read so with every text.
 /// `SqlBuilder::update_table(alloc, "t")?.set_str("a", "x'; --")?.sql()?` → `UPDATE t SET a = 'x''; --';`
 pub fn readers_ignore_quoted_texts()
     ensures statements { ReadersIgnoreQuotedTexts statement }
@@ -96,6 +95,9 @@ pub fn readers_ignore_quoted_texts()
     ensures printed_bytes { QuotedBytesAreBytes printed_by }
     ensures fragments { ReadersIgnoreQuotedFragments }
     ensures closed { ClosedFragmentsOpenStrings }
+    ensures plain { PlainTextsArePrinted }
+    ensures no_texts { NoTextsDecide statement }
+    ensures no_texts_printed { NoTextsDecide printed_by }
 {}
 
 /// Untrusted texts in raw fragments don't interfere either, where `quote` or a binding call put them

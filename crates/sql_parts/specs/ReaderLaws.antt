@@ -1,9 +1,9 @@
 -- What any reader makes of untrusted texts.
-use Rattle.std.specs.Prelude.{◌≡◌, ◌++◌, ℕ, Bool, IsTrue, List, [], ◌∷◌, Option, flat_map, option_map, unwrap_or}
-use Rattle.std.specs.List.{list_all}
-use Rattle.sql_parts.specs.Quoting.{closing, opening}
+use Rattle.std.specs.Prelude.{◌≡◌, ◌↔◌, ◌++◌, ◌+◌, ℕ, Bool, IsTrue, List, [], ◌∷◌, Option, flat_map, length, option_map, take, unwrap_or}
+use Rattle.std.specs.List.{All, list_all}
+use Rattle.sql_parts.specs.Quoting.{closing, doubled, opening}
 use Rattle.sql_parts.specs.Literal.{LiteralValue, literal_text, words}
-use Rattle.sql_parts.specs.Readers.{Part, Constant, Reader, DifferInDoubledTexts, IsInside, IsInsideAtEach, OpensLiteral, after, between_parts}
+use Rattle.sql_parts.specs.Readers.{Part, Constant, Doubled, Reader, DifferInDoubledTexts, IsInside, IsInsideAtEach, OpensLiteral, after, between_parts}
 use Rattle.sql_parts.specs.Readers.{has_plain_text, inner_states, marks, outer_states, parts_bytes, states}
 use Rattle.sql_parts.specs.Templates.{Marks, Resolved, Value, bound, resolve}
 use Rattle.sql_parts.specs.TextLaws.{DifferInTexts}
@@ -35,6 +35,19 @@ ReadersIgnoreDoubledTexts = (next : Reader) (plain : ℕ → Bool) (state : ℕ)
     → IsTrue (list_all (has_plain_text plain) one) → IsTrue (list_all (has_plain_text plain) other) → IsInsideAtEach next plain state one
     → IsInsideAtEach next plain state other
     × (outer_states next state (marks one) (parts_bytes one) ≡ outer_states next state (marks other) (parts_bytes other))
+
+-- how many bytes precede each text whose delimiters are doubled, and its delimiter
+abbrev pub places_from : ℕ → List Part → List (ℕ × ℕ)
+places_from before [] = []
+places_from before (Constant text ∷ parts) = places_from (before + length text) parts
+places_from before (Doubled delimiter text ∷ parts) = (before, delimiter) ∷ places_from (before + length (doubled delimiter text)) parts
+
+-- The reader is inside of a literal at each such part exactly where it is so at each of these places in the bytes, behind the bytes that
+-- precede it.
+abbrev pub PartsAreAtPlaces : Type 0
+PartsAreAtPlaces = (next : Reader) (plain : ℕ → Bool) (state : ℕ) (parts : List Part)
+    → IsInsideAtEach next plain state parts
+    ↔ All (λ place. IsInside next plain place.1 (after next state (take place.0 (parts_bytes parts)))) (places_from 0 parts)
 
 -- ---- binding
 

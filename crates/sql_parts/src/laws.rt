@@ -7,7 +7,7 @@ ghost use Rattle.sql_parts.specs.StringTexts.{ArgumentsDifferInTexts, BlankSomew
 ghost use Rattle.sql_parts.specs.StringTexts.{BoundTextsKeepTheirPlaces, IgnoresBoundTexts, IgnoresStrings, NamesDifferInTexts, outline, semicolon_count};
 ghost use Rattle.sql_parts.specs.TextLaws.{DifferInTexts, EndsAsWritten, HasOneReading, LeavesTextWithout, MasksMatch, UndoesDoubling, IsInjective, colon};
 ghost use Rattle.sql_parts.specs.TextLaws.{dollar, question_mark, token_count};
-ghost use Rattle.sql_parts.specs.ReaderLaws.{IsInsideUntilItsEnd, LeadsAsNoText, ReadersIgnoreBoundTexts, ReadersIgnoreDoubledTexts, StaysInside};
+ghost use Rattle.sql_parts.specs.ReaderLaws.{IsInsideUntilItsEnd, LeadsAsNoText, PartsAreAtPlaces, ReadersIgnoreBoundTexts, ReadersIgnoreDoubledTexts, StaysInside};
 ghost use Rattle.sql_parts.specs.declared.delimiters.Quotes.TheVariants.{Back, Double, Single, Square};
 ghost use Rattle.sql_parts.specs.Quoting.{baquoted, brquoted, dquoted, escaped, quoted};
 ghost use Rattle.sql_parts.specs.Literal.{LiteralValue, literal_text, words};
@@ -172,10 +172,12 @@ pub fn literals_end_for_any_reader()
 
 /// Whatever reads them: of two texts that differ only in texts which are quoted, or escaped inside of
 /// quotes, where a reader is inside of a literal at each of these in the one, it is so in the other,
-/// and goes through the same states outside of them. It does nothing when it runs.
+/// and goes through the same states outside of them. Where they are in the bytes says `places_from`. It
+/// does nothing when it runs.
 /// `quote(alloc, "b), (")?` → `'b), ('`
 pub fn readers_ignore_quoted_parts()
-    ensures { ReadersIgnoreDoubledTexts }
+    ensures alike { ReadersIgnoreDoubledTexts }
+    ensures places { PartsAreAtPlaces }
 {}
 
 /// Whatever reads them: of two bindings of a template that differ only in texts, where a reader is

@@ -97,7 +97,7 @@ condition-blank _ = refl
 -- ---- one more call
 
 module _ {X : Type 0} (f : X → X) (twice : (x : X) → f (f x) ≡ f x) where
-  map-twice : (xs : List X) → map f (map f xs) ≡ map f xs
+  pub map-twice : (xs : List X) → map f (map f xs) ≡ map f xs
   map-twice [] = refl
   map-twice (x ∷ xs) = λ i. twice x i ∷ map-twice xs i
 

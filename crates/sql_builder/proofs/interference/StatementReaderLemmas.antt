@@ -1,5 +1,5 @@
 -- Readers go through the same states outside of the texts that calls quote.
-use Rattle.std.proofs.Common.{◌≡◌, refl, sym, ◌∙◌, ap, subst, ℕ, Bool, List, [], ◌∷◌, Option, None, Some, Result, Ok, Err, map, length}
+use Rattle.std.proofs.Common.{◌≡◌, refl, sym, ◌∙◌, ap, subst, ℕ, Bool, true, false, List, [], ◌∷◌, ◌++◌, Option, None, Some, Result, Ok, Err, map, length}
 use Rattle.std.specs.Prelude.{IfOk, IsTrue}
 use Rattle.std.specs.List.{list_all}
 use Rattle.std.specs.Result.{result_map_both}
@@ -26,6 +26,22 @@ use Rattle.sql_builder.proofs.pieces.ClauseShapeLemmas.{printed-shaped}
 use Rattle.sql_builder.proofs.pieces.ShapeLemmas.{Shaped}
 use Rattle.sql_builder.proofs.pieces.LayoutMapLemmas.{layout_in_form}
 use Rattle.sql_builder.proofs.statements.StatementLawLemmas.{builders_print_statements}
+use Rattle.std.specs.Prelude.{◌&&◌}
+use Rattle.std.proofs.lemmas.Bool.{and_from, and_parts}
+use Rattle.std.proofs.lemmas.List.Folds.{list_all-append}
+use Rattle.sql_builder.specs.Calls as call
+use Rattle.sql_builder.specs.Condition as condition
+use Rattle.sql_builder.specs.Condition.{mask_text}
+use Rattle.sql_builder.specs.Interference.{blank_call, call_quoted_texts}
+use Rattle.sql_builder.specs.Calls.{CallText, StartText, finish_raw_texts, start_raw_texts}
+use Rattle.sql_builder.specs.StatementReaders.{NoTextsDecide, PlainTextsArePrinted, quotes_plain_texts}
+use Rattle.sql_builder.specs.declared.condition.Percent.{Percent}
+use Rattle.sql_builder.specs.declared.condition.Percent.TheVariants as sign
+use Rattle.sql_builder.proofs.fragments.FitLemmas.{unless}
+use Rattle.sql_builder.proofs.fragments.NeutralLemmas.{all-any, calls-any}
+use Rattle.sql_builder.proofs.fragments.PassLemmas.{printed-passes}
+use Rattle.sql_builder.proofs.fragments.PropertyLemmas.{piece_passes, whatever}
+use Rattle.sql_builder.proofs.interference.QuotedTextLemmas.{map-twice}
 
 -- ---- parts of pieces
 
@@ -118,3 +134,59 @@ closed-open start calls finish is = by (error_at finish (made_by start calls)) (
         → IfOk (unless_error failed printed) (λ printed. IsInsideAtEach token_reader every_byte 0 (parts_in printed))
     by None printed shaped is = shaped.opens is
     by (Some error) printed shaped is = tt
+
+-- ---- plain texts
+
+parts-plain : (plain : ℕ → Bool) (printed : Pieces)
+    → list_all (has_plain_text plain) (parts_in printed) ≡ list_all (piece_passes whatever (list_all plain)) printed
+parts-plain plain [] = refl
+parts-plain plain (text.Fixed words ∷ printed) = parts-plain plain printed
+parts-plain plain (text.Quoted quoted ∷ printed) = ap (λ more. list_all plain quoted && more) (parts-plain plain printed)
+parts-plain plain (text.Raw raw ∷ printed) = parts-plain plain printed
+
+pub plain-printed : PlainTextsArePrinted
+plain-printed plain start calls finish all =
+    let laid = layout_at fixed_piece raw_piece finish (clauses start calls) in
+    unless (error_at finish (made_by start calls)) laid (λ printed. list_all (has_plain_text plain) (parts_in printed))
+    (parts-plain plain laid
+    ∙ printed-passes whatever (list_all plain) false start calls finish all (all-any (start_raw_texts start)) (calls-any calls) (all-any (finish_raw_texts finish)))
+
+-- a call without texts quotes plain ones where the call does: the percent signs of a mask
+percent-plain : (plain : ℕ → Bool) (percent : Percent) (mask : List ℕ) → list_all plain (mask_text percent mask) ≡ true
+    → list_all plain (mask_text percent []) ≡ true
+percent-plain plain sign.Plain mask all = refl
+percent-plain plain sign.Right mask all = and_from _ _ (and_parts (plain 37) (list_all plain (mask ++ [])) all).0 refl
+percent-plain plain sign.Left mask all = (and_parts (list_all plain mask) _ (sym (list_all-append plain mask (37 ∷ [])) ∙ all)).1
+percent-plain plain sign.Any mask all =
+    let both = and_parts (plain 37) (list_all plain (mask ++ 37 ∷ [])) all in
+    and_from _ _ both.0 (and_parts (list_all plain mask) _ (sym (list_all-append plain mask (37 ∷ [])) ∙ both.1)).1
+
+none-plain : (plain : ℕ → Bool) (values : List (List ℕ)) → list_all (list_all plain) (map (λ value. []) values) ≡ true
+none-plain plain [] = refl
+none-plain plain (value ∷ values) = none-plain plain values
+
+blank-plain : (plain : ℕ → Bool) (c : CallText) → list_all (list_all plain) (call_quoted_texts c) ≡ true
+    → list_all (list_all plain) (call_quoted_texts (blank_call c)) ≡ true
+blank-plain plain (call.Cond family (condition.Like negated percent field mask)) all =
+    and_from _ _ (percent-plain plain percent mask (and_parts (list_all plain (mask_text percent mask)) true all).0) refl
+blank-plain plain (call.Cond family (condition.InQuoted negated field values)) all = none-plain plain values
+blank-plain plain _ all = refl
+
+blanks-plain : (plain : ℕ → Bool) (calls : List CallText) → quotes_plain_texts plain calls ≡ true → quotes_plain_texts plain (map blank_call calls) ≡ true
+blanks-plain plain [] all = refl
+blanks-plain plain (c ∷ calls) all =
+    let both = and_parts (list_all (list_all plain) (call_quoted_texts c)) (quotes_plain_texts plain calls) all in
+    and_from _ _ (blank-plain plain c both.0) (blanks-plain plain calls both.1)
+
+blank_call-twice : (c : CallText) → blank_call (blank_call c) ≡ blank_call c
+blank_call-twice (call.Cond family (condition.InQuoted negated field values)) =
+    ap (λ (none : List (List ℕ)). call.Cond family (condition.InQuoted negated field none)) (map-twice (λ (value : List ℕ). []) (λ value. refl) values)
+blank_call-twice _ = refl
+
+pub no_texts-decide : NoTextsDecide statement
+no_texts-decide next plain state start calls finish all opens =
+    statements-alike next plain state start (map blank_call calls) calls finish (map-twice blank_call blank_call-twice calls)
+    (plain-printed plain start (map blank_call calls) finish (blanks-plain plain calls all)) (plain-printed plain start calls finish all) opens
+
+pub no_texts-decide_printed : NoTextsDecide printed_by
+no_texts-decide_printed = subst NoTextsDecide printed_by-statement no_texts-decide

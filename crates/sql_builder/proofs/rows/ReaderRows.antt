@@ -1,8 +1,8 @@
 -- Worked rows of what readers make of statements, and of a fragment that leaves a comment open.
-use Prim.Native.Char.{code}
-use Rattle.std.specs.Prelude.{◌≡◌, ◌++◌, ℕ, Bool, List, [], ◌∷◌, Ok, None, codes, false, refl, true}
-use Rattle.std.proofs.lemmas.Bool.{eqb-false}
-use Rattle.sql_parts.specs.Readers.{Part, between_parts, outer_states}
+use Rattle.std.specs.Prelude.{◌≡◌, ◌++◌, ℕ, Bool, List, [], ◌∷◌, codes, false, refl, true}
+use Rattle.std.specs.List.{list_all}
+use Rattle.std.proofs.lemmas.Bool.{and_from, eqb-false}
+use Rattle.sql_parts.specs.Readers.{Part, Reader, IsInsideAtEach, between_parts, marks, outer_states}
 use Rattle.sql_parts.specs.TokenReader.{token_reader}
 use Rattle.sql_parts.specs.declared.delimiters.Quotes.TheVariants.{Single}
 use Rattle.sql_parts.proofs.tokens.TokenReaderLemmas.{opens-every}
@@ -14,6 +14,7 @@ use Rattle.sql_builder.specs.StatementReaders.{OpensStrings, constant_part, part
 use Rattle.sql_builder.specs.declared.clauses.Kind.TheVariants.{DeleteFrom}
 use Rattle.sql_builder.specs.declared.condition.Family.TheVariants.{And}
 use Rattle.sql_builder.specs.declared.condition.Percent.TheVariants.{Plain}
+use Rattle.sql_builder.proofs.interference.StatementReaderLemmas.{fragments-alike}
 
 abbrev every : ℕ → Bool
 every byte = true
@@ -58,3 +59,10 @@ parts_of : parts_at Sql (deleting (codes "b"))
     ≡ constant_part (codes "DELETE FROM ") ++ (constant_part (codes "t") ++ (constant_part (codes " WHERE ") ++ (constant_part (codes "a = ")
     ++ (between_parts Single (codes "b") ++ constant_part (codes ";")))))
 parts_of = refl
+
+-- whatever the text, any reader that opens a string at it where there is none goes through the same states outside of it
+alike : (next : Reader) (plain : ℕ → Bool) (state : ℕ) (text : List ℕ) → list_all plain text ≡ true
+    → IsInsideAtEach next plain state (parts_at Sql (deleting []))
+    → outer_states next state (marks (parts_at Sql (deleting []))) (text_of_parts Sql (deleting []))
+    ≡ outer_states next state (marks (parts_at Sql (deleting text))) (text_of_parts Sql (deleting text))
+alike next plain state text all inside = (fragments-alike next plain state Sql (deleting []) (deleting text) refl refl (and_from _ _ all refl) inside).1
