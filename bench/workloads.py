@@ -244,7 +244,7 @@ CALLS = [
 ]
 
 CONDITION = "(price > 100 AND title LIKE 'it''s%') OR CASE WHEN a THEN b ELSE c END = 3 AND cost BETWEEN 1 AND 2 OR "
-TESTS = {"is_closed": 20, "has_semicolon": 20, "is_balanced": 30, "has_clause_word": 30, "is_operand": 30, "has_dangling": 30}
+TESTS = {"is_closed": 20, "has_semicolon": 20, "is_balanced": 30, "has_clause_word": 30, "is_operand": 30, "misfit": 30, "has_dangling": 30}
 
 KINDS = {"symbols": "+=<>,|&^", "brackets": "(((())))", "quotes": "'it''s'\"a\""}
 

@@ -33,6 +33,7 @@ fn states_its_laws() {
     laws::fit_texts_make_fit_fragments();
     laws::closed_texts_make_closed_fragments();
     laws::texts_pass_call_by_call();
+    laws::tests_pass_fit_texts();
     laws::selects_need_group_by();
     laws::subqueries_nest_as_tables();
     laws::truth_follows_the_form();

@@ -3,6 +3,7 @@
 ghost use Rattle.std.specs.Prelude.{IfOk, IsTrue, List, codes};
 ghost use Rattle.sql_builder.specs.Calls.{CallText, Sql, StartText, having_in, limit_in, offset_in, returning_in};
 ghost use Rattle.sql_builder.specs.TextTests.{ClosedTextsMakeClosedFragments, FitTextsMakeClosedFragments, PlainTextsEndInOneSemicolon, PlainTextsMakePlainFragments, SelectsNeedGroupBy, TextsAreFitCallByCall, TextsPassCallByCall};
+ghost use Rattle.sql_builder.specs.Unfits.{QuotedTextsDecideNoTest, TestsPassBalancedTexts, TestsPassFitTexts};
 ghost use Rattle.sql_builder.specs.Inserts.{BuildersOfInsertsReadBack, BuildersOfQueriesAreOne, FitTextsMakeFitTargets, InsertsReadBack, QueriesAreOne};
 ghost use Rattle.sql_builder.specs.Interference.{ConditionsKeepTheirOutline, EquationsKeepTheirOutline, FragmentsDoNotInterfere, IgnoresQuotedTexts, OutlinesDecideOutlines, QuotedTextsAreStrings, QuotedTextsDoNotInterfere, QuotedTextsKeepTheirPlaces, QuotesKeepTheirOutline, blank_clauses, clauses_but};
 ghost use Rattle.sql_builder.specs.BuilderLaws.{BuildersEndInOneSemicolon, ConditionsAreAtoms, ConditionsKeepTokens, BracketsMakeOperands, CountsKeepTokens, EquationsKeepTokens, FieldsJoin, FitTextsMakeBalancedFragments, FitTextsMakeFitConditions, FitTextsMakeFitFragments, IsValued, OnlyLastCounts, QuotedEquationsKeepTokens, StatementsReadBack, TruthOfAnd, TruthOfBrackets, TruthOfNot, TruthOfOr, TruthOfWhere, a_without_c, brackets_and_not, range_and_case};
@@ -221,6 +222,17 @@ pub fn closed_texts_make_closed_fragments()
 pub fn texts_pass_call_by_call()
     ensures passing { TextsPassCallByCall }
     ensures fit { TextsAreFitCallByCall }
+{}
+
+/// The tests of `check` pass exactly where each text is fit, and those of `check_confined` where each
+/// is balanced. No text that calls quote decides a test: lists of calls that differ only in these have
+/// the same first text that doesn't fit, or none.
+/// `check(&Start::DeleteFrom(String::from_str(alloc, "t")?), &[], &Finish::Sql)` → `()`
+#[tactic(auto, using(crate::proofs::fragments::UnfitLemmas::list_is_fit, crate::proofs::fragments::UnfitLemmas::list_is_balanced, crate::proofs::fragments::UnfitLemmas::quoted_texts_decide_none))]
+pub fn tests_pass_fit_texts()
+    ensures fit { TestsPassFitTexts }
+    ensures balanced { TestsPassBalancedTexts }
+    ensures quoted { QuotedTextsDecideNoTest }
 {}
 
 /// `sql` of a SELECT from a table that has a name fails exactly where a list of calls has a `having`

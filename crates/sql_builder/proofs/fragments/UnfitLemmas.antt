@@ -17,13 +17,17 @@ use Rattle.sql_parts.proofs.fragments.MisfitLemmas.{balanced_whole, met}
 use Rattle.sql_builder.specs.Calls as call
 use Rattle.sql_builder.specs.Calls.{CallText, FinishText, StartText, Sql, Query, QueryValues, Subquery, SubqueryAs, call_raw_texts, clauses, field_text}
 use Rattle.sql_builder.specs.Calls.{finish_raw_texts, start_raw_texts}
+use Rattle.sql_builder.specs.Condition.{ConditionText, Raw, Compare, Like, IsNull, IsNotNull, InList, InQuoted, InQuery, Between, blank_condition}
+use Rattle.sql_builder.specs.Condition.{condition_raw_texts}
+use Rattle.sql_builder.specs.Interference.{blank_call}
 use Rattle.sql_builder.specs.Meaning.{HasBalancedFragments, is_unenclosed, prints_where}
 use Rattle.sql_builder.specs.RawFragments.{encloses_fields, has_balanced_fragments, has_closed_fragments, has_fit_texts, is_fit}
 use Rattle.sql_builder.specs.RawTexts.{RawText, Bare, Enclosed}
 use Rattle.sql_builder.specs.Shape.{EndsInOneSemicolon, HasClosedFragments}
 use Rattle.sql_builder.specs.Statement.{pieces, statement}
 use Rattle.sql_builder.specs.TextTests.{all_pass, call_passes, is_plain, raw_text, texts_pass}
-use Rattle.sql_builder.specs.Unfits.{calls_test, list_test, raw_test, texts_test, unless_misfit}
+use Rattle.sql_builder.specs.Unfits.{QuotedTextsDecideNoTest, TestsPassBalancedTexts, TestsPassFitTexts, calls_test, list_test, raw_test, texts_test}
+use Rattle.sql_builder.specs.Unfits.{unless_misfit}
 use Rattle.sql_builder.specs.declared.checks.Place.{Place}
 use Rattle.sql_builder.specs.declared.checks.Place.TheVariants as place
 use Rattle.sql_builder.specs.declared.checks.Unfit.{Unfit}
@@ -99,8 +103,7 @@ fits_balanced : (raw : RawText) → fits demand.Balanced raw ≡ balanced (raw_t
 fits_balanced (Bare text) = refl
 fits_balanced (Enclosed text) = refl
 
-pub list_is_fit : (start : StartText) (calls : List CallText) (finish : FinishText)
-    → is_ok (list_test demand.Fragment start calls finish) ≡ has_fit_texts start calls finish
+pub list_is_fit : TestsPassFitTexts
 list_is_fit start calls finish =
     let all = each_same (fits demand.Fragment) is_fit fits_fit in
     let enclosed = encloses_fields start finish in
@@ -125,8 +128,7 @@ call_balanced enclosed (call.SetField field) = fields_balanced enclosed (field �
 call_balanced enclosed (call.CountAs field name) = ap (λ b. balanced field && b) (fields_balanced enclosed (name ∷ []))
 call_balanced enclosed c = refl
 
-pub list_is_balanced : (start : StartText) (calls : List CallText) (finish : FinishText)
-    → is_ok (list_test demand.Balanced start calls finish) ≡ texts_pass balanced start calls finish
+pub list_is_balanced : TestsPassBalancedTexts
 list_is_balanced start calls finish =
     let all = each_same (fits demand.Balanced) (λ raw. balanced (raw_text raw)) fits_balanced in
     let enclosed = encloses_fields start finish in
@@ -135,6 +137,37 @@ list_is_balanced start calls finish =
     && each_same (λ c. list_all (fits demand.Balanced) (call_raw_texts enclosed c)) (call_passes balanced)
     (λ c. all (call_raw_texts enclosed c) ∙ call_balanced enclosed c) calls i
     && all (finish_raw_texts finish) i)
+
+-- what a call quotes is no raw text
+condition_blank : (condition : ConditionText) → condition_raw_texts condition ≡ condition_raw_texts (blank_condition condition)
+condition_blank (Raw condition) = refl
+condition_blank (Compare relation field value) = refl
+condition_blank (Like negated percent field mask) = refl
+condition_blank (IsNull field) = refl
+condition_blank (IsNotNull field) = refl
+condition_blank (InList negated field values) = refl
+condition_blank (InQuoted negated field values) = refl
+condition_blank (InQuery negated field query) = refl
+condition_blank (Between negated field least greatest) = refl
+
+call_blank : (enclosed : Bool) (c : CallText) → call_raw_texts enclosed c ≡ call_raw_texts enclosed (blank_call c)
+call_blank enclosed (call.Cond family condition) = condition_blank condition
+call_blank enclosed (call.SetStr field value) = refl
+call_blank enclosed c = refl
+
+calls_blank : (bare : Demand) (index : ℕ) (enclosed : Bool) (calls : List CallText)
+    → calls_test bare index enclosed calls ≡ calls_test bare index enclosed (map blank_call calls)
+calls_blank bare index enclosed [] = refl
+calls_blank bare index enclosed (c ∷ calls) =
+    λ i. result_and (texts_test bare (place.Call index) 0 (call_blank enclosed c i)) (calls_blank bare (index + 1) enclosed calls i)
+
+pub quoted_texts_decide_none : QuotedTextsDecideNoTest
+quoted_texts_decide_none bare start one other finish same =
+    let enclosed = encloses_fields start finish in
+    let calls : calls_test bare 0 enclosed one ≡ calls_test bare 0 enclosed other =
+    calls_blank bare 0 enclosed one ∙ ap (calls_test bare 0 enclosed) same ∙ sym (calls_blank bare 0 enclosed other) in
+    λ i. result_and (texts_test bare place.Start 0 (start_raw_texts start))
+    (result_and (calls i) (texts_test bare place.Finish 0 (finish_raw_texts finish)))
 
 -- fit texts are balanced
 fit_balanced : (raw : RawText) → is_fit raw ≡ true → balanced (raw_text raw) ≡ true
