@@ -1,4 +1,5 @@
 pub mod DecimalFacts
+pub mod DigitLemmas
 pub mod DoublingLemmas
 pub mod EscapingLemmas
 pub mod LaneLemmas
