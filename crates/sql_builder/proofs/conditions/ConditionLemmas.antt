@@ -258,7 +258,8 @@ operands_balanced (InList negated field values) h =
 operands_balanced (InQuoted negated field values) h =
     and_from _ _ (operand_balanced field h)
     (within balanced whatever (not_text negated ++ codes " IN (") (comma_list fixed_piece (map quoted_piece values)) (codes ")")
-    (listed (Passes balanced whatever) (passes-joins balanced whatever) (map quoted_piece values) (quoteds-pass balanced whatever values (all-whatever values))))
+    (listed (Passes balanced whatever) (passes-joins balanced whatever) (map quoted_piece values)
+    (quoteds-pass balanced whatever values (all-whatever values))))
 operands_balanced (InQuery negated field query) h =
     let both = and_parts (operand field) (balanced query) h in
     and_from _ _ (operand_balanced field both.0) (and_from _ _ both.1 refl)

@@ -246,7 +246,8 @@ module _ (start : StartText) (calls : List CallText) (finish : FinishText) (all 
   printed-balanced : Passes balanced whatever (layout finish (clauses start calls))
   printed-balanced =
       let enclosed = encloses_fields start finish in
-      printed-passes balanced whatever enclosed start calls finish (calls-whatever calls) (all-balanced (start_raw_texts start) fit_parts.0) (calls-balanced enclosed calls fit_parts.1)
+      printed-passes balanced whatever enclosed start calls finish (calls-whatever calls) (all-balanced (start_raw_texts start) fit_parts.0)
+      (calls-balanced enclosed calls fit_parts.1)
       (all-balanced (finish_raw_texts finish) fit_parts.2)
 
 -- fields that nothing encloses

@@ -88,7 +88,8 @@ fit_targets table calls all =
     let both = and_parts (is_fit (Bare table)) _ all in
     let start = call.InsertInto table in
     let from_start = call.SetFields [] ∷ calls in
-    let parts = clauses-preserved true is_fit whatever Fit Inner Neutral insert_fit-preserved start (map blank calls) (calls-whatever (map blank calls)) (and_from _ _ both.0 refl) refl
+    let parts = clauses-preserved true is_fit whatever Fit Inner Neutral insert_fit-preserved start (map blank calls) (calls-whatever (map blank calls))
+    (and_from _ _ both.0 refl) refl
     (all-blank calls both.1) in
     let fits = target-preserved Fit Inner fit-layout (fit-joins (λ n. suc n)) target (clauses start (map blank calls)) parts in
     let fields : fields_of start (map blank calls) ≡ fields_of start calls =

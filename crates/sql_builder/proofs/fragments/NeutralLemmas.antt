@@ -64,7 +64,8 @@ abbrev pub NeutralParts : Clauses Pieces → Type 0
 NeutralParts r = PartsAre Neutral Neutral Neutral r
 
 pub clauses-neutral : (start : StartText) (calls : List CallText) → NeutralParts (clauses start calls)
-clauses-neutral start calls = clauses-preserved false any whatever Neutral Neutral Neutral neutral-preserved start calls (calls-whatever calls) (all-any (start_raw_texts start))
+clauses-neutral start calls = clauses-preserved false any whatever Neutral Neutral Neutral neutral-preserved start calls (calls-whatever calls)
+    (all-any (start_raw_texts start))
     (all-any (call_raw_texts false (call.SetFields (start_fields start)))) (calls-any calls)
 
 -- the clauses of a builder

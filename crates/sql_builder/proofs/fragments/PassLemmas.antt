@@ -35,7 +35,8 @@ module _ (test fine : List ℕ → Bool) where
       → Passes test fine (fixed_piece words ++ (comma_list fixed_piece (map raw_piece values) ++ fixed_piece (codes ")")))
   in-list words values all =
       within test fine words (comma_list fixed_piece (map raw_piece values)) (codes ")")
-      (listed (Passes test fine) (passes-joins test fine) (map raw_piece values) (raws-pass test fine values (sym (list_all-map raw_texts_pass Enclosed values) ∙ all)))
+      (listed (Passes test fine) (passes-joins test fine) (map raw_piece values)
+      (raws-pass test fine values (sym (list_all-map raw_texts_pass Enclosed values) ∙ all)))
 
   field-passes : (enclosed : Bool) (field : List ℕ) → test (raw_text (field_text enclosed field)) ≡ true → test field ≡ true
   field-passes true field h = h
@@ -93,13 +94,15 @@ module _ (test fine : List ℕ → Bool) where
   group_by-bodies : (fields : List Pieces) (having : Option Pieces) → Each (Passes test fine) fields → IfSome having (Passes test fine)
       → Bodies (group_by_sections fixed_piece fields having)
   group_by-bodies [] having all h = tt
-  group_by-bodies (field ∷ fields) having all h = (listed (Passes test fine) (passes-joins test fine) (field ∷ fields) all, optional-bodies (codes " HAVING ") having h)
+  group_by-bodies (field ∷ fields) having all h =
+      (listed (Passes test fine) (passes-joins test fine) (field ∷ fields) all, optional-bodies (codes " HAVING ") having h)
 
   union-bodies : (unions : List (Bool × Pieces)) → AllByRecursion (λ (union : Bool × Pieces). Passes test fine union.1) unions → Bodies (union_sections unions)
   union-bodies [] all = tt
   union-bodies (union ∷ unions) all = (all.0, union-bodies unions all.1)
 
-  order_by-bodies : (unions : List (Bool × Pieces)) (fields : List Pieces) → Each (Passes test fine) fields → Bodies (order_by_sections fixed_piece unions fields)
+  order_by-bodies : (unions : List (Bool × Pieces)) (fields : List Pieces) → Each (Passes test fine) fields
+      → Bodies (order_by_sections fixed_piece unions fields)
   order_by-bodies [] fields all = list-bodies (codes " ORDER BY ") fields all
   order_by-bodies (union ∷ unions) fields all = tt
 

@@ -18,8 +18,8 @@ use Rattle.sql_builder.specs.Pieces.{Pieces, fixed_piece, pieces_text, raw_piece
 use Rattle.sql_builder.specs.RawFragments.{has_closed_fragments}
 use Rattle.sql_builder.specs.Statement.{error_at, layout_at, pieces, statement, text_unless_error, unless_error}
 use Rattle.sql_builder.specs.StatementLaws.{made_by}
-use Rattle.sql_builder.specs.StatementReaders.{ClosedFragmentsOpenStrings, QuotedBytesAreBytes, ReadersIgnoreQuotedFragments, ReadersIgnoreQuotedTexts, bytes_unless_error, constant_part}
-use Rattle.sql_builder.specs.StatementReaders.{every_byte, parts_at, parts_in, printed_by, text_of_parts}
+use Rattle.sql_builder.specs.StatementReaders.{ClosedFragmentsOpenStrings, QuotedBytesAreBytes, ReadersIgnoreQuotedFragments, ReadersIgnoreQuotedTexts}
+use Rattle.sql_builder.specs.StatementReaders.{bytes_unless_error, constant_part, every_byte, parts_at, parts_in, printed_by, text_of_parts}
 use Rattle.sql_builder.proofs.interference.QuotedTextLemmas.{blanks, failed, laid, same_errors, same_layouts}
 use Rattle.sql_builder.proofs.pieces.PartLemmas.{parts_in-bytes}
 use Rattle.sql_builder.proofs.pieces.ClauseShapeLemmas.{printed-shaped}
@@ -127,7 +127,8 @@ fragments-alike next plain state finish one other same one_plain other_plain ins
 -- ---- the reader of tokens
 
 pub closed-open : ClosedFragmentsOpenStrings
-closed-open start calls finish is = by (error_at finish (made_by start calls)) (layout_at fixed_piece raw_piece finish (clauses start calls)) (printed-shaped start calls finish) is
+closed-open start calls finish is =
+    by (error_at finish (made_by start calls)) (layout_at fixed_piece raw_piece finish (clauses start calls)) (printed-shaped start calls finish) is
   where
     by : (failed : Option SqlBuilderError) (printed : Pieces) → Shaped printed
         → IfOk (unless_error failed printed) (λ printed. IsTrue (has_closed_fragments printed))
@@ -149,7 +150,8 @@ plain-printed plain start calls finish all =
     let laid = layout_at fixed_piece raw_piece finish (clauses start calls) in
     unless (error_at finish (made_by start calls)) laid (λ printed. list_all (has_plain_text plain) (parts_in printed))
     (parts-plain plain laid
-    ∙ printed-passes whatever (list_all plain) false start calls finish all (all-any (start_raw_texts start)) (calls-any calls) (all-any (finish_raw_texts finish)))
+    ∙ printed-passes whatever (list_all plain) false start calls finish all (all-any (start_raw_texts start)) (calls-any calls)
+    (all-any (finish_raw_texts finish)))
 
 -- a call without texts quotes plain ones where the call does: the percent signs of a mask
 percent-plain : (plain : ℕ → Bool) (percent : Percent) (mask : List ℕ) → list_all plain (mask_text percent mask) ≡ true

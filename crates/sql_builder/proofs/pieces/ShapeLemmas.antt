@@ -122,7 +122,8 @@ inside-inside x y one behind other = record {
   plain = both-free x y one.plain other.plain;
   opens = λ is. let both = both-closed x y is in
       opens-append 0 x y (one.opens both.0)
-      (opens-shut (state_behind 0 x) y (inside-shut x one both.0) (subst Follows (append-nil (pieces_text y)) (behind.follows [] (inl refl))) (other.opens both.1));
+      (opens-shut (state_behind 0 x) y (inside-shut x one both.0) (subst Follows (append-nil (pieces_text y)) (behind.follows [] (inl refl)))
+      (other.opens both.1));
 }
 
 -- the product's words

@@ -68,7 +68,8 @@ module _ (next : Reader) (plain : ℕ → Bool) (state : ℕ) (one other : Value
       ap (λ more. Constant resolved.0 ∷ more)
       (later-emptied one resolved.1 ∙ ap (λ literals. later_parts literals resolved.1) (same_blanks one other differ) ∙ sym (later-emptied other resolved.1)) in
       let alike = readers-alike next plain state (resolved_parts one resolved) (resolved_parts other resolved) same one_plain other_plain inside in
-      let read : (Value → LiteralValue) → List ℕ → List ℕ = λ literals text. outer_states next state (marks (resolved_parts literals resolved)) (resolved.0 ++ text) in
+      let read : (Value → LiteralValue) → List ℕ → List ℕ =
+      λ literals text. outer_states next state (marks (resolved_parts literals resolved)) (resolved.0 ++ text) in
       (alike.0, ap Some (ap (read one) (sym (later-bytes one resolved.1)) ∙ alike.1 ∙ ap (read other) (later-bytes other resolved.1)))
 
 pub bound-alike : ReadersIgnoreBoundTexts

@@ -93,7 +93,8 @@ module _ (next : Reader) where
     abbrev Alike : ℕ → List Part → List Part → Type 0
     Alike state one other = IsInsideAtEach next plain state other × (Outer state one ≡ Outer state other)
 
-    constant : (state : ℕ) (text : List ℕ) (one other : List Part) → Alike (after next state text) one other → Alike state (Constant text ∷ one) (Constant text ∷ other)
+    constant : (state : ℕ) (text : List ℕ) (one other : List Part) → Alike (after next state text) one other
+        → Alike state (Constant text ∷ one) (Constant text ∷ other)
     constant state text one other alike = (
       (tt, alike.0),
       unmarked-first state text (marks one) (parts_bytes one) ∙ ap (λ more. states next state text ++ more) alike.1

@@ -54,7 +54,26 @@ Steps m byte = (token_reader (number m) byte ≡ number (step m byte).1) × (has
 starts : (byte : ℕ) → Steps Between byte
 starts byte =
     elim (cases_Bool (is_one_of (codes " \t\n\r-/'\"`[") byte)) [
-      | inl is ↦ one_of (Steps Between) (codes " \t\n\r-/'\"`[") ((refl, refl), ((refl, refl), ((refl, refl), ((refl, refl), ((refl, refl), ((refl, refl), ((refl, refl), ((refl, refl), ((refl, refl), ((refl, refl), tt)))))))))) byte is
+      | inl is ↦
+          one_of (Steps Between) (codes " \t\n\r-/'\"`[") (
+            (refl, refl),
+            (
+              (refl, refl),
+              (
+                (refl, refl),
+                (
+                  (refl, refl),
+                  (
+                    (refl, refl),
+                    (
+                      (refl, refl),
+                      ((refl, refl), ((refl, refl), ((refl, refl), ((refl, refl), tt)))),
+                    ),
+                  ),
+                ),
+              ),
+            ),
+          ) byte is
       | inr none ↦
           let blank = or_parts (byte == 32) _ none in
           let tab = or_parts (byte == 9) _ blank.1 in
