@@ -1,3 +1,4 @@
 pub mod BlankClauseLemmas
 pub mod OutlineLemmas
 pub mod QuotedTextLemmas
+pub mod StatementReaderLemmas

@@ -1,4 +1,5 @@
 pub mod ClauseShapeLemmas
 pub mod LayoutMapLemmas
 pub mod LayoutShapeLemmas
+pub mod PartLemmas
 pub mod ShapeLemmas

@@ -4,4 +4,5 @@ pub mod InterferenceRows
 pub mod MeaningRows
 pub mod PrintedRows
 pub mod RawTextRows
+pub mod ReaderRows
 pub mod StatementLawRows

@@ -8,7 +8,7 @@ use Rattle.sql_parts.specs.declared.error.SqlBuilderError.{SqlBuilderError}
 use Rattle.sql_builder.specs.Builder.{ClauseTexts}
 use Rattle.sql_builder.specs.Calls.{CallText, FinishText, StartText, Cond, SetStr}
 use Rattle.sql_builder.specs.Clauses.{map_clauses}
-use Rattle.sql_builder.specs.Condition.{ConditionText, blank_condition, condition_bytes, condition_pieces}
+use Rattle.sql_builder.specs.Condition.{ConditionText, Like, InQuoted, blank_condition, condition_bytes, condition_pieces, mask_text}
 use Rattle.sql_builder.specs.Layout.{byte_units}
 use Rattle.sql_builder.specs.Phrases.{equation}
 use Rattle.sql_builder.specs.Reading.{Clause, read}
@@ -28,6 +28,18 @@ blank_call call = call
 -- calls that are equal when blanked: they differ only in texts that they quote
 abbrev pub DifferInQuotedTexts : List CallText → List CallText → Type 0
 DifferInQuotedTexts one other = map blank_call one ≡ map blank_call other
+
+-- the texts that a condition quotes, a mask with its percent signs
+abbrev pub condition_quoted_texts : ConditionText → List (List ℕ)
+condition_quoted_texts (Like negated percent field mask) = mask_text percent mask ∷ []
+condition_quoted_texts (InQuoted negated field values) = values
+condition_quoted_texts _ = []
+
+-- the texts that a call quotes
+abbrev pub call_quoted_texts : CallText → List (List ℕ)
+call_quoted_texts (SetStr field value) = value ∷ []
+call_quoted_texts (Cond family condition) = condition_quoted_texts condition
+call_quoted_texts _ = []
 
 -- for each token of a piece, whether it is a text that a call quoted
 abbrev pub piece_places : Piece → List Bool

@@ -20,6 +20,7 @@ pub mod Reading
 pub mod Shape
 pub mod Statement
 pub mod StatementLaws
+pub mod StatementReaders
 pub mod Steps
 pub mod Subqueries
 pub mod Pieces
@@ -41,6 +42,7 @@ pub use Rattle.sql_parts.specs.Quoting
 pub use Rattle.sql_parts.specs.ReaderLaws
 pub use Rattle.sql_parts.specs.Readers
 pub use Rattle.sql_parts.specs.Templates
+pub use Rattle.sql_parts.specs.TokenReader
 pub use Rattle.sql_parts.specs.Tokens
 pub use Rattle.sql_parts.specs.NameLoans
 pub use Rattle.sql_parts.specs.TextLaws

@@ -9,8 +9,9 @@ ghost use Rattle.sql_builder.specs.BuilderLaws.{BuildersEndInOneSemicolon, Condi
 ghost use Rattle.sql_builder.specs.Truths.{False, True, Unknown};
 ghost use Rattle.sql_builder.specs.Shape.{EndsInOneSemicolon};
 ghost use Rattle.sql_builder.specs.RawFragments.{has_closed_fragments, has_no_semicolons};
-ghost use Rattle.sql_builder.specs.Statement.{pieces};
+ghost use Rattle.sql_builder.specs.Statement.{pieces, statement};
 ghost use Rattle.sql_builder.specs.StatementLaws.{BuildersFollowCalls, BuildersPrintStatements, StatementsAreClosed, StatementsHaveTruth, StatementsKeepTokens, StatementsNest};
+ghost use Rattle.sql_builder.specs.StatementReaders.{ClosedFragmentsOpenStrings, NoTextsDecide, PlainTextsArePrinted, QuotedBytesAreBytes, ReadersIgnoreQuotedFragments, ReadersIgnoreQuotedTexts, printed_by};
 ghost use Rattle.sql_builder.specs.Subqueries.{SubqueriesNestAsTables};
 ghost use Rattle.sql_builder.specs.Pieces.{pieces_text};
 ghost use Rattle.sql_parts.specs.Fragments.{balanced, dangling, has_clause_word, operand};
@@ -21,8 +22,8 @@ pub use sql_parts::laws::{
     bound_texts_do_not_interfere, bound_texts_keep_the_count, doubling_is_undone,
     escaped_masks_match_their_text, literals_are_operands, literals_end_for_any_reader,
     literals_without_backslashes_read_alike, quoted_names_are_operands, quoting_is_injective,
-    readers_ignore_quoted_parts, string_texts_decide_nothing, tokens_join_at_edges,
-    unmarked_is_unchanged,
+    readers_ignore_bound_texts, readers_ignore_quoted_parts, rules_are_readers,
+    string_texts_decide_nothing, tokens_join_at_edges, unmarked_is_unchanged,
 };
 
 /// `fields` of a list and then of another is `fields` of the two joined.
@@ -77,6 +78,26 @@ pub fn quoted_texts_do_not_interfere()
     ensures operand { IgnoresQuotedTexts operand }
     ensures clause_word { IgnoresQuotedTexts has_clause_word }
     ensures dangling { IgnoresQuotedTexts dangling }
+{}
+
+/// No untrusted text changes what any reader, as a database's lexer, makes of a statement. Of two
+/// lists of calls that differ only in texts that calls quote, of bytes that are plain to the reader,
+/// where it opens a string at each of these texts in what is printed of the one, it does so in what is
+/// printed of the other, and goes through the same states over the bytes outside of them; or both
+/// fail with the same error. It is so of what `run` prints, and of what `print` prints of the builder
+/// that `begin` and `make` make, and of any builder where texts are quoted inside of raw fragments. So
+/// a statement that a database reads as meant with empty texts is read so with every text.
+/// `SqlBuilder::update_table(alloc, "t")?.set_str("a", "x'; --")?.sql()?` → `UPDATE t SET a = 'x''; --';`
+pub fn readers_ignore_quoted_texts()
+    ensures statements { ReadersIgnoreQuotedTexts statement }
+    ensures printed { ReadersIgnoreQuotedTexts printed_by }
+    ensures bytes { QuotedBytesAreBytes statement }
+    ensures printed_bytes { QuotedBytesAreBytes printed_by }
+    ensures fragments { ReadersIgnoreQuotedFragments }
+    ensures closed { ClosedFragmentsOpenStrings }
+    ensures plain { PlainTextsArePrinted }
+    ensures no_texts { NoTextsDecide statement }
+    ensures no_texts_printed { NoTextsDecide printed_by }
 {}
 
 /// Untrusted texts in raw fragments don't interfere either, where `quote` or a binding call put them

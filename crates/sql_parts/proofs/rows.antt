@@ -5,5 +5,6 @@ pub mod LikeRows
 pub mod LiteralRows
 pub mod NameRows
 pub mod OperandRows
+pub mod ReaderRows
 pub mod TemplateRows
 pub mod TokenRows

@@ -1,4 +1,5 @@
 pub mod ApartFacts
+pub mod BoundReaderLemmas
 pub mod BoundTextFacts
 pub mod CallerFacts
 pub mod PairLemmas

@@ -8,3 +8,4 @@ pub mod NameFacts
 pub mod ReaderLemmas
 pub mod SeamLemmas
 pub mod TokenFacts
+pub mod TokenReaderLemmas

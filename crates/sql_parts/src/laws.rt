@@ -7,7 +7,7 @@ ghost use Rattle.sql_parts.specs.StringTexts.{ArgumentsDifferInTexts, BlankSomew
 ghost use Rattle.sql_parts.specs.StringTexts.{BoundTextsKeepTheirPlaces, IgnoresBoundTexts, IgnoresStrings, NamesDifferInTexts, outline, semicolon_count};
 ghost use Rattle.sql_parts.specs.TextLaws.{DifferInTexts, EndsAsWritten, HasOneReading, LeavesTextWithout, MasksMatch, UndoesDoubling, IsInjective, colon};
 ghost use Rattle.sql_parts.specs.TextLaws.{dollar, question_mark, token_count};
-ghost use Rattle.sql_parts.specs.ReaderLaws.{IsInsideUntilItsEnd, LeadsAsNoText, ReadersIgnoreDoubledTexts, StaysInside};
+ghost use Rattle.sql_parts.specs.ReaderLaws.{IsInsideUntilItsEnd, LeadsAsNoText, PartsAreAtPlaces, ReadersIgnoreBoundTexts, ReadersIgnoreDoubledTexts, StaysInside};
 ghost use Rattle.sql_parts.specs.declared.delimiters.Quotes.TheVariants.{Back, Double, Single, Square};
 ghost use Rattle.sql_parts.specs.Quoting.{baquoted, brquoted, dquoted, escaped, quoted};
 ghost use Rattle.sql_parts.specs.Literal.{LiteralValue, literal_text, words};
@@ -15,6 +15,7 @@ ghost use Rattle.sql_parts.specs.Name.{Name, safe_text};
 ghost use Rattle.sql_parts.specs.Operands.{NamesAreOperands, ServesAsOperand, has_operand_parts, is_operand_alias};
 ghost use Rattle.sql_parts.specs.Text.{bool_text, number_text};
 ghost use Rattle.sql_parts.specs.Templates.{Cycle, First, Marks, Names, Nums, Value, bound, apart};
+ghost use Rattle.sql_parts.specs.TokenReader.{OpensEveryLiteral, OpensWithoutBackslashes, ReadsClosed};
 ghost use Rattle.sql_parts.specs.Tokens.{clean, closed, is_open, is_semicolon, tokens};
 
 /// Two texts whose quoted texts are equal are equal, in each of the five forms of quoting.
@@ -171,8 +172,30 @@ pub fn literals_end_for_any_reader()
 
 /// Whatever reads them: of two texts that differ only in texts which are quoted, or escaped inside of
 /// quotes, where a reader is inside of a literal at each of these in the one, it is so in the other,
-/// and goes through the same states outside of them. It does nothing when it runs.
+/// and goes through the same states outside of them. Where they are in the bytes says `places_from`. It
+/// does nothing when it runs.
 /// `quote(alloc, "b), (")?` → `'b), ('`
 pub fn readers_ignore_quoted_parts()
-    ensures { ReadersIgnoreDoubledTexts }
+    ensures alike { ReadersIgnoreDoubledTexts }
+    ensures places { PartsAreAtPlaces }
+{}
+
+/// Whatever reads them: of two bindings of a template that differ only in texts, where a reader is
+/// inside of a string at each of these in the one bound text, it is so in the other, and goes through
+/// the same states outside of them. The values needn't stand apart: where a placeholder is inside of
+/// a literal already, the reader isn't at such a place, and nothing is promised. It does nothing when it
+/// runs.
+/// `"a = ?".bind(alloc, &"x' OR 1=1; --")?` → `a = 'x'' OR 1=1; --'`
+pub fn readers_ignore_bound_texts()
+    ensures { ReadersIgnoreBoundTexts }
+{}
+
+/// The rules of tokens are such a reader: outside of literals and comments it opens a literal at each
+/// delimiter, and a text is closed where it ends outside of them. So are those by which a backslash
+/// escapes, and a backslash isn't plain to it. It does nothing when it runs.
+/// `is_closed("a = 'b")` → `false`
+pub fn rules_are_readers()
+    ensures tokens { OpensEveryLiteral }
+    ensures closed { ReadsClosed }
+    ensures backslashes { OpensWithoutBackslashes }
 {}

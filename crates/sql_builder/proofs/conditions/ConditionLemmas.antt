@@ -22,6 +22,8 @@ use Rattle.sql_builder.specs.Shape.{cond_tokens, pieces_tokens}
 use Rattle.sql_builder.specs.Truths.{IsAtom}
 use Rattle.sql_builder.specs.declared.condition.Relation.{Relation}
 use Rattle.sql_builder.specs.declared.condition.Relation.TheVariants.{Eq, Ne, Gt, Ge, Lt, Le}
+use Rattle.sql_builder.specs.Interference.{condition_quoted_texts}
+use Rattle.sql_builder.proofs.fragments.PropertyLemmas.{all-whatever, whatever}
 use Rattle.sql_builder.proofs.fragments.PropertyLemmas.{Each, Passes, PreservedByCalls, between, listed, neutral-list, neutral-quoted, neutral-raw, one}
 use Rattle.sql_builder.proofs.fragments.PropertyLemmas.{passes-joins, quoteds-pass, raws-pass, within}
 use Rattle.sql_builder.proofs.lists.AllFacts.{map-all}
@@ -134,31 +136,33 @@ between-neutral : (negated : Bool) → Neutral (fixed_piece (not_text negated ++
 between-neutral true = record { even = refl; no_word = refl }
 between-neutral false = record { even = refl; no_word = refl }
 
-module _ (enclosed : Bool) (ok : RawText → Bool) (P F U : Pieces → Type 0) (preserved : PreservedByCalls enclosed ok P F U) where
-  pub condition-preserved : (condition : ConditionText) → list_all ok (condition_raw_texts condition) ≡ true → P (condition_pieces condition)
-  condition-preserved (Raw condition) all = one preserved condition all
-  condition-preserved (Compare relation field value) all =
+module _ (enclosed : Bool) (ok : RawText → Bool) (fine : List ℕ → Bool) (P F U : Pieces → Type 0)
+    (preserved : PreservedByCalls enclosed ok fine P F U) where
+  pub condition-preserved : (condition : ConditionText) → list_all fine (condition_quoted_texts condition) ≡ true
+      → list_all ok (condition_raw_texts condition) ≡ true → P (condition_pieces condition)
+  condition-preserved (Raw condition) quotes all = one preserved condition all
+  condition-preserved (Compare relation field value) quotes all =
       let both = and_parts (ok (Bare field)) (ok (Bare value) && true) all in
       between preserved (relation_text relation) (raw_piece field) (raw_piece value) (relation-neutral relation) (preserved.bare field both.0)
       (one preserved value both.1)
-  condition-preserved (Like negated percent field mask) all =
+  condition-preserved (Like negated percent field mask) quotes all =
       between preserved (not_text negated ++ codes " LIKE ") (raw_piece field) (quoted_piece (mask_text percent mask)) (like-neutral negated)
-      (one preserved field all) (preserved.quoted (mask_text percent mask))
-  condition-preserved (IsNull field) all = preserved.joins.append (raw_piece field) (fixed_piece (codes " IS NULL")) (one preserved field all)
+      (one preserved field all) (preserved.quoted (mask_text percent mask) (and_parts (fine (mask_text percent mask)) true quotes).0)
+  condition-preserved (IsNull field) quotes all = preserved.joins.append (raw_piece field) (fixed_piece (codes " IS NULL")) (one preserved field all)
       (preserved.joins.words (codes " IS NULL") (record { even = refl; no_word = refl }))
-  condition-preserved (IsNotNull field) all =
+  condition-preserved (IsNotNull field) quotes all =
       preserved.joins.append (raw_piece field) (fixed_piece (codes " IS NOT NULL")) (one preserved field all)
       (preserved.joins.words (codes " IS NOT NULL") (record { even = refl; no_word = refl }))
-  condition-preserved (InList negated field values) all =
+  condition-preserved (InList negated field values) quotes all =
       let both = and_parts (ok (Bare field)) (list_all ok (map Enclosed values)) all in
       preserved.joins.append (raw_piece field) _ (preserved.bare field both.0) (preserved.in_list negated values both.1)
-  condition-preserved (InQuoted negated field values) all =
-      preserved.joins.append (raw_piece field) _ (one preserved field all) (preserved.in_quoted negated values)
-  condition-preserved (InQuery negated field query) all =
+  condition-preserved (InQuoted negated field values) quotes all =
+      preserved.joins.append (raw_piece field) _ (one preserved field all) (preserved.in_quoted negated values quotes)
+  condition-preserved (InQuery negated field query) quotes all =
       let both = and_parts (ok (Bare field)) (ok (Enclosed query) && true) all in
       preserved.joins.append (raw_piece field) _ (preserved.bare field both.0)
       (preserved.in_query negated query (and_parts (ok (Enclosed query)) true both.1).0)
-  condition-preserved (Between negated field least greatest) all =
+  condition-preserved (Between negated field least greatest) quotes all =
       let both = and_parts (ok (Bare field)) (ok (Bare least) && (ok (Bare greatest) && true)) all in
       let ends = and_parts (ok (Bare least)) (ok (Bare greatest) && true) both.1 in
       between preserved (not_text negated ++ codes " BETWEEN ") (raw_piece field) (raw_piece least ++ (fixed_piece (codes " AND ") ++ raw_piece greatest))
@@ -202,8 +206,8 @@ in-atom true f inner h even = subst (λ ts. IsAtom (tokens f ++ not_word ∷ in_
 in-atom false f inner h even = subst (λ ts. IsAtom (tokens f ++ in_word ∷ ts)) (sym (pieces_tokens-brackets inner))
     (atom_in (tokens f) (pieces_tokens inner) (operand_tokens f h) even)
 
-list-even : (items : List Pieces) → Each Neutral items → Each (Passes balanced) items → is_even (pieces_tokens (comma_list fixed_piece items)) ≡ true
-list-even items neutral all = shape-even (comma_list fixed_piece items) (listed (Passes balanced) (passes-joins balanced) items all)
+list-even : (items : List Pieces) → Each Neutral items → Each (Passes balanced whatever) items → is_even (pieces_tokens (comma_list fixed_piece items)) ≡ true
+list-even items neutral all = shape-even (comma_list fixed_piece items) (listed (Passes balanced whatever) (passes-joins balanced whatever) items all)
     (neutral-list items neutral).even
 
 between-atom : (negated : Bool) (f a b : List ℕ) → operand f ≡ true → operand a ≡ true → operand b ≡ true → IsAtom (cond_tokens (Between negated f a b))
@@ -222,10 +226,10 @@ condition_atom (IsNotNull field) = λ h. atom_not_null (tokens field) (operand_t
 condition_atom (InList negated field values) = λ h.
     let both = and_parts (operand field) (list_all balanced values) h in
     in-atom negated field (comma_list fixed_piece (map raw_piece values)) both.0
-    (list-even (map raw_piece values) (map-all Neutral raw_piece neutral-raw values) (raws-pass balanced values both.1))
+    (list-even (map raw_piece values) (map-all Neutral raw_piece neutral-raw values) (raws-pass balanced whatever values both.1))
 condition_atom (InQuoted negated field values) = λ h.
     in-atom negated field (comma_list fixed_piece (map quoted_piece values)) h
-    (list-even (map quoted_piece values) (map-all Neutral quoted_piece neutral-quoted values) (quoteds-pass balanced values))
+    (list-even (map quoted_piece values) (map-all Neutral quoted_piece neutral-quoted values) (quoteds-pass balanced whatever values (all-whatever values)))
 condition_atom (InQuery negated field query) = λ h.
     let both = and_parts (operand field) (balanced query) h in
     in-atom negated field (raw_piece query) both.0 (shape-even (raw_piece query) (and_from _ _ both.1 refl) refl)
@@ -249,12 +253,12 @@ operands_balanced (IsNotNull field) h = and_from _ _ (operand_balanced field h) 
 operands_balanced (InList negated field values) h =
     let both = and_parts (operand field) (list_all balanced values) h in
     and_from _ _ (operand_balanced field both.0)
-    (within balanced (not_text negated ++ codes " IN (") (comma_list fixed_piece (map raw_piece values)) (codes ")")
-    (listed (Passes balanced) (passes-joins balanced) (map raw_piece values) (raws-pass balanced values both.1)))
+    (within balanced whatever (not_text negated ++ codes " IN (") (comma_list fixed_piece (map raw_piece values)) (codes ")")
+    (listed (Passes balanced whatever) (passes-joins balanced whatever) (map raw_piece values) (raws-pass balanced whatever values both.1)))
 operands_balanced (InQuoted negated field values) h =
     and_from _ _ (operand_balanced field h)
-    (within balanced (not_text negated ++ codes " IN (") (comma_list fixed_piece (map quoted_piece values)) (codes ")")
-    (listed (Passes balanced) (passes-joins balanced) (map quoted_piece values) (quoteds-pass balanced values)))
+    (within balanced whatever (not_text negated ++ codes " IN (") (comma_list fixed_piece (map quoted_piece values)) (codes ")")
+    (listed (Passes balanced whatever) (passes-joins balanced whatever) (map quoted_piece values) (quoteds-pass balanced whatever values (all-whatever values))))
 operands_balanced (InQuery negated field query) h =
     let both = and_parts (operand field) (balanced query) h in
     and_from _ _ (operand_balanced field both.0) (and_from _ _ both.1 refl)

@@ -2,6 +2,8 @@
 use Rattle.sql_builder.specs.RawTexts.{RawText, Bare, Enclosed}
 use Rattle.sql_builder.specs.TextTests.{all_pass, raw_text}
 use Rattle.sql_builder.proofs.conditions.ConditionLemmas.{condition-preserved}
+use Rattle.sql_builder.specs.Interference.{condition_quoted_texts}
+use Rattle.sql_builder.proofs.fragments.PropertyLemmas.{all-whatever, calls-whatever, whatever}
 use Rattle.sql_builder.proofs.fragments.PropertyLemmas.{Each, PreservedByAppend, PreservedByCalls, listed, neutral-append, neutral-brackets, neutral-none}
 use Rattle.sql_builder.proofs.fragments.PropertyLemmas.{neutral-raw, Passes}
 use Rattle.std.proofs.Common.{◌≡◌, refl, sym, ◌∙◌, ap, subst, ℕ, suc, ℤ, Bool, true, false, not, ◌&&◌, List, [], ◌∷◌, ◌++◌, Option, None, Some, IfOk, map, pos}
@@ -107,15 +109,15 @@ in-enclosed true x inner = let made = enclosed x inner in
 in-enclosed false x inner = let made = enclosed x inner in
     record { neutral = record { even = made.neutral.even; no_word = made.neutral.no_word }; fits = made.fits }
 
-fit-preserved : PreservedByCalls false is_fit Fit Fit Neutral
+fit-preserved : PreservedByCalls false is_fit whatever Fit Fit Neutral
 fit-preserved = record {
   joins = fit-joins (λ n. n);
   bare = λ text h. record { neutral = neutral-raw text; fits = λ n. and_from _ _ (bare-at n text h) refl };
-  quoted = λ text. record { neutral = record { even = refl; no_word = refl }; fits = λ n. refl };
+  quoted = λ text h. record { neutral = record { even = refl; no_word = refl }; fits = λ n. refl };
   row = λ values all. enclosed (comma_list fixed_piece (map raw_piece values)) (listed Inner (fit-joins suc) (map raw_piece values) (inner-all values all));
   in_list = λ negated values all. in-enclosed negated (comma_list fixed_piece (map raw_piece values))
       (listed Inner (fit-joins suc) (map raw_piece values) (inner-all values all));
-  in_quoted = λ negated values. in-enclosed negated (comma_list fixed_piece (map quoted_piece values))
+  in_quoted = λ negated values h. in-enclosed negated (comma_list fixed_piece (map quoted_piece values))
       (listed Inner (fit-joins suc) (map quoted_piece values) (quoted-all values));
   in_query = λ negated query h. in-enclosed negated (raw_piece query) (inner-text query h);
   field = λ field h. record { neutral = neutral-raw field; fits = λ n. and_from _ _ (bare-at n field h) refl };
@@ -129,7 +131,7 @@ fit-preserved = record {
 }
 
 -- the same, of an INSERT
-pub insert_fit-preserved : PreservedByCalls true is_fit Fit Inner Neutral
+pub insert_fit-preserved : PreservedByCalls true is_fit whatever Fit Inner Neutral
 insert_fit-preserved = record {
   joins = fit-preserved.joins;
   bare = fit-preserved.bare;
@@ -218,7 +220,8 @@ conditions-fit enclosed (c ∷ calls) all =
   where
     by : (c : CallText) → list_all is_fit (call_raw_texts enclosed c) ≡ true → has_fit_conditions calls ≡ true → has_fit_conditions (c ∷ calls) ≡ true
     by (Cond family condition) here rest =
-        and_from _ _ (are_fit-is (condition_pieces condition) ∙ (condition-preserved false is_fit Fit Fit Neutral fit-preserved condition here).fits 0) rest
+        and_from _ _ (are_fit-is (condition_pieces condition) ∙ (condition-preserved false is_fit whatever Fit Fit Neutral fit-preserved condition
+        (all-whatever (condition_quoted_texts condition)) here).fits 0) rest
     by _ here rest = rest
 
 -- the start's fields, which an INSERT doesn't have
@@ -240,10 +243,10 @@ module _ (start : StartText) (calls : List CallText) (finish : FinishText) (all 
       let first = and_parts (list_all is_fit (start_raw_texts start)) calls_fit both.0 in
       (first.0, first.1, both.1)
 
-  printed-balanced : Passes balanced (layout finish (clauses start calls))
+  printed-balanced : Passes balanced whatever (layout finish (clauses start calls))
   printed-balanced =
       let enclosed = encloses_fields start finish in
-      printed-passes balanced enclosed start calls finish (all-balanced (start_raw_texts start) fit_parts.0) (calls-balanced enclosed calls fit_parts.1)
+      printed-passes balanced whatever enclosed start calls finish (calls-whatever calls) (all-balanced (start_raw_texts start) fit_parts.0) (calls-balanced enclosed calls fit_parts.1)
       (all-balanced (finish_raw_texts finish) fit_parts.2)
 
 -- fields that nothing encloses
@@ -253,7 +256,7 @@ bare-fit : (start : StartText) (calls : List CallText) (finish : FinishText) →
 bare-fit start calls finish plain all bare =
     let facts = fit_parts start calls finish all in
     layout-fits finish (clauses start calls)
-    (clauses-preserved false is_fit Fit Fit Neutral fit-preserved start calls facts.0
+    (clauses-preserved false is_fit whatever Fit Fit Neutral fit-preserved start calls (calls-whatever calls) facts.0
     (ap (λ (b : Bool). list_all is_fit (call_raw_texts b (SetFields (start_fields start)))) (sym plain) ∙ first-fields start finish facts.0)
     (ap (λ (b : Bool). list_all (λ (c : CallText). list_all is_fit (call_raw_texts b c)) calls) (sym plain) ∙ facts.1))
     (clauses-parts start calls) bare
@@ -267,7 +270,7 @@ all-fit (DeleteFrom table) calls finish all bare = bare-fit (DeleteFrom table) c
 all-fit (InsertInto table) calls Sql all bare =
     let start = InsertInto table in
     let facts = fit_parts start calls Sql all in
-    let parts = clauses-preserved true is_fit Fit Inner Neutral insert_fit-preserved start calls facts.0 refl facts.1 in
+    let parts = clauses-preserved true is_fit whatever Fit Inner Neutral insert_fit-preserved start calls (calls-whatever calls) facts.0 refl facts.1 in
     let inside_parts = clauses-parts start calls in
     split-fits (insert-split Fit Inner fit-layout (fit-joins suc) target (fixed_piece (codes ";")) (clauses start calls).query (clauses start calls) parts
     parts.query inside_parts inside_parts.query ending-semicolon)

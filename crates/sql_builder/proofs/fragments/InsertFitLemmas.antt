@@ -13,6 +13,7 @@ use Rattle.sql_builder.specs.Layout.{insert_target}
 use Rattle.sql_builder.specs.Phrases.{comma_list}
 use Rattle.sql_builder.specs.Pieces.{Pieces, fixed_piece}
 use Rattle.sql_builder.proofs.fragments.FitLemmas.{Fit, Inner, fit-joins, fit-layout, insert_fit-preserved, target}
+use Rattle.sql_builder.proofs.fragments.PropertyLemmas.{calls-whatever, whatever}
 use Rattle.sql_builder.proofs.fragments.PreservationLemmas.{clauses-preserved}
 use Rattle.sql_builder.proofs.reading.LayoutLemmas.{target-preserved}
 use Rattle.sql_builder.proofs.reading.SectionLemmas.{Neutral}
@@ -87,7 +88,7 @@ fit_targets table calls all =
     let both = and_parts (is_fit (Bare table)) _ all in
     let start = call.InsertInto table in
     let from_start = call.SetFields [] ∷ calls in
-    let parts = clauses-preserved true is_fit Fit Inner Neutral insert_fit-preserved start (map blank calls) (and_from _ _ both.0 refl) refl
+    let parts = clauses-preserved true is_fit whatever Fit Inner Neutral insert_fit-preserved start (map blank calls) (calls-whatever (map blank calls)) (and_from _ _ both.0 refl) refl
     (all-blank calls both.1) in
     let fits = target-preserved Fit Inner fit-layout (fit-joins (λ n. suc n)) target (clauses start (map blank calls)) parts in
     let fields : fields_of start (map blank calls) ≡ fields_of start calls =

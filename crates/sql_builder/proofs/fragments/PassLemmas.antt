@@ -10,6 +10,7 @@ use Rattle.sql_builder.specs.Clauses.{Clauses}
 use Rattle.sql_builder.specs.Condition.{not_text}
 use Rattle.sql_builder.specs.RawTexts.{RawText, Bare, Enclosed}
 use Rattle.sql_builder.specs.TextTests.{all_pass, raw_text}
+use Rattle.sql_builder.specs.Interference.{call_quoted_texts}
 use Rattle.sql_builder.specs.Layout.{Section, concat_sections, fields_or_star, group_by_sections, insert_sections, insert_target, list_sections}
 use Rattle.sql_builder.specs.Layout.{optional_section, order_by_sections, query, query_sections, range_sections, returning_sections, statement_sections}
 use Rattle.sql_builder.specs.Layout.{union_sections, values_sections, where_sections}
@@ -22,91 +23,91 @@ use Rattle.sql_builder.proofs.lists.AllFacts.{append-all}
 use Rattle.sql_builder.proofs.fragments.PreservationLemmas.{clauses-preserved}
 use Rattle.sql_builder.proofs.reading.ReadBackLemmas.{layout}
 use Rattle.sql_builder.proofs.fragments.PropertyLemmas.{Each, Passes, PreservedByCalls, before-each, joined, listed, passes-append, passes-joins, quoteds-pass}
-use Rattle.sql_builder.proofs.fragments.PropertyLemmas.{raw-passes, raws-pass, within}
+use Rattle.sql_builder.proofs.fragments.PropertyLemmas.{quoted-passes, raw-passes, raws-pass, within}
 
-module _ (test : List ℕ → Bool) where
+module _ (test fine : List ℕ → Bool) where
   -- ---- what calls make
 
   abbrev raw_texts_pass : RawText → Bool
   raw_texts_pass h = test (raw_text h)
 
   in-list : (words : List ℕ) (values : List (List ℕ)) → list_all raw_texts_pass (map Enclosed values) ≡ true
-      → Passes test (fixed_piece words ++ (comma_list fixed_piece (map raw_piece values) ++ fixed_piece (codes ")")))
+      → Passes test fine (fixed_piece words ++ (comma_list fixed_piece (map raw_piece values) ++ fixed_piece (codes ")")))
   in-list words values all =
-      within test words (comma_list fixed_piece (map raw_piece values)) (codes ")")
-      (listed (Passes test) (passes-joins test) (map raw_piece values) (raws-pass test values (sym (list_all-map raw_texts_pass Enclosed values) ∙ all)))
+      within test fine words (comma_list fixed_piece (map raw_piece values)) (codes ")")
+      (listed (Passes test fine) (passes-joins test fine) (map raw_piece values) (raws-pass test fine values (sym (list_all-map raw_texts_pass Enclosed values) ∙ all)))
 
   field-passes : (enclosed : Bool) (field : List ℕ) → test (raw_text (field_text enclosed field)) ≡ true → test field ≡ true
   field-passes true field h = h
   field-passes false field h = h
 
-  passes-preserved : (enclosed : Bool) → PreservedByCalls enclosed raw_texts_pass (Passes test) (Passes test) (Passes test)
+  passes-preserved : (enclosed : Bool) → PreservedByCalls enclosed raw_texts_pass fine (Passes test fine) (Passes test fine) (Passes test fine)
   passes-preserved enclosed = record {
-    joins = passes-joins test;
-    bare = raw-passes test;
-    quoted = λ text. refl;
+    joins = passes-joins test fine;
+    bare = raw-passes test fine;
+    quoted = quoted-passes test fine;
     row = λ values all. in-list (codes "(") values all;
     in_list = λ negated values all. in-list (not_text negated ++ codes " IN (") values all;
-    in_quoted = λ negated values.
-        within test (not_text negated ++ codes " IN (") (comma_list fixed_piece (map quoted_piece values)) (codes ")")
-        (listed (Passes test) (passes-joins test) (map quoted_piece values) (quoteds-pass test values));
-    in_query = λ negated query h. within test (not_text negated ++ codes " IN (") (raw_piece query) (codes ")") (raw-passes test query h);
-    field = λ field h. raw-passes test field (field-passes enclosed field h);
-    count = λ field h. within test (codes "COUNT(") (raw_piece field) (codes ")") (raw-passes test field h);
+    in_quoted = λ negated values all.
+        within test fine (not_text negated ++ codes " IN (") (comma_list fixed_piece (map quoted_piece values)) (codes ")")
+        (listed (Passes test fine) (passes-joins test fine) (map quoted_piece values) (quoteds-pass test fine values all));
+    in_query = λ negated query h. within test fine (not_text negated ++ codes " IN (") (raw_piece query) (codes ")") (raw-passes test fine query h);
+    field = λ field h. raw-passes test fine field (field-passes enclosed field h);
+    count = λ field h. within test fine (codes "COUNT(") (raw_piece field) (codes ")") (raw-passes test fine field h);
     count_as = λ field name h k. and_from _ _ h (and_from _ _ (field-passes enclosed name k) refl);
-    union = raw-passes test;
+    union = raw-passes test fine;
   }
 
   -- ---- what is printed of clauses
 
   -- the bodies of sections
   abbrev Bodies : List (Section Piece) → Type 0
-  Bodies sections = AllByRecursion (λ (s : Section Piece). Passes test s.body) sections
+  Bodies sections = AllByRecursion (λ (s : Section Piece). Passes test fine s.body) sections
 
   bodies-append : (one other : List (Section Piece)) → Bodies one → Bodies other → Bodies (one ++ other)
-  bodies-append one other all too = append-all (λ (s : Section Piece). Passes test s.body) one other all too
+  bodies-append one other all too = append-all (λ (s : Section Piece). Passes test fine s.body) one other all too
 
-  sections-pass : (sections : List (Section Piece)) → Bodies sections → Passes test (concat_sections fixed_piece sections)
+  sections-pass : (sections : List (Section Piece)) → Bodies sections → Passes test fine (concat_sections fixed_piece sections)
   sections-pass [] all = refl
-  sections-pass (s ∷ sections) all = passes-append test s.body (concat_sections fixed_piece sections) all.0 (sections-pass sections all.1)
+  sections-pass (s ∷ sections) all = passes-append test fine s.body (concat_sections fixed_piece sections) all.0 (sections-pass sections all.1)
 
-  optional-bodies : (words : List ℕ) (body : Option Pieces) → IfSome body (Passes test) → Bodies (optional_section words body)
+  optional-bodies : (words : List ℕ) (body : Option Pieces) → IfSome body (Passes test fine) → Bodies (optional_section words body)
   optional-bodies words None h = tt
   optional-bodies words (Some body) h = (h, tt)
 
-  list-bodies : (words : List ℕ) (items : List Pieces) → Each (Passes test) items → Bodies (list_sections fixed_piece words items)
+  list-bodies : (words : List ℕ) (items : List Pieces) → Each (Passes test fine) items → Bodies (list_sections fixed_piece words items)
   list-bodies words [] all = tt
-  list-bodies words (item ∷ items) all = (listed (Passes test) (passes-joins test) (item ∷ items) all, tt)
+  list-bodies words (item ∷ items) all = (listed (Passes test fine) (passes-joins test fine) (item ∷ items) all, tt)
 
-  in-brackets : (items : List Pieces) → Each (Passes test) items → Each (Passes test) (map (in_brackets fixed_piece) items)
+  in-brackets : (items : List Pieces) → Each (Passes test fine) items → Each (Passes test fine) (map (in_brackets fixed_piece) items)
   in-brackets [] all = tt
-  in-brackets (item ∷ items) all = (within test (codes "(") item (codes ")") all.0, in-brackets items all.1)
+  in-brackets (item ∷ items) all = (within test fine (codes "(") item (codes ")") all.0, in-brackets items all.1)
 
-  where-bodies : (groups : List Pieces) → Each (Passes test) groups → Bodies (where_sections fixed_piece groups)
+  where-bodies : (groups : List Pieces) → Each (Passes test fine) groups → Bodies (where_sections fixed_piece groups)
   where-bodies [] all = tt
   where-bodies (g ∷ []) all = (all.0, tt)
   where-bodies (g ∷ h ∷ gs) all =
       let bracketed = map (in_brackets fixed_piece) (g ∷ h ∷ gs) in
-      (joined (Passes test) (passes-joins test) (codes " AND ") (record { even = refl; no_word = refl }) bracketed (in-brackets (g ∷ h ∷ gs) all), tt)
+      (joined (Passes test fine) (passes-joins test fine) (codes " AND ") (record { even = refl; no_word = refl }) bracketed (in-brackets (g ∷ h ∷ gs) all), tt)
 
-  group_by-bodies : (fields : List Pieces) (having : Option Pieces) → Each (Passes test) fields → IfSome having (Passes test)
+  group_by-bodies : (fields : List Pieces) (having : Option Pieces) → Each (Passes test fine) fields → IfSome having (Passes test fine)
       → Bodies (group_by_sections fixed_piece fields having)
   group_by-bodies [] having all h = tt
-  group_by-bodies (field ∷ fields) having all h = (listed (Passes test) (passes-joins test) (field ∷ fields) all, optional-bodies (codes " HAVING ") having h)
+  group_by-bodies (field ∷ fields) having all h = (listed (Passes test fine) (passes-joins test fine) (field ∷ fields) all, optional-bodies (codes " HAVING ") having h)
 
-  union-bodies : (unions : List (Bool × Pieces)) → AllByRecursion (λ (union : Bool × Pieces). Passes test union.1) unions → Bodies (union_sections unions)
+  union-bodies : (unions : List (Bool × Pieces)) → AllByRecursion (λ (union : Bool × Pieces). Passes test fine union.1) unions → Bodies (union_sections unions)
   union-bodies [] all = tt
   union-bodies (union ∷ unions) all = (all.0, union-bodies unions all.1)
 
-  order_by-bodies : (unions : List (Bool × Pieces)) (fields : List Pieces) → Each (Passes test) fields → Bodies (order_by_sections fixed_piece unions fields)
+  order_by-bodies : (unions : List (Bool × Pieces)) (fields : List Pieces) → Each (Passes test fine) fields → Bodies (order_by_sections fixed_piece unions fields)
   order_by-bodies [] fields all = list-bodies (codes " ORDER BY ") fields all
   order_by-bodies (union ∷ unions) fields all = tt
 
-  fields-pass : (fields : List Pieces) → Each (Passes test) fields → Passes test (fields_or_star fixed_piece fields)
+  fields-pass : (fields : List Pieces) → Each (Passes test fine) fields → Passes test fine (fields_or_star fixed_piece fields)
   fields-pass [] all = refl
-  fields-pass (field ∷ fields) all = listed (Passes test) (passes-joins test) (field ∷ fields) all
+  fields-pass (field ∷ fields) all = listed (Passes test fine) (passes-joins test fine) (field ∷ fields) all
 
-  module _ (r : Clauses Pieces) (parts : PartsAre (Passes test) (Passes test) (Passes test) r) where
+  module _ (r : Clauses Pieces) (parts : PartsAre (Passes test fine) (Passes test fine) (Passes test fine) r) where
     wheres : Bodies (where_sections fixed_piece r.groups)
     wheres = where-bodies r.groups parts.groups
 
@@ -123,8 +124,8 @@ module _ (test : List ℕ → Bool) where
         let ordered = order_by_sections fixed_piece r.unions r.order_fields in (
           fields-pass r.fields parts.fields,
           (
-            passes-append test r.table _ parts.table
-                (before-each (Passes test) (passes-joins test) (codes " ") (record { even = refl; no_word = refl }) r.joins parts.joins),
+            passes-append test fine r.table _ parts.table
+                (before-each (Passes test fine) (passes-joins test fine) (codes " ") (record { even = refl; no_word = refl }) r.joins parts.joins),
             bodies-append (where_sections fixed_piece r.groups) (grouped ++ (united ++ (ordered ++ range_sections r))) wheres
                 (bodies-append grouped (united ++ (ordered ++ range_sections r)) (group_by-bodies r.group_fields r.having parts.group_fields parts.having)
                 (bodies-append united (ordered ++ range_sections r) (union-bodies r.unions parts.unions)
@@ -135,38 +136,38 @@ module _ (test : List ℕ → Bool) where
         )
 
     values-bodies : Bodies (values_sections fixed_piece r)
-    values-bodies = (listed (Passes test) (passes-joins test) r.fields parts.fields, tt)
+    values-bodies = (listed (Passes test fine) (passes-joins test fine) r.fields parts.fields, tt)
 
-    target-passes : Passes test (insert_target fixed_piece r)
+    target-passes : Passes test fine (insert_target fixed_piece r)
     target-passes =
-        passes-append test r.table _ parts.table
-        (within test (codes " (") (comma_list fixed_piece r.fields) (codes ")") (listed (Passes test) (passes-joins test) r.fields parts.fields))
+        passes-append test fine r.table _ parts.table
+        (within test fine (codes " (") (comma_list fixed_piece r.fields) (codes ")") (listed (Passes test fine) (passes-joins test fine) r.fields parts.fields))
 
-    insert-bodies : (given : Option Pieces) → IfSome given (Passes test) → Bodies (insert_sections fixed_piece given r)
-    insert-bodies None h = (target-passes, (listed (Passes test) (passes-joins test) r.rows parts.rows, returned))
-    insert-bodies (Some query) h = (passes-append test (insert_target fixed_piece r) (fixed_piece (codes " ") ++ query) target-passes h, returned)
+    insert-bodies : (given : Option Pieces) → IfSome given (Passes test fine) → Bodies (insert_sections fixed_piece given r)
+    insert-bodies None h = (target-passes, (listed (Passes test fine) (passes-joins test fine) r.rows parts.rows, returned))
+    insert-bodies (Some query) h = (passes-append test fine (insert_target fixed_piece r) (fixed_piece (codes " ") ++ query) target-passes h, returned)
 
     statement-bodies : (k : Kind) → Bodies (statement_sections fixed_piece k r)
     statement-bodies kind.SelectFrom = query-bodies
     statement-bodies kind.SelectValues = values-bodies
     statement-bodies kind.InsertInto = insert-bodies r.query parts.query
     statement-bodies kind.UpdateTable =
-        (parts.table, (listed (Passes test) (passes-joins test) r.sets parts.sets, wheres-returned))
+        (parts.table, (listed (Passes test fine) (passes-joins test fine) r.sets parts.sets, wheres-returned))
     statement-bodies kind.DeleteFrom = (parts.table, wheres-returned)
 
-    query-passes : Passes test (query fixed_piece r)
+    query-passes : Passes test fine (query fixed_piece r)
     query-passes = sections-pass (query_sections fixed_piece r) query-bodies
 
-    pub layout-passes : (finish : FinishText) → all_pass test (finish_raw_texts finish) ≡ true → Passes test (layout finish r)
+    pub layout-passes : (finish : FinishText) → all_pass test (finish_raw_texts finish) ≡ true → Passes test fine (layout finish r)
     layout-passes Sql h =
         let sections = statement_sections fixed_piece r.kind r in
-        passes-append test (concat_sections fixed_piece sections) (fixed_piece (codes ";")) (sections-pass sections (statement-bodies r.kind)) refl
+        passes-append test fine (concat_sections fixed_piece sections) (fixed_piece (codes ";")) (sections-pass sections (statement-bodies r.kind)) refl
     layout-passes Query h = query-passes
     layout-passes QueryValues h = sections-pass (values_sections fixed_piece r) values-bodies
-    layout-passes Subquery h = within test (codes "(") (query fixed_piece r) (codes ")") query-passes
+    layout-passes Subquery h = within test fine (codes "(") (query fixed_piece r) (codes ")") query-passes
     layout-passes (SubqueryAs name) h =
-        passes-append test (query fixed_piece r) (fixed_piece (codes ") AS ") ++ raw_piece name) query-passes
-        (raw-passes test name (and_parts (test name) true h).0)
+        passes-append test fine (query fixed_piece r) (fixed_piece (codes ") AS ") ++ raw_piece name) query-passes
+        (raw-passes test fine name (and_parts (test name) true h).0)
 
   -- ---- what is printed of a list of calls
 
@@ -180,10 +181,12 @@ module _ (test : List ℕ → Bool) where
   first-fields enclosed (UpdateTable table) all = refl
   first-fields enclosed (DeleteFrom table) all = refl
 
-  pub printed-passes : (enclosed : Bool) (start : StartText) (calls : List CallText) (finish : FinishText) → all_pass test (start_raw_texts start) ≡ true
+  pub printed-passes : (enclosed : Bool) (start : StartText) (calls : List CallText) (finish : FinishText)
+      → list_all (λ c. list_all fine (call_quoted_texts c)) calls ≡ true → all_pass test (start_raw_texts start) ≡ true
       → list_all (λ c. all_pass test (call_raw_texts enclosed c)) calls ≡ true → all_pass test (finish_raw_texts finish) ≡ true
-      → Passes test (layout finish (clauses start calls))
-  printed-passes enclosed start calls finish first all last =
+      → Passes test fine (layout finish (clauses start calls))
+  printed-passes enclosed start calls finish quotes first all last =
       layout-passes (clauses start calls)
-      (clauses-preserved enclosed raw_texts_pass (Passes test) (Passes test) (Passes test) (passes-preserved enclosed) start calls first
+      (clauses-preserved enclosed raw_texts_pass fine (Passes test fine) (Passes test fine) (Passes test fine) (passes-preserved enclosed) start calls quotes
+      first
       (first-fields enclosed start first) all) finish last

@@ -9,6 +9,7 @@ use Rattle.sql_builder.specs.Calls.{group_pieces, groups, having_in, is_join, is
 use Rattle.sql_builder.specs.Calls.{opens_group, operator_of, order_fields_in, query_in, returning_in, rows_in, sets_in, start_fields, start_table, table_in}
 use Rattle.sql_builder.specs.Calls.{unions_in, call_raw_texts, field_text, start_raw_texts}
 use Rattle.sql_builder.specs.Condition.{ConditionText, condition_pieces, condition_raw_texts}
+use Rattle.sql_builder.specs.Interference.{call_quoted_texts, condition_quoted_texts}
 use Rattle.sql_builder.specs.Filters.{Group, cut, in_place, last_given, since, until}
 use Rattle.sql_builder.specs.Phrases.{equation, join_words, order, comma_list, count, count_as}
 use Rattle.sql_builder.specs.Pieces.{Pieces, fixed_piece, quoted_piece, raw_piece}
@@ -217,6 +218,19 @@ join-neutral false (Some operator.Cross) = record { even = refl; no_word = refl 
 abbrev call_ok : Bool → (RawText → Bool) → CallText → Bool
 call_ok enclosed ok c = list_all ok (call_raw_texts enclosed c)
 
+-- and that quote texts that are all fine
+abbrev whole_ok : Bool → (RawText → Bool) → (List ℕ → Bool) → CallText → Bool
+whole_ok enclosed ok fine c = call_ok enclosed ok c && list_all fine (call_quoted_texts c)
+
+whole-all : (enclosed : Bool) (ok : RawText → Bool) (fine : List ℕ → Bool) (calls : List CallText)
+    → list_all (λ c. list_all fine (call_quoted_texts c)) calls ≡ true → list_all (call_ok enclosed ok) calls ≡ true
+    → list_all (whole_ok enclosed ok fine) calls ≡ true
+whole-all enclosed ok fine [] quotes all = refl
+whole-all enclosed ok fine (c ∷ calls) quotes all =
+    let first = and_parts (list_all fine (call_quoted_texts c)) _ quotes in
+    let second = and_parts (call_ok enclosed ok c) (list_all (call_ok enclosed ok) calls) all in
+    and_from _ _ (and_from _ _ second.0 first.0) (whole-all enclosed ok fine calls first.1 second.1)
+
 since-all : {X : Type 0} (ok p : X → Bool) (xs : List X) → list_all ok xs ≡ true → list_all ok (since p xs) ≡ true
 since-all ok p [] all = refl
 since-all ok p (x ∷ xs) all = by (list_any p xs) (since-all ok p xs (and_parts (ok x) (list_all ok xs) all).1)
@@ -233,7 +247,8 @@ until-all ok p (x ∷ xs) all = let both = and_parts (ok x) (list_all ok xs) all
     by true here rest = refl
     by false here rest = and_from _ _ here rest
 
-module _ (enclosed : Bool) (ok : RawText → Bool) (P F U : Pieces → Type 0) (preserved : PreservedByCalls enclosed ok P F U) where
+module _ (enclosed : Bool) (ok : RawText → Bool) (fine : List ℕ → Bool) (P F U : Pieces → Type 0)
+    (preserved : PreservedByCalls enclosed ok fine P F U) where
   -- texts one by one
   fields-all : (fields : List (List ℕ)) → list_all ok (map (field_text enclosed) fields) ≡ true → Each F (map raw_piece fields)
   fields-all [] all = tt
@@ -285,13 +300,15 @@ module _ (enclosed : Bool) (ok : RawText → Bool) (P F U : Pieces → Type 0) (
       (preserved.count_as field name both.0 (and_parts (ok (field_text enclosed name)) true both.1).0, tt)
   fields_in-preserved _ all = tt
 
-  sets_in-preserved : (c : CallText) → call_ok enclosed ok c ≡ true → Each P (sets_in c)
-  sets_in-preserved (call.SetTo field value) all = (equation-preserved field value all, tt)
-  sets_in-preserved (call.SetStr field value) all = (
-    between preserved (codes " = ") (raw_piece field) (quoted_piece value) (record { even = refl; no_word = refl }) (one preserved field all)
-        (preserved.quoted value),
-    tt,
-  )
+  sets_in-preserved : (c : CallText) → whole_ok enclosed ok fine c ≡ true → Each P (sets_in c)
+  sets_in-preserved (call.SetTo field value) all =
+      (equation-preserved field value (and_parts (call_ok enclosed ok (call.SetTo field value)) true all).0, tt)
+  sets_in-preserved (call.SetStr field value) all =
+      let both = and_parts (ok (Bare field) && true) (fine value && true) all in (
+        between preserved (codes " = ") (raw_piece field) (quoted_piece value) (record { even = refl; no_word = refl }) (one preserved field both.0)
+            (preserved.quoted value (and_parts (fine value) true both.1).0),
+        tt,
+      )
   sets_in-preserved _ all = tt
 
   rows_in-preserved : (c : CallText) → call_ok enclosed ok c ≡ true → Each P (rows_in c)
@@ -340,12 +357,13 @@ module _ (enclosed : Bool) (ok : RawText → Bool) (P F U : Pieces → Type 0) (
   offset_in-preserved _ all = tt
 
   -- the same of whole lists
-  each-preserved : {Y : Type 0} (R : Y → Type 0) (f : CallText → List Y) → ((c : CallText) → call_ok enclosed ok c ≡ true → AllByRecursion R (f c))
-      → (calls : List CallText) → list_all (call_ok enclosed ok) calls ≡ true → AllByRecursion R (flat_map f calls)
-  each-preserved R f each [] all = tt
-  each-preserved R f each (c ∷ calls) all =
-      let both = and_parts (call_ok enclosed ok c) (list_all (call_ok enclosed ok) calls) all in
-      append-all R (f c) (flat_map f calls) (each c both.0) (each-preserved R f each calls both.1)
+  each-preserved : {Y : Type 0} (R : Y → Type 0) (test : CallText → Bool) (f : CallText → List Y)
+      → ((c : CallText) → test c ≡ true → AllByRecursion R (f c)) → (calls : List CallText) → list_all test calls ≡ true
+      → AllByRecursion R (flat_map f calls)
+  each-preserved R test f each [] all = tt
+  each-preserved R test f each (c ∷ calls) all =
+      let both = and_parts (test c) (list_all test calls) all in
+      append-all R (f c) (flat_map f calls) (each c both.0) (each-preserved R test f each calls both.1)
 
   flat-preserved : (f : CallText → Pieces) → ((c : CallText) → call_ok enclosed ok c ≡ true → P (f c)) → (calls : List CallText)
       → list_all (call_ok enclosed ok) calls ≡ true → P (flat_map f calls)
@@ -391,31 +409,35 @@ module _ (enclosed : Bool) (ok : RawText → Bool) (P F U : Pieces → Type 0) (
       (joins-preserved (before ++ c ∷ []) calls both.1)
 
   -- the groups of conditions
-  abbrev condition_ok : Family × ConditionText → Bool
-  condition_ok c = list_all ok (condition_raw_texts c.1)
+  abbrev one_ok : ConditionText → Bool
+  one_ok c = list_all ok (condition_raw_texts c) && list_all fine (condition_quoted_texts c)
 
-  conditions-ok : (calls : List CallText) → list_all (call_ok enclosed ok) calls ≡ true → list_all condition_ok (filter_map condition_in calls) ≡ true
+  abbrev condition_ok : Family × ConditionText → Bool
+  condition_ok c = one_ok c.1
+
+  conditions-ok : (calls : List CallText) → list_all (whole_ok enclosed ok fine) calls ≡ true → list_all condition_ok (filter_map condition_in calls) ≡ true
   conditions-ok [] all = refl
   conditions-ok (c ∷ calls) all =
-      let both = and_parts (call_ok enclosed ok c) (list_all (call_ok enclosed ok) calls) all in
+      let both = and_parts (whole_ok enclosed ok fine c) (list_all (whole_ok enclosed ok fine) calls) all in
       by c both.0 (conditions-ok calls both.1)
     where
-      by : (c : CallText) → call_ok enclosed ok c ≡ true → list_all condition_ok (filter_map condition_in calls) ≡ true
+      by : (c : CallText) → whole_ok enclosed ok fine c ≡ true → list_all condition_ok (filter_map condition_in calls) ≡ true
           → list_all condition_ok (cons_option (condition_in c) (filter_map condition_in calls)) ≡ true
       by (call.Cond family condition) here rest = and_from _ _ here rest
       by _ here rest = rest
 
-  group-preserved : (group : Group ConditionText) → list_all (λ (c : ConditionText). list_all ok (condition_raw_texts c)) (group.0 ∷ group.1) ≡ true
+  group-preserved : (group : Group ConditionText) → list_all one_ok (group.0 ∷ group.1) ≡ true
       → P (group_pieces group)
   group-preserved group all = joined P preserved.joins (codes " OR ") (record { even = refl; no_word = refl }) (map condition_pieces (group.0 ∷ group.1))
       (conditions (group.0 ∷ group.1) all)
     where
-      conditions : (cs : List ConditionText) → list_all (λ (c : ConditionText). list_all ok (condition_raw_texts c)) cs ≡ true
+      conditions : (cs : List ConditionText) → list_all one_ok cs ≡ true
           → Each P (map condition_pieces cs)
       conditions [] all = tt
       conditions (c ∷ cs) all =
-          let both = and_parts (list_all ok (condition_raw_texts c)) (list_all (λ (d : ConditionText). list_all ok (condition_raw_texts d)) cs) all in
-          (condition-preserved enclosed ok P F U preserved c both.0, conditions cs both.1)
+          let both = and_parts (one_ok c) (list_all one_ok cs) all in
+          let here = and_parts (list_all ok (condition_raw_texts c)) (list_all fine (condition_quoted_texts c)) both.0 in
+          (condition-preserved enclosed ok fine P F U preserved c here.1 here.0, conditions cs both.1)
 
   groups-preserved : (found : List (Group (Family × ConditionText)))
       → list_all (λ (group : Group (Family × ConditionText)). list_all condition_ok (group.0 ∷ group.1)) found ≡ true
@@ -424,32 +446,33 @@ module _ (enclosed : Bool) (ok : RawText → Bool) (P F U : Pieces → Type 0) (
   groups-preserved (group ∷ found) all =
       let both = and_parts (list_all condition_ok (group.0 ∷ group.1))
       (list_all (λ (g : Group (Family × ConditionText)). list_all condition_ok (g.0 ∷ g.1)) found) all in (
-        group-preserved (conditions_of group) (list_all-map (λ (c : ConditionText). list_all ok (condition_raw_texts c)) (λ (c : Family × ConditionText). c.1)
+        group-preserved (conditions_of group) (list_all-map one_ok (λ (c : Family × ConditionText). c.1)
             (group.0 ∷ group.1) ∙ both.0),
         groups-preserved found both.1,
       )
 
   -- the clauses of a list of calls
-  pub clauses-preserved : (start : StartText) (calls : List CallText) → list_all ok (start_raw_texts start) ≡ true
+  pub clauses-preserved : (start : StartText) (calls : List CallText) → list_all (λ c. list_all fine (call_quoted_texts c)) calls ≡ true
+      → list_all ok (start_raw_texts start) ≡ true
       → call_ok enclosed ok (call.SetFields (start_fields start)) ≡ true → list_all (call_ok enclosed ok) calls ≡ true → PartsAre P F U (clauses start calls)
-  clauses-preserved start calls here first all = record {
+  clauses-preserved start calls quotes here first all = record {
     table = preserved.joins.append (start_table start) (flat_map table_in calls) (start_table-preserved start here)
         (flat-preserved table_in table_in-preserved calls all);
     joins = joins-preserved [] calls all;
     fields =
         let from_start = call.SetFields (start_fields start) ∷ calls in
-        each-preserved F fields_in fields_in-preserved (since drops_fields from_start)
+        each-preserved F (call_ok enclosed ok) fields_in fields_in-preserved (since drops_fields from_start)
         (since-all (call_ok enclosed ok) drops_fields from_start (and_from _ _ first all));
-    sets = each-preserved P sets_in sets_in-preserved calls all;
-    rows = each-preserved P rows_in rows_in-preserved (since is_select calls) (since-all (call_ok enclosed ok) is_select calls all);
+    sets = each-preserved P (whole_ok enclosed ok fine) sets_in sets_in-preserved calls (whole-all enclosed ok fine calls quotes all);
+    rows = each-preserved P (call_ok enclosed ok) rows_in rows_in-preserved (since is_select calls) (since-all (call_ok enclosed ok) is_select calls all);
     query = last_given-preserved query_in query_in-preserved (since is_values calls) (since-all (call_ok enclosed ok) is_values calls all);
     returning = last_given-preserved returning_in returning_in-preserved calls all;
-    group_fields = each-preserved P group_fields_in group_fields_in-preserved calls all;
+    group_fields = each-preserved P (call_ok enclosed ok) group_fields_in group_fields_in-preserved calls all;
     having = last_given-preserved having_in having_in-preserved calls all;
     groups = groups-preserved (cut opens_group (filter_map condition_in calls))
-        (cut-all condition_ok opens_group (filter_map condition_in calls) (conditions-ok calls all));
-    unions = each-preserved (λ (union : Bool × Pieces). U union.1) unions_in unions_in-preserved calls all;
-    order_fields = each-preserved P order_fields_in order_fields_in-preserved calls all;
+        (cut-all condition_ok opens_group (filter_map condition_in calls) (conditions-ok calls (whole-all enclosed ok fine calls quotes all)));
+    unions = each-preserved (λ (union : Bool × Pieces). U union.1) (call_ok enclosed ok) unions_in unions_in-preserved calls all;
+    order_fields = each-preserved P (call_ok enclosed ok) order_fields_in order_fields_in-preserved calls all;
     limit = last_given-preserved limit_in limit_in-preserved calls all;
     offset = last_given-preserved offset_in offset_in-preserved calls all;
   }

@@ -8,8 +8,9 @@ use Rattle.sql_parts.specs.Fragments.{is_clause_word}
 use Rattle.sql_parts.specs.Text.{join_with}
 use Rattle.sql_parts.specs.Tokens.{Token}
 use Rattle.sql_parts.proofs.fragments.DepthFacts.{is_even}
-use Rattle.sql_builder.specs.Calls.{field_text}
+use Rattle.sql_builder.specs.Calls.{CallText, field_text}
 use Rattle.sql_builder.specs.Condition.{not_text}
+use Rattle.sql_builder.specs.Interference.{call_quoted_texts}
 use Rattle.sql_builder.specs.RawFragments.{own}
 use Rattle.sql_builder.specs.RawTexts.{RawText, Bare, Enclosed}
 use Rattle.sql_builder.specs.Phrases.{comma_list, count, count_as, in_brackets, row}
@@ -46,16 +47,16 @@ module _ (P : Pieces → Type 0) (joins : PreservedByAppend P) where
   pub listed : (items : List Pieces) → Each P items → P (comma_list fixed_piece items)
   listed items all = joined (codes ", ") (record { even = refl; no_word = refl }) items all
 
--- What a call may do: it preserves P of what it makes, F of fields and U of a union's query, and `ok` is asked of each of its raw
--- texts.
-pub record PreservedByCalls (enclosed : Bool) (ok : RawText → Bool) (P F U : Pieces → Type 0) : Type 0 where
+-- What a call may do: it preserves P of what it makes, F of fields and U of a union's query, `ok` is asked of each of its raw texts, and
+-- `fine` of each text that it quotes.
+pub record PreservedByCalls (enclosed : Bool) (ok : RawText → Bool) (fine : List ℕ → Bool) (P F U : Pieces → Type 0) : Type 0 where
   pub joins : PreservedByAppend P
   pub bare : (text : List ℕ) → ok (Bare text) ≡ true → P (raw_piece text)
-  pub quoted : (text : List ℕ) → P (quoted_piece text)
+  pub quoted : (text : List ℕ) → fine text ≡ true → P (quoted_piece text)
   pub row : (values : List (List ℕ)) → list_all ok (map Enclosed values) ≡ true → P (row fixed_piece (map raw_piece values))
   pub in_list : (negated : Bool) (values : List (List ℕ)) → list_all ok (map Enclosed values) ≡ true
       → P (fixed_piece (not_text negated ++ codes " IN (") ++ (comma_list fixed_piece (map raw_piece values) ++ fixed_piece (codes ")")))
-  pub in_quoted : (negated : Bool) (values : List (List ℕ))
+  pub in_quoted : (negated : Bool) (values : List (List ℕ)) → list_all fine values ≡ true
       → P (fixed_piece (not_text negated ++ codes " IN (") ++ (comma_list fixed_piece (map quoted_piece values) ++ fixed_piece (codes ")")))
   pub in_query : (negated : Bool) (query : List ℕ) → ok (Enclosed query) ≡ true
       → P (fixed_piece (not_text negated ++ codes " IN (") ++ (raw_piece query ++ fixed_piece (codes ")")))
@@ -65,7 +66,7 @@ pub record PreservedByCalls (enclosed : Bool) (ok : RawText → Bool) (P F U : P
       → F (count_as fixed_piece (raw_piece field) (raw_piece name))
   pub union : (query : List ℕ) → ok (Enclosed query) ≡ true → U (raw_piece query)
 
-module _ {enclosed : Bool} {ok : RawText → Bool} {P F U : Pieces → Type 0} (preserved : PreservedByCalls enclosed ok P F U) where
+module _ {enclosed : Bool} {ok : RawText → Bool} {fine : List ℕ → Bool} {P F U : Pieces → Type 0} (preserved : PreservedByCalls enclosed ok fine P F U) where
   pub one : (text : List ℕ) → (ok (Bare text) && true) ≡ true → P (raw_piece text)
   one text all = preserved.bare text (and_parts (ok (Bare text)) true all).0
 
@@ -110,12 +111,24 @@ neutral-brackets x neutral = record {
 pub neutral-list : (items : List Pieces) → Each Neutral items → Neutral (comma_list fixed_piece items)
 neutral-list items all = listed Neutral neutral-joins items all
 
--- ---- pieces whose fragments pass a test
+-- ---- pieces whose fragments pass a test, and whose quoted texts pass another
 
-module _ (test : List ℕ → Bool) where
-  -- a fragment passes; the other pieces are no fragments
+-- every text passes
+abbrev pub whatever : List ℕ → Bool
+whatever text = true
+
+pub all-whatever : (texts : List (List ℕ)) → list_all whatever texts ≡ true
+all-whatever [] = refl
+all-whatever (text ∷ texts) = all-whatever texts
+
+pub calls-whatever : (calls : List CallText) → list_all (λ c. list_all whatever (call_quoted_texts c)) calls ≡ true
+calls-whatever [] = refl
+calls-whatever (c ∷ calls) = and_from _ _ (all-whatever (call_quoted_texts c)) (calls-whatever calls)
+
+module _ (test fine : List ℕ → Bool) where
   abbrev pub piece_passes : Piece → Bool
   piece_passes (printed.Raw text) = test text
+  piece_passes (printed.Quoted text) = fine text
   piece_passes _ = true
 
   abbrev pub Passes : Pieces → Type 0
@@ -136,9 +149,14 @@ module _ (test : List ℕ → Bool) where
       let both = and_parts (test value) (list_all test values) all in
       (raw-passes value both.0, raws-pass values both.1)
 
-  pub quoteds-pass : (values : List (List ℕ)) → Each Passes (map quoted_piece values)
-  quoteds-pass [] = tt
-  quoteds-pass (value ∷ values) = (refl, quoteds-pass values)
+  pub quoted-passes : (text : List ℕ) → fine text ≡ true → Passes (quoted_piece text)
+  quoted-passes text h = and_from _ _ h refl
+
+  pub quoteds-pass : (values : List (List ℕ)) → list_all fine values ≡ true → Each Passes (map quoted_piece values)
+  quoteds-pass [] all = tt
+  quoteds-pass (value ∷ values) all =
+      let both = and_parts (fine value) (list_all fine values) all in
+      (quoted-passes value both.0, quoteds-pass values both.1)
 
   -- words, what follows them, and words that end it
   pub within : (words : List ℕ) (x : Pieces) (ending : List ℕ) → Passes x → Passes (fixed_piece words ++ (x ++ fixed_piece ending))

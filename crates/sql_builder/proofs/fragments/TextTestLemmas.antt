@@ -23,6 +23,7 @@ use Rattle.sql_builder.proofs.fragments.PreservationLemmas.{clauses-parts}
 use Rattle.sql_builder.proofs.fragments.FitLemmas.{balanced_fragments, unless}
 use Rattle.sql_builder.proofs.pieces.LayoutShapeLemmas.{sql-semicolon}
 use Rattle.sql_builder.proofs.reading.ClauseWordLemmas.{fragments_closed}
+use Rattle.sql_builder.proofs.fragments.PropertyLemmas.{calls-whatever, whatever}
 use Rattle.sql_builder.proofs.fragments.PassLemmas.{printed-passes}
 use Rattle.sql_builder.proofs.fragments.PropertyLemmas.{Passes}
 use Rattle.sql_builder.proofs.reading.ReadBackLemmas.{layout}
@@ -55,11 +56,11 @@ texts_are_fit_call_by_call start calls more finish =
 -- ---- fragments
 
 module _ (test : List ℕ → Bool) (start : StartText) (calls : List CallText) (finish : FinishText) where
-  fragments-pass : texts_pass test start calls finish ≡ true → Passes test (layout finish (clauses start calls))
+  fragments-pass : texts_pass test start calls finish ≡ true → Passes test whatever (layout finish (clauses start calls))
   fragments-pass all =
       let both = and_parts (all_pass test (start_raw_texts start) && list_all (call_passes test) calls) (all_pass test (finish_raw_texts finish)) all in
       let first = and_parts (all_pass test (start_raw_texts start)) (list_all (call_passes test) calls) both.0 in
-      printed-passes test false start calls finish first.0 first.1 both.1
+      printed-passes test whatever false start calls finish (calls-whatever calls) first.0 first.1 both.1
 
 pub closed_texts : ClosedTextsMakeClosedFragments
 closed_texts start calls finish all = unless _ (layout finish (clauses start calls)) has_closed_fragments (fragments-pass closed start calls finish all)

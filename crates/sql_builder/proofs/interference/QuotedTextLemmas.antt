@@ -97,7 +97,7 @@ condition-blank _ = refl
 -- ---- one more call
 
 module _ {X : Type 0} (f : X → X) (twice : (x : X) → f (f x) ≡ f x) where
-  map-twice : (xs : List X) → map f (map f xs) ≡ map f xs
+  pub map-twice : (xs : List X) → map f (map f xs) ≡ map f xs
   map-twice [] = refl
   map-twice (x ∷ xs) = λ i. twice x i ∷ map-twice xs i
 
@@ -296,18 +296,18 @@ unless-tokens None one other same shaped also is = ap Ok (same_tokens one other 
 unless-tokens (Some error) one other same shaped also is = refl
 
 module _ (start : StartText) (one other : List CallText) (finish : FinishText) (differ : DifferInQuotedTexts one other) where
-  abbrev laid : List CallText → Pieces
+  abbrev pub laid : List CallText → Pieces
   laid calls = layout_at fixed_piece raw_piece finish (clauses start calls)
 
-  abbrev failed : List CallText → Option SqlBuilderError
+  abbrev pub failed : List CallText → Option SqlBuilderError
   failed calls = error_at finish (printed_texts (clauses start calls))
 
-  same_layouts : blanks (laid one) ≡ blanks (laid other)
+  pub same_layouts : blanks (laid one) ≡ blanks (laid other)
   same_layouts =
       layout-blank finish (clauses start one) ∙ ap (layout_at fixed_piece raw_piece finish) (clauses-blank start one other differ)
       ∙ sym (layout-blank finish (clauses start other))
 
-  same_errors : failed one ≡ failed other
+  pub same_errors : failed one ≡ failed other
   same_errors =
       sym (error_at-blank finish (clauses start one)) ∙ ap (λ r. error_at finish (printed_texts r)) (clauses-blank start one other differ)
       ∙ error_at-blank finish (clauses start other)

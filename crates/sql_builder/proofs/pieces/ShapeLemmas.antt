@@ -7,11 +7,15 @@ use Rattle.std.proofs.lemmas.List.Folds.{list_all-append, list_any-append}
 use Rattle.std.specs.Prelude.{flat_map}
 use Rattle.std.specs.List.{AllByRecursion, list_all, list_any}
 use Rattle.sql_parts.specs.Quoting.{quoted}
+use Rattle.sql_parts.specs.Readers.{after}
 use Rattle.sql_parts.specs.Text.{join_with}
+use Rattle.sql_parts.specs.TokenReader.{token_reader}
 use Rattle.sql_parts.specs.Tokens.{Symbol, Token, begins_with, clean, closed, ends_with, has_semicolon, is_edge, is_empty, is_open, is_semicolon, tokens}
 use Rattle.sql_parts.specs.declared.delimiters.Quotes.TheVariants.{Single}
 use Rattle.sql_parts.proofs.tokens.JoinFacts.{Edged, begins-append, clean-behind}
 use Rattle.sql_parts.proofs.tokens.TokenFacts.{between-tokens, between_closed, closed-shut, seam}
+use Rattle.sql_parts.proofs.tokens.TokenReaderLemmas.{IsShut, edge-begins, edge-ends, opens-every, shut-behind}
+use Rattle.sql_builder.proofs.pieces.PartLemmas.{Opens, behind-append, opens-append, opens-shut, state_behind}
 use Rattle.sql_builder.specs.Phrases.{in_brackets, comma_list}
 use Rattle.sql_builder.specs.Shape.{EndsInOneSemicolon, piece_tokens}
 use Rattle.sql_builder.specs.RawFragments.{has_closed_fragments, has_no_semicolons, is_closed_piece, is_without_semicolon}
@@ -41,12 +45,15 @@ pub record Inside (ps : Pieces) : Type 0 where
   pub reads : has_closed_fragments ps ≡ true → (text : List ℕ) → Follows text → tokens (pieces_text ps ++ text) ≡ pieces_tokens ps ++ tokens text
   pub no_open : NoOpen ps
   pub plain : Plain ps
+  pub opens : has_closed_fragments ps ≡ true → Opens 0 ps
 
 -- pieces whose tokens are theirs before any text
 pub record Ended (ps : Pieces) : Type 0 where
   pub reads : has_closed_fragments ps ≡ true → (text : List ℕ) → tokens (pieces_text ps ++ text) ≡ pieces_tokens ps ++ tokens text
   pub no_open : NoOpen ps
   pub plain : Plain ps
+  pub opens : has_closed_fragments ps ≡ true → Opens 0 ps
+  pub ends : has_closed_fragments ps ≡ true → state_behind 0 ps ≡ 0
 
 -- pieces that may follow a fragment
 pub record Following (ps : Pieces) : Type 0 where
@@ -80,11 +87,16 @@ reads-both x y text one other =
     ∙ one ∙ ap (λ ts. pieces_tokens x ++ ts) other ∙ sym (append_assoc (pieces_tokens x) (pieces_tokens y) (tokens text))
     ∙ ap (λ ts. ts ++ tokens text) (sym (pieces_tokens-append x y))
 
+-- and their strings
+opens-behind : (x y : Pieces) → Ended x → has_closed_fragments x ≡ true → Opens 0 y → Opens 0 (x ++ y)
+opens-behind x y one is opens = opens-append 0 x y (one.opens is) (subst (λ s. Opens s y) (sym (one.ends is)) opens)
+
 pub ended-inside : (x y : Pieces) → Ended x → Inside y → Inside (x ++ y)
 ended-inside x y one other = record {
   reads = λ is text follows. let both = both-closed x y is in reads-both x y text (one.reads both.0 (pieces_text y ++ text)) (other.reads both.1 text follows);
   no_open = both-free x y one.no_open other.no_open;
   plain = both-free x y one.plain other.plain;
+  opens = λ is. let both = both-closed x y is in opens-behind x y one both.0 (other.opens both.1);
 }
 
 pub ended-ended : (x y : Pieces) → Ended x → Ended y → Ended (x ++ y)
@@ -92,7 +104,15 @@ ended-ended x y one other = record {
   reads = λ is text. let both = both-closed x y is in reads-both x y text (one.reads both.0 (pieces_text y ++ text)) (other.reads both.1 text);
   no_open = both-free x y one.no_open other.no_open;
   plain = both-free x y one.plain other.plain;
+  opens = λ is. let both = both-closed x y is in opens-behind x y one both.0 (other.opens both.1);
+  ends = λ is. let both = both-closed x y is in behind-append 0 x y ∙ ap (λ s. state_behind s y) (one.ends both.0) ∙ other.ends both.1;
 }
+
+pub inside-shape : (ps : Pieces) → Inside ps → has_closed_fragments ps ≡ true → tokens (pieces_text ps) ≡ pieces_tokens ps
+inside-shape ps inside is = ap tokens (sym (append-nil (pieces_text ps))) ∙ inside.reads is [] (inl refl) ∙ append-nil (pieces_tokens ps)
+
+inside-shut : (ps : Pieces) → Inside ps → has_closed_fragments ps ≡ true → IsShut (state_behind 0 ps)
+inside-shut ps inside is = shut-behind (pieces_text ps) (ap (λ all. not (has_open all)) (inside-shape ps inside is) ∙ ap not (inside.no_open.none is))
 
 pub inside-inside : (x y : Pieces) → Inside x → Following y → Inside y → Inside (x ++ y)
 inside-inside x y one behind other = record {
@@ -100,6 +120,9 @@ inside-inside x y one behind other = record {
       reads-both x y text (one.reads both.0 (pieces_text y ++ text) (behind.follows text follows)) (other.reads both.1 text follows);
   no_open = both-free x y one.no_open other.no_open;
   plain = both-free x y one.plain other.plain;
+  opens = λ is. let both = both-closed x y is in
+      opens-append 0 x y (one.opens both.0)
+      (opens-shut (state_behind 0 x) y (inside-shut x one both.0) (subst Follows (append-nil (pieces_text y)) (behind.follows [] (inl refl))) (other.opens both.1));
 }
 
 -- the product's words
@@ -126,6 +149,8 @@ words-ended words is ends = record {
   reads = λ all text. alone (Fixed words) text (seam words text is.is_closed (clean-behind words text ends));
   no_open = word-free words (closed-shut words is.is_closed);
   plain = word-free words is.plain;
+  opens = λ all. (tt, tt);
+  ends = λ all. ap (after token_reader 0) (append-nil words) ∙ edge-ends words is.is_closed ends;
 }
 
 pub words-inside : (words : List ℕ) → Whole words → Inside (fixed_piece words)
@@ -133,6 +158,7 @@ words-inside words is = record {
   reads = λ all text follows. alone (Fixed words) text (seam words text is.is_closed (follows-clean words text follows));
   no_open = word-free words (closed-shut words is.is_closed);
   plain = word-free words is.plain;
+  opens = λ all. (tt, tt);
 }
 
 pub words-following : (words : List ℕ) (ps : Pieces) → begins_with is_edge words ≡ true → Following (fixed_piece words ++ ps)
@@ -150,6 +176,7 @@ raw-inside one = record {
     none = λ is. ap (list_any is_semicolon) (append-nil (tokens one))
         ∙ not-true (has_semicolon one) (and_parts (not (has_semicolon one)) true is).0;
   };
+  opens = λ is. (tt, tt);
 }
 
 pub quoted-inside : (text : List ℕ) → Inside (quoted_piece text)
@@ -158,16 +185,23 @@ quoted-inside one = record {
       ∙ ap (λ ts. ts ++ tokens text) (between-tokens Single one));
   no_open = record { none = λ is. refl };
   plain = record { none = λ is. refl };
+  opens = λ is. (tt, (opens-every Single, (tt, tt)));
 }
 
 pub none-inside : Inside []
-none-inside = record { reads = λ is text follows. refl; no_open = record { none = λ is. refl }; plain = record { none = λ is. refl } }
+none-inside = record {
+  reads = λ is text follows. refl;
+  no_open = record { none = λ is. refl };
+  plain = record { none = λ is. refl };
+  opens = λ is. tt;
+}
 
 pub none-following : Following []
 none-following = record { follows = λ text follows. follows }
 
 pub ended-is_inside : (x : Pieces) → Ended x → Inside x
-ended-is_inside x one = record { reads = λ is text follows. one.reads is text; no_open = one.no_open; plain = one.plain }
+ended-is_inside x one =
+    record { reads = λ is text follows. one.reads is text; no_open = one.no_open; plain = one.plain; opens = one.opens }
 
 pub inside-words : (x : Pieces) (words : List ℕ) → Inside x → Edged words → Ended (x ++ fixed_piece words)
 inside-words x words one edged =
@@ -180,6 +214,11 @@ inside-words x words one edged =
           (end.reads both.1 text);
       no_open = both-free x (fixed_piece words) one.no_open end.no_open;
       plain = both-free x (fixed_piece words) one.plain end.plain;
+      opens = λ is. opens-append 0 x (fixed_piece words) (one.opens (both-closed x (fixed_piece words) is).0) (tt, tt);
+      ends = λ is.
+          behind-append 0 x (fixed_piece words) ∙ ap (after token_reader (state_behind 0 x)) (append-nil words)
+          ∙ edge-begins (state_behind 0 x) words (inside-shut x one (both-closed x (fixed_piece words) is).0) edged.begins
+          ∙ edge-ends words edged.is_closed edged.ends;
     }
 
 pub following-append : (x y : Pieces) → Following x → Following y → Following (x ++ y)
@@ -240,11 +279,13 @@ brackets-inside x one = ended-is_inside (in_brackets fixed_piece x) (brackets-en
 pub record Shaped (ps : Pieces) : Type 0 where
   pub shape_is : has_closed_fragments ps ≡ true → tokens (pieces_text ps) ≡ pieces_tokens ps
   pub no_open : NoOpen ps
+  pub opens : has_closed_fragments ps ≡ true → Opens 0 ps
 
 pub shaped : (ps : Pieces) → Inside ps → Shaped ps
 shaped ps inside = record {
-  shape_is = λ is. ap tokens (sym (append-nil (pieces_text ps))) ∙ inside.reads is [] (inl refl) ∙ append-nil (pieces_tokens ps);
+  shape_is = inside-shape ps inside;
   no_open = inside.no_open;
+  opens = inside.opens;
 }
 
 pub shape_closed : (ps : Pieces) → Shaped ps → has_closed_fragments ps ≡ true → closed (pieces_text ps) ≡ true
@@ -263,6 +304,7 @@ statement-shaped ps inside = record {
       let both = both-closed ps (fixed_piece (codes ";")) is in
       ap tokens (text-append ps (fixed_piece (codes ";"))) ∙ inside.reads both.0 (codes ";") (inr refl) ∙ sym (shape-semicolon ps);
   no_open = both-free ps (fixed_piece (codes ";")) inside.no_open (word-free (codes ";") refl);
+  opens = λ is. opens-append 0 ps (fixed_piece (codes ";")) (inside.opens (both-closed ps (fixed_piece (codes ";")) is).0) (tt, tt);
 }
 
 pub ends_in_semicolon : (ps : Pieces) → Inside ps → has_closed_fragments (with_semicolon ps) ≡ true → has_no_semicolons (with_semicolon ps) ≡ true

@@ -26,7 +26,7 @@ use Rattle.sql_builder.specs.StatementLaws.{made_by}
 use Rattle.sql_builder.specs.Pieces.{Pieces, fixed_piece, pieces_text, raw_piece}
 use Rattle.sql_builder.proofs.tokens.BalancedFacts.{even_closes, even_text, has_top_level-append, is_even-append}
 use Rattle.sql_builder.proofs.fragments.NeutralLemmas.{NeutralParts, neutral-target, clauses-neutral, raw-neutral}
-use Rattle.sql_builder.proofs.fragments.PropertyLemmas.{neutral-append, neutral-list, passes-append}
+use Rattle.sql_builder.proofs.fragments.PropertyLemmas.{neutral-append, neutral-list, passes-append, whatever}
 use Rattle.sql_builder.proofs.pieces.ClauseShapeLemmas.{printed-shaped}
 use Rattle.sql_builder.proofs.truth.ConnectiveLemmas.{placed-then}
 use Rattle.sql_builder.proofs.pieces.LayoutShapeLemmas.{sql_shape, query_shape}
@@ -204,7 +204,7 @@ joined-tail ts us found one tail =
 returned-balanced : (given : Option Pieces) → is_fit_returning given ≡ true
     → has_balanced_fragments (concat_sections fixed_piece (optional_section (codes " RETURNING ") given)) ≡ true
 returned-balanced None fit = refl
-returned-balanced (Some body) fit = passes-append balanced body [] (fit-balanced (pos 0) body (sym (are_fit-is body) ∙ fit)) refl
+returned-balanced (Some body) fit = passes-append balanced whatever body [] (fit-balanced (pos 0) body (sym (are_fit-is body) ∙ fit)) refl
 
 insert-front : Front (tokens (codes "INSERT INTO "))
 insert-front = record { laid = refl; even = refl; no_union = refl }
@@ -308,9 +308,9 @@ module _ (r : Clauses Pieces) (query : List ℕ) (neutral : NeutralParts r) (is 
 
   insert-balanced : has_balanced_fragments insert_pieces ≡ true
   insert-balanced =
-      passes-append balanced (opened ++ concat_sections fixed_piece (returning_sections r)) (fixed_piece (codes ";"))
-      (passes-append balanced opened (concat_sections fixed_piece (returning_sections r))
-      (passes-append balanced (insert_target fixed_piece r) (fixed_piece (codes " ") ++ raw_piece query) target-balanced (and_from _ _ is refl))
+      passes-append balanced whatever (opened ++ concat_sections fixed_piece (returning_sections r)) (fixed_piece (codes ";"))
+      (passes-append balanced whatever opened (concat_sections fixed_piece (returning_sections r))
+      (passes-append balanced whatever (insert_target fixed_piece r) (fixed_piece (codes " ") ++ raw_piece query) target-balanced (and_from _ _ is refl))
       (returned-balanced r.returning (and_parts (are_fit (insert_target fixed_piece r)) (is_fit_returning r.returning) fit).1))
       refl
 

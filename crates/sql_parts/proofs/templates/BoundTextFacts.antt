@@ -59,10 +59,10 @@ tokens-blank (words text) places more = refl
 abbrev Parts : Type 0
 Parts = List (Value × List ℕ)
 
-abbrev blanked : (Value → LiteralValue) → Value → LiteralValue
+abbrev pub blanked : (Value → LiteralValue) → Value → LiteralValue
 blanked literals value = blank_literal (literals value)
 
-same_blanks : (one other : Value → LiteralValue) → DifferInTexts one other → blanked one ≡ blanked other
+pub same_blanks : (one other : Value → LiteralValue) → DifferInTexts one other → blanked one ≡ blanked other
 same_blanks one other differ = λ i value. blank_is (one value) (other value) (differ value) i
 
 resolved_places-blank : (literals : Value → LiteralValue) (resolved : Resolved)

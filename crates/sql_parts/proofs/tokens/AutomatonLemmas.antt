@@ -148,7 +148,7 @@ at-slash (next ∷ text) =
       | inr isnt ↦ ended (code "*" == next) _ _ next text isnt ∙ alone 47 (next ∷ text) (rw isnt)
     ]
 
-flipped : (byte other : ℕ) → (byte == other) ≡ false → (other == byte) ≡ false
+pub flipped : (byte other : ℕ) → (byte == other) ≡ false → (other == byte) ≡ false
 flipped byte other isnt = ne_eqb other byte (λ same. eqb-false byte other isnt (sym same))
 
 -- a byte that begins no comment and no quote

@@ -1,16 +1,19 @@
 -- Readers go through the same states outside of untrusted texts.
-use Rattle.std.proofs.Common.{◌≡◌, ℕ, Bool, true, false, List, [], ◌∷◌, ◌++◌, refl, sym, ap, subst, ◌∙◌, inl, inr, map}
-use Rattle.std.specs.Prelude.{◌==◌}
-use Rattle.std.specs.List.{list_all}
+use Rattle.std.proofs.Common.{◌≡◌, ℕ, Bool, true, false, List, [], ◌∷◌, ◌++◌, refl, sym, ap, subst, ◌∙◌, ◌+◌, inl, inr, append_assoc, length, map, take}
+use Rattle.std.specs.Prelude.{◌==◌, ◌↔◌}
+use Rattle.std.specs.List.{AllByRecursion, list_all}
+use Rattle.std.proofs.Math.Seq.{take-append_seam}
+use Rattle.std.proofs.lemmas.List.Elements.{All-from_recursion, recursion_from_All}
 use Rattle.std.proofs.lemmas.Bool.{and_parts, cases_Bool, eqb-false}
+use Rattle.std.proofs.lemmas.List.{length-append, length-map}
 use Rattle.sql_parts.specs.Quoting.{between, closing, doubled, opening}
-use Rattle.sql_parts.specs.ReaderLaws.{IsInsideUntilItsEnd, LeadsAsNoText, ReadersIgnoreDoubledTexts, StaysInside}
+use Rattle.sql_parts.specs.ReaderLaws.{IsInsideUntilItsEnd, LeadsAsNoText, PartsAreAtPlaces, ReadersIgnoreDoubledTexts, StaysInside, places_from}
 use Rattle.sql_parts.specs.Readers.{Part, Constant, Doubled, Reader, DifferInDoubledTexts, IsInside, IsInsideAtEach, OpensLiteral, after, emptied}
-use Rattle.sql_parts.specs.Readers.{has_plain_text, inner_states, marks, outer_states, parts_bytes, states}
+use Rattle.sql_parts.specs.Readers.{has_plain_text, inner_states, marks, outer_states, part_bytes, part_marks, parts_bytes, states}
 use Rattle.sql_parts.specs.declared.delimiters.Quotes.{Quotes}
 
 module _ (next : Reader) where
-  after-append : (state : ℕ) (one other : List ℕ) → after next state (one ++ other) ≡ after next (after next state one) other
+  pub after-append : (state : ℕ) (one other : List ℕ) → after next state (one ++ other) ≡ after next (after next state one) other
   after-append state [] other = refl
   after-append state (byte ∷ one) other = after-append (next state byte) one other
 
@@ -75,6 +78,15 @@ module _ (next : Reader) where
 
     -- ---- parts
 
+    pub inside-append : (state : ℕ) (one other : List Part) → IsInsideAtEach next plain state one
+        → IsInsideAtEach next plain (after next state (parts_bytes one)) other → IsInsideAtEach next plain state (one ++ other)
+    inside-append state [] other here later = later
+    inside-append state (part ∷ one) other here later = (
+      here.0,
+      inside-append (after next state (part_bytes part)) one other here.1
+          (subst (λ s. IsInsideAtEach next plain s other) (after-append state (part_bytes part) (parts_bytes one)) later),
+    )
+
     abbrev Outer : ℕ → List Part → List ℕ
     Outer state parts = outer_states next state (marks parts) (parts_bytes parts)
 
@@ -114,6 +126,15 @@ module _ (next : Reader) where
               ∙ ap (λ s. Outer s other) (sym other_stays) ∙ sym (marked-first state (doubled delimiter other_text) (marks other) (parts_bytes other)),
         )
 
+-- a mark for each byte
+part-length : (part : Part) → length (part_marks part) ≡ length (part_bytes part)
+part-length (Constant text) = length-map text (λ byte. false)
+part-length (Doubled delimiter text) = length-map (doubled delimiter text) (λ byte. true)
+
+pub marks-length : (parts : List Part) → length (marks parts) ≡ length (parts_bytes parts)
+marks-length [] = refl
+marks-length (part ∷ parts) = simp (length-append, part-length, marks-length parts)
+
 pub readers-alike : ReadersIgnoreDoubledTexts
 readers-alike next plain state one other differ one_plain other_plain inside = parts-alike next plain state one other differ one_plain other_plain inside
 
@@ -125,3 +146,50 @@ inside-until_end quotes next plain state text opens all = between-states next pl
 
 pub stays-inside : (quotes : Quotes) → StaysInside quotes (doubled (closing quotes))
 stays-inside quotes next plain state text inside all = inner-after next plain (closing quotes) state inside text all
+
+-- ---- places
+
+module _ (next : Reader) (plain : ℕ → Bool) (state : ℕ) where
+  abbrev At : List ℕ → ℕ × ℕ → Type 0
+  At text place = IsInside next plain place.1 (after next state (take place.0 text))
+
+  -- behind some bytes
+  abbrev Ties : List ℕ → ℕ → List Part → Type 0
+  Ties front before parts =
+      IsInsideAtEach next plain (after next state front) parts ↔ AllByRecursion (At (front ++ parts_bytes parts)) (places_from before parts)
+
+  -- and behind further ones
+  later : (front text : List ℕ) (before : ℕ) (parts : List Part) → Ties (front ++ text) before parts
+      → IsInsideAtEach next plain (after next (after next state front) text) parts
+      ↔ AllByRecursion (At (front ++ (text ++ parts_bytes parts))) (places_from before parts)
+  later front text before parts tied =
+      subst (λ s. IsInsideAtEach next plain s parts ↔ AllByRecursion (At (front ++ (text ++ parts_bytes parts))) (places_from before parts))
+      (after-append next state front text)
+      (subst (λ all. IsInsideAtEach next plain (after next state (front ++ text)) parts ↔ AllByRecursion (At all) (places_from before parts))
+      (append_assoc front text (parts_bytes parts)) tied)
+
+  further : (front text : List ℕ) (before : ℕ) → before ≡ length front → before + length text ≡ length (front ++ text)
+  further front text before is = ap (λ n. n + length text) is ∙ sym (length-append front text)
+
+  ties : (front : List ℕ) (before : ℕ) → before ≡ length front → (parts : List Part) → Ties front before parts
+  ties front before is [] = (λ inside. tt, λ places. tt)
+  ties front before is (Constant text ∷ parts) =
+      let rest = later front text (before + length text) parts (ties (front ++ text) (before + length text) (further front text before is) parts) in
+      (λ inside. rest.0 inside.1, λ places. (tt, rest.1 places))
+  ties front before is (Doubled delimiter text ∷ parts) =
+      let written = doubled delimiter text in
+      let rest = later front written (before + length written) parts
+      (ties (front ++ written) (before + length written) (further front written before is) parts) in
+      let cut : take before (front ++ (written ++ parts_bytes parts)) ≡ front =
+      ap (λ n. take n (front ++ (written ++ parts_bytes parts))) is ∙ take-append_seam front (written ++ parts_bytes parts) in (
+        λ inside. (subst (λ bytes. IsInside next plain delimiter (after next state bytes)) (sym cut) inside.0, rest.0 inside.1),
+        λ places. (subst (λ bytes. IsInside next plain delimiter (after next state bytes)) cut places.0, rest.1 places.1),
+      )
+
+pub parts-at_places : PartsAreAtPlaces
+parts-at_places next plain state parts =
+    let tied = ties next plain state [] 0 refl parts in
+    let P = At next plain state (parts_bytes parts) in (
+      λ inside. All-from_recursion P (places_from 0 parts) (tied.0 inside),
+      λ places. tied.1 (recursion_from_All P (places_from 0 parts) places),
+    )

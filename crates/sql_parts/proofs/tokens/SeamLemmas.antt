@@ -18,7 +18,7 @@ read-append mode [] other = refl
 read-append mode (byte ∷ one) other = ap (λ rest. (step mode byte).0 ++ rest) (read-append (step mode byte).1 one other)
     ∙ sym (append_assoc (step mode byte).0 (whole (step mode byte).1 one) _)
 
-read-finish : (mode : Mode) (text : List ℕ) → read mode text ≡ whole mode text ++ finish (after mode text)
+pub read-finish : (mode : Mode) (text : List ℕ) → read mode text ≡ whole mode text ++ finish (after mode text)
 read-finish mode [] = refl
 read-finish mode (byte ∷ text) = ap (λ rest. (step mode byte).0 ++ rest) (read-finish (step mode byte).1 text)
     ∙ sym (append_assoc (step mode byte).0 (whole (step mode byte).1 text) _)
@@ -27,7 +27,7 @@ abbrev pub has_open : List Token → Bool
 has_open tokens = list_any is_open tokens
 
 -- what holds of each byte of a list holds of a byte that is one of them
-one_of : (P : ℕ → Type 0) (bytes : List ℕ) → AllByRecursion P bytes → (byte : ℕ) → is_one_of bytes byte ≡ true → P byte
+pub one_of : (P : ℕ → Type 0) (bytes : List ℕ) → AllByRecursion P bytes → (byte : ℕ) → is_one_of bytes byte ≡ true → P byte
 one_of P [] holds byte is = absurd (false≢true is)
 one_of P (other ∷ bytes) holds byte is =
     elim (or_cases (byte == other) (is_one_of bytes byte) is) [
@@ -70,7 +70,7 @@ read-edge InLine shut (byte ∷ text) (inr edge) = absurd (false≢true (sym shu
 read-edge InBlock shut (byte ∷ text) (inr edge) = absurd (false≢true (sym shut))
 read-edge AtStar shut (byte ∷ text) (inr edge) = absurd (false≢true (sym shut))
 
--- behind an edge, the reader is between two tokens or in an open one
+-- behind an edge, the reader is between two tokens, or in an open one that it was in before
 start-edge : (byte : ℕ) → is_edge byte ≡ true → (start byte).1 ≡ Between
 start-edge byte is = one_of (λ b. (start b).1 ≡ Between) edges
     (refl, (refl, (refl, (refl, (refl, (refl, (refl, (refl, (refl, (refl, (refl, (refl, tt)))))))))))) byte is
@@ -80,25 +80,32 @@ begins-anew : (more : Bool) (further : List Token × Mode) (token : Token) (byte
 begins-anew more further token byte ends edge = ap (λ (given : List Token × Mode). given.1) (cond-false more further (behind_token token (start byte)) ends)
     ∙ start-edge byte edge
 
-step-edge : (mode : Mode) (byte : ℕ) → is_edge byte ≡ true → has_open (finish (step mode byte).1) ≡ false → (step mode byte).1 ≡ Between
-step-edge Between byte edge = λ shut. start-edge byte edge
-step-edge (InWord word) byte edge = λ shut. begins-anew (is_word_byte byte) _ _ byte (edge-no_word byte edge) edge
-step-edge (InQuotes quotes kept) byte edge = rw (edge-other (closing quotes) byte (delimiter-no_edge quotes) edge) (λ shut. absurd (false≢true (sym shut)))
-step-edge (AtDelimiter quotes kept) byte edge =
-    λ shut. begins-anew (byte == closing quotes) _ _ byte (edge-other (closing quotes) byte (delimiter-no_edge quotes) edge) edge
-step-edge AtDash byte edge = λ shut. begins-anew (45 == byte) _ _ byte (other-edge 45 byte refl edge) edge
-step-edge AtSlash byte edge = λ shut. begins-anew (42 == byte) _ _ byte (other-edge 42 byte refl edge) edge
-step-edge InLine byte edge = elim (cases_Bool (10 == byte)) [ inl is ↦ rw is (λ shut. refl) | inr isnt ↦ rw isnt (λ shut. absurd (false≢true (sym shut))) ]
-step-edge InBlock byte edge = rw (other-edge 42 byte refl edge) (λ shut. absurd (false≢true (sym shut)))
-step-edge AtStar byte edge = rw (other-edge 47 byte refl edge, other-edge 42 byte refl edge) (λ shut. absurd (false≢true (sym shut)))
+pub step-edge : (mode : Mode) (byte : ℕ) → is_edge byte ≡ true
+    → (has_open (finish mode) ≡ false) ⊎ (has_open (finish (step mode byte).1) ≡ false) → (step mode byte).1 ≡ Between
+step-edge Between byte edge shut = start-edge byte edge
+step-edge (InWord word) byte edge shut = begins-anew (is_word_byte byte) _ _ byte (edge-no_word byte edge) edge
+step-edge (InQuotes quotes kept) byte edge (inl shut) = absurd (false≢true (sym shut))
+step-edge (InQuotes quotes kept) byte edge (inr shut) =
+    absurd (false≢true (sym (rw (edge-other (closing quotes) byte (delimiter-no_edge quotes) edge) at shut)))
+step-edge (AtDelimiter quotes kept) byte edge shut =
+    begins-anew (byte == closing quotes) _ _ byte (edge-other (closing quotes) byte (delimiter-no_edge quotes) edge) edge
+step-edge AtDash byte edge shut = begins-anew (45 == byte) _ _ byte (other-edge 45 byte refl edge) edge
+step-edge AtSlash byte edge shut = begins-anew (42 == byte) _ _ byte (other-edge 42 byte refl edge) edge
+step-edge InLine byte edge (inl shut) = absurd (false≢true (sym shut))
+step-edge InLine byte edge (inr shut) =
+    elim (cases_Bool (10 == byte)) [ inl is ↦ rw is refl | inr isnt ↦ absurd (false≢true (sym (rw isnt at shut))) ]
+step-edge InBlock byte edge (inl shut) = absurd (false≢true (sym shut))
+step-edge InBlock byte edge (inr shut) = absurd (false≢true (sym (rw (other-edge 42 byte refl edge) at shut)))
+step-edge AtStar byte edge (inl shut) = absurd (false≢true (sym shut))
+step-edge AtStar byte edge (inr shut) = absurd (false≢true (sym (rw (other-edge 47 byte refl edge, other-edge 42 byte refl edge) at shut)))
 
-after-edge : (mode : Mode) (text : List ℕ) → ends_with is_edge text ≡ true → has_open (finish (after mode text)) ≡ false → after mode text ≡ Between
+pub after-edge : (mode : Mode) (text : List ℕ) → ends_with is_edge text ≡ true → has_open (finish (after mode text)) ≡ false → after mode text ≡ Between
 after-edge mode [] edge shut = absurd (false≢true edge)
-after-edge mode (byte ∷ []) edge shut = step-edge mode byte edge shut
+after-edge mode (byte ∷ []) edge shut = step-edge mode byte edge (inr shut)
 after-edge mode (byte ∷ next ∷ text) edge shut = after-edge (step mode byte).1 (next ∷ text) edge shut
 
 -- what has no open token ends in none
-shut-end : (mode : Mode) (text : List ℕ) → has_open (read mode text) ≡ false → has_open (finish (after mode text)) ≡ false
+pub shut-end : (mode : Mode) (text : List ℕ) → has_open (read mode text) ≡ false → has_open (finish (after mode text)) ≡ false
 shut-end mode text shut =
     (or_parts (has_open (whole mode text)) _ (sym (list_any-append is_open (whole mode text) (finish (after mode text)))
     ∙ sym (ap has_open (read-finish mode text)) ∙ shut)).1
