@@ -1,0 +1,2 @@
+pub mod PostgresReader
+pub mod SqliteReader
