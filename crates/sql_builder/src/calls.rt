@@ -20,8 +20,8 @@ pub use crate::checks::{
 use crate::clauses::{JoinOperator, Kind};
 pub use crate::condition::{BorrowedCondition, Condition, Family, Percent, Relation};
 pub use crate::steps::{
-    BinaryClause, UnaryClause, VariadicClause, make_binary, make_condition, make_order, make_unary,
-    make_variadic,
+    BinaryClause, UnaryClause, VariadicClause, add_condition, condition_text, make_binary,
+    make_condition, make_order, make_unary, make_variadic,
 };
 use sql_parts::SqlBuilderError;
 use sql_parts::text::{Items, Texts};

@@ -1,11 +1,11 @@
 //! The steps of the calls: one for each way to be given texts. A constant says which clause is
 //! meant, and one that adds a condition. Those that borrow their texts are public in `calls`.
-ghost use Rattle.std.specs.Prelude.{◌≡◌, [], ◌∷◌, ◌++◌, map, codes, string_bytes, IfErr, OnOk, OnErr};
+ghost use Rattle.std.specs.Prelude.{◌≡◌, [], ◌∷◌, ◌++◌, map, codes, string_bytes, IfErr, IfOk, OnOk, OnErr};
 ghost use Rattle.sql_parts.specs.Error.{FailsOnlyByMemory};
 ghost use Rattle.sql_parts.specs.Quoting.{escaped};
 ghost use Rattle.sql_builder.specs.Builder.{with_condition, with_condition_bytes, with_order, with_returning, IsBinaryError, IsUnaryError, with_binary, with_unary, with_variadic};
 ghost use Rattle.sql_builder.specs.Concat.{concat_bytes};
-ghost use Rattle.sql_builder.specs.Condition.{borrowed_view};
+ghost use Rattle.sql_builder.specs.Condition.{borrowed_view, condition_bytes};
 ghost use Rattle.sql_builder.specs.Steps.{AddsBinary, Applies};
 
 use crate::builder::SqlBuilder;
@@ -15,6 +15,7 @@ use crate::condition::{BorrowedCondition, Family};
 use sql_parts::loan::Held;
 use sql_parts::text::{Items, Texts};
 use sql_parts::{SqlBuilderError, ToText, escaped, split_at_quote};
+use std::alloc::Global;
 use std::mem::swap;
 
 // How many bytes are asked for at first for a join, so that one with a short constraint takes one
@@ -384,6 +385,40 @@ pub fn make_condition<'a, T: Texts<'a>>(
 {
     let text = condition.text(builder.alloc)?;
     builder.push_condition(family, text)
+}
+
+/// The text of a condition, for a condition that it is a part of. It fails only if memory runs out.
+/// `condition_text(alloc, BorrowedCondition::InList(false, "a", Items { items: &["1", "2"] }))?` →
+/// `a IN (1, 2)`
+pub fn condition_text<'a, T: Texts<'a>>(
+    alloc: Global,
+    condition: BorrowedCondition<'a, T>,
+) -> Result<String, SqlBuilderError>
+    ensures text { IfOk result (λ s. string_bytes s
+        ≡ condition_bytes (borrowed_view T.left condition.entry)) }
+    ensures memory { FailsOnlyByMemory result }
+{
+    condition.text(alloc)
+}
+
+/// Makes the call of this family that adds the condition of this text, which isn't copied. It fails
+/// only if memory runs out, and then leaves the builder as it was.
+/// ```
+/// let mut b = SqlBuilder::select_from(alloc, "t")?;
+/// add_condition(&mut b, Family::And, String::from_str(alloc, "a IN (1, 2)")?)?;
+/// b.sql()?; // SELECT * FROM t WHERE a IN (1, 2);
+/// ```
+pub fn add_condition(
+    builder: &mut SqlBuilder,
+    family: Family,
+    condition: String,
+) -> Result<(), SqlBuilderError>
+    ensures made { OnOk result (builder.new
+        ≡ with_condition_bytes family (string_bytes condition) builder.old) }
+    ensures unchanged { OnErr result (builder.new ≡ builder.old) }
+    ensures memory { FailsOnlyByMemory result }
+{
+    builder.push_condition(family, condition)
 }
 
 // The same with texts that may have to be made. A constraint without a join makes none.

@@ -69,7 +69,7 @@ condition-fit condition fit =
 
 -- ---- tokens of what is joined
 
-pieces_tokens-joined : (words : List ℕ) (w : Token) → tokens words ≡ w ∷ [] → (items : List Pieces) → pieces_tokens (join_with (fixed_piece words) items)
+pub pieces_tokens-joined : (words : List ℕ) (w : Token) → tokens words ≡ w ∷ [] → (items : List Pieces) → pieces_tokens (join_with (fixed_piece words) items)
     ≡ joined w (map pieces_tokens items)
 pieces_tokens-joined words w is [] = refl
 pieces_tokens-joined words w is (x ∷ []) = ap pieces_tokens (append-nil x)

@@ -29,7 +29,7 @@ truth_group facts c (d ∷ cs) h =
     truth_or facts c (group_tokens (d ∷ cs)) (at_end-closes (pos 0) c (condition_closes c both.0))
     ∙ ap (or3 (truth facts c)) (truth_group facts d cs both.1)
 
-abbrev bracketed_groups : List (List (List Token)) → List (List Token)
+abbrev pub bracketed_groups : List (List (List Token)) → List (List Token)
 bracketed_groups gs = map (λ g. in_brackets (group_tokens g)) gs
 
 is_group_closes : (g : List (List Token)) → is_group g ≡ true → closes_from (pos 0) (group_tokens g) ≡ true
@@ -55,7 +55,7 @@ joined_no_or g (k ∷ gs) h =
     ∙ none-append is_or (placed (in_brackets (group_tokens g))) (placed (and_word ∷ joined and_word (bracketed_groups (k ∷ gs))))
     (none-brackets is_or (group_tokens g) refl closes) (joined_no_or k gs both.1)
 
-truth_joined : (facts : List Fact) (g : List (List Token)) (gs : List (List (List Token))) → list_all is_group (g ∷ gs) ≡ true
+pub truth_joined : (facts : List Fact) (g : List (List Token)) (gs : List (List (List Token))) → list_all is_group (g ∷ gs) ≡ true
     → truth facts (joined and_word (bracketed_groups (g ∷ gs))) ≡ and_all (map (λ h. or_all (map (truth facts) h)) (g ∷ gs))
 truth_joined facts g [] h = truth_one facts g (and_parts (is_group g) true h).0 ∙ sym (and3-True (or_all (map (truth facts) g)))
 truth_joined facts g (k ∷ gs) h =

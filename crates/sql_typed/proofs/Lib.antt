@@ -1,0 +1,3 @@
+pub mod FitLemmas
+pub mod PrintLemmas
+pub mod ConditionLemmas

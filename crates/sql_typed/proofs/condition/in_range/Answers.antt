@@ -1,0 +1,13 @@
+use Rattle.std.proofs.Common.{◌∙◌, ap, refl}
+use Rattle.std.proofs.lemmas.Bool.{and_from}
+use Rattle.sql_parts.specs.Operands.{is_fragment}
+use Rattle.sql_builder.specs.Condition.{Between}
+use Rattle.sql_typed.proofs.ConditionLemmas.{condition_fragment, fits_as}
+use Rattle.sql_typed.proofs.condition.in_range.Goals as goal
+
+pub invariant_of-result : goal.invariant_of-result
+invariant_of-result g c = record {
+  fits = ap is_fragment c.in_ok-text.ensures.text
+      ∙ condition_fragment (Between c.args.negated c.as_str.result.now c.as_str-2.result.now c.as_str-3.result.now)
+      (and_from _ _ (fits_as (c.as_str.ensures.value ∙ c.in_ok-field.ensures.text) (g.met.F.OperandText.serves_as_operand c.args.field)) (and_from _ _ (fits_as (c.as_str-2.ensures.value ∙ c.in_ok-least.ensures.text) (g.met.L.OperandText.serves_as_operand c.args.least)) (and_from _ _ (fits_as (c.as_str-3.ensures.value ∙ c.in_ok-greatest.ensures.text) (g.met.G.OperandText.serves_as_operand c.args.greatest)) refl)));
+}

@@ -1,0 +1,11 @@
+use Rattle.std.proofs.Common.{◌≡◌, ◌++◌, map, string_bytes, take}
+use Rattle.std.specs.Prelude.{flat_map}
+use Rattle.sql_builder.specs.Layout.{byte_units}
+use Rattle.sql_builder.specs.Phrases.{in_brackets}
+use Rattle.sql_typed.proofs.condition.joined.Given as goal
+
+abbrev pub invariant-loop-condition : goal.invariant-loop-condition
+invariant-loop-condition l =
+    string_bytes l.text
+    ≡ string_bytes l.initial.text
+    ++ flat_map (λ item. l.word ++ item) (map (in_brackets byte_units) (map (λ c. string_bytes c.text) (take l.condition-index l.further)))

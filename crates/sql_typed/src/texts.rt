@@ -1,0 +1,88 @@
+//! Texts of their own, whose types say where they fit.
+ghost use Rattle.std.specs.Prelude.{◌≡◌, ◌++◌, [], ◌∷◌, IfOk, IsTrue, List, map, string_bytes};
+ghost use Rattle.std.specs.List.{list_all};
+ghost use Rattle.sql_parts.specs.Error.{FailsOnlyByMemory};
+ghost use Rattle.sql_parts.specs.Fragments.{balanced};
+ghost use Rattle.sql_parts.specs.Operands.{is_fragment};
+ghost use Rattle.sql_parts.specs.Text.{texts};
+
+use crate::operand_text::{FragmentText, OperandText};
+use sql_builder::SqlBuilderError;
+use sql_parts::ToText;
+use sql_parts::text::copies;
+use std::alloc::Global;
+use std::borrow::CowStr;
+
+/// A printed query: its text is balanced.
+#[derive(Drop)]
+pub struct Query {
+    /// The text.
+    pub text: String,
+    pub ghost fits: { IsTrue (balanced (string_bytes text)) },
+}
+
+/// A printed query in brackets with a name, as a table.
+#[derive(Drop)]
+pub struct TableQuery {
+    /// The text.
+    pub text: String,
+    pub ghost fits: { IsTrue (is_fragment (string_bytes text)) },
+}
+
+impl ToText for TableQuery {
+    ghost text = { λ table. string_bytes table.text };
+
+    fn to_text(&self, alloc: Global) -> Result<String, SqlBuilderError> {
+        self.text.to_text(alloc)
+    }
+
+    fn as_text(&self, _alloc: Global) -> Result<CowStr<'_>, SqlBuilderError> {
+        Ok(CowStr::Borrowed(self.text.as_str()))
+    }
+}
+
+impl FragmentText for TableQuery {
+    ghost fits_as_fragment = { λ table. table.fits };
+}
+
+/// A row of an INSERT, whose values may be of different types.
+#[derive(Drop)]
+pub struct Row {
+    alloc: Global,
+    /// The texts of the values.
+    pub values: Vec<String>,
+    pub ghost fits: { IsTrue (list_all balanced (texts values.items)) },
+}
+
+impl Row {
+    /// A row without values. It can't fail.
+    pub fn new(alloc: Global) -> Row
+        ensures { result.values.items ≡ [] }
+    {
+        Row {
+            alloc,
+            values: Vec::new(alloc),
+        }
+    }
+
+    /// The row with one more value. It fails only if memory runs out.
+    pub fn value<V: OperandText>(self, value: V) -> Result<Row, SqlBuilderError>
+        ensures values { IfOk result (λ row. texts row.values.items
+            ≡ texts self.values.items ++ V.text value ∷ []) }
+        ensures memory { FailsOnlyByMemory result }
+    {
+        let Row { alloc, mut values } = self;
+        let value = value.to_text(alloc)?;
+        values.push(value)?;
+        Ok(Row { alloc, values })
+    }
+
+    /// A row of values of one type. It fails only if memory runs out.
+    pub fn of<V: OperandText>(alloc: Global, values: &[V]) -> Result<Row, SqlBuilderError>
+        ensures values { IfOk result (λ row. texts row.values.items ≡ map V.text values.now) }
+        ensures memory { FailsOnlyByMemory result }
+    {
+        let values = copies(alloc, values)?;
+        Ok(Row { alloc, values })
+    }
+}
