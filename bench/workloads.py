@@ -253,10 +253,10 @@ OWN = [
     Tests("`stands_apart`", "stands_apart", 5_000, 30, repeated(filled(TEMPLATES["binds"] + PLAIN, "a = b"))),
     *(
         Tests(f"`{test}` on {kind}", test, 5_000, aim, repeated(text * 500))
-        for test, aim in (("is_closed", 40), ("is_operand", 60))
+        for test, aim in (("is_closed", 41), ("is_operand", 65))
         for kind, text in KINDS.items()
     ),
     Tests("`has_backslash`", "has_backslash", 5_000, 1, repeated("x" * 4096)),
-    Own("`escape_like`", "escape_like", 5_000, 3, repeated("x" * 4096)),
-    Own("`escape_like` of wildcards", "escape_like", 5_000, 10, repeated("100%_" * 800)),
+    Own("`escape_like`", "escape_like", 5_000, 8, repeated("x" * 4096)),
+    Own("`escape_like` of wildcards", "escape_like", 5_000, 30, repeated("100%_" * 800)),
 ]
