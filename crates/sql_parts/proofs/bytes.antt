@@ -1,5 +1,6 @@
 pub mod ByteFacts
 pub mod DecimalFacts
+pub mod DigitLemmas
 pub mod DoublingLemmas
 pub mod EscapingLemmas
 pub mod LaneLemmas

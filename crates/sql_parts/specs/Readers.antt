@@ -20,7 +20,7 @@ abbrev pub states : Reader → ℕ → List ℕ → List ℕ
 states next state [] = []
 states next state (byte ∷ text) = next state byte ∷ states next (next state byte) text
 
--- In this state the reader is inside of a literal that a delimiter ends: such bytes, but the delimiter, leave it there, and so does the
+-- In this state the reader is inside of a literal that a delimiter ends: each plain byte but the delimiter keeps it there, and so does the
 -- delimiter twice. Which bytes are plain is up to the reader: a backslash is not where it escapes.
 pub record IsInside (next : Reader) (plain : ℕ → Bool) (delimiter state : ℕ) : Type 0 where
   pub stays : (byte : ℕ) → IsTrue (plain byte) → byte ≢ delimiter → next state byte ≡ state
@@ -36,7 +36,7 @@ inner_states inside ended delimiter text = flat_map (λ byte. if byte == delimit
 
 -- ---- texts with other texts in them
 
--- A part of a text: bytes that the program wrote, or any text, with each such delimiter in it doubled.
+-- A part of a text: bytes of the program's own, or an untrusted text with each such delimiter in it doubled.
 pub data Part : Type 0 where
   Constant : List ℕ → Part
   Doubled : ℕ → List ℕ → Part
@@ -54,7 +54,7 @@ parts_bytes parts = flat_map part_bytes parts
 abbrev pub between_parts : Quotes → List ℕ → List Part
 between_parts quotes text = Constant (opening quotes ∷ []) ∷ Doubled (closing quotes) text ∷ Constant (closing quotes ∷ []) ∷ []
 
--- a part with no text in place of any text
+-- a part with no text in place of an untrusted one
 abbrev pub emptied : Part → Part
 emptied (Constant text) = Constant text
 emptied (Doubled delimiter text) = Doubled delimiter []
@@ -63,23 +63,23 @@ emptied (Doubled delimiter text) = Doubled delimiter []
 abbrev pub DifferInDoubledTexts : List Part → List Part → Type 0
 DifferInDoubledTexts one other = map emptied one ≡ map emptied other
 
--- the bytes of any text, before they are doubled, are plain
+-- the bytes of an untrusted text are plain
 abbrev pub has_plain_text : (ℕ → Bool) → Part → Bool
 has_plain_text plain (Constant text) = true
 has_plain_text plain (Doubled delimiter text) = list_all plain text
 
--- at such a part, the reader is inside of a literal that the delimiter ends
+-- where an untrusted text begins, the reader is inside of a literal that the delimiter ends
 abbrev pub IsInsideAt : Reader → (ℕ → Bool) → ℕ → Part → Type 0
 IsInsideAt next plain state (Constant text) = Unit {0}
 IsInsideAt next plain state (Doubled delimiter text) = IsInside next plain delimiter state
 
--- at each such part
+-- where each of them begins
 abbrev pub IsInsideAtEach : Reader → (ℕ → Bool) → ℕ → List Part → Type 0
 IsInsideAtEach next plain state [] = Unit {0}
 IsInsideAtEach next plain state (part ∷ parts) =
     IsInsideAt next plain state part × IsInsideAtEach next plain (after next state (part_bytes part)) parts
 
--- for each byte of a part, whether it is of a text whose delimiters are doubled
+-- for each byte of a part, whether it is of an untrusted text
 abbrev pub part_marks : Part → List Bool
 part_marks (Constant text) = map (λ byte. false) text
 part_marks (Doubled delimiter text) = map (λ byte. true) (doubled delimiter text)

@@ -1,6 +1,8 @@
 -- The rules of tokens, and those of literals in which a backslash escapes, as readers.
 use Prim.Native.Char.{code}
 use Rattle.std.specs.Prelude.{◌≡◌, ◌==◌, ◌+◌, ◌-◌, ℕ, Bool, true, not, List, ◌∷◌, codes, if◌then◌else◌, nat_le}
+use Rattle.std.specs.List.{list_all}
+use Rattle.sql_parts.specs.Backslash.{has_backslash}
 use Rattle.sql_parts.specs.Readers.{Reader, OpensLiteral, after}
 use Rattle.sql_parts.specs.Tokens.{closed, is_one_of, is_word_byte}
 use Rattle.sql_parts.specs.declared.delimiters.Quotes.TheVariants.{Single}
@@ -54,6 +56,10 @@ backslash_reader state byte =
 -- a byte is no backslash
 abbrev pub is_no_backslash : ℕ → Bool
 is_no_backslash byte = not (byte == code "\\")
+
+-- a text has no backslash where each byte is none
+abbrev pub HasNoBackslash : Type 0
+HasNoBackslash = (text : List ℕ) → list_all is_no_backslash text ≡ not (has_backslash text)
 
 -- it opens a literal too, where a backslash isn't plain
 abbrev pub OpensWithoutBackslashes : Type 0

@@ -15,7 +15,7 @@ ghost use Rattle.sql_parts.specs.Name.{Name, safe_text};
 ghost use Rattle.sql_parts.specs.Operands.{NamesAreOperands, ServesAsOperand, has_operand_parts, is_operand_alias};
 ghost use Rattle.sql_parts.specs.Text.{bool_text, number_text};
 ghost use Rattle.sql_parts.specs.Templates.{Cycle, First, Marks, Names, Nums, Value, bound, apart};
-ghost use Rattle.sql_parts.specs.TokenReader.{OpensEveryLiteral, OpensWithoutBackslashes, ReadsClosed};
+ghost use Rattle.sql_parts.specs.TokenReader.{HasNoBackslash, OpensEveryLiteral, OpensWithoutBackslashes, ReadsClosed};
 ghost use Rattle.sql_parts.specs.Tokens.{clean, closed, is_open, is_semicolon, tokens};
 
 /// Two texts whose quoted texts are equal are equal, in each of the five forms of quoting.
@@ -192,10 +192,11 @@ pub fn readers_ignore_bound_texts()
 
 /// The rules of tokens are such a reader: outside of literals and comments it opens a literal at each
 /// delimiter, and a text is closed where it ends outside of them. So are those by which a backslash
-/// escapes, and a backslash isn't plain to it. It does nothing when it runs.
+/// escapes: to them each byte but a backslash is plain. It does nothing when it runs.
 /// `is_closed("a = 'b")` → `false`
 pub fn rules_are_readers()
     ensures tokens { OpensEveryLiteral }
     ensures closed { ReadsClosed }
     ensures backslashes { OpensWithoutBackslashes }
+    ensures plain { HasNoBackslash }
 {}

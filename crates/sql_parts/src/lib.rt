@@ -8,6 +8,7 @@ pub mod arg;
 pub mod bind;
 mod bind_names;
 mod dangling;
+mod decimal;
 mod delimiters;
 mod depth;
 pub mod error;

@@ -143,7 +143,14 @@ const SHORT: usize = 64;
 const FEW: usize = 32;
 
 fn has_few_names(template: &str) -> bool {
-    template.len() < SHORT || template.bytes().filter(|byte| *byte == b':').count() < FEW
+    let mut rest = template;
+    for _colon in 0..FEW {
+        match rest.split_once(':') {
+            Some((_, behind)) => rest = behind,
+            None => return true,
+        }
+    }
+    false
 }
 
 /// The places of the names, or none. It fails only if memory runs out.
@@ -156,7 +163,7 @@ pub(crate) fn places_for<'a, N: BindNames>(
         → N.are_places names.now places.entries) }
     ensures memory { FailsOnlyByMemory result }
 {
-    if has_few_names(template) {
+    if template.len() < SHORT || has_few_names(template) {
         return Ok(BTreeMap::new(alloc));
     }
     names.places(alloc)

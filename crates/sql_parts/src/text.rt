@@ -7,13 +7,14 @@ ghost use Rattle.sql_parts.specs.Error.{FailsOnlyByMemory};
 ghost use Rattle.sql_parts.specs.Like.{escape_character, like_escaped};
 ghost use Rattle.sql_parts.specs.Text.{bool_text, decimal_text, has_byte, number_text, optional_text, texts};
 
+use crate::decimal::{signed_text, unsigned_text};
 pub use crate::delimiters::Quotes;
 use crate::error::SqlBuilderError;
 pub use crate::fragment::{Fragment, Operand, OwnedOperand};
 pub use crate::like::LikeEscape;
 use crate::like::push_like_escaped;
 use crate::search::find_byte;
-use std::alloc::{AllocError, Global};
+use std::alloc::Global;
 use std::borrow::CowStr;
 
 /// What has a text: a user's own type has one by an implementation.
@@ -196,40 +197,11 @@ impl ToText for char {
     }
 }
 
-// Decimal texts of numbers. Each takes its number by value, so that its range is known.
-#[tactic(auto, using(crate::proofs::bytes::DecimalFacts::unsigned_text))]
-fn u64_text(alloc: Global, number: u64) -> Result<String, AllocError>
-    ensures { IfOk result (λ s. string_bytes s ≡ decimal_text number) }
-{
-    number.to_string(alloc)
-}
-
-#[tactic(auto, using(crate::proofs::bytes::DecimalFacts::signed_text))]
-fn i64_text(alloc: Global, number: i64) -> Result<String, AllocError>
-    ensures { IfOk result (λ s. string_bytes s ≡ number_text number) }
-{
-    number.to_string(alloc)
-}
-
-#[tactic(auto, using(crate::proofs::bytes::DecimalFacts::unsigned_text))]
-fn u128_text(alloc: Global, number: u128) -> Result<String, AllocError>
-    ensures { IfOk result (λ s. string_bytes s ≡ decimal_text number) }
-{
-    number.to_string(alloc)
-}
-
-#[tactic(auto, using(crate::proofs::bytes::DecimalFacts::signed_text))]
-fn i128_text(alloc: Global, number: i128) -> Result<String, AllocError>
-    ensures { IfOk result (λ s. string_bytes s ≡ number_text number) }
-{
-    number.to_string(alloc)
-}
-
 impl ToText for u8 {
     ghost text = { decimal_text };
 
     fn to_text(&self, alloc: Global) -> Result<String, SqlBuilderError> {
-        Ok(u64_text(alloc, u64::from(*self))?)
+        Ok(unsigned_text(alloc, u128::from(*self))?)
     }
 }
 
@@ -237,7 +209,7 @@ impl ToText for u16 {
     ghost text = { decimal_text };
 
     fn to_text(&self, alloc: Global) -> Result<String, SqlBuilderError> {
-        Ok(u64_text(alloc, u64::from(*self))?)
+        Ok(unsigned_text(alloc, u128::from(*self))?)
     }
 }
 
@@ -245,7 +217,7 @@ impl ToText for u32 {
     ghost text = { decimal_text };
 
     fn to_text(&self, alloc: Global) -> Result<String, SqlBuilderError> {
-        Ok(u64_text(alloc, u64::from(*self))?)
+        Ok(unsigned_text(alloc, u128::from(*self))?)
     }
 }
 
@@ -253,7 +225,7 @@ impl ToText for u64 {
     ghost text = { decimal_text };
 
     fn to_text(&self, alloc: Global) -> Result<String, SqlBuilderError> {
-        Ok(u64_text(alloc, *self)?)
+        Ok(unsigned_text(alloc, u128::from(*self))?)
     }
 }
 
@@ -261,7 +233,7 @@ impl ToText for u128 {
     ghost text = { decimal_text };
 
     fn to_text(&self, alloc: Global) -> Result<String, SqlBuilderError> {
-        Ok(u128_text(alloc, *self)?)
+        Ok(unsigned_text(alloc, *self)?)
     }
 }
 
@@ -269,7 +241,7 @@ impl ToText for usize {
     ghost text = { decimal_text };
 
     fn to_text(&self, alloc: Global) -> Result<String, SqlBuilderError> {
-        Ok(u64_text(alloc, *self as u64)?)
+        Ok(unsigned_text(alloc, *self as u128)?)
     }
 }
 
@@ -277,7 +249,7 @@ impl ToText for i8 {
     ghost text = { number_text };
 
     fn to_text(&self, alloc: Global) -> Result<String, SqlBuilderError> {
-        Ok(i64_text(alloc, i64::from(*self))?)
+        Ok(signed_text(alloc, i128::from(*self))?)
     }
 }
 
@@ -285,7 +257,7 @@ impl ToText for i16 {
     ghost text = { number_text };
 
     fn to_text(&self, alloc: Global) -> Result<String, SqlBuilderError> {
-        Ok(i64_text(alloc, i64::from(*self))?)
+        Ok(signed_text(alloc, i128::from(*self))?)
     }
 }
 
@@ -293,7 +265,7 @@ impl ToText for i32 {
     ghost text = { number_text };
 
     fn to_text(&self, alloc: Global) -> Result<String, SqlBuilderError> {
-        Ok(i64_text(alloc, i64::from(*self))?)
+        Ok(signed_text(alloc, i128::from(*self))?)
     }
 }
 
@@ -301,7 +273,7 @@ impl ToText for i64 {
     ghost text = { number_text };
 
     fn to_text(&self, alloc: Global) -> Result<String, SqlBuilderError> {
-        Ok(i64_text(alloc, *self)?)
+        Ok(signed_text(alloc, i128::from(*self))?)
     }
 }
 
@@ -309,7 +281,7 @@ impl ToText for i128 {
     ghost text = { number_text };
 
     fn to_text(&self, alloc: Global) -> Result<String, SqlBuilderError> {
-        Ok(i128_text(alloc, *self)?)
+        Ok(signed_text(alloc, *self)?)
     }
 }
 
@@ -317,7 +289,7 @@ impl ToText for isize {
     ghost text = { number_text };
 
     fn to_text(&self, alloc: Global) -> Result<String, SqlBuilderError> {
-        Ok(i64_text(alloc, *self as i64)?)
+        Ok(signed_text(alloc, *self as i128)?)
     }
 }
 

@@ -34,6 +34,7 @@ use Rattle.sql_builder.specs.declared.checks.Unfit.{Unfit}
 use Rattle.sql_builder.specs.declared.clauses.Kind.{Kind}
 use Rattle.sql_builder.proofs.fragments.FitLemmas.{unless}
 use Rattle.sql_builder.proofs.fragments.PassLemmas.{printed-passes}
+use Rattle.sql_builder.proofs.fragments.PropertyLemmas.{calls-whatever, whatever}
 use Rattle.sql_builder.proofs.fragments.TextTestLemmas.{plain_texts_end}
 use Rattle.sql_builder.proofs.lists.AllFacts.{all-weaker}
 use Rattle.sql_builder.proofs.reading.ClauseWordLemmas.{fragments_closed}
@@ -210,7 +211,7 @@ module _ (start : StartText) (calls : List CallText) (finish : FinishText) (all 
   pub balanced_fragments : HasBalancedFragments start calls finish
   balanced_fragments =
       unless _ (layout finish (clauses start calls)) has_balanced_fragments
-      (printed-passes balanced false start calls finish balanced_parts.0 balanced_parts.1 balanced_parts.2)
+      (printed-passes balanced whatever false start calls finish (calls-whatever calls) balanced_parts.0 balanced_parts.1 balanced_parts.2)
 
   pub closed_fragments : HasClosedFragments start calls finish
   closed_fragments =

@@ -6,7 +6,7 @@ use Rattle.std.proofs.lemmas.Bool.{cases_Bool, eqb-true, false≢true, not-true,
 use Rattle.std.proofs.lemmas.List.Folds.{list_any-append}
 use Rattle.sql_parts.specs.Quoting.{closing}
 use Rattle.sql_parts.specs.Readers.{OpensLiteral, after}
-use Rattle.sql_parts.specs.TokenReader.{OpensEveryLiteral, OpensWithoutBackslashes, ReadsClosed, in_block, is_open_state, token_reader}
+use Rattle.sql_parts.specs.TokenReader.{HasNoBackslash, OpensEveryLiteral, OpensWithoutBackslashes, ReadsClosed, in_block, is_open_state, token_reader}
 use Rattle.sql_parts.specs.Tokens.{begins_with, closed, ends_with, is_edge, is_one_of, is_open, is_word_byte}
 use Rattle.sql_parts.specs.declared.delimiters.Quotes.TheVariants.{Single, Back, Square, Double}
 use Rattle.sql_parts.specs.declared.delimiters.Quotes.{Quotes}
@@ -167,6 +167,11 @@ opens-every quotes = by quotes
     by Back = record { stays = λ byte plain isnt. rw (ne_eqb byte 96 isnt) refl; goes_on = refl }
     by Square = record { stays = λ byte plain isnt. rw (ne_eqb byte 93 isnt) refl; goes_on = refl }
     by Double = record { stays = λ byte plain isnt. rw (ne_eqb byte 34 isnt) refl; goes_on = refl }
+
+pub no_backslash-plain : HasNoBackslash
+no_backslash-plain [] = refl
+no_backslash-plain (byte ∷ text) =
+    elim (cases_Bool (byte == 92)) [ inl is ↦ rw is | inr isnt ↦ rw isnt (no_backslash-plain text) ]
 
 pub opens-without_backslashes : OpensWithoutBackslashes
 opens-without_backslashes = record {

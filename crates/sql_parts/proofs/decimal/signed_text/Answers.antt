@@ -1,0 +1,14 @@
+use Rattle.std.proofs.Common.{◌∙◌, subst, sym, to_z-of_z}
+use Rattle.std.specs.Str.{IsAscii}
+use Rattle.sql_parts.proofs.bytes.DecimalFacts.{signed_text}
+use Rattle.sql_parts.proofs.bytes.DigitLemmas.{ascii-signed}
+use Rattle.sql_parts.proofs.decimal.signed_text.Goals as goal
+
+pub copy-requires-clause-ascii : goal.copy-requires-clause-ascii
+copy-requires-clause-ascii c =
+    let written = rw (to_z-of_z c.ranges.number) at c.write_signed-start.ensures.written in subst IsAscii (sym written) (ascii-signed c.args.number c.ranges.number)
+
+pub returns : goal.returns
+returns c =
+    let written = rw (to_z-of_z c.ranges.number) at c.write_signed-start.ensures.written in
+    rw (written ∙ signed_text c.args.number c.ranges.number) at c.copy.ensures
