@@ -22,7 +22,7 @@ unsafe impl<T: Sync> Sync for GhostValue<T> {}
 
 impl<T> GhostValue<T> {
     /// The value that the caller's proof picks, made of what is passed.
-    pub fn of<X>(from: &X) -> GhostValue<T>
+    pub(crate) fn of<X>(from: &X) -> GhostValue<T>
         ghost picked: { T }
         ensures { result.value ≡ picked }
     {

@@ -225,7 +225,7 @@ impl Statement<SelectKind> {
 
     /// UNION and a query.
     /// `Select::from(alloc, Fragment::of("t"))?.union(&query)?.sql()?` →
-    /// `SELECT * FROM t UNION SELECT b FROM u;`
+    /// `SELECT * FROM t UNION SELECT b FROM t;`
     pub fn union(self, query: &Query) -> Result<Select, SqlBuilderError>
         ensures made { IfOk result (λ s. s ≡ adding (Union (string_bytes query.now.text)) self) }
         ensures memory { FailsOnlyByMemory result }
@@ -235,7 +235,7 @@ impl Statement<SelectKind> {
 
     /// UNION ALL and a query.
     /// `Select::from(alloc, Fragment::of("t"))?.union_all(&query)?.sql()?` →
-    /// `SELECT * FROM t UNION ALL SELECT b FROM u;`
+    /// `SELECT * FROM t UNION ALL SELECT b FROM t;`
     pub fn union_all(self, query: &Query) -> Result<Select, SqlBuilderError>
         ensures made { IfOk result (λ s. s ≡ adding (UnionAll (string_bytes query.now.text)) self) }
         ensures memory { FailsOnlyByMemory result }

@@ -40,6 +40,7 @@ pub trait Kind {
     ghost start: { List ℕ → StartText };
 
     /// The builder that has made no call. It fails only if memory runs out.
+    /// `DeleteKind::begin(alloc, "t")?.sql()?` → `DELETE FROM t;`
     fn begin<T: ToText>(alloc: Global, table: T) -> Result<SqlBuilder, SqlBuilderError>
         ensures made { IfOk result (λ b. b ≡ started (start (T.text table))) }
         ensures memory { FailsOnlyByMemory result };
@@ -364,6 +365,8 @@ impl<K: Kind> Statement<K> {
 
     /// The statement. It fails with `NoGroupBy` where there is a HAVING and no GROUP BY, and else only
     /// if memory runs out. Nothing is asked of any text.
+    /// `Select::from(alloc, Fragment::of("t"))?.and_where(eq(alloc, Operand::of("a"), Value("it's"))?)?.sql()?` →
+    /// `SELECT * FROM t WHERE a = 'it''s';`
     pub fn sql(&self) -> Result<String, SqlBuilderError>
         ensures statement { IfOk result (λ s. statement (K.start self.now.table) self.now.calls Sql ≡ Ok (string_bytes s)) }
         ensures error { IfErr result (λ e. IsMemory e
@@ -383,6 +386,11 @@ impl<K: Kind> Statement<K> {
     }
 
     /// Appends to a text what `sql` prints. It fails where `sql` does, and then the text is as it was.
+    /// ```
+    /// let mut s = String::from_str(alloc, "-- ")?;
+    /// Select::from(alloc, Fragment::of("t"))?.print_to(&mut s)?;
+    /// s; // -- SELECT * FROM t;
+    /// ```
     pub fn print_to(&self, out: &mut String) -> Result<(), SqlBuilderError>
         ensures appended { OnOk result (PrintsBehind (K.start self.now.table) self.now.calls
             (string_bytes out.old) (string_bytes out.new)) }

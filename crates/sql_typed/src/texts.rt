@@ -56,6 +56,7 @@ pub struct Row {
 
 impl Row {
     /// A row without values. It can't fail.
+    /// `Row::new(alloc).values.len()` → `0`
     pub fn new(alloc: Global) -> Row
         ensures { result.values.items ≡ [] }
     {
@@ -66,6 +67,7 @@ impl Row {
     }
 
     /// The row with one more value. It fails only if memory runs out.
+    /// `Row::new(alloc).value(Value("it's"))?.value(Literal::Null)?.values` → `['it''s', NULL]`
     pub fn value<V: OperandText>(self, value: V) -> Result<Row, SqlBuilderError>
         ensures values { IfOk result (λ row. texts row.values.items
             ≡ texts self.values.items ++ V.text value ∷ []) }
@@ -78,6 +80,7 @@ impl Row {
     }
 
     /// A row of values of one type. It fails only if memory runs out.
+    /// `Row::of(alloc, &[Value("it's"), Value("b")])?.values` → `['it''s', 'b']`
     pub fn of<V: OperandText>(alloc: Global, values: &[V]) -> Result<Row, SqlBuilderError>
         ensures values { IfOk result (λ row. texts row.values.items ≡ map V.text values.now) }
         ensures memory { FailsOnlyByMemory result }
