@@ -18,6 +18,7 @@ use Rattle.sql_builder.specs.Statement.{statement}
 use Rattle.sql_builder.specs.StatementLaws.{made_by}
 use Rattle.sql_builder.specs.TextTests.{all_pass, is_plain, raw_text}
 use Rattle.sql_builder.proofs.fragments.PassLemmas.{printed-passes}
+use Rattle.sql_builder.proofs.fragments.PropertyLemmas.{calls-whatever, whatever}
 use Rattle.sql_builder.proofs.fragments.PreservationLemmas.{clauses-parts}
 use Rattle.sql_builder.proofs.fragments.TextTestLemmas.{fit_texts_are_closed}
 use Rattle.sql_builder.proofs.lists.AllFacts.{all-weaker}
@@ -150,7 +151,7 @@ pub ends_in_one : (start : StartText) (calls : List CallText) (r : ClauseTexts) 
 ends_in_one start calls r fit =
     of_pieces start calls Sql (λ printed. IsTrue (has_closed_fragments printed)) (λ printed text. EndsInOneSemicolon (tokens text))
     (λ is. sql-semicolon (clauses start calls) (clauses-parts start calls) is
-    (printed-passes is_plain false start calls Sql (all-plain (start_raw_texts start) fit.start_fits)
+    (printed-passes is_plain whatever false start calls Sql (calls-whatever calls) (all-plain (start_raw_texts start) fit.start_fits)
     (all-weaker call_fits (λ (c : CallText). all_pass is_plain (call_raw_texts false c)) (λ (c : CallText). all-plain (call_raw_texts false c)) calls fit.calls_fit)
     refl))
     (fit_texts_are_closed start calls Sql (texts_fit start calls Sql r fit refl))
