@@ -124,7 +124,7 @@ class Tests(Own):
         return int(printed.readline()) == (0 if self.step.startswith("has_") else self.count)
 
 
-def lines(kind, count=1_000_000, name="a statement with {count:,} `{kind}` lines", aim=0.7, memory=1.0):
+def lines(kind, count=1_000_000, name="a statement with {count:,} `{kind}` lines", aim=0.55, memory=1.0):
     return Lines(name.format(kind=kind, count=count), kind, count, aim, memory)
 
 
@@ -132,19 +132,23 @@ LINES = [
     lines("mixed", 100_000, "{count:,} mixed statements", aim=0.25),
     lines("short", 100_000, "{count:,} statements of ten short lines", aim=0.4),
     lines("tiny", 500_000, "{count:,} statements of two short lines"),
+    lines("restart", 100_000, "{count:,} statements of seven lines, with two conditions"),
     lines("long", 5_000, "{count:,} statements of ten lines, eight of them of 950 bytes"),
     lines("conditions", 2_000, "{count:,} statements with all fifty conditions"),
     *(lines(kind) for kind in ("field", "set_field", "group_by", "order_asc", "select", "values", "set", "set_str", "union")),
-    *(lines(kind) for kind in ("join", "on")),
+    lines("wide", 20_000, "a statement with {count:,} `values` lines of 100 values"),
+    lines("join"),
+    lines("on", aim=0.6),
     lines("join_on", 500_000, "a statement with {count:,} `join` lines, each with an `on` line"),
     lines("on_alone", name="a statement with {count:,} `on` lines and no join"),
-    *(lines(kind, memory=1.7) for kind in ("or_where", "or_where_eq", "or_where_like")),
+    lines("or_where", aim=0.65, memory=1.7),
+    *(lines(kind, memory=1.7) for kind in ("or_where_eq", "or_where_like")),
     lines("fields", 10_000_000, "a `fields` line of {count:,} fields"),
     *(lines(kind, name="an `and_where_{kind}` line of {count:,} values") for kind in ("in", "in_quoted")),
-    lines("text", 200_000, "a `set` line of 20 MB, ASCII", aim=0.9),
-    lines("text_not_ascii", 200_000, "a `set` line of 20 MB, not ASCII", aim=0.9),
-    lines("text_str", 200_000, "a `set_str` line of 20 MB, ASCII", aim=0.9),
-    lines("text_quotes", 200_000, "a `set_str` line of 20 MB, full of quotes", aim=0.9),
+    lines("text", 200_000, "a `set` line of 20 MB, ASCII"),
+    lines("text_not_ascii", 200_000, "a `set` line of 20 MB, not ASCII"),
+    lines("text_str", 200_000, "a `set_str` line of 20 MB, ASCII"),
+    lines("text_quotes", 200_000, "a `set_str` line of 20 MB, full of quotes"),
 ]
 
 TITLE = "Harry Potter and the Philosopher's Stone"

@@ -157,21 +157,9 @@ impl Condition {
 }
 
 impl<'a, T: Texts<'a>> BorrowedCondition<'a, T> {
-    /// The condition's text.
+    /// The condition's text. It is a part of its caller, where the condition need not be made first.
+    #[inline(always)]
     pub(crate) fn text(self, alloc: Global) -> Result<String, SqlBuilderError>
-        ensures made { IfOk result (λ s. string_bytes s
-            ≡ condition_bytes (borrowed_view T.left self.entry)) }
-        ensures memory { FailsOnlyByMemory result }
-    {
-        match self {
-            BorrowedCondition::Raw(condition) => condition.to_text(alloc),
-            _ => self.text_on_field(alloc),
-        }
-    }
-
-    // The same of a condition on a field. A function of its own has less to clear where it is called.
-    #[inline(never)]
-    fn text_on_field(self, alloc: Global) -> Result<String, SqlBuilderError>
         ensures made { IfOk result (λ s. string_bytes s
             ≡ condition_bytes (borrowed_view T.left self.entry)) }
         ensures memory { FailsOnlyByMemory result }
