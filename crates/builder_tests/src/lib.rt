@@ -22,6 +22,8 @@ mod every_call;
 #[cfg(test)]
 mod examples;
 #[cfg(test)]
+mod hostile;
+#[cfg(test)]
 mod lists_of_calls;
 #[cfg(test)]
 mod names;
