@@ -1,4 +1,4 @@
-//! A statement that is the same whatever the user's texts are.
+//! Statements that are the same whatever the user's texts are.
 ghost use Rattle.std.specs.Prelude.{◌≡◌, [], ◌∷◌, codes, false, string_bytes, IfOk, Ok};
 ghost use Rattle.sql_builder.specs.StringTexts.{outline};
 ghost use Rattle.sql_builder.specs.Calls.{Cond, SetStr, Sql, UpdateTable};
@@ -8,9 +8,11 @@ ghost use Rattle.sql_builder.specs.Statement.{statement};
 ghost use Rattle.sql_builder.specs.Tokens.{tokens};
 ghost use Rattle.sql_builder.specs.declared.condition.Family.TheVariants.{And};
 ghost use Rattle.sql_builder.specs.declared.condition.Percent.TheVariants.{Any};
+ghost use Rattle.sql_parts.specs.Readers.{parts_bytes};
+ghost use Rattle.callers.specs.Titles.{IsReadAlike, title_parts};
 
 use sql_builder::SqlBuilderError;
-use sql_builder::laws::quoted_texts_do_not_interfere;
+use sql_builder::laws::{quoted_texts_do_not_interfere, readers_ignore_quoted_parts};
 use sql_builder::prelude::*;
 use std::alloc::Global;
 
@@ -28,5 +30,19 @@ pub fn remarked(alloc: Global, word: &str, remark: &str) -> Result<String, SqlBu
     SqlBuilder::update_table(alloc, "books")?
         .set_str("remark", remark)?
         .and_where_like_any("title", word)?
+        .sql()
+}
+
+/// The books of this title. Where a database's lexer opens a string at an empty title, it reads the
+/// rest of the statement alike with every title of bytes that are plain to it.
+pub fn of_title(alloc: Global, title: &str) -> Result<String, SqlBuilderError>
+    ensures text { IfOk result (λ s. string_bytes s ≡ parts_bytes (title_parts title.now)) }
+    ensures read { IfOk result (λ s. IsReadAlike title.now (string_bytes s)) }
+    ensures memory { FailsOnlyByMemory result }
+{
+    readers_ignore_quoted_parts();
+    let title = quote(alloc, title)?;
+    SqlBuilder::select_from(alloc, "books")?
+        .and_where_eq("title", title)?
         .sql()
 }
