@@ -27,4 +27,6 @@ mod reused_buffers;
 #[cfg(test)]
 mod stated_laws;
 #[cfg(test)]
+mod typed;
+#[cfg(test)]
 mod untrusted_texts;
