@@ -36,4 +36,6 @@ pub mod sqlite_reader;
 #[cfg(test)]
 mod stated_laws;
 #[cfg(test)]
+mod typed;
+#[cfg(test)]
 mod untrusted_texts;

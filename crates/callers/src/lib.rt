@@ -6,5 +6,6 @@ pub mod chains;
 pub mod interference;
 pub mod lists;
 pub mod searches;
+pub mod typed;
 pub mod untrusted;
 pub mod values;

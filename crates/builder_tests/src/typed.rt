@@ -1,0 +1,241 @@
+//! Statements by types: each call once, and attacks in each argument that takes untrusted text.
+
+use callers::searches::{Search, search_printed};
+use callers::typed::search_typed;
+use sql_builder::SqlBuilderError;
+use sql_builder::calls::Percent;
+use sql_builder::prelude::*;
+use sql_builder::text::{Fragment, Operand, Quotes};
+use sql_typed::condition::{
+    all, any, between, contains, ends_with, eq, eq_or_null, ge, gt, in_query, in_values,
+    is_not_null, is_null, le, like, lt, ne, not, not_between, not_contains, not_ends_with,
+    not_in_query, not_in_values, not_like, not_starts_with, raw, starts_with,
+};
+use sql_typed::{Delete, Insert, JoinKind, Query, Row, Select, Update};
+use std::alloc::Global;
+use std::test::Fail;
+
+// What ends a string, opens a comment, and joins a condition.
+const ATTACK: &str = "'; DROP TABLE t; -- \" OR 1=1 /*";
+
+const QUOTED: &str = "'''; DROP TABLE t; -- \" OR 1=1 /*'";
+
+fn a() -> Operand<'static> {
+    Operand::of("a")
+}
+
+fn books(alloc: Global) -> Result<Query, SqlBuilderError> {
+    Select::from(alloc, Fragment::of("t"))?.field(a())?.query()
+}
+
+#[test]
+fn compares(rt: HostRuntime) -> Result<(), Fail> {
+    let alloc = rt.alloc();
+    assert_eq!(rt; eq(alloc, a(), Value("it's"))?.text.as_str(), "a = 'it''s'");
+    assert_eq!(rt; ne(alloc, a(), 1)?.text.as_str(), "a <> 1");
+    assert_eq!(rt; gt(alloc, a(), Literal::Null)?.text.as_str(), "a > NULL");
+    assert_eq!(rt; ge(alloc, a(), -1)?.text.as_str(), "a >= -1");
+    assert_eq!(rt; lt(alloc, a(), true)?.text.as_str(), "a < true");
+    assert_eq!(rt; le(alloc, a(), Operand::of("b"))?.text.as_str(), "a <= b");
+    assert_eq!(rt; is_null(alloc, a())?.text.as_str(), "a IS NULL");
+    assert_eq!(rt; is_not_null(alloc, a())?.text.as_str(), "a IS NOT NULL");
+    assert_eq!(rt;
+        eq_or_null(alloc, a(), Some(Value("b")))?.text.as_str(),
+        "a = 'b'"
+    );
+    assert_eq!(rt;
+        eq_or_null(alloc, a(), None::<i64>)?.text.as_str(),
+        "a IS NULL"
+    );
+    assert_eq!(rt;
+        between(alloc, a(), 1, 2)?.text.as_str(),
+        "a BETWEEN 1 AND 2"
+    );
+    assert_eq!(rt;
+        not_between(alloc, a(), 1, 2)?.text.as_str(),
+        "a NOT BETWEEN 1 AND 2"
+    );
+    Ok(())
+}
+
+#[test]
+fn matches_masks(rt: HostRuntime) -> Result<(), Fail> {
+    let alloc = rt.alloc();
+    let word = Value("50%'");
+    assert_eq!(rt;
+        like(alloc, Percent::Left, a(), word)?.text.as_str(),
+        "a LIKE '50%''%'"
+    );
+    assert_eq!(rt;
+        not_like(alloc, Percent::Plain, a(), word)?.text.as_str(),
+        "a NOT LIKE '50%'''"
+    );
+    assert_eq!(rt;
+        contains(alloc, a(), word)?.text.as_str(),
+        "a LIKE '%50!%''%' ESCAPE '!'"
+    );
+    assert_eq!(rt;
+        starts_with(alloc, a(), word)?.text.as_str(),
+        "a LIKE '50!%''%' ESCAPE '!'"
+    );
+    assert_eq!(rt;
+        ends_with(alloc, a(), word)?.text.as_str(),
+        "a LIKE '%50!%''' ESCAPE '!'"
+    );
+    assert_eq!(rt;
+        not_contains(alloc, a(), word)?.text.as_str(),
+        "a NOT LIKE '%50!%''%' ESCAPE '!'"
+    );
+    assert_eq!(rt;
+        not_starts_with(alloc, a(), word)?.text.as_str(),
+        "a NOT LIKE '50!%''%' ESCAPE '!'"
+    );
+    assert_eq!(rt;
+        not_ends_with(alloc, a(), word)?.text.as_str(),
+        "a NOT LIKE '%50!%''' ESCAPE '!'"
+    );
+    Ok(())
+}
+
+#[test]
+fn combines(rt: HostRuntime) -> Result<(), Fail> {
+    let alloc = rt.alloc();
+    let both = [eq(alloc, a(), 1)?, raw(alloc, Fragment::of("b OR c"))?];
+    assert_eq!(rt; all(alloc, &both)?.text.as_str(), "((a = 1) AND (b OR c))");
+    assert_eq!(rt; any(alloc, &both)?.text.as_str(), "((a = 1) OR (b OR c))");
+    assert_eq!(rt; all(alloc, &[])?.text.as_str(), "1 = 1");
+    assert_eq!(rt; any(alloc, &[])?.text.as_str(), "1 = 0");
+    assert_eq!(rt;
+        not(alloc, &is_null(alloc, a())?)?.text.as_str(),
+        "NOT (a IS NULL)"
+    );
+    assert_eq!(rt;
+        in_values(alloc, a(), &[1, 2])?.text.as_str(),
+        "a IN (1, 2)"
+    );
+    assert_eq!(rt;
+        not_in_values(alloc, a(), &[Value("b")])?.text.as_str(),
+        "a NOT IN ('b')"
+    );
+    let none: [i64; 0] = [];
+    assert_eq!(rt; in_values(alloc, a(), &none)?.text.as_str(), "1 = 0");
+    assert_eq!(rt; not_in_values(alloc, a(), &none)?.text.as_str(), "1 = 1");
+    let query = books(alloc)?;
+    assert_eq!(rt;
+        in_query(alloc, a(), &query)?.text.as_str(),
+        "a IN (SELECT a FROM t)"
+    );
+    assert_eq!(rt;
+        not_in_query(alloc, a(), &query)?.text.as_str(),
+        "a NOT IN (SELECT a FROM t)"
+    );
+    Ok(())
+}
+
+#[test]
+fn selects(rt: HostRuntime) -> Result<(), Fail> {
+    let alloc = rt.alloc();
+    let name = SqlName::new(alloc, "b\"")?.operand(Quotes::Double)?;
+    let select = Select::from(alloc, Fragment::of("t"))?
+        .distinct()?
+        .field(&name)?
+        .count(Operand::of("*"))?
+        .count_as(a(), Operand::of("n"))?
+        .and_table(Operand::of("u"))?
+        .join(JoinKind::Left, Fragment::of("v"))?
+        .on_eq(a(), Operand::of("v.a"))?
+        .natural()?
+        .join(JoinKind::Cross, Fragment::of("w"))?
+        .on(&is_null(alloc, a())?)?
+        .and_where(eq(alloc, a(), 1)?)?
+        .or_where(eq(alloc, a(), 2)?)?
+        .group_by(&name)?
+        .having(&gt(alloc, a(), 3)?)?
+        .order_asc(a())?
+        .order_desc(&name)?
+        .limit(4)?
+        .offset(5)?;
+    assert_eq!(rt;
+        select.sql()?.as_str(),
+        "SELECT DISTINCT \"b\"\"\", COUNT(*), COUNT(a) AS n FROM t, u LEFT JOIN v ON a = v.a NATURAL CROSS JOIN w ON a IS NULL WHERE a = 1 OR a = 2 GROUP BY \"b\"\"\" HAVING a > 3 ORDER BY a, \"b\"\"\" DESC LIMIT 4 OFFSET 5;"
+    );
+    let query = books(alloc)?;
+    let union = Select::from(alloc, Fragment::of("u"))?
+        .union(&query)?
+        .union_all(&query)?;
+    assert_eq!(rt;
+        union.sql()?.as_str(),
+        "SELECT * FROM u UNION SELECT a FROM t UNION ALL SELECT a FROM t;"
+    );
+    let mut out = String::from_str(alloc, "-- ")?;
+    union.print_to(&mut out)?;
+    assert_eq!(rt;
+        out.as_str(),
+        "-- SELECT * FROM u UNION SELECT a FROM t UNION ALL SELECT a FROM t;"
+    );
+    let inner = Select::from(alloc, Fragment::of("t"))?;
+    let outer = Select::from(alloc, inner.subquery_as(Operand::of("s"))?)?.field(
+        inner.subquery()?,
+    )?;
+    assert_eq!(rt;
+        outer.sql()?.as_str(),
+        "SELECT (SELECT * FROM t) FROM (SELECT * FROM t) AS s;"
+    );
+    Ok(())
+}
+
+#[test]
+fn changes(rt: HostRuntime) -> Result<(), Fail> {
+    let alloc = rt.alloc();
+    let insert = Insert::into(alloc, Fragment::of("t"))?
+        .field(a())?
+        .field(Operand::of("b"))?
+        .row(Row::new(alloc).value(Value("it's"))?.value(2)?)?
+        .values(&[Literal::Text(String::from_str(alloc, "c")?), Literal::Null])?
+        .returning(Operand::of("id"))?;
+    assert_eq!(rt;
+        insert.sql()?.as_str(),
+        "INSERT INTO t (a, b) VALUES ('it''s', 2), ('c', NULL) RETURNING id;"
+    );
+    let update = Update::table(alloc, Fragment::of("t"))?
+        .set(a(), Value("b"))?
+        .and_where(is_null(alloc, a())?)?;
+    assert_eq!(rt;
+        update.sql()?.as_str(),
+        "UPDATE t SET a = 'b' WHERE a IS NULL;"
+    );
+    let delete = Delete::from(alloc, Fragment::of("t"))?.and_where(eq(alloc, a(), 1)?)?;
+    assert_eq!(rt; delete.sql()?.as_str(), "DELETE FROM t WHERE a = 1;");
+    Ok(())
+}
+
+#[test]
+fn attacks_stay_values(rt: HostRuntime) -> Result<(), Fail> {
+    let alloc = rt.alloc();
+    let update = Update::table(alloc, Fragment::of("t"))?
+        .set(a(), Value(ATTACK))?
+        .and_where(eq(alloc, a(), Value(ATTACK))?)?;
+    let mut wanted = String::from_str(alloc, "UPDATE t SET a = ")?;
+    wanted.push_str(QUOTED)?;
+    wanted.push_str(" WHERE a = ")?;
+    wanted.push_str(QUOTED)?;
+    wanted.push_str(";")?;
+    assert_eq!(rt; update.sql()?.as_str(), wanted.as_str());
+    Ok(())
+}
+
+#[test]
+fn searches_alike(rt: HostRuntime) -> Result<(), Fail> {
+    let alloc = rt.alloc();
+    let search = Search {
+        title: Some(ATTACK),
+        author: Some("it's"),
+        least_price: Some(3),
+        in_stock: true,
+    };
+    assert_eq!(rt;
+        search_typed(alloc, &search)?.as_str(),
+        search_printed(alloc, &search)?.as_str()
+    );
+    Ok(())
+}
