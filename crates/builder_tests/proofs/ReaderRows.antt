@@ -5,7 +5,7 @@ use Rattle.std.specs.List.{list_all}
 use Rattle.std.proofs.Common.{ne_eqb, subst, sym}
 use Rattle.std.proofs.lemmas.Bool.{eqb-false}
 use Rattle.sql_parts.specs.Readers.{IsInside, OpensLiteral, after}
-use Rattle.sql_parts.specs.declared.delimiters.Quotes.TheVariants.{Single}
+use Rattle.sql_parts.specs.declared.delimiters.Quotes.TheVariants.{Back, Double, Single, Square}
 use Rattle.builder_tests.specs.PostgresReader.{postgres}
 use Rattle.builder_tests.specs.SqliteReader.{sqlite}
 
@@ -51,6 +51,16 @@ sqlite-comment opens = eqb-false 10 9 refl (opens.stays 42 refl (eqb-false 42 39
 
 sqlite-line_comment : OpensInSqlite (codes "a = -- b ") → ⊥
 sqlite-line_comment opens = eqb-false 0 7 refl (opens.stays 10 refl (eqb-false 10 39 refl))
+
+-- names between double quotes and backquotes are opened too; in brackets the closing one isn't doubled
+sqlite-names : OpensLiteral sqlite but_zero Double 0
+sqlite-names = record { stays = λ byte plain isnt. rw (ne_eqb byte 34 isnt) refl; goes_on = refl }
+
+sqlite-backquotes : OpensLiteral sqlite but_zero Back 0
+sqlite-backquotes = record { stays = λ byte plain isnt. rw (ne_eqb byte 96 isnt) refl; goes_on = refl }
+
+sqlite-square : OpensLiteral sqlite but_zero Square 0 → ⊥
+sqlite-square opens = eqb-false 0 17 refl opens.goes_on
 
 -- ---- PostgreSQL, likewise
 
@@ -107,3 +117,10 @@ postgres-comment opens = eqb-false 50 48 refl (opens.stays 42 refl (eqb-false 42
 
 postgres-line_comment : OpensInPostgres (codes "a = -- b ") → ⊥
 postgres-line_comment opens = eqb-false 0 5 refl (opens.stays 10 refl (eqb-false 10 39 refl))
+
+-- a name between double quotes is opened too, and none between backquotes
+postgres-names : OpensLiteral postgres but_zero Double 0
+postgres-names = record { stays = λ byte plain isnt. rw (ne_eqb byte 34 isnt) refl; goes_on = refl }
+
+postgres-backquotes : OpensLiteral postgres but_zero Back 0 → ⊥
+postgres-backquotes opens = eqb-false 1 0 refl (opens.stays 97 refl (eqb-false 97 96 refl))
