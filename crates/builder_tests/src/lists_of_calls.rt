@@ -3,7 +3,8 @@
 use crate::every_call::{Made, is_made};
 use sql_builder::SqlBuilder;
 use sql_builder::calls::{
-    Call, Finish, Start, TableStart, begin, make, print, restart_on, restart_values, run,
+    BorrowedCondition, Call, Family, Finish, Start, TableStart, add_condition, begin,
+    condition_text, make, print, restart_on, restart_values, run,
 };
 use sql_builder::text::Items;
 use std::alloc::Global;
@@ -19,6 +20,14 @@ fn made(alloc: Global) -> Made {
     let mut builder = SqlBuilder::select_from(alloc, "t")?;
     let call = Call::Field(String::from_str(alloc, "a")?);
     make(&mut builder, &call)?;
+    builder.sql()
+}
+
+fn condition_added(alloc: Global) -> Made {
+    let values = Items { items: &["1", "2"] };
+    let text = condition_text(alloc, BorrowedCondition::InList(false, "a", values))?;
+    let mut builder = SqlBuilder::select_from(alloc, "t")?;
+    add_condition(&mut builder, Family::And, text)?;
     builder.sql()
 }
 
@@ -50,6 +59,10 @@ fn makes_one_call_of_a_list(rt: HostRuntime) -> Result<(), Fail> {
     assert!(rt; is_made(chain_start(alloc), "SELECT * FROM t;"), "begin");
     assert!(rt; is_made(made(alloc), "SELECT a FROM t;"), "make");
     assert!(rt; is_made(ran(alloc), "SELECT DISTINCT * FROM t;"), "run");
+    assert!(rt;
+        is_made(condition_added(alloc), "SELECT * FROM t WHERE a IN (1, 2);"),
+        "add_condition"
+    );
     Ok(())
 }
 
