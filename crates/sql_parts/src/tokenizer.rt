@@ -1,9 +1,9 @@
 //! The tokens of a text, read from its front.
 ghost use Rattle.std.specs.Prelude.{◌≡◌, ◌<◌, [], ◌∷◌, IfSome, MatchOption, Some, drop, length, option_map, take};
 ghost use Rattle.std.specs.List.{prefix_len};
-ghost use Rattle.sql_parts.specs.Tokenizer.{IsRead, Represents, behind_bytes, closing_delimiter, optional_bytes};
+ghost use Rattle.sql_parts.specs.Tokenizer.{IsRead, Represents, behind_bytes, optional_bytes};
 ghost use Rattle.sql_parts.specs.Tokens as tokens;
-ghost use Rattle.sql_parts.specs.Tokens.{closed, inside, is_blank, is_word_byte, reach};
+ghost use Rattle.sql_parts.specs.Tokens.{closed, inside, is_word_byte, reach};
 ghost use Rattle.sql_parts.specs.declared.tokenizer.Token.TheVariants as seen;
 
 /// A token of a text. What is between quotes isn't stored.
@@ -32,30 +32,10 @@ const WORD_BYTES: [u8; 256] = [
 ];
 
 #[inline(always)]
-fn is_blank(byte: u8) -> bool
-    ensures { result ≡ is_blank byte }
-{
-    matches!(byte, b' ' | b'\t' | b'\n' | b'\r')
-}
-
-#[inline(always)]
 fn is_word_byte(byte: u8) -> bool
     ensures { result ≡ is_word_byte byte }
 {
     WORD_BYTES[usize::from(byte)] == 1
-}
-
-// The delimiter that closes a quote which the byte opens, where it opens one.
-#[inline(always)]
-fn closing_delimiter(byte: u8) -> Option<char>
-    ensures delimiter { result ≡ closing_delimiter byte }
-    ensures one_byte { IfSome result (λ delimiter. delimiter < 128) }
-{
-    match byte {
-        b'\'' | b'"' | b'`' => Some(char::from(byte)),
-        b'[' => Some(']'),
-        _ => None,
-    }
 }
 
 // The text behind the first such ending, where there is one.
@@ -121,18 +101,22 @@ fn read(first: u8, text: &str) -> (Option<Token<'_>>, &str)
         return (Some(Token::Word(word)), rest);
     }
     let behind = &text[1..];
-    if is_blank(first) {
-        return (None, behind);
-    }
-    if let Some(comment) = text.strip_prefix("--") {
-        return ended(None, behind_ending("\n", comment));
-    }
-    if let Some(comment) = text.strip_prefix("/*") {
-        return ended(None, behind_ending("*/", comment));
-    }
-    match closing_delimiter(first) {
-        Some(delimiter) => ended(Some(Token::Quoted), behind_quote(delimiter, behind)),
-        None => (Some(Token::Symbol(first)), behind),
+    let symbol = (Some(Token::Symbol(first)), behind);
+    match first {
+        b' ' | b'\t' | b'\n' | b'\r' => (None, behind),
+        b'-' => match text.strip_prefix("--") {
+            Some(comment) => ended(None, behind_ending("\n", comment)),
+            None => symbol,
+        },
+        b'/' => match text.strip_prefix("/*") {
+            Some(comment) => ended(None, behind_ending("*/", comment)),
+            None => symbol,
+        },
+        b'\'' => ended(Some(Token::Quoted), behind_quote('\'', behind)),
+        b'"' => ended(Some(Token::Quoted), behind_quote('"', behind)),
+        b'`' => ended(Some(Token::Quoted), behind_quote('`', behind)),
+        b'[' => ended(Some(Token::Quoted), behind_quote(']', behind)),
+        _ => symbol,
     }
 }
 
