@@ -77,6 +77,7 @@ fn ended<'t>(token: Option<Token<'t>>, behind: Option<&'t str>) -> (Option<Token
 }
 
 // What is behind the opening of a comment that ends so, up to that end.
+// It is no part of `read`, which would clear room for the result at each word.
 #[inline(always)]
 fn read_comment<'t>(ending: &str, comment: &'t str) -> (Option<Token<'t>>, &'t str)
     requires some { 0 < length ending.now }
