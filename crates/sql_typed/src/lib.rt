@@ -16,5 +16,9 @@ pub use changes::{Delete, Insert, Update};
 pub use condition::Condition;
 pub use operand_text::{FragmentText, OperandText};
 pub use select::{JoinKind, Select};
+use sql_parts::SqlBuilderError;
 pub use statement::Statement;
 pub use texts::{Query, Row, TableQuery};
+
+/// What a call gives, or why it fails.
+pub type Result<T> = std::result::Result<T, SqlBuilderError>;

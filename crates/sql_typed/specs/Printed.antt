@@ -1,0 +1,42 @@
+-- What a text is that a finish prints of a statement whose texts all fit.
+use Rattle.std.specs.Prelude.{◌≡◌, ◌++◌, ℕ, IsTrue, List, Ok}
+use Rattle.sql_parts.specs.Operands.{is_fragment}
+use Rattle.sql_parts.specs.StringTexts.{outline}
+use Rattle.sql_parts.specs.Tokens.{closed, tokens}
+use Rattle.sql_builder.specs.Calls.{FinishText, Sql, kind_of}
+use Rattle.sql_builder.specs.Interference.{answer_of, outlines}
+use Rattle.sql_builder.specs.Meaning.{HasTruthOf, condition_groups, is_nested, is_unenclosed, prints_where}
+use Rattle.sql_builder.specs.Reading.{clause_list, read}
+use Rattle.sql_builder.specs.Shape.{EndsInOneSemicolon, shape}
+use Rattle.sql_builder.specs.Statement.{statement}
+use Rattle.sql_builder.specs.Subqueries.{makes_table}
+use Rattle.sql_typed.specs.Fits.{Made}
+
+-- two statements whose pieces have the same tokens, one by one, but for the texts of strings
+abbrev pub DifferInStrings : FinishText → Made → Made → Type 0
+DifferInStrings finish one other = outlines one.start one.calls finish ≡ outlines other.start other.calls finish
+
+-- What is known of a text that is printed, whatever texts it was made of.
+pub record IsPrinted (made : Made) (finish : FinishText) (text : List ℕ) : Type 0 where
+  -- it is the statement of the calls
+  pub is_statement : statement made.start made.calls finish ≡ Ok text
+  -- each text that is quoted is one token
+  pub has_tokens : shape made.start made.calls finish ≡ Ok (tokens text)
+  -- every quote and comment in it is closed
+  pub is_closed : IsTrue (closed text)
+  -- what `sql` prints ends in its only `;`
+  pub ends_in_one : finish ≡ Sql → EndsInOneSemicolon (tokens text)
+  -- it parses back as the clauses of the calls
+  pub reads_back : IsTrue (is_unenclosed finish) → clause_list made.start made.calls finish ≡ Ok (read (tokens text))
+  -- its WHERE is the AND of the groups, each the OR of its conditions
+  pub has_truth : IsTrue (prints_where finish (kind_of made.start)) → HasTruthOf (condition_groups made.calls) text
+  -- a query is balanced, and an operand between brackets
+  pub nests : IsTrue (is_nested finish text)
+  -- a query between brackets, or one with a name, is a table
+  pub nests_as_table : IsTrue (makes_table finish) → IsTrue (is_fragment text)
+  -- a statement that differs from it in texts of strings alone has the same tokens, but for these
+  pub no_interference : (other : Made) → DifferInStrings finish made other → answer_of outline other.start other.calls finish ≡ Ok (outline text)
+
+-- a text with what `sql` prints behind it
+abbrev pub PrintsBehind : Made → List ℕ → List ℕ → Type 0
+PrintsBehind made before after = (text : List ℕ) × (after ≡ before ++ text) × IsPrinted made Sql text
