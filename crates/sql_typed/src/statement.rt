@@ -271,7 +271,8 @@ impl<K: Filters> Statement<K> {
     /// A condition in a group of its own, which the others join by AND.
     /// `Delete::from(alloc, Fragment::of("t"))?.and_where(eq(alloc, Operand::of("a"), Value("it's"))?)?.sql()?` → `DELETE FROM t WHERE a = 'it''s';`
     pub fn and_where(self, condition: Condition) -> Result<Statement<K>>
-        ensures made { Gives result (adding (Cond And (Raw (string_bytes condition.text))) self) }
+        ensures made { (text : List ℕ) → string_bytes condition.text ≡ text
+            → Gives result (adding (Cond And (Raw text)) self) }
     {
         self.add(Step::Condition(Family::And, condition.text))
     }
@@ -280,7 +281,8 @@ impl<K: Filters> Statement<K> {
     /// `Delete::from(alloc, Fragment::of("t"))?.and_where(eq(alloc, Operand::of("a"), 1)?)?.or_where(is_null(alloc, Operand::of("b"))?)?.sql()?` →
     /// `DELETE FROM t WHERE a = 1 OR b IS NULL;`
     pub fn or_where(self, condition: Condition) -> Result<Statement<K>>
-        ensures made { Gives result (adding (Cond Or (Raw (string_bytes condition.text))) self) }
+        ensures made { (text : List ℕ) → string_bytes condition.text ≡ text
+            → Gives result (adding (Cond Or (Raw text)) self) }
     {
         self.add(Step::Condition(Family::Or, condition.text))
     }
