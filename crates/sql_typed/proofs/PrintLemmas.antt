@@ -7,6 +7,7 @@ use Rattle.std.proofs.lemmas.Bool.{and_parts}
 use Rattle.std.proofs.lemmas.Result.{IfOk-weaker}
 use Rattle.sql_parts.specs.Fragments.{balanced, has_clause_word, has_top_level, is_joining, is_word, operand}
 use Rattle.sql_parts.specs.Operands.{ServesAsOperand, is_fragment}
+use Rattle.sql_parts.specs.Readers.{marks, outer_states}
 use Rattle.sql_parts.specs.StringTexts.{outline}
 use Rattle.sql_parts.specs.Tokens.{begins_with, closed, tokens}
 use Rattle.sql_parts.specs.declared.error.SqlBuilderError.{SqlBuilderError}
@@ -17,10 +18,13 @@ use Rattle.sql_builder.specs.RawFragments.{has_fit_texts, is_fit}
 use Rattle.sql_builder.specs.Reading.{clause_list, read}
 use Rattle.sql_builder.specs.Shape.{EndsInOneSemicolon, shape}
 use Rattle.sql_builder.specs.Statement.{error_at, statement, text_at, unless_error}
+use Rattle.sql_builder.specs.StatementLaws.{made_by}
+use Rattle.sql_builder.specs.StatementReaders.{parts_at}
 use Rattle.sql_builder.proofs.for_callers.ChainLemmas.{made_statement}
 use Rattle.sql_builder.proofs.fragments.FitLemmas.{balanced_fragments, fit_conditions, fit_fragments}
 use Rattle.sql_builder.proofs.fragments.TextTestLemmas.{fit_texts_are_closed}
 use Rattle.sql_builder.proofs.interference.OutlineLemmas.{fragments-apart}
+use Rattle.sql_builder.proofs.interference.StatementReaderLemmas.{fragments-alike}
 use Rattle.sql_builder.proofs.reading.SubqueryLemmas.{subqueries_nest}
 use Rattle.sql_builder.proofs.statements.StatementLawLemmas.{builders_print_statements, statements_are_closed, statements_have_truth, statements_keep_tokens}
 use Rattle.sql_builder.proofs.statements.StatementLawLemmas.{statements_nest, statements_read_back}
@@ -28,9 +32,22 @@ use Rattle.sql_typed.specs.Fits.{IsFitBy, Made}
 use Rattle.sql_typed.specs.Printed.{IsPrinted, PrintsBehind}
 use Rattle.sql_typed.proofs.FitLemmas.{ends_in_one, texts_fit, where_unenclosed}
 
+-- clauses that are borrowed are those of the statement
+pub borrowed : {made given : Made} {r lent : ClauseTexts} → made ≡ given → lent ≡ r → IsFitBy made r → IsFitBy given lent
+borrowed {made} {given} {r} {lent} is lends fit = subst (λ (m : Made). IsFitBy m lent) is (subst (IsFitBy made) (sym lends) fit)
+
 -- what holds of a statement holds of its text
 held : (P : List ℕ → Type 0) {answer : Result (List ℕ) SqlBuilderError} {text : List ℕ} → answer ≡ Ok text → IfOk answer P → P text
 held P is holds = subst (λ answer. IfOk answer P) is holds
+
+-- what is printed where there is no error
+printed_text : (finish : FinishText) (r : ClauseTexts) (text : List ℕ) → unless_error (error_at finish r) (text_at finish r) ≡ Ok text
+    → text_at finish r ≡ text
+printed_text finish r text is = by (error_at finish r) is
+  where
+    by : (error : Option SqlBuilderError) → unless_error error (text_at finish r) ≡ Ok text → text_at finish r ≡ text
+    by None is = cc is
+    by (Some error) is = cc is
 
 module _ (made : Made) (finish : FinishText) (r : ClauseTexts) (fit : IsFitBy made r) (name : list_all is_fit (finish_raw_texts finish) ≡ true) where
   texts : has_fit_texts made.start made.calls finish ≡ true
@@ -58,6 +75,14 @@ module _ (made : Made) (finish : FinishText) (r : ClauseTexts) (fit : IsFitBy ma
     no_interference = λ other same.
         sym (fragments-apart made.start other.start made.calls other.calls finish same (fit_texts_are_closed made.start made.calls finish texts))
         ∙ ap (result_map_both outline (λ error. error)) is;
+    readers_ignore_texts = λ next plain state one other cut same clean other_clean inside.
+        let read = fragments-alike next plain state finish one other same clean other_clean inside in (
+          read.0,
+          ap (outer_states next state (marks (parts_at finish one)))
+              (sym (printed_text finish (made_by made.start made.calls) text (builders_print_statements made.start made.calls finish ∙ is))
+              ∙ ap (text_at finish) (sym cut))
+              ∙ read.1,
+        );
   }
 
   pub all_printed : {Z : Type 0} (result : Result (String Z) SqlBuilderError) → IfOk result (λ s. string_bytes s ≡ text_at finish r)

@@ -18,7 +18,7 @@ ghost use Rattle.sql_builder.specs.Statement.{error_at, statement};
 ghost use Rattle.sql_builder.specs.StatementLaws.{made_by};
 ghost use Rattle.sql_builder.specs.declared.condition.Family.TheVariants.{And, Or};
 ghost use Rattle.sql_typed.specs.Fits.{Made, adding, beginning, call_fits};
-ghost use Rattle.sql_typed.specs.Printed.{DifferInStrings, IsPrinted, PrintsBehind};
+ghost use Rattle.sql_typed.specs.Printed.{DifferInStrings, IsPrinted, PrintsBehind, ReadersIgnoreTexts};
 ghost use Rattle.sql_typed.specs.Results.{Gives};
 ghost use Rattle.sql_typed.specs.Steps.{step_call};
 
@@ -86,7 +86,8 @@ impl Model for MadeOf {
 #[derive(Drop)]
 pub struct Statement<K> {
     pub(crate) alloc: Global,
-    builder: SqlBuilder,
+    // in a box, since a call moves its statement
+    builder: Box<SqlBuilder>,
     made: GhostValue<MadeOf>,
     kind: PhantomData<K>,
 }
@@ -98,7 +99,7 @@ impl<K> Model for Statement<K> {
 
     ghost view = { λ s. s.made.value };
 
-    ghost invariant = { λ s. IsFitBy s.made.value s.builder };
+    ghost invariant = { λ s. IsFitBy s.made.value s.builder.value };
 }
 
 /// A call of a statement.
@@ -139,7 +140,7 @@ impl<K> Statement<K> {
         };
         Ok(Statement {
             alloc,
-            builder,
+            builder: Box::new(alloc, builder)?,
             made,
             kind: PhantomData,
         })
@@ -245,6 +246,7 @@ impl<K> Statement<K> {
         ensures no_interference { (other : Made) → DifferInStrings Sql self.now other
             → IfOk result (λ s.
             answer_of outline other.start other.calls Sql ≡ Ok (outline (string_bytes s))) }
+        ensures readers { IfOk result (λ s. ReadersIgnoreTexts self.now Sql (string_bytes s)) }
     {
         let text = self.print(&Finish::Sql)?;
         Ok(text)

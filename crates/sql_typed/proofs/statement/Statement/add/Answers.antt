@@ -9,4 +9,4 @@ invariant_of-result g c =
     let before = c.self.inside.made.value in
     subst (λ (made : Made). IsFitBy made c.make_step.new.builder)
     (sym (c.of-made.ensures ∙ ap (λ (call : Made). record { start = before.start; calls = before.calls ++ call.calls }) c.of-call.ensures))
-    (one_more before (step_call c.args.step) c.self.inside.builder c.make_step.new.builder (search rules) c.self.invariant c.requires.fits)
+    (one_more before (step_call c.args.step) c.self.inside.builder.value c.make_step.new.builder (search rules) c.self.invariant c.requires.fits)
