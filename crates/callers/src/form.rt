@@ -14,6 +14,7 @@ use sql_typed::{Result, Select};
 use std::alloc::Global;
 
 /// What a user asks for: each filter that is given narrows the search.
+#[derive(Clone, Copy)]
 pub struct Form<'a> {
     /// What the title contains; `%` and `_` mean themselves.
     pub title: Option<&'a str>,
