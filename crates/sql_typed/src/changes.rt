@@ -9,7 +9,7 @@ use crate::Result;
 use crate::operand_text::{FragmentText, OperandText};
 use crate::statement::{DeleteKind, InsertKind, Statement, Step, UpdateKind};
 use crate::texts::Row;
-use sql_builder::calls::{BinaryClause, Call, TableStart, UnaryClause};
+use sql_builder::calls::{BinaryClause, TableStart, UnaryClause};
 use sql_parts::text::copies;
 use std::alloc::Global;
 
@@ -45,7 +45,7 @@ impl Statement<InsertKind> {
     pub fn row(self, row: Row) -> Result<Insert>
         ensures made { Gives result (adding (Values (texts row.values.items)) self) }
     {
-        self.add(Step::Other(Call::Values(row.values)))
+        self.add(Step::Row(row.values))
     }
 
     /// One more row, whose values are of one type, as `Literal`.
@@ -54,7 +54,7 @@ impl Statement<InsertKind> {
         ensures made { Gives result (adding (Values (map V.text values.now)) self) }
     {
         let values = copies(self.alloc, values)?;
-        self.add(Step::Other(Call::Values(values)))
+        self.add(Step::Row(values))
     }
 }
 

@@ -24,6 +24,7 @@ use std::alloc::{AllocError, Global};
 // A condition without a list.
 type Plain<'a> = BorrowedCondition<'a, Items<'a, String>>;
 
+#[inline(always)]
 fn compare<F: OperandText, V: OperandText>(
     alloc: Global,
     relation: Relation,

@@ -28,9 +28,10 @@ use crate::ghost_value::GhostValue;
 use crate::operand_text::{FragmentText, OperandText};
 use sql_builder::SqlBuilder;
 use sql_builder::calls::{
-    BinaryClause, Call, Family, Finish, TableStart, UnaryClause, add_condition, make, make_binary,
-    make_unary, print, print_to,
+    BinaryClause, Call, Family, Finish, TableStart, UnaryClause, VariadicClause, add_condition,
+    make, make_binary, make_unary, make_variadic, print, print_to,
 };
+use sql_parts::text::Items;
 use std::alloc::Global;
 use std::marker::{Model, PhantomData};
 
@@ -108,9 +109,11 @@ pub(crate) enum Step<'a> {
     Unary(UnaryClause, &'a str),
     Binary(BinaryClause, &'a str, &'a str),
     Condition(Family, String),
-    Other(Call),
+    Row(Vec<String>),
+    Word(Call),
 }
 
+#[inline(always)]
 fn make_step(builder: &mut SqlBuilder, step: Step<'_>) -> Result<()>
     ensures made { OnOk result (builder.new ≡ with_call (step_call step.entry) builder.old) }
     ensures memory { FailsOnlyByMemory result }
@@ -119,7 +122,13 @@ fn make_step(builder: &mut SqlBuilder, step: Step<'_>) -> Result<()>
         Step::Unary(clause, text) => make_unary(builder, clause, text),
         Step::Binary(clause, first, second) => make_binary(builder, clause, first, second),
         Step::Condition(family, condition) => add_condition(builder, family, condition),
-        Step::Other(call) => make(builder, &call),
+        Step::Row(values) => {
+            let values = Items {
+                items: values.as_slice(),
+            };
+            make_variadic(builder, VariadicClause::Values, values)
+        }
+        Step::Word(call) => make(builder, &call),
     }
 }
 
@@ -147,6 +156,7 @@ impl<K> Statement<K> {
     }
 
     // One more call, whose texts fit.
+    #[inline(always)]
     pub(crate) fn add(self, step: Step<'_>) -> Result<Statement<K>>
         requires fits { IsTrue (call_fits (step_call step)) }
         ensures made { Gives result (adding (step_call step.entry) self) }
@@ -168,6 +178,7 @@ impl<K> Statement<K> {
         })
     }
 
+    #[inline(always)]
     pub(crate) fn with_operand<F: OperandText>(
         self,
         clause: UnaryClause,
@@ -179,6 +190,7 @@ impl<K> Statement<K> {
         self.add(Step::Unary(clause, text.as_str()))
     }
 
+    #[inline(always)]
     pub(crate) fn with_fragment<T: FragmentText>(
         self,
         clause: UnaryClause,
@@ -190,6 +202,7 @@ impl<K> Statement<K> {
         self.add(Step::Unary(clause, text.as_str()))
     }
 
+    #[inline(always)]
     pub(crate) fn with_pair<F: OperandText, V: OperandText>(
         self,
         clause: BinaryClause,
@@ -209,7 +222,7 @@ impl<K> Statement<K> {
         requires fits { IsTrue (call_fits (call_view call)) }
         ensures made { Gives result (adding (call_view call) self) }
     {
-        self.add(Step::Other(call))
+        self.add(Step::Word(call))
     }
 
     // What a finish prints, whose name, if it has one, fits.
