@@ -1,9 +1,8 @@
 -- The calls that steps make.
 use Rattle.std.specs.Prelude.{string_bytes}
 use Rattle.sql_builder.specs.Calls as call
-use Rattle.sql_builder.specs.Calls.{CallText, Cond, Values, binary_call, call_view, unary_call}
+use Rattle.sql_builder.specs.Calls.{CallText, Cond, binary_call, call_view, unary_call}
 use Rattle.sql_builder.specs.Condition.{Raw}
-use Rattle.sql_parts.specs.Text.{texts}
 use Rattle.sql_typed.specs.declared.select.JoinKind.{JoinKind}
 use Rattle.sql_typed.specs.declared.select.JoinKind.TheVariants as kind
 use Rattle.sql_typed.specs.declared.statement.Step.{Step}
@@ -14,7 +13,6 @@ abbrev pub step_call : Step → CallText
 step_call (step.Unary clause text) = unary_call clause text.now
 step_call (step.Binary clause first second) = binary_call clause first.now second.now
 step_call (step.Condition family condition) = Cond family (Raw (string_bytes condition))
-step_call (step.Row values) = Values (texts values.items)
 step_call (step.Word word) = call_view word
 
 -- the call of an operator

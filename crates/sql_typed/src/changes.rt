@@ -1,7 +1,7 @@
 //! The calls of INSERT, UPDATE and DELETE. Each call fails only if memory runs out.
 ghost use Rattle.std.specs.Prelude.{◌≡◌, ◌++◌, [], ◌∷◌, map, string_bytes};
 ghost use Rattle.sql_parts.specs.Text.{texts};
-ghost use Rattle.sql_builder.specs.Calls.{DeleteFrom, Field, InsertInto, SetTo, UpdateTable, Values};
+ghost use Rattle.sql_builder.specs.Calls.{DeleteFrom, Field, InsertInto, SetStr, SetTo, UpdateTable, Values};
 ghost use Rattle.sql_typed.specs.Fits.{adding, beginning};
 ghost use Rattle.sql_typed.specs.Results.{Gives};
 
@@ -10,7 +10,7 @@ use crate::operand_text::{FragmentText, OperandText};
 use crate::statement::{DeleteKind, InsertKind, Statement, Step, UpdateKind};
 use crate::texts::Row;
 use sql_builder::calls::{BinaryClause, TableStart, UnaryClause};
-use sql_parts::text::copies;
+use sql_parts::Value;
 use std::alloc::Global;
 
 /// An INSERT into a table.
@@ -45,7 +45,7 @@ impl Statement<InsertKind> {
     pub fn row(self, row: Row) -> Result<Insert>
         ensures made { Gives result (adding (Values (texts row.values.items)) self) }
     {
-        self.add(Step::Row(row.values))
+        self.with_values(row.values.as_slice())
     }
 
     /// One more row, whose values are of one type, as `Literal`.
@@ -53,8 +53,7 @@ impl Statement<InsertKind> {
     pub fn values<V: OperandText>(self, values: &[V]) -> Result<Insert>
         ensures made { Gives result (adding (Values (map V.text values.now)) self) }
     {
-        let values = copies(self.alloc, values)?;
-        self.add(Step::Row(values))
+        self.with_values(values)
     }
 }
 
@@ -73,6 +72,15 @@ impl Statement<UpdateKind> {
         ensures made { Gives result (adding (SetTo (F.text field) (V.text value)) self) }
     {
         self.with_pair(BinaryClause::SetTo, field, value)
+    }
+
+    /// Sets a field to a text, which is quoted in place.
+    /// `Update::table(alloc, Fragment::of("t"))?.set_str(Operand::of("a"), Value("it's"))?.sql()?` → `UPDATE t SET a = 'it''s';`
+    pub fn set_str<F: OperandText>(self, field: F, value: Value<&str>) -> Result<Update>
+        ensures made { Gives result (adding (SetStr (F.text field) value.entry.0.now) self) }
+    {
+        let field = field.as_text(self.alloc)?;
+        self.add(Step::Binary(BinaryClause::SetStr, field.as_str(), value.0))
     }
 }
 

@@ -14,7 +14,7 @@ pub mod texts;
 
 pub use changes::{Delete, Insert, Update};
 pub use condition::Condition;
-pub use operand_text::{FragmentText, OperandText};
+pub use operand_text::{FragmentText, OperandText, operand};
 pub use select::{JoinKind, Select};
 use sql_parts::SqlBuilderError;
 pub use statement::Statement;

@@ -1,13 +1,13 @@
 //! A statement by value.
-ghost use Rattle.std.specs.Prelude.{◌≡◌, ◌⊎◌, ◌++◌, [], ◌∷◌, Err, IfErr, IfOk, IsNone, IsTrue, List, Ok, OnErr, OnOk, ℕ, string_bytes};
+ghost use Rattle.std.specs.Prelude.{◌≡◌, ◌⊎◌, ◌++◌, [], ◌∷◌, Err, IfErr, IfOk, IsNone, IsTrue, List, Ok, map, OnErr, OnOk, ℕ, string_bytes};
 ghost use Rattle.std.specs.List.{list_all};
 ghost use Rattle.sql_parts.specs.Error.{FailsOnlyByMemory, IsMemory};
-ghost use Rattle.sql_parts.specs.Operands.{is_fragment};
+ghost use Rattle.sql_parts.specs.Fragments.{balanced};
 ghost use Rattle.sql_parts.specs.StringTexts.{outline};
 ghost use Rattle.sql_parts.specs.Text.{texts};
 ghost use Rattle.sql_parts.specs.Tokens.{closed, tokens};
 ghost use Rattle.sql_builder.specs.Builder.{with_call};
-ghost use Rattle.sql_builder.specs.Calls.{Cond, Returning, ReturningId, Sql, binary_call, call_view, finish_raw_texts, finish_view, kind_of, start_on, unary_call};
+ghost use Rattle.sql_builder.specs.Calls.{Cond, Returning, ReturningId, Sql, Values, binary_call, call_view, finish_raw_texts, finish_view, kind_of, start_on, unary_call};
 ghost use Rattle.sql_builder.specs.Condition.{Raw};
 ghost use Rattle.sql_builder.specs.Interference.{answer_of};
 ghost use Rattle.sql_builder.specs.Meaning.{HasTruthOf, condition_groups, prints_where};
@@ -31,7 +31,7 @@ use sql_builder::calls::{
     BinaryClause, Call, Family, Finish, TableStart, UnaryClause, VariadicClause, add_condition,
     make, make_binary, make_unary, make_variadic, print, print_to,
 };
-use sql_parts::text::Items;
+use sql_parts::text::{Items, ToText};
 use std::alloc::Global;
 use std::marker::{Model, PhantomData};
 
@@ -109,7 +109,6 @@ pub(crate) enum Step<'a> {
     Unary(UnaryClause, &'a str),
     Binary(BinaryClause, &'a str, &'a str),
     Condition(Family, String),
-    Row(Vec<String>),
     Word(Call),
 }
 
@@ -122,12 +121,6 @@ fn make_step(builder: &mut SqlBuilder, step: Step<'_>) -> Result<()>
         Step::Unary(clause, text) => make_unary(builder, clause, text),
         Step::Binary(clause, first, second) => make_binary(builder, clause, first, second),
         Step::Condition(family, condition) => add_condition(builder, family, condition),
-        Step::Row(values) => {
-            let values = Items {
-                items: values.as_slice(),
-            };
-            make_variadic(builder, VariadicClause::Values, values)
-        }
         Step::Word(call) => make(builder, &call),
     }
 }
@@ -170,6 +163,29 @@ impl<K> Statement<K> {
         let call: GhostValue<MadeOf> = GhostValue::of(&step);
         let made = GhostValue::of(&(made, call));
         make_step(&mut builder, step)?;
+        Ok(Statement {
+            alloc,
+            builder,
+            made,
+            kind,
+        })
+    }
+
+    // One more row, whose texts are balanced.
+    pub(crate) fn with_values<V: ToText>(self, values: &[V]) -> Result<Statement<K>>
+        requires fits { IsTrue (list_all balanced (map V.text values.now)) }
+        ensures made { Gives result (adding (Values (map V.text values.now)) self) }
+    {
+        let Statement {
+            alloc,
+            mut builder,
+            made,
+            kind,
+        } = self;
+        let call: GhostValue<MadeOf> = GhostValue::of(&values);
+        let made = GhostValue::of(&(made, call));
+        let values = Items { items: values };
+        make_variadic(&mut builder, VariadicClause::Values, values)?;
         Ok(Statement {
             alloc,
             builder,
