@@ -30,7 +30,8 @@ use Rattle.sql_builder.proofs.statements.StatementLawLemmas.{builders_print_stat
 use Rattle.sql_builder.proofs.statements.StatementLawLemmas.{statements_nest, statements_read_back}
 use Rattle.sql_typed.specs.Fits.{IsFitBy, Made}
 use Rattle.sql_typed.specs.Printed.{IsPrinted, PrintsBehind}
-use Rattle.sql_typed.proofs.FitLemmas.{ends_in_one, texts_fit, where_unenclosed}
+use Rattle.sql_builder.proofs.fragments.FitListLemmas.{ends_in_one, where_unenclosed}
+use Rattle.sql_typed.proofs.FitLemmas.{texts_fit}
 
 -- clauses that are borrowed are those of the statement
 pub borrowed : {made given : Made} {r lent : ClauseTexts} → made ≡ given → lent ≡ r → IsFitBy made r → IsFitBy given lent

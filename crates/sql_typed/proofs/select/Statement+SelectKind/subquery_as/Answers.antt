@@ -1,7 +1,7 @@
 use Rattle.std.proofs.Common.{◌∙◌, ap, not, refl}
 use Rattle.std.proofs.lemmas.Bool.{and_from}
 use Rattle.sql_parts.specs.Fragments.{has_clause_word}
-use Rattle.sql_typed.proofs.ConditionLemmas.{fits_as}
+use Rattle.sql_builder.proofs.truth.CombinedLemmas.{fits_as}
 use Rattle.sql_typed.proofs.select.Statement+SelectKind.subquery_as.Goals as goal
 
 pub print-requires : goal.print-requires
