@@ -150,7 +150,7 @@ fn liked<F: OperandText>(
     Ok(Condition { text })
 }
 
-/// `field LIKE 'mask'`, with the percent signs that the constant says. A `%` or `_` of the mask is a
+/// `field LIKE 'mask'`, with the percent signs that `percent` says. A `%` or `_` of the mask is a
 /// wildcard too.
 /// `like(alloc, Percent::Left, Operand::of("a"), Value("b"))?.text` → `a LIKE 'b%'`
 pub fn like<F: OperandText>(
@@ -165,7 +165,7 @@ pub fn like<F: OperandText>(
     liked(alloc, false, percent, field, mask)
 }
 
-/// `field NOT LIKE 'mask'`, with the percent signs that the constant says. A `%` or `_` of the mask is a
+/// `field NOT LIKE 'mask'`, with the percent signs that `percent` says. A `%` or `_` of the mask is a
 /// wildcard too.
 /// `not_like(alloc, Percent::Any, Operand::of("a"), Value("b"))?.text` → `a NOT LIKE '%b%'`
 pub fn not_like<F: OperandText>(
