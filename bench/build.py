@@ -58,13 +58,13 @@ def library(work):
         return None
     say("proving and building the library's calls")
     project = f"{work}/project"
-    for name in ("sql_parts", "sql_builder"):
+    for name in ("sql_parts", "sql_builder", "sql_typed"):
         copy_crate(name, f"{project}/crates/{name}")
     folder = f"{project}/crates/bench_library"
     os.makedirs(f"{folder}/src", exist_ok=True)
     shutil.copyfile(f"{BENCH}/library/main.rt.txt", f"{folder}/src/main.rt")
     with open(f"{project}/crates.txt", "w", encoding="utf-8") as file:
-        file.write("sql_parts:\nsql_builder: sql_parts\nbench_library: sql_builder sql_parts anyhow\n")
+        file.write("sql_parts:\nsql_builder: sql_parts\nsql_typed: sql_builder sql_parts\nbench_library: sql_typed sql_builder sql_parts anyhow\n")
     return made(f"{folder}/out/bench_library", ["rt", "run", "--", "name", "0"], folder, f"{work}/library.log")
 
 

@@ -44,7 +44,7 @@ class Lines(Workload):
         """Two amounts, whose difference it is: the other reads nothing."""
         return amount, (1, 0)
 
-    def words(self, _turns):
+    def words(self, _turns, _program):
         return []
 
     def input(self, times):
@@ -87,7 +87,7 @@ class Calls(Workload):
         turns, times = amount
         return (turns + 1, times), (1, times)
 
-    def words(self, turns):
+    def words(self, turns, _program):
         return [self.step, str(turns)]
 
     def input(self, times):
@@ -102,6 +102,18 @@ class Sorted(Calls):
     """Turns of a step that sorts what it reads, so ten times of it are a little more than ten times the instructions."""
 
     growth: ClassVar = 14
+
+
+@dataclass
+class Typed(Calls):
+    """Turns of a step by types, beside the same statements by the builder: the ratio is between these two."""
+
+    ours: ClassVar = "typed"
+    crate: ClassVar = "built"
+    memory: ClassVar = 1.15
+
+    def words(self, turns, program):
+        return [f"{program}_{self.step}", str(turns)]
 
 
 @dataclass
@@ -129,20 +141,21 @@ def lines(kind, count=1_000_000, name="a statement with {count:,} `{kind}` lines
 
 
 LINES = [
-    lines("mixed", 100_000, "{count:,} mixed statements", aim=0.25),
-    lines("short", 100_000, "{count:,} statements of ten short lines", aim=0.4),
+    lines("mixed", 100_000, "{count:,} mixed statements", aim=0.18),
+    lines("short", 100_000, "{count:,} statements of ten short lines", aim=0.28),
     lines("tiny", 500_000, "{count:,} statements of two short lines"),
     lines("restart", 100_000, "{count:,} statements of seven lines, with two conditions"),
     lines("long", 5_000, "{count:,} statements of ten lines, eight of them of 950 bytes"),
     lines("conditions", 2_000, "{count:,} statements with all fifty conditions"),
     *(lines(kind) for kind in ("field", "set_field", "group_by", "order_asc", "select", "values", "set", "set_str", "union")),
     lines("wide", 20_000, "a statement with {count:,} `values` lines of 100 values"),
-    lines("join"),
+    lines("join", aim=0.3, memory=0.6),
     lines("on", aim=0.6),
     lines("join_on", 500_000, "a statement with {count:,} `join` lines, each with an `on` line"),
     lines("on_alone", name="a statement with {count:,} `on` lines and no join"),
     lines("or_where", aim=0.65, memory=1.7),
-    *(lines(kind, memory=1.7) for kind in ("or_where_eq", "or_where_like")),
+    lines("or_where_eq", aim=0.45, memory=1.7),
+    lines("or_where_like", memory=1.7),
     lines("fields", 10_000_000, "a `fields` line of {count:,} fields"),
     *(lines(kind, name="an `and_where_{kind}` line of {count:,} values") for kind in ("in", "in_quoted")),
     lines("text", 200_000, "a `set` line of 20 MB, ASCII"),
@@ -204,9 +217,11 @@ def colons(name, text):
 
 
 CALLS = [
-    Calls("a SELECT with a join and three conditions", "select", 100_000, 0.33),
-    Calls("an UPDATE", "update", 100_000, 0.33),
-    Calls("an INSERT of 100 rows", "insert", 5_000, 0.33, repeated("x" * 100)),
+    Calls("a SELECT with a join and three conditions", "select", 100_000, 0.3),
+    Calls("a SELECT of a subquery, with two others in it", "nested", 100_000, 0.3),
+    Calls("an UPDATE", "update", 100_000, 0.3),
+    Calls("an UPDATE by a restarted builder, to a kept text", "restart", 100_000, 0.3),
+    Calls("an INSERT of 100 rows", "insert", 5_000, 0.1, repeated("x" * 100)),
     *(Calls(f"`{macro}!`", macro, 200_000, 0.25) for macro in ("name", "qname", "baname", "brname", "dname")),
     *(Calls(f"`{call}`, 40 bytes", call, 500_000, 0.55, repeated(TITLE)) for call in QUOTINGS),
     Calls("`quote`, 4 KB with a quote in each 64 bytes", "quote", 20_000, 0.55, repeated(("x" * 63 + "'") * 64)),
@@ -247,6 +262,12 @@ CALLS = [
     Calls("`clone` of a SELECT of 6,000 items", "clone", 500, 0.9, repeated("x" * 1_000)),
 ]
 
+TYPED = [
+    Typed("a SELECT with five filters", "search", 100_000, 1.15),
+    Typed("an UPDATE of three fields", "update", 100_000, 1.15),
+    Typed("an INSERT of 100 rows of mixed values", "insert", 5_000, 1.15, repeated("x" * 100)),
+]
+
 CONDITION = "(price > 100 AND title LIKE 'it''s%') OR CASE WHEN a THEN b ELSE c END = 3 AND cost BETWEEN 1 AND 2 OR "
 TESTS = {"is_closed": 20, "has_semicolon": 20, "is_balanced": 30, "has_clause_word": 30, "is_operand": 30, "misfit": 30, "has_dangling": 30}
 
@@ -264,3 +285,10 @@ OWN = [
     Own("`escape_like`", "escape_like", 5_000, 8, repeated("x" * 4096)),
     Own("`escape_like` of wildcards", "escape_like", 5_000, 30, repeated("100%_" * 800)),
 ]
+
+# The workloads of the picture, by the beginnings of their names.
+PICTURED = (
+    *("100,000 mixed", "100,000 statements of ten", "2,000 statements with all", "a statement with 1,000,000 `field`"),
+    *("a statement with 1,000,000 `or_where` ", "a `set_str` line of 20 MB, ASCII", "a SELECT with a join", "an INSERT of 100 rows"),
+    *("`quote`, 40 bytes", "`bind_names`, 40 bytes"),
+)

@@ -1,7 +1,10 @@
 """Hostile texts, for the tests on databases and on their parsers."""
 
+import ast
 import itertools
+import os
 import random
+import re
 
 # Every text of up to three of these is tried.
 CHARACTERS = "'\\\"-;$/*#\na"
@@ -36,3 +39,11 @@ def texts():
 def fits_line(text):
     """Whether a line of sqlb can hold the text."""
     return not {"\t", "\n"} & {*text}
+
+
+def attacks():
+    """The texts in the code of docs/SECURITY.md, each once, attacks among them; without those with a zero byte."""
+    page = f"{os.path.dirname(os.path.dirname(os.path.realpath(__file__)))}/docs/SECURITY.md"
+    with open(page, encoding="utf-8") as it:
+        found = [ast.literal_eval(text) for text in re.findall(r'"(?:[^"\\]|\\.)*"', it.read())]
+    return [*dict.fromkeys(text for text in found if "\0" not in text)]

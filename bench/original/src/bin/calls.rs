@@ -9,9 +9,11 @@ use std::{env, io};
 /// What a turn makes of the text and its number.
 type Step = fn(&str, u64) -> String;
 
-const STEPS: [(&str, Step); 23] = [
+const STEPS: [(&str, Step); 25] = [
     ("select", select),
+    ("nested", nested),
     ("update", update),
+    ("restart", update),
     ("insert", insert),
     ("name", |_, _| name!("public", "BOOKS"; "b")),
     ("qname", |_, _| qname!("public", "BOOKS"; "b")),
@@ -50,6 +52,24 @@ fn select(_: &str, turn: u64) -> String {
         .or_where_is_null("s.total")
         .sql()
         .expect("a statement")
+}
+
+fn nested(_: &str, turn: u64) -> String {
+    let shelf = SqlBuilder::select_from("shelves")
+        .field("id")
+        .and_where_gt("rank", turn)
+        .query()
+        .expect("a query");
+    let books = SqlBuilder::select_from("books")
+        .field("shop")
+        .and_where_in_query("shelf", &shelf)
+        .query()
+        .expect("a query");
+    let shops = SqlBuilder::select_from("shops")
+        .and_where_in_query("id", &books)
+        .subquery_as("s")
+        .expect("a query");
+    SqlBuilder::select_from(shops).field("name").sql().expect("a statement")
 }
 
 fn update(_: &str, turn: u64) -> String {
