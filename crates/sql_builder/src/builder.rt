@@ -1,7 +1,6 @@
 //! The builder: calls add clauses to it, and it prints a statement of them.
 ghost use Rattle.std.specs.Prelude.{◌≡◌, [], map, IfOk, OnErr, OnOk, string_bytes};
 ghost use Rattle.sql_parts.specs.Error.{FailsOnlyByMemory};
-ghost use Rattle.sql_parts.specs.Text.{texts};
 ghost use Rattle.sql_builder.specs.Builder.{started};
 ghost use Rattle.sql_builder.specs.Calls.{SelectFrom, SelectValues, InsertInto, UpdateTable, DeleteFrom};
 ghost use Rattle.sql_builder.specs.Clauses.{new_clauses};
@@ -9,10 +8,11 @@ ghost use Rattle.sql_builder.specs.declared.clauses.Kind.TheVariants as TheKinds
 
 use crate::clauses::{GroupedCondition, JoinOperator, Kind, copy_conditions};
 use crate::concat::replace;
+use crate::ghost_list::Bytes;
 use crate::optional_text::OptionalText;
+use crate::printed_list::PrintedList;
 use crate::text_list::TextList;
-use crate::union_list::UnionList;
-use sql_parts::text::{Items, Texts, copies};
+use sql_parts::text::{Items, Texts};
 use sql_parts::{SqlBuilderError, ToText};
 use std::alloc::{AllocError, Global};
 use std::marker::Model;
@@ -25,7 +25,7 @@ pub struct SqlBuilder {
     // The table text, with every table that was added.
     pub(crate) table: String,
     // Each join with its constraints.
-    pub(crate) joins: Vec<String>,
+    pub(crate) joins: PrintedList<Bytes>,
     // The operator of the joins to come.
     pub(crate) operator: Option<JoinOperator>,
     // Whether the next join is NATURAL.
@@ -39,7 +39,7 @@ pub struct SqlBuilder {
     pub(crate) group_fields: TextList,
     pub(crate) having: OptionalText,
     pub(crate) conditions: Vec<GroupedCondition>,
-    pub(crate) unions: UnionList,
+    pub(crate) unions: PrintedList<(bool, Bytes)>,
     pub(crate) order_fields: TextList,
     pub(crate) limit: OptionalText,
     pub(crate) offset: OptionalText,
@@ -79,7 +79,6 @@ impl Drop for SqlBuilder {
 impl Model for SqlBuilder {
     ghost use Rattle.std.specs.Prelude.{List, ℕ, string_bytes};
     ghost use Rattle.sql_builder.specs.Builder.{group_texts};
-    ghost use Rattle.sql_parts.specs.Text.{texts};
     ghost use Rattle.sql_builder.specs.Clauses.{Clauses};
 
     ghost Value = { Clauses (List ℕ) };
@@ -87,7 +86,7 @@ impl Model for SqlBuilder {
     ghost view = { λ b. record {
       kind = b.kind;
       table = string_bytes b.table;
-      joins = texts b.joins.items;
+      joins = b.joins;
       operator = b.operator;
       natural = b.natural;
       distinct = b.distinct;
@@ -116,7 +115,12 @@ type OptionalTexts = (
 );
 
 // Copies of the conditions, GROUP BY, the unions and ORDER BY.
-type FurtherClauses = (Vec<GroupedCondition>, TextList, UnionList, TextList);
+type FurtherClauses = (
+    Vec<GroupedCondition>,
+    TextList,
+    PrintedList<(bool, Bytes)>,
+    TextList,
+);
 
 impl SqlBuilder {
     ghost use Rattle.sql_builder.specs.Builder.{group_texts};
@@ -128,7 +132,7 @@ impl SqlBuilder {
             alloc,
             kind,
             table,
-            joins: Vec::new(alloc),
+            joins: PrintedList::new(alloc),
             operator: None,
             natural: false,
             distinct: false,
@@ -140,7 +144,7 @@ impl SqlBuilder {
             group_fields: TextList::new(alloc),
             having: OptionalText::new(alloc),
             conditions: Vec::new(alloc),
-            unions: UnionList::new(alloc),
+            unions: PrintedList::new(alloc),
             order_fields: TextList::new(alloc),
             limit: OptionalText::new(alloc),
             offset: OptionalText::new(alloc),
@@ -271,14 +275,14 @@ impl SqlBuilder {
 
     // A copy of all clauses is made in four steps, none of which holds more than five copies where
     // it fails: the proof of all in one takes long.
-    fn copy_tables(&self) -> Result<(String, Vec<String>), SqlBuilderError>
+    fn copy_tables(&self) -> Result<(String, PrintedList<Bytes>), SqlBuilderError>
         ensures tables { IfOk result (λ copy. string_bytes copy.0 ≡ self.now.table) }
-        ensures joins { IfOk result (λ copy. texts copy.1.items ≡ self.now.joins) }
+        ensures joins { IfOk result (λ copy. copy.1 ≡ self.now.joins) }
         ensures memory { FailsOnlyByMemory result }
     {
         Ok((
             self.table.to_text(self.alloc)?,
-            copies(self.alloc, &self.joins)?,
+            self.joins.copy(self.alloc)?,
         ))
     }
 

@@ -17,11 +17,11 @@ use crate::builder::SqlBuilder;
 pub use crate::checks::{
     CheckedError, Place, Unfit, check, check_confined, run_checked, run_confined,
 };
-use crate::clauses::{JoinOperator, Kind};
+use crate::clauses::Kind;
 pub use crate::condition::{BorrowedCondition, Condition, Family, Percent, Relation};
 pub use crate::steps::{
-    BinaryClause, UnaryClause, VariadicClause, add_condition, condition_text, make_binary,
-    make_condition, make_order, make_unary, make_variadic,
+    BinaryClause, NullaryClause, UnaryClause, VariadicClause, add_condition, condition_text,
+    make_binary, make_condition, make_nullary, make_order, make_unary, make_variadic,
 };
 use sql_parts::SqlBuilderError;
 use sql_parts::text::{Items, Texts};
@@ -236,38 +236,15 @@ pub fn make(builder: &mut SqlBuilder, call: &Call) -> Result<(), SqlBuilderError
     ensures memory { IfErr result (IsCallError (call_view call.now) builder.old) }
 {
     match call {
-        Call::Natural => {
-            builder.natural = true;
-            Ok(())
-        }
-        Call::Left => {
-            builder.operator = Some(JoinOperator::Left);
-            Ok(())
-        }
-        Call::LeftOuter => {
-            builder.operator = Some(JoinOperator::LeftOuter);
-            Ok(())
-        }
-        Call::Right => {
-            builder.operator = Some(JoinOperator::Right);
-            Ok(())
-        }
-        Call::RightOuter => {
-            builder.operator = Some(JoinOperator::RightOuter);
-            Ok(())
-        }
-        Call::Inner => {
-            builder.operator = Some(JoinOperator::Inner);
-            Ok(())
-        }
-        Call::Cross => {
-            builder.operator = Some(JoinOperator::Cross);
-            Ok(())
-        }
-        Call::Distinct => {
-            builder.distinct = true;
-            Ok(())
-        }
+        Call::Natural => make_nullary(builder, NullaryClause::Natural),
+        Call::Left => make_nullary(builder, NullaryClause::Left),
+        Call::LeftOuter => make_nullary(builder, NullaryClause::LeftOuter),
+        Call::Right => make_nullary(builder, NullaryClause::Right),
+        Call::RightOuter => make_nullary(builder, NullaryClause::RightOuter),
+        Call::Inner => make_nullary(builder, NullaryClause::Inner),
+        Call::Cross => make_nullary(builder, NullaryClause::Cross),
+        Call::Distinct => make_nullary(builder, NullaryClause::Distinct),
+        Call::ReturningId => make_nullary(builder, NullaryClause::ReturningId),
         Call::AndTable(table) => make_unary(builder, UnaryClause::AndTable, table),
         Call::Join(table) => make_unary(builder, UnaryClause::Join, table),
         Call::On(constraint) => make_unary(builder, UnaryClause::On, constraint),
@@ -284,7 +261,6 @@ pub fn make(builder: &mut SqlBuilder, call: &Call) -> Result<(), SqlBuilderError
         Call::OrderDesc(field) => make_unary(builder, UnaryClause::OrderDesc, field),
         Call::Limit(limit) => make_unary(builder, UnaryClause::Limit, limit),
         Call::Offset(offset) => make_unary(builder, UnaryClause::Offset, offset),
-        Call::ReturningId => make_unary(builder, UnaryClause::Returning, "id"),
         Call::OnEq(left, right) => make_binary(builder, BinaryClause::OnEq, left, right),
         Call::CountAs(field, name) => make_binary(builder, BinaryClause::CountAs, field, name),
         Call::SetTo(field, value) => make_binary(builder, BinaryClause::SetTo, field, value),

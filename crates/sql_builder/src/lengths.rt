@@ -2,11 +2,10 @@
 //! that is more than a `usize` says, the greatest `usize`, which no allocation gives.
 ghost use Rattle.std.specs.Prelude.{◌≡◌, ◌∷◌, length, map};
 ghost use Rattle.std.specs.List.{sum};
-ghost use Rattle.sql_parts.specs.Text.{texts};
 ghost use Rattle.sql_builder.specs.Builder.{condition_in_group, group_texts};
 ghost use Rattle.sql_builder.specs.Concat.{at_most_usize};
 ghost use Rattle.sql_builder.specs.Layout.{byte_units, query, query_values};
-ghost use Rattle.sql_builder.specs.Printed.{delete_bytes, further_bytes, group_by_bytes, insert_bytes, join_bytes, optional_bytes, order_by_bytes, statement_bytes, update_bytes, where_bytes};
+ghost use Rattle.sql_builder.specs.Printed.{delete_bytes, further_bytes, group_by_bytes, insert_bytes, optional_bytes, order_by_bytes, statement_bytes, update_bytes, where_bytes};
 ghost use Rattle.sql_builder.specs.Statement.{text_at};
 ghost use Rattle.sql_builder.specs.Calls.{finish_view};
 
@@ -14,10 +13,11 @@ use crate::builder::SqlBuilder;
 use crate::calls::Finish;
 use crate::clauses::{GroupedCondition, Kind};
 use crate::concat::{Part, total_len};
+use crate::ghost_list::Bytes;
 use crate::optional_text::OptionalText;
+use crate::printed_list::PrintedList;
 use crate::printing::{fields_text, select_words, where_words};
 use crate::text_list::TextList;
-use crate::union_list::UnionList;
 
 fn sum(lengths: &[usize]) -> usize
     ensures { result ≡ at_most_usize (sum lengths.now) }
@@ -36,17 +36,6 @@ fn optional_len(words: &str, text: &OptionalText) -> usize
         Some(text) => total_len(&[Part(words), Part(text)]),
         None => 0,
     }
-}
-
-#[tactic(auto, using(crate::proofs::output::LoopFacts::one_more))]
-fn joins_len(joins: &[String]) -> usize
-    ensures { result ≡ at_most_usize (length (join_bytes (texts joins.now))) }
-{
-    let mut sum = 0usize;
-    for join in joins {
-        sum = sum.saturating_add(" ".len()).saturating_add(join.len());
-    }
-    sum
 }
 
 #[tactic(auto, using(crate::proofs::output::LoopFacts::one_more))]
@@ -98,7 +87,7 @@ fn group_by_len(fields: &TextList, having: &OptionalText) -> usize
     ])
 }
 
-fn order_by_len(unions: &UnionList, fields: &TextList) -> usize
+fn order_by_len(unions: &PrintedList<(bool, Bytes)>, fields: &TextList) -> usize
     ensures { result ≡ at_most_usize (length (order_by_bytes unions.now fields.now)) }
 {
     if fields.is_empty() || !unions.is_empty() {
@@ -116,7 +105,7 @@ impl SqlBuilder {
             fields_text(&self.fields).len(),
             " FROM ".len(),
             self.table.len(),
-            joins_len(&self.joins),
+            self.joins.as_str().len(),
             where_len(&self.conditions),
             group_by_len(&self.group_fields, &self.having),
             self.unions.as_str().len(),

@@ -16,10 +16,10 @@ mod lengths;
 mod optional_text;
 mod phrases;
 pub mod prelude;
+mod printed_list;
 mod printing;
 mod steps;
 mod text_list;
-mod union_list;
 mod where_calls;
 
 pub use builder::SqlBuilder;

@@ -3,14 +3,13 @@
 ghost use Rattle.std.specs.Prelude.{◌≡◌, [], ◌∷◌, ◌++◌, IfOk, IfSome, IsNone, IsOk, OnErr, OnOk, length, map, string_bytes, string_capacity};
 ghost use Rattle.std.specs.List.{list_any};
 ghost use Rattle.sql_parts.specs.Error.{FailsOnlyByMemory};
-ghost use Rattle.sql_parts.specs.Text.{texts};
 ghost use Rattle.sql_builder.specs.Builder.{condition_in_group, group_texts};
 ghost use Rattle.sql_builder.specs.Calls.{Query, Sql, Subquery, SubqueryAs, finish_view};
 ghost use Rattle.sql_builder.specs.Concat.{HasRoom, Writes};
 ghost use Rattle.sql_builder.specs.Layout.{byte_units, fields_or_star, query, query_error, query_values, sql_error, select_opening, sql, subquery, subquery_as};
 ghost use Rattle.sql_builder.specs.Meaning.{HasTruthOfGroups, Nests, ReadsBack};
 ghost use Rattle.sql_builder.specs.Phrases.{comma_list};
-ghost use Rattle.sql_builder.specs.Printed.{delete_bytes, further_bytes, further_condition, group_by_bytes, insert_bytes, inserted_bytes, join_bytes, optional_bytes, order_by_bytes, query_end, query_start, statement_bytes, update_bytes, where_bytes, where_end, where_opening};
+ghost use Rattle.sql_builder.specs.Printed.{delete_bytes, further_bytes, further_condition, group_by_bytes, insert_bytes, inserted_bytes, optional_bytes, order_by_bytes, query_end, query_start, statement_bytes, update_bytes, where_bytes, where_end, where_opening};
 ghost use Rattle.sql_builder.specs.Shape.{HasShape, IsClosedAs, as_fragments};
 ghost use Rattle.sql_builder.specs.Statement.{error_at, text_at, unless_error};
 ghost use Rattle.sql_builder.specs.Subqueries.{NestsAsTable};
@@ -20,9 +19,10 @@ use crate::builder::SqlBuilder;
 use crate::calls::Finish;
 use crate::clauses::{GroupedCondition, Kind, any_opens_group};
 use crate::concat::push_text;
+use crate::ghost_list::Bytes;
 use crate::optional_text::OptionalText;
+use crate::printed_list::PrintedList;
 use crate::text_list::TextList;
-use crate::union_list::UnionList;
 use sql_parts::{SqlBuilderError, ToText};
 use std::alloc::AllocError;
 
@@ -84,16 +84,6 @@ fn push_select(out: &mut String, distinct: bool, fields: &TextList)
     ensures { Writes out.old out.new (select_opening distinct ++ fields_or_star byte_units fields.now) }
 {
     push_clause(out, select_words(distinct), fields_text(fields));
-}
-
-#[tactic(auto, using(crate::proofs::output::LoopFacts::one_more))]
-fn push_joins(out: &mut String, joins: &[String])
-    requires room { HasRoom out.old (join_bytes (texts joins.now)) }
-    ensures { Writes out.old out.new (join_bytes (texts joins.now)) }
-{
-    for join in joins {
-        push_clause(out, " ", join.as_str());
-    }
 }
 
 // The brackets of two neighbours are written at once, and by words of a length that is known here.
@@ -164,7 +154,7 @@ fn push_group_by(out: &mut String, fields: &TextList, having: &OptionalText)
 
 // ORDER BY is printed only where there is no union.
 #[tactic(auto, using(crate::proofs::output::PrintingLemmas::ordered))]
-fn push_order_by(out: &mut String, unions: &UnionList, fields: &TextList)
+fn push_order_by(out: &mut String, unions: &PrintedList<(bool, Bytes)>, fields: &TextList)
     requires room { HasRoom out.old (order_by_bytes unions.now fields.now) }
     ensures { Writes out.old out.new (order_by_bytes unions.now fields.now) }
 {
@@ -191,7 +181,7 @@ impl SqlBuilder {
     {
         push_select(out, self.distinct, &self.fields);
         push_clause(out, " FROM ", self.table.as_str());
-        push_joins(out, &self.joins);
+        push_text(out, self.joins.as_str());
     }
 
     // What follows the conditions of a query.

@@ -1,5 +1,5 @@
 -- One more step of a function that goes over a list: what it has written, how long that is, and where there is room for it.
-use Rattle.std.proofs.Common.{◌≡◌, ℕ, zero, suc, ◌+◌, ◌-◌, ◌<◌, ◌≤◌, List, [], ◌∷◌, ◌++◌, String, length, length-append, string_bytes, flat_map, map, set, take}
+use Rattle.std.proofs.Common.{◌≡◌, ◌≢◌, ℕ, zero, suc, ◌+◌, ◌-◌, ◌<◌, ◌≤◌, List, [], ◌∷◌, ◌++◌, String, length, length-append, string_bytes, flat_map, map, take}
 use Rattle.std.proofs.Common.{get_or, refl, sym, ap, ◌∙◌, append_assoc, arith}
 use Rattle.std.proofs.lemmas.Grind.{flat_map-append}
 use Rattle.std.proofs.lemmas.List.{append-nil, map-append, take_more}
@@ -55,15 +55,14 @@ module _ {Z : Type 0} (a b : List ℕ) where
   pub writes_both : (old mid new : String Z) → Writes old mid a → Writes mid new b → Writes old new (a ++ b)
   writes_both old mid new first second = (second.0 ∙ ap (λ t. t ++ b) first.0 ∙ append_assoc (string_bytes old) a b, omega (arith, first.1, second.1))
 
--- the last of x ∷ xs, seen by v, goes on with t
-last_set : {X : Type 0} (v : X → List ℕ) (x : X) (xs : List X) (y d : X) (t : List ℕ) → v y ≡ v (get_or (x ∷ xs) (length xs) d) ++ t
-    → map v (set (x ∷ xs) (length xs) y) ≡ extend_last t (v x ∷ map v xs)
-last_set v x [] y d t e = ap (λ (b : List ℕ). b ∷ []) e
-last_set v x (z ∷ zs) y d t e = ap (λ (bs : List (List ℕ)). v x ∷ bs) (last_set v z zs y d t e)
+-- what is printed of one more item
+pub printed_push : {X A : Type 0} (h : X → List A) (xs : List X) (x : X) → flat_map h (xs ++ x ∷ []) ≡ flat_map h xs ++ h x
+printed_push h xs x = flat_map-append h xs (x ∷ []) ∙ ap (◌++◌ (flat_map h xs)) (append-nil (h x))
 
-pub last_extended : {X : Type 0} (v : X → List ℕ) (xs : List X) (y d : X) (t : List ℕ) → 0 < length xs → v y ≡ v (get_or xs (length xs - 1) d) ++ t
-    → map v (set xs (length xs - 1) y) ≡ extend_last t (map v xs)
-last_extended v [] y d t h e = absurd (omega arith)
-last_extended v (x ∷ xs) y d t h e =
-    let less : length (x ∷ xs) - 1 ≡ length xs = omega arith in
-    rw less (last_set v x xs y d t (e ∙ ap (λ (n : ℕ). v (get_or (x ∷ xs) n d) ++ t) less))
+-- and of a last item that goes on with t
+pub printed_extended : (word t : List ℕ) (xs : List (List ℕ)) → length xs ≢ 0
+    → flat_map (λ x. word ++ x) (extend_last t xs) ≡ flat_map (λ x. word ++ x) xs ++ t
+printed_extended word t [] h = absurd (h refl)
+printed_extended word t (x ∷ []) h = simp (append_assoc, append-nil)
+printed_extended word t (x ∷ y ∷ xs) h =
+    ap (◌++◌ (word ++ x)) (printed_extended word t (y ∷ xs) (λ e. omega (arith, e))) ∙ sym (append_assoc (word ++ x) (flat_map (λ x. word ++ x) (y ∷ xs)) t)

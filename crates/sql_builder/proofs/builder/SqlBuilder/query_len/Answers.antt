@@ -5,13 +5,11 @@ use Rattle.sql_builder.proofs.builder.SqlBuilder.query_len.Goals as goal
 
 pub returns : goal.returns
 returns c =
-    let joins = rw (c.deref.ensures.value) at c.joins_len.ensures in
-    let conditions = rw (c.deref-2.ensures.value) at c.where_len.ensures in
+    let conditions = rw (c.deref.ensures.value) at c.where_len.ensures in
     rw (← c.self.view_is) (rw (query_is (the_view c.self.inside))
     (grind (
       arith,
       length-append,
-      joins,
       conditions,
       c.self.inside.table.bytes.ok.0,
       ap length c.select_words.ensures,
@@ -19,6 +17,7 @@ returns c =
       c.len.ensures,
       c.group_by_len.ensures,
       ap length c.as_str.ensures,
+      ap length c.as_str-2.ensures,
       c.order_by_len.ensures,
       c.optional_len.ensures,
       c.optional_len-2.ensures,
