@@ -72,7 +72,8 @@ impl<T: Printed> PrintedList<T> {
     }
 
     /// Appends parts to what is printed, which is then that of these items. Where memory runs out,
-    /// the list is as it was.
+    /// the list is as it was. It is a part of each caller, where the number of parts is known.
+    #[inline(always)]
     pub(crate) fn print(
         &mut self,
         parts: &[Part<'_>],

@@ -112,6 +112,9 @@ impl SqlBuilder {
         Ok(append(&mut self.table, &[Part(", "), Part(table)])?)
     }
 
+    // A function of its own, as the two that print constraints and unions, so that the others have less
+    // to clear.
+    #[inline(never)]
     #[tactic(auto, using(crate::proofs::output::LoopFacts::printed_push))]
     fn push_join(&mut self, table: &str) -> Result<(), SqlBuilderError>
         ensures { Applies result self.old self.new (with_join table.now) }
@@ -126,6 +129,7 @@ impl SqlBuilder {
     }
 
     // A constraint of the last join, in three parts. Without a join it does nothing, and can't fail.
+    #[inline(never)]
     #[tactic(auto, using(crate::proofs::output::LoopFacts::printed_extended))]
     fn push_constraint<'a>(
         &mut self,
@@ -233,6 +237,7 @@ impl SqlBuilder {
         Ok(self.having.set(condition)?)
     }
 
+    #[inline(never)]
     #[tactic(auto, using(crate::proofs::output::LoopFacts::printed_push))]
     fn push_union(&mut self, all: bool, query: &str) -> Result<(), SqlBuilderError>
         ensures { Applies result self.old self.new (with_union all query.now) }
