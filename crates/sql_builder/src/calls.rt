@@ -1,5 +1,5 @@
 //! Lists of calls, as values, and the statement that a list makes.
-ghost use Rattle.std.specs.Prelude.{◌≡◌, ◌⊎◌, ◌≤◌, ◌+◌, ◌-◌, ◌^◌, ◌++◌, length, map, min, IfErr, IfOk, IfSome, IsNone, IsOk, IsTrue, Ok, OnErr, OnOk, string_bytes, string_capacity, string_len};
+ghost use Rattle.std.specs.Prelude.{◌≡◌, [], ◌⊎◌, ◌≤◌, ◌+◌, ◌-◌, ◌^◌, ◌++◌, length, map, min, IfErr, IfOk, IfSome, IsNone, IsOk, IsTrue, Ok, OnErr, OnOk, string_bytes, string_capacity, string_len};
 ghost use Rattle.sql_parts.specs.Error.{FailsOnlyByMemory, IsMemory};
 ghost use Rattle.sql_builder.specs.Builder.{started, IsCallError, with_call};
 ghost use Rattle.sql_builder.specs.Calls.{SelectValues, kind_of, call_view, finish_view, of_list, start_on, start_view};
@@ -19,13 +19,15 @@ pub use crate::checks::{
 };
 use crate::clauses::Kind;
 pub use crate::condition::{BorrowedCondition, Condition, Family, Percent, Relation};
+use crate::ghost_list::GhostList;
+use crate::out::Count;
 pub use crate::steps::{
     BinaryClause, NullaryClause, UnaryClause, VariadicClause, add_condition, condition_text,
     make_binary, make_condition, make_nullary, make_order, make_unary, make_variadic,
 };
 use sql_parts::SqlBuilderError;
 use sql_parts::text::{Items, Texts};
-use std::alloc::Global;
+use std::alloc::{AllocError, Global};
 
 /// How a list of calls begins.
 #[derive(Drop)]
@@ -298,6 +300,16 @@ fn build(alloc: Global, start: &Start, calls: &[Call]) -> Result<SqlBuilder, Sql
     Ok(builder)
 }
 
+// An empty text with room for just what `print` gives.
+#[inline(always)]
+fn room_for(builder: &SqlBuilder, finish: &Finish) -> Result<String, AllocError>
+    ensures empty { IfOk result (λ s. string_bytes s ≡ []) }
+    ensures exact { IfOk result (λ s. string_capacity s
+        ≡ length (text_at (finish_view finish.now) builder.now)) }
+{
+    String::with_capacity(builder.alloc, printed_length(builder, finish))
+}
+
 /// Prints a builder. It fails as the printing call that is meant does, or because memory runs out.
 /// What `begin` and `make` have made prints the statement of its start and calls, which is what `run`
 /// gives (`laws::builders_print_statements`); the laws of statements say the rest of it.
@@ -311,7 +323,10 @@ pub fn print(builder: &SqlBuilder, finish: &Finish) -> Result<String, SqlBuilder
     ensures memory { IsNone (error_at (finish_view finish.now) builder.now)
         → FailsOnlyByMemory result }
 {
-    builder.print(finish)
+    builder.check_finish(finish)?;
+    let mut out = room_for(builder, finish)?;
+    builder.push_finished(finish, &mut out);
+    Ok(out)
 }
 
 /// How many bytes `print` gives, or the greatest `usize` where there are more; also where `print`
@@ -321,7 +336,9 @@ pub fn print(builder: &SqlBuilder, finish: &Finish) -> Result<String, SqlBuilder
 pub fn printed_length(builder: &SqlBuilder, finish: &Finish) -> usize
     ensures { result ≡ min (length (text_at (finish_view finish.now) builder.now)) (2 ^ 64 - 1) }
 {
-    builder.printed_len(finish)
+    let mut count = Count::with_room(GhostList::of(&(builder, finish)));
+    builder.push_finished(finish, &mut count);
+    count.len()
 }
 
 /// Appends to a text what `print` gives. It fails where `print` does, and then the text is as it was.
@@ -347,7 +364,10 @@ pub fn print_to(
         → string_len out.old + length (text_at (finish_view finish.now) builder.now)
         ≤ string_capacity out.old → IsOk result }
 {
-    builder.print_to(finish, out)
+    builder.check_finish(finish)?;
+    out.reserve(printed_length(builder, finish))?;
+    builder.push_finished(finish, out);
+    Ok(())
 }
 
 /// Makes the builder, makes the calls in order, and prints: the statement that the whole list

@@ -1,6 +1,6 @@
 //! What a builder keeps of its clauses.
 ghost use Rattle.std.specs.List.{list_any};
-ghost use Rattle.std.specs.Prelude.{◌≡◌, codes, if◌then◌else◌, map, IfOk};
+ghost use Rattle.std.specs.Prelude.{◌≡◌, map, IfOk};
 ghost use Rattle.sql_parts.specs.Error.{FailsOnlyByMemory};
 ghost use Rattle.sql_builder.specs.Builder.{condition_in_group};
 ghost use Rattle.sql_builder.specs.Phrases.{operator_text};
@@ -55,14 +55,6 @@ impl JoinOperator {
 }
 
 impl GroupedCondition {
-    /// What precedes it, where it is not the first and several groups are in brackets.
-    pub(crate) fn words(&self) -> &'static str
-        ensures { result.now
-            ≡ (if self.now.opens_group then codes ") AND (" else codes " OR ") }
-    {
-        if self.opens_group { ") AND (" } else { " OR " }
-    }
-
     fn copy(&self, alloc: Global) -> Result<GroupedCondition, SqlBuilderError>
         ensures copied { IfOk result (λ copied.
             condition_in_group copied ≡ condition_in_group self.now) }
