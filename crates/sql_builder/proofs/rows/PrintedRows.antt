@@ -7,7 +7,6 @@ use Rattle.sql_builder.specs.Calls.{Returning, ReturningId, GroupBy, Having, Uni
 use Rattle.sql_builder.specs.Calls.{clauses}
 use Rattle.sql_builder.specs.Condition.{Raw, Like}
 use Rattle.sql_builder.specs.Statement.{pieces, statement}
-use Rattle.sql_parts.specs.Quoting.{quoted}
 use Rattle.sql_builder.specs.declared.condition.Family.TheVariants.{And}
 use Prim.Native.Char.{code}
 use Rattle.sql_parts.specs.Tokens.{Word, Str, Symbol}
