@@ -1,22 +1,19 @@
 //! The builder: calls add clauses to it, and it prints a statement of them.
-ghost use Rattle.std.specs.Prelude.{◌≡◌, [], map, IfOk, OnErr, OnOk, string_bytes};
+ghost use Rattle.std.specs.Prelude.{◌≡◌, [], map, IfOk, string_bytes};
 ghost use Rattle.sql_parts.specs.Error.{FailsOnlyByMemory};
 ghost use Rattle.sql_builder.specs.Builder.{started};
 ghost use Rattle.sql_builder.specs.Calls.{SelectFrom, SelectValues, InsertInto, UpdateTable, DeleteFrom};
 ghost use Rattle.sql_builder.specs.Clauses.{new_clauses};
-ghost use Rattle.sql_builder.specs.declared.clauses.Kind.TheVariants as TheKinds;
 
 use crate::clauses::{GroupedCondition, JoinOperator, Kind, copy_conditions};
-use crate::concat::replace;
 use crate::ghost_list::Bytes;
 use crate::optional_text::OptionalText;
 use crate::printed_list::PrintedList;
 use crate::text_list::TextList;
-use sql_parts::text::{Items, Texts};
+use sql_parts::text::Items;
 use sql_parts::{SqlBuilderError, ToText};
-use std::alloc::{AllocError, Global};
+use std::alloc::Global;
 use std::marker::Model;
-use std::mem::swap;
 
 /// A builder of a statement. Contracts see it as its clauses, each text as its bytes.
 pub struct SqlBuilder {
@@ -164,8 +161,8 @@ impl SqlBuilder {
         Ok(SqlBuilder::new(alloc, kind, table, TextList::new(alloc)))
     }
 
-    // Removes every clause but the table and the fields, and keeps the buffers.
-    fn clear(&mut self, kind: Kind)
+    /// Removes every clause but the table and the fields, and keeps the buffers.
+    pub(crate) fn clear(&mut self, kind: Kind)
         ensures { self.new ≡ new_clauses kind self.old.table self.old.fields }
     {
         self.kind = kind;
@@ -184,35 +181,6 @@ impl SqlBuilder {
         self.order_fields.clear();
         self.limit.clear();
         self.offset.clear();
-    }
-
-    /// Makes this the builder of a statement on a table. Where memory runs out, it is as it was.
-    pub(crate) fn restart_on(&mut self, kind: Kind, table: &str) -> Result<(), AllocError>
-        ensures restarted { OnOk result (self.new ≡ new_clauses kind table.now []) }
-        ensures unchanged { OnErr result (self.new ≡ self.old) }
-    {
-        replace(&mut self.table, table)?;
-        self.fields.clear();
-        self.clear(kind);
-        Ok(())
-    }
-
-    /// Makes this the builder of a SELECT of values that are taken one after another. Where memory
-    /// runs out, it is as it was.
-    pub(crate) fn restart_values<'a, T: Texts<'a>>(
-        &mut self,
-        values: T,
-    ) -> Result<(), SqlBuilderError>
-        ensures restarted { OnOk result
-            (self.new ≡ new_clauses TheKinds.SelectValues [] (T.left values)) }
-        ensures unchanged { OnErr result (self.new ≡ self.old) }
-        ensures memory { FailsOnlyByMemory result }
-    {
-        self.spare.refill(self.alloc, values)?;
-        swap(&mut self.fields, &mut self.spare);
-        self.table.clear();
-        self.clear(Kind::SelectValues);
-        Ok(())
     }
 
     // The four starts are functions of their own, since as parts of their callers they copied a builder

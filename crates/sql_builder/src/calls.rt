@@ -18,6 +18,7 @@ pub use crate::checks::{
     CheckedError, Place, Unfit, check, check_confined, run_checked, run_confined,
 };
 use crate::clauses::Kind;
+use crate::concat::replace;
 pub use crate::condition::{BorrowedCondition, Condition, Family, Percent, Relation};
 use crate::ghost_list::GhostList;
 use crate::out::Count;
@@ -28,6 +29,7 @@ pub use crate::steps::{
 use sql_parts::SqlBuilderError;
 use sql_parts::text::{Items, Texts};
 use std::alloc::{AllocError, Global};
+use std::mem::swap;
 
 /// How a list of calls begins.
 #[derive(Drop)]
@@ -204,7 +206,10 @@ pub fn restart_on(
         TableStart::UpdateTable => Kind::UpdateTable,
         TableStart::DeleteFrom => Kind::DeleteFrom,
     };
-    Ok(builder.restart_on(kind, table)?)
+    replace(&mut builder.table, table)?;
+    builder.fields.clear();
+    builder.clear(kind);
+    Ok(())
 }
 
 /// Makes a builder that of a SELECT of values that are taken one after another, without a table, and
@@ -222,7 +227,11 @@ pub fn restart_values<'a, T: Texts<'a>>(
     ensures unchanged { OnErr result (builder.new ≡ builder.old) }
     ensures memory { FailsOnlyByMemory result }
 {
-    builder.restart_values(values)
+    builder.spare.refill(builder.alloc, values)?;
+    swap(&mut builder.fields, &mut builder.spare);
+    builder.table.clear();
+    builder.clear(Kind::SelectValues);
+    Ok(())
 }
 
 /// Makes a call of a builder. It fails only if memory runs out, and then leaves the builder as it
