@@ -26,8 +26,12 @@ impl<T> Model for Watched<T> {
 
     ghost Value = { Watch T };
 
-    ghost view = { λ w. record { inner = w.inner; failed = w.has_failed; ended = w.has_ended;
-        retried = w.was_retried } };
+    ghost view = { λ w. record {
+      inner = w.inner;
+      failed = w.has_failed;
+      ended = w.has_ended;
+      retried = w.was_retried;
+    } };
 }
 
 impl<T> Watched<T> {

@@ -15,7 +15,7 @@ returns-in_default-clause-ran g c =
       lost,
       ran.2,
       appends-lost g.W.Write.contents _ buffered _ ran.1 c.into_below-below.ensures.inner
-      (Appends-kept _ _ _ ran.1 ran.3 c.flush-flushed.ensures.bytes),
+          (Appends-kept _ _ _ ran.1 ran.3 c.flush-flushed.ensures.bytes),
       ran-begins c.run_input-answer.result ran.1 (output ran.0) ran.4,
       loses_none c.flush-flushed.result _ _ lost (c.into_below-below.ensures.failed ∙ c.flush-flushed.ensures.failed) c.flush-flushed.ensures.emptied,
       tt,
@@ -31,7 +31,7 @@ returns-in_default-2-clause-ran g c =
       lost,
       ran.2,
       appends-lost g.W.Write.contents _ buffered _ ran.1 c.into_below-below.ensures.inner
-      (Appends-kept _ _ _ ran.1 ran.3 c.flush-flushed.ensures.bytes),
+          (Appends-kept _ _ _ ran.1 ran.3 c.flush-flushed.ensures.bytes),
       ran.4,
       loses_none c.flush-flushed.result _ _ lost (c.into_below-below.ensures.failed ∙ c.flush-flushed.ensures.failed) c.flush-flushed.ensures.emptied,
       unless_write_fails c.run_input-answer.result _ (ran.5, ran.6),
