@@ -162,6 +162,7 @@ impl SqlBuilder {
     }
 
     /// Removes every clause but the table and the fields, and keeps the buffers.
+    #[inline(always)]
     pub(crate) fn clear(&mut self, kind: Kind)
         ensures { self.new ≡ new_clauses kind self.old.table self.old.fields }
     {
