@@ -21,7 +21,7 @@ use crate::clauses::Kind;
 use crate::concat::replace;
 pub use crate::condition::{BorrowedCondition, Condition, Family, Percent, Relation};
 use crate::ghost_list::GhostList;
-use crate::out::Count;
+use crate::sink::Count;
 pub use crate::steps::{
     BinaryClause, NullaryClause, UnaryClause, VariadicClause, add_condition, condition_text,
     make_binary, make_condition, make_nullary, make_order, make_unary, make_variadic,
