@@ -1,9 +1,10 @@
 //! The search of `searches` by types, which takes no proof.
-ghost use Rattle.std.specs.Prelude.{◌≡◌, string_bytes, IfOk, IsTrue, Ok};
+ghost use Rattle.std.specs.Prelude.{◌≡◌, codes, string_bytes, IfOk, IsTrue, Ok};
 ghost use Rattle.sql_builder.specs.Calls.{Sql};
 ghost use Rattle.sql_builder.specs.Meaning.{HasTruthOf, condition_groups};
 ghost use Rattle.sql_builder.specs.Shape.{EndsInOneSemicolon};
 ghost use Rattle.sql_builder.specs.Statement.{statement};
+ghost use Rattle.sql_builder.specs.StringTexts.{outline};
 ghost use Rattle.sql_builder.specs.Tokens.{closed, tokens};
 ghost use Rattle.sql_typed.specs.Results.{Gives};
 ghost use Rattle.callers.specs.TypedSearches.{asked, by_author, by_price, by_stock, by_title};
@@ -84,5 +85,15 @@ pub fn search_typed(alloc: Global, search: &Search<'_>) -> Result<String>
         (string_bytes s)) }
 {
     let books = searching(alloc, search)?;
+    books.sql()
+}
+
+/// The books of this author. Whoever it is, the tokens are the same, but for the text of the string.
+pub fn by_author(alloc: Global, author: &str) -> Result<String>
+    ensures same { IfOk result (λ s. outline (string_bytes s)
+        ≡ tokens (codes "SELECT * FROM books WHERE author = '';")) }
+{
+    let books = Select::from(alloc, Fragment::of("books"))?;
+    let books = books.and_where(eq(alloc, Operand::of("author"), Value(author))?)?;
     books.sql()
 }
