@@ -1,8 +1,7 @@
 -- What a builder was given stands for the open statement.
-use Rattle.std.proofs.Common.{◌≡◌, ℕ, List, [], ◌∷◌, ◌++◌, Bool, Option, None, Some, Result, Ok, Err, refl, ap, sym}
+use Rattle.std.proofs.Common.{◌≡◌, [], ◌∷◌, ◌++◌, Option, None, Some, Ok, Err, refl, ap, sym}
 use Rattle.std.specs.Prelude.{is_some, ok_or, option_map}
-use Rattle.sql_builder.specs.Builder.{ClauseTexts, with_call}
-use Rattle.sql_builder.specs.Calls.{CallText, Cond}
+use Rattle.sql_builder.specs.Calls.{Cond}
 use Rattle.sql_builder.specs.Condition.{ConditionText}
 use Rattle.sql_builder.proofs.statements.RunLemmas.{clauses-push, clauses_start}
 use Rattle.sql_builder.proofs.statements.StatementLawLemmas.{builders_print_statements}
@@ -10,8 +9,6 @@ use Rattle.sqlb.specs.Lines.{CommandResult, Starts, Calls, Finishes}
 use Rattle.sqlb.specs.Output.{OpenStatement, answer, finish_answer}
 use Rattle.sqlb.specs.Script.{given, given_after, given_answer}
 use Rattle.sql_builder.specs.declared.condition.Family.{Family}
-use Rattle.sqlb.specs.declared.fault.LineError.{LineError}
-use Rattle.sqlb.specs.declared.fault.LineError.TheVariants.{Memory, Rejected}
 use Rattle.sqlb.specs.declared.fault.Reason.TheVariants.{WrongArguments}
 
 -- the statement that is open after a line, by what was open before it
