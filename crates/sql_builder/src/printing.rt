@@ -20,8 +20,8 @@ use crate::calls::{Finish, print};
 use crate::clauses::{GroupedCondition, Kind, any_opens_group};
 use crate::ghost_list::Bytes;
 use crate::optional_text::OptionalText;
-use crate::sink::Out;
 use crate::printed_list::PrintedList;
+use crate::sink::Out;
 use crate::text_list::TextList;
 use sql_parts::{SqlBuilderError, ToText};
 
