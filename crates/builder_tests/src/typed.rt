@@ -1,5 +1,6 @@
 //! Statements by types: each call once, and attacks in each argument that takes untrusted text.
 
+use callers::form::{Form, search};
 use callers::searches::{Search, search_printed};
 use callers::typed::search_typed;
 use sql_builder::SqlBuilderError;
@@ -205,7 +206,10 @@ fn changes(rt: HostRuntime) -> Result<(), Fail> {
         "UPDATE t SET a = 'b' WHERE a IS NULL;"
     );
     let delete = Delete::from(alloc, Fragment::of("t"))?.and_where(eq(alloc, a(), 1)?)?;
-    assert_eq!(rt; delete.sql()?.as_str(), "DELETE FROM t WHERE a = 1;");
+    assert_eq!(rt;
+        delete.returning_id()?.sql()?.as_str(),
+        "DELETE FROM t WHERE a = 1 RETURNING id;"
+    );
     Ok(())
 }
 
@@ -236,6 +240,46 @@ fn searches_alike(rt: HostRuntime) -> Result<(), Fail> {
     assert_eq!(rt;
         search_typed(alloc, &search)?.as_str(),
         search_printed(alloc, &search)?.as_str()
+    );
+    Ok(())
+}
+
+#[test]
+fn asks_by_a_form(rt: HostRuntime) -> Result<(), Fail> {
+    let alloc = rt.alloc();
+    let nothing = Form {
+        title: None,
+        author: None,
+        price: None,
+        genres: None,
+        in_stock: false,
+        column: "price",
+    };
+    assert_eq!(rt;
+        search(alloc, &nothing)?.as_str(),
+        "SELECT title FROM books ORDER BY \"price\";"
+    );
+    let everything = Form {
+        title: Some("50%_'"),
+        author: Some(None),
+        price: Some(3),
+        genres: Some(&[]),
+        in_stock: true,
+        column: "a\"; --",
+    };
+    assert_eq!(rt;
+        search(alloc, &everything)?.as_str(),
+        "SELECT title FROM books WHERE (title LIKE '%50!%!_''%' ESCAPE '!') AND (author IS NULL) AND (price >= 3) AND (1 = 0) AND (stock > 0) ORDER BY \"a\"\"; --\";"
+    );
+    let genres = [Value("it's"), Value("b")];
+    let some = Form {
+        author: Some(Some(Value("O'Neill"))),
+        genres: Some(&genres),
+        ..nothing
+    };
+    assert_eq!(rt;
+        search(alloc, &some)?.as_str(),
+        "SELECT title FROM books WHERE (author = 'O''Neill') AND (genre IN ('it''s', 'b')) ORDER BY \"price\";"
     );
     Ok(())
 }

@@ -1,10 +1,10 @@
 -- What a search by types asks for of the table of books.
 use Rattle.std.specs.Prelude.{ℕ, List, Bool, Option, None, Some, codes, false, if◌then◌else◌}
 use Rattle.std.specs.Borrow.{Bor}
-use Rattle.sql_builder.specs.Calls.{Cond, Field}
+use Rattle.sql_builder.specs.Calls.{Cond, Field, SelectFrom}
 use Rattle.sql_builder.specs.Condition.{ConditionText, Compare, Like, Raw, condition_bytes}
 use Rattle.sql_builder.specs.declared.condition.Family.TheVariants.{And}
-use Rattle.sql_typed.specs.Fits.{Made, adding, on_table}
+use Rattle.sql_typed.specs.Fits.{Made, adding, beginning}
 use Rattle.callers.specs.Searches.{titled, written_by, priced_from, stocked}
 use Rattle.callers.specs.declared.searches.Search.{Search}
 
@@ -32,4 +32,4 @@ by_stock in_stock before = if in_stock then asking stocked before else before
 abbrev pub asked : Search → Made
 asked search =
     by_stock search.in_stock
-    (by_price search.least_price (by_author search.author (by_title search.title (adding (Field (codes "title")) (on_table (codes "books"))))))
+    (by_price search.least_price (by_author search.author (by_title search.title (adding (Field (codes "title")) (beginning (SelectFrom (codes "books")))))))

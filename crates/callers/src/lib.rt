@@ -3,6 +3,7 @@
 #![tactic(auto)]
 
 pub mod chains;
+pub mod form;
 pub mod interference;
 pub mod lists;
 pub mod searches;

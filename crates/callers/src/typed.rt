@@ -1,24 +1,22 @@
 //! The search of `searches` by types, which takes no proof.
 ghost use Rattle.std.specs.Prelude.{◌≡◌, string_bytes, IfOk, IsTrue};
-ghost use Rattle.sql_builder.specs.Error.{FailsOnlyByMemory};
 ghost use Rattle.sql_builder.specs.Meaning.{HasTruthOf, condition_groups};
 ghost use Rattle.sql_builder.specs.Shape.{EndsInOneSemicolon};
 ghost use Rattle.sql_builder.specs.Tokens.{closed, tokens};
+ghost use Rattle.sql_typed.specs.Results.{Gives};
 ghost use Rattle.callers.specs.TypedSearches.{asked, by_author, by_price, by_stock, by_title};
 
 use crate::searches::Search;
-use sql_builder::SqlBuilderError;
 use sql_builder::arg::Value;
 use sql_builder::calls::Percent;
 use sql_builder::text::{Fragment, Operand};
-use sql_typed::Select;
 use sql_typed::condition::{eq, ge, gt, like};
+use sql_typed::{Result, Select};
 use std::alloc::Global;
 
 /// Those whose title contains this, if it is given.
-pub fn titled(alloc: Global, books: Select, title: Option<&str>) -> Result<Select, SqlBuilderError>
-    ensures made { IfOk result (λ s. s ≡ by_title title.entry books) }
-    ensures memory { FailsOnlyByMemory result }
+pub fn titled(alloc: Global, books: Select, title: Option<&str>) -> Result<Select>
+    ensures made { Gives result (by_title title.entry books) }
 {
     match title {
         Some(title) => Ok(books.and_where(like(
@@ -32,13 +30,8 @@ pub fn titled(alloc: Global, books: Select, title: Option<&str>) -> Result<Selec
 }
 
 /// Those by this author, if one is given.
-pub fn written_by(
-    alloc: Global,
-    books: Select,
-    author: Option<&str>,
-) -> Result<Select, SqlBuilderError>
-    ensures made { IfOk result (λ s. s ≡ by_author author.entry books) }
-    ensures memory { FailsOnlyByMemory result }
+pub fn written_by(alloc: Global, books: Select, author: Option<&str>) -> Result<Select>
+    ensures made { Gives result (by_author author.entry books) }
 {
     match author {
         Some(author) => Ok(books.and_where(eq(alloc, Operand { text: "author" }, Value(author))?)?),
@@ -47,13 +40,8 @@ pub fn written_by(
 }
 
 /// Those of at least this price, if it is given.
-pub fn priced_from(
-    alloc: Global,
-    books: Select,
-    price: Option<u32>,
-) -> Result<Select, SqlBuilderError>
-    ensures made { IfOk result (λ s. s ≡ by_price price books) }
-    ensures memory { FailsOnlyByMemory result }
+pub fn priced_from(alloc: Global, books: Select, price: Option<u32>) -> Result<Select>
+    ensures made { Gives result (by_price price books) }
 {
     match price {
         Some(price) => Ok(books.and_where(ge(alloc, Operand { text: "price" }, price)?)?),
@@ -62,9 +50,8 @@ pub fn priced_from(
 }
 
 /// Those in stock, if that is asked.
-pub fn stocked(alloc: Global, books: Select, in_stock: bool) -> Result<Select, SqlBuilderError>
-    ensures made { IfOk result (λ s. s ≡ by_stock in_stock books) }
-    ensures memory { FailsOnlyByMemory result }
+pub fn stocked(alloc: Global, books: Select, in_stock: bool) -> Result<Select>
+    ensures made { Gives result (by_stock in_stock books) }
 {
     if in_stock {
         Ok(books.and_where(gt(alloc, Operand { text: "stock" }, 0)?)?)
@@ -74,9 +61,8 @@ pub fn stocked(alloc: Global, books: Select, in_stock: bool) -> Result<Select, S
 }
 
 /// The SELECT of a search.
-pub fn searching(alloc: Global, search: &Search<'_>) -> Result<Select, SqlBuilderError>
-    ensures made { IfOk result (λ s. s ≡ asked search.now) }
-    ensures memory { FailsOnlyByMemory result }
+pub fn searching(alloc: Global, search: &Search<'_>) -> Result<Select>
+    ensures made { Gives result (asked search.now) }
 {
     let books = Select::from(alloc, Fragment { text: "books" })?.field(Operand { text: "title" })?;
     let books = titled(alloc, books, search.title)?;
@@ -87,7 +73,7 @@ pub fn searching(alloc: Global, search: &Search<'_>) -> Result<Select, SqlBuilde
 
 /// The titles of the books that a search asks for. Whatever its texts are, the statement is closed
 /// and ends in its only `;`, and its WHERE has the truth of the filters that are given.
-pub fn search_typed(alloc: Global, search: &Search<'_>) -> Result<String, SqlBuilderError>
+pub fn search_typed(alloc: Global, search: &Search<'_>) -> Result<String>
     ensures closed { IfOk result (λ s. IsTrue (closed (string_bytes s))) }
     ensures semicolon { IfOk result (λ s. EndsInOneSemicolon (tokens (string_bytes s))) }
     ensures truth { IfOk result (λ s. HasTruthOf (condition_groups (asked search.now).calls)

@@ -1,6 +1,6 @@
 -- The texts of conditions are fragments, and what is true of those that are made of others.
 use Rattle.std.proofs.Common.{◌≡◌, refl, sym, ◌∙◌, ap, subst, ℕ, Bool, true, false, not, ◌&&◌, List, [], ◌∷◌, ◌++◌, map, pos, codes, append-nil, append_assoc, length, ◌≤◌, arith}
-use Rattle.std.specs.Prelude.{flat_map, string_bytes}
+use Rattle.std.specs.Prelude.{Err, IfOk, Ok, Result, flat_map, string_bytes}
 use Rattle.std.specs.List.{AllByRecursion, list_all}
 use Rattle.std.proofs.lemmas.Bool.{and_from, and_parts, not_from_false}
 use Rattle.std.proofs.lemmas.List.Folds.{list_all-append}
@@ -35,7 +35,9 @@ use Rattle.sql_builder.proofs.truth.ConditionGroupLemmas.{condition-fit, pieces_
 use Rattle.sql_builder.proofs.truth.ConnectiveLemmas.{none-brackets, or3-False, truth_brackets}
 use Rattle.sql_builder.proofs.truth.TruthLemmas.{of_not}
 use Rattle.sql_builder.proofs.truth.WhereLemmas.{bracketed_groups, condition_closes, condition_no_clause, truth_group, truth_joined}
-use Rattle.sql_typed.specs.declared.condition.Condition.{Condition}
+use Rattle.sql_typed.specs.declared.texts.Condition.{Condition}
+use Rattle.sql_parts.specs.declared.error.SqlBuilderError.{SqlBuilderError}
+use Rattle.sql_typed.specs.Results.{Prints}
 use Rattle.sql_typed.specs.Conditions.{IsCombined, combined_text, joined_text, like_text, list_text, negation_text}
 
 -- a text is a fragment where its tokens are a condition
@@ -81,6 +83,12 @@ pub list_given : {X : Type 0} (negated : Bool) (field : List ℕ) (text : X → 
     → list_text negated field (map text values) ≡ condition_bytes (InList negated field (map text values))
 list_given negated field text [] some = absurd (omega (arith, some))
 list_given negated field text (value ∷ values) some = refl
+
+-- what holds of a text holds of a condition of this text
+pub printed-is : (P : List ℕ → Type 0) {text : List ℕ} (result : Result Condition SqlBuilderError) → Prints result text → P text
+    → IfOk result (λ c. P (string_bytes c.text))
+printed-is P (Ok c) is holds = subst P (sym is) holds
+printed-is P (Err e) is holds = tt
 
 -- ---- a mask in which `!` escapes
 

@@ -8,7 +8,7 @@ use Rattle.sql_parts.specs.Operands.{is_fragment}
 use Rattle.sql_parts.specs.Tokens.{Token, is_empty, is_open, is_semicolon, tokens}
 use Rattle.sql_builder.specs.Builder.{ClauseTexts, started, with_call}
 use Rattle.sql_builder.specs.Calls as call
-use Rattle.sql_builder.specs.Calls.{CallText, FinishText, StartText, Sql, Query, QueryValues, Subquery, SubqueryAs, call_raw_texts, binary_call, clauses, field_text, finish_raw_texts, start_raw_texts, unary_call}
+use Rattle.sql_builder.specs.Calls.{CallText, FinishText, StartText, Sql, Query, QueryValues, Subquery, SubqueryAs, call_raw_texts, binary_call, clauses, field_text, finish_raw_texts, start_on, start_raw_texts, unary_call}
 use Rattle.sql_builder.specs.Meaning.{is_unenclosed, prints_where}
 use Rattle.sql_builder.specs.declared.clauses.Kind.{Kind}
 use Rattle.sql_builder.specs.RawFragments.{encloses_fields, has_closed_fragments, has_fit_texts, is_fit}
@@ -29,7 +29,9 @@ use Rattle.sql_builder.specs.declared.steps.BinaryClause.{BinaryClause}
 use Rattle.sql_builder.specs.declared.steps.BinaryClause.TheVariants as binary
 use Rattle.sql_builder.specs.declared.steps.UnaryClause.{UnaryClause}
 use Rattle.sql_builder.specs.declared.steps.UnaryClause.TheVariants as unary
-use Rattle.sql_typed.specs.Fits.{IsFitBy, call_fits}
+use Rattle.sql_builder.specs.declared.calls.TableStart.{TableStart}
+use Rattle.sql_builder.specs.declared.calls.TableStart.TheVariants as on
+use Rattle.sql_typed.specs.Fits.{IsFitBy, Made, adding, beginning, call_fits}
 
 -- ---- calls
 
@@ -38,16 +40,23 @@ all-more [] c all also = and_from _ _ also refl
 all-more (first ∷ calls) c all also =
     let both = and_parts (call_fits first) (list_all call_fits calls) all in and_from _ _ both.0 (all-more calls c both.1 also)
 
-pub none_yet : (start : StartText) (r : ClauseTexts) → r ≡ started start → list_all is_fit (start_raw_texts start) ≡ true → IsFitBy start [] r
-none_yet start r is fits = record { made = is ∙ sym (clauses_start start); start_fits = fits; calls_fit = refl }
+pub none_yet : (start : StartText) (r : ClauseTexts) → r ≡ started start → list_all is_fit (start_raw_texts start) ≡ true → IsFitBy (beginning start) r
+none_yet start r is fits = record { is_made = is ∙ sym (clauses_start start); start_fits = fits; calls_fit = refl }
 
-pub one_more : (start : StartText) (calls : List CallText) (c : CallText) (old new : ClauseTexts) → new ≡ with_call c old → IsFitBy start calls old
-    → call_fits c ≡ true → IsFitBy start (calls ++ c ∷ []) new
-one_more start calls c old new is fit also = record {
-  made = is ∙ ap (with_call c) fit.made ∙ sym (clauses-push start calls c);
+pub one_more : (made : Made) (c : CallText) (old new : ClauseTexts) → new ≡ with_call c old → IsFitBy made old → call_fits c ≡ true
+    → IsFitBy (adding c made) new
+one_more made c old new is fit also = record {
+  is_made = is ∙ ap (with_call c) fit.is_made ∙ sym (clauses-push made.start made.calls c);
   start_fits = fit.start_fits;
-  calls_fit = all-more calls c fit.calls_fit also;
+  calls_fit = all-more made.calls c fit.calls_fit also;
 }
+
+-- a start on a table that is a fragment
+pub start_fits : (start : TableStart) (table : List ℕ) → is_fragment table ≡ true → list_all is_fit (start_raw_texts (start_on start table)) ≡ true
+start_fits on.SelectFrom table fits = and_from _ _ fits refl
+start_fits on.InsertInto table fits = and_from _ _ fits refl
+start_fits on.UpdateTable table fits = and_from _ _ fits refl
+start_fits on.DeleteFrom table fits = and_from _ _ fits refl
 
 -- a call with one text that is a fragment
 pub unary_fits : (clause : UnaryClause) (text given : List ℕ) → text ≡ given → is_fragment given ≡ true → call_fits (unary_call clause text) ≡ true
@@ -119,10 +128,10 @@ calls-fit : (enclosed : Bool) (calls : List CallText) → list_all call_fits cal
 calls-fit false calls all = all
 calls-fit true calls all = all-weaker call_fits (λ (c : CallText). list_all is_fit (call_raw_texts true c)) enclosed-fits calls all
 
-pub texts_fit : (start : StartText) (calls : List CallText) (finish : FinishText) (r : ClauseTexts) → IsFitBy start calls r
-    → list_all is_fit (finish_raw_texts finish) ≡ true → has_fit_texts start calls finish ≡ true
-texts_fit start calls finish r fit name =
-    and_from _ _ (and_from _ _ fit.start_fits (calls-fit (encloses_fields start finish) calls fit.calls_fit)) name
+pub texts_fit : (made : Made) (finish : FinishText) (r : ClauseTexts) → IsFitBy made r → list_all is_fit (finish_raw_texts finish) ≡ true
+    → has_fit_texts made.start made.calls finish ≡ true
+texts_fit made finish r fit name =
+    and_from _ _ (and_from _ _ fit.start_fits (calls-fit (encloses_fields made.start finish) made.calls fit.calls_fit)) name
 
 -- ---- one `;`
 
@@ -146,20 +155,15 @@ all-plain : (raws : List RawText) → list_all is_fit raws ≡ true → all_pass
 all-plain raws all = all-weaker is_fit (λ h. is_plain (raw_text h)) fit-plain raws all
 
 -- what `sql` prints of fit texts ends in its only `;`
-pub ends_in_one : (start : StartText) (calls : List CallText) (r : ClauseTexts) → IsFitBy start calls r
-    → IfOk (statement start calls Sql) (λ text. EndsInOneSemicolon (tokens text))
-ends_in_one start calls r fit =
+pub ends_in_one : (start : StartText) (calls : List CallText) → has_fit_texts start calls Sql ≡ true → list_all is_fit (start_raw_texts start) ≡ true
+    → list_all call_fits calls ≡ true → IfOk (statement start calls Sql) (λ text. EndsInOneSemicolon (tokens text))
+ends_in_one start calls texts start_fits calls_fit =
     of_pieces start calls Sql (λ printed. IsTrue (has_closed_fragments printed)) (λ printed text. EndsInOneSemicolon (tokens text))
     (λ is. sql-semicolon (clauses start calls) (clauses-parts start calls) is
-    (printed-passes is_plain whatever false start calls Sql (calls-whatever calls) (all-plain (start_raw_texts start) fit.start_fits)
-    (all-weaker call_fits (λ (c : CallText). all_pass is_plain (call_raw_texts false c)) (λ (c : CallText). all-plain (call_raw_texts false c)) calls fit.calls_fit)
+    (printed-passes is_plain whatever false start calls Sql (calls-whatever calls) (all-plain (start_raw_texts start) start_fits)
+    (all-weaker call_fits (λ (c : CallText). all_pass is_plain (call_raw_texts false c)) (λ (c : CallText). all-plain (call_raw_texts false c)) calls calls_fit)
     refl))
-    (fit_texts_are_closed start calls Sql (texts_fit start calls Sql r fit refl))
-
-pub ends_at : (start : StartText) (calls : List CallText) (finish : FinishText) (r : ClauseTexts) → IsFitBy start calls r → finish ≡ Sql
-    → IfOk (statement start calls finish) (λ text. EndsInOneSemicolon (tokens text))
-ends_at start calls finish r fit is =
-    subst (λ (last : FinishText). IfOk (statement start calls last) (λ text. EndsInOneSemicolon (tokens text))) (sym is) (ends_in_one start calls r fit)
+    (fit_texts_are_closed start calls Sql texts)
 
 -- a finish that prints a WHERE prints no brackets round it
 pub where_unenclosed : (finish : FinishText) (kind : Kind) → IsTrue (prints_where finish kind) → IsTrue (is_unenclosed finish)

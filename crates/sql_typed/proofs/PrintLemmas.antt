@@ -1,74 +1,95 @@
 -- What a statement prints whose texts all fit.
 use Rattle.std.proofs.Common.{◌≡◌, ◌&&◌, ◌++◌, ◌∙◌, ap, sym, refl, codes, not, ℕ, Option, None, Some, List, Ok, IfOk, Result, String, string_bytes, subst, true}
 use Rattle.std.specs.List.{list_all}
-use Rattle.std.specs.Prelude.{IfSome, IsTrue, OnOk, Err}
+use Rattle.std.specs.Prelude.{IfSome, IsTrue, OnOk, Err, ◌⊎◌, IfErr, IsNone}
+use Rattle.std.specs.Result.{result_map_both}
 use Rattle.std.proofs.lemmas.Bool.{and_parts}
+use Rattle.std.proofs.lemmas.Result.{IfOk-weaker}
 use Rattle.sql_parts.specs.Fragments.{balanced, has_clause_word, has_top_level, is_joining, is_word, operand}
 use Rattle.sql_parts.specs.Operands.{ServesAsOperand, is_fragment}
+use Rattle.sql_parts.specs.Readers.{marks, outer_states}
+use Rattle.sql_parts.specs.StringTexts.{outline}
 use Rattle.sql_parts.specs.Tokens.{begins_with, closed, tokens}
 use Rattle.sql_parts.specs.declared.error.SqlBuilderError.{SqlBuilderError}
 use Rattle.sql_builder.specs.Builder.{ClauseTexts}
 use Rattle.sql_builder.specs.Calls.{CallText, FinishText, StartText, Sql, finish_raw_texts, kind_of}
-use Rattle.sql_builder.specs.Meaning.{HasTruthOf, condition_groups, is_nested, is_unenclosed, prints_where}
+use Rattle.sql_builder.specs.Meaning.{HasTruthOf, condition_groups, is_nested}
 use Rattle.sql_builder.specs.RawFragments.{has_fit_texts, is_fit}
 use Rattle.sql_builder.specs.Reading.{clause_list, read}
 use Rattle.sql_builder.specs.Shape.{EndsInOneSemicolon, shape}
 use Rattle.sql_builder.specs.Statement.{error_at, statement, text_at, unless_error}
 use Rattle.sql_builder.specs.StatementLaws.{made_by}
-use Rattle.sql_builder.specs.Subqueries.{makes_table}
+use Rattle.sql_builder.specs.StatementReaders.{parts_at}
 use Rattle.sql_builder.proofs.for_callers.ChainLemmas.{made_statement}
 use Rattle.sql_builder.proofs.fragments.FitLemmas.{balanced_fragments, fit_conditions, fit_fragments}
 use Rattle.sql_builder.proofs.fragments.TextTestLemmas.{fit_texts_are_closed}
+use Rattle.sql_builder.proofs.interference.OutlineLemmas.{fragments-apart}
+use Rattle.sql_builder.proofs.interference.StatementReaderLemmas.{fragments-alike}
 use Rattle.sql_builder.proofs.reading.SubqueryLemmas.{subqueries_nest}
-use Rattle.sql_builder.proofs.statements.StatementLawLemmas.{builders_print_statements, of_statement, statements_are_closed, statements_have_truth, statements_keep_tokens}
+use Rattle.sql_builder.proofs.statements.StatementLawLemmas.{builders_print_statements, statements_are_closed, statements_have_truth, statements_keep_tokens}
 use Rattle.sql_builder.proofs.statements.StatementLawLemmas.{statements_nest, statements_read_back}
-use Rattle.sql_typed.specs.Fits.{IsFitBy}
-use Rattle.sql_typed.specs.Steps.{PrintsBehind}
-use Rattle.sql_typed.proofs.FitLemmas.{ends_at, texts_fit, where_unenclosed}
+use Rattle.sql_typed.specs.Fits.{IsFitBy, Made}
+use Rattle.sql_typed.specs.Printed.{IsPrinted, PrintsBehind}
+use Rattle.sql_typed.proofs.FitLemmas.{ends_in_one, texts_fit, where_unenclosed}
 
-module _ {Z : Type 0} (start : StartText) (calls : List CallText) (finish : FinishText) (r : ClauseTexts) (fit : IsFitBy start calls r)
-    (name : list_all is_fit (finish_raw_texts finish) ≡ true) (result : Result (String Z) SqlBuilderError)
-    (printed : IfOk result (λ s. string_bytes s ≡ text_at finish r)) (failed : IfSome (error_at finish r) (λ e. result ≡ Err e)) where
-  texts : has_fit_texts start calls finish ≡ true
-  texts = texts_fit start calls finish r fit name
+-- clauses that are borrowed are those of the statement
+pub borrowed : {made given : Made} {r lent : ClauseTexts} → made ≡ given → lent ≡ r → IsFitBy made r → IsFitBy given lent
+borrowed {made} {given} {r} {lent} is lends fit = subst (λ (m : Made). IsFitBy m lent) is (subst (IsFitBy made) (sym lends) fit)
 
-  pub is_statement : IfOk result (λ s. statement start calls finish ≡ Ok (string_bytes s))
-  is_statement = made_statement start calls finish result fit.made printed failed
+-- what holds of a statement holds of its text
+held : (P : List ℕ → Type 0) {answer : Result (List ℕ) SqlBuilderError} {text : List ℕ} → answer ≡ Ok text → IfOk answer P → P text
+held P is holds = subst (λ answer. IfOk answer P) is holds
 
-  pub has_tokens : IfOk result (λ s. shape start calls finish ≡ Ok (tokens (string_bytes s)))
-  has_tokens =
-      of_statement start calls finish (λ text. shape start calls finish ≡ Ok (tokens text)) result is_statement
-      (statements_keep_tokens start calls finish (fit_texts_are_closed start calls finish texts))
+-- what is printed where there is no error
+printed_text : (finish : FinishText) (r : ClauseTexts) (text : List ℕ) → unless_error (error_at finish r) (text_at finish r) ≡ Ok text
+    → text_at finish r ≡ text
+printed_text finish r text is = by (error_at finish r) is
+  where
+    by : (error : Option SqlBuilderError) → unless_error error (text_at finish r) ≡ Ok text → text_at finish r ≡ text
+    by None is = cc is
+    by (Some error) is = cc is
 
-  pub is_closed : IfOk result (λ s. IsTrue (closed (string_bytes s)))
-  is_closed =
-      of_statement start calls finish (λ text. IsTrue (closed text)) result is_statement
-      (statements_are_closed start calls finish (fit_texts_are_closed start calls finish texts))
+module _ (made : Made) (finish : FinishText) (r : ClauseTexts) (fit : IsFitBy made r) (name : list_all is_fit (finish_raw_texts finish) ≡ true) where
+  texts : has_fit_texts made.start made.calls finish ≡ true
+  texts = texts_fit made finish r fit name
 
-  pub has_one_semicolon : finish ≡ Sql → IfOk result (λ s. EndsInOneSemicolon (tokens (string_bytes s)))
-  has_one_semicolon is =
-      of_statement start calls finish (λ text. EndsInOneSemicolon (tokens text)) result is_statement (ends_at start calls finish r fit is)
+  is_printed : (text : List ℕ) → statement made.start made.calls finish ≡ Ok text → IsPrinted made finish text
+  is_printed text is = record {
+    is_statement = is;
+    has_tokens = held (λ t. shape made.start made.calls finish ≡ Ok (tokens t)) is (statements_keep_tokens made.start made.calls finish (fit_texts_are_closed made.start made.calls finish texts));
+    is_closed = held (λ t. IsTrue (closed t)) is (statements_are_closed made.start made.calls finish (fit_texts_are_closed made.start made.calls finish texts));
+    ends_in_one = λ last.
+        held (λ t. EndsInOneSemicolon (tokens t)) (ap (statement made.start made.calls) (sym last) ∙ is)
+        (ends_in_one made.start made.calls (ap (has_fit_texts made.start made.calls) (sym last) ∙ texts) fit.start_fits fit.calls_fit);
+    reads_back = λ bare.
+        held (λ t. clause_list made.start made.calls finish ≡ Ok (read (tokens t))) is
+        (statements_read_back made.start made.calls finish bare (fit_fragments made.start made.calls finish bare texts));
+    has_truth = λ prints.
+        held (λ t. HasTruthOf (condition_groups made.calls) t) is
+        (statements_have_truth made.start made.calls finish prints
+        (fit_fragments made.start made.calls finish (where_unenclosed finish (kind_of made.start) prints) texts)
+        (fit_conditions made.start made.calls finish texts));
+    nests = held (λ t. IsTrue (is_nested finish t)) is (statements_nest made.start made.calls finish (balanced_fragments made.start made.calls finish texts));
+    nests_as_table = λ table.
+        held (λ t. IsTrue (is_fragment t)) is (subqueries_nest made.start made.calls finish table (balanced_fragments made.start made.calls finish texts));
+    no_interference = λ other same.
+        sym (fragments-apart made.start other.start made.calls other.calls finish same (fit_texts_are_closed made.start made.calls finish texts))
+        ∙ ap (result_map_both outline (λ error. error)) is;
+    readers_ignore_texts = λ next plain state one other cut same clean other_clean inside.
+        let read = fragments-alike next plain state finish one other same clean other_clean inside in (
+          read.0,
+          ap (outer_states next state (marks (parts_at finish one)))
+              (sym (printed_text finish (made_by made.start made.calls) text (builders_print_statements made.start made.calls finish ∙ is))
+              ∙ ap (text_at finish) (sym cut))
+              ∙ read.1,
+        );
+  }
 
-  pub has_clauses : IsTrue (is_unenclosed finish) → IfOk result (λ s. clause_list start calls finish ≡ Ok (read (tokens (string_bytes s))))
-  has_clauses bare =
-      of_statement start calls finish (λ text. clause_list start calls finish ≡ Ok (read (tokens text))) result is_statement
-      (statements_read_back start calls finish bare (fit_fragments start calls finish bare texts))
-
-  pub has_truth : IsTrue (prints_where finish (kind_of start)) → IfOk result (λ s. HasTruthOf (condition_groups calls) (string_bytes s))
-  has_truth prints =
-      of_statement start calls finish (λ text. HasTruthOf (condition_groups calls) text) result is_statement
-      (statements_have_truth start calls finish prints (fit_fragments start calls finish (where_unenclosed finish (kind_of start) prints) texts)
-      (fit_conditions start calls finish texts))
-
-  pub nests : IfOk result (λ s. IsTrue (is_nested finish (string_bytes s)))
-  nests =
-      of_statement start calls finish (λ text. IsTrue (is_nested finish text)) result is_statement
-      (statements_nest start calls finish (balanced_fragments start calls finish texts))
-
-  pub is_table : IsTrue (makes_table finish) → IfOk result (λ s. IsTrue (is_fragment (string_bytes s)))
-  is_table made =
-      of_statement start calls finish (λ text. IsTrue (is_fragment text)) result is_statement
-      (subqueries_nest start calls finish made (balanced_fragments start calls finish texts))
+  pub all_printed : {Z : Type 0} (result : Result (String Z) SqlBuilderError) → IfOk result (λ s. string_bytes s ≡ text_at finish r)
+      → IfSome (error_at finish r) (λ e. result ≡ Err e) → IfOk result (λ s. IsPrinted made finish (string_bytes s))
+  all_printed result printed failed =
+      IfOk-weaker result (λ s. statement made.start made.calls finish ≡ Ok (string_bytes s)) (λ s. IsPrinted made finish (string_bytes s))
+      (λ s is. is_printed (string_bytes s) is) (made_statement made.start made.calls finish result fit.is_made printed failed)
 
 -- what is an operand without a top-level clause keyword serves as one
 pub serves_of : {text : List ℕ} → (operand text && not (has_clause_word text)) ≡ true → closed text ≡ true → ServesAsOperand text
@@ -84,14 +105,16 @@ serves_of {text} is shut =
     }
 
 -- what is appended where printing succeeds is the statement
-pub printed_behind : {T : Type 0} (start : StartText) (calls : List CallText) (r : ClauseTexts) (result : Result T SqlBuilderError) (before after : List ℕ)
-    → r ≡ made_by start calls → OnOk result (after ≡ before ++ text_at Sql r) → IfSome (error_at Sql r) (λ e. result ≡ Err e)
-    → OnOk result (PrintsBehind start calls before after)
-printed_behind start calls r (Err error) before after made appended failed = tt
-printed_behind start calls r (Ok x) before after made appended failed = (text_at Sql r, appended, given (error_at Sql r) refl failed)
+pub printed_behind : {T : Type 0} (made : Made) (r : ClauseTexts) (fit : IsFitBy made r) (result : Result T SqlBuilderError) (before after : List ℕ)
+    → OnOk result (after ≡ before ++ text_at Sql r) → IfSome (error_at Sql r) (λ e. result ≡ Err e) → OnOk result (PrintsBehind made before after)
+printed_behind made r fit (Err error) before after appended failed = tt
+printed_behind made r fit (Ok x) before after appended failed =
+    (text_at Sql r, appended, is_printed made Sql r fit refl (text_at Sql r) (given (error_at Sql r) refl failed))
   where
-    given : (error : Option SqlBuilderError) → error_at Sql r ≡ error → IfSome error (λ e. Ok x ≡ Err e) → statement start calls Sql ≡ Ok (text_at Sql r)
+    given : (error : Option SqlBuilderError) → error_at Sql r ≡ error → IfSome error (λ e. Ok x ≡ Err e)
+        → statement made.start made.calls Sql ≡ Ok (text_at Sql r)
     given None none failed =
-        sym (builders_print_statements start calls Sql) ∙ (λ i. unless_error (error_at Sql (sym made i)) (text_at Sql (sym made i)))
+        sym (builders_print_statements made.start made.calls Sql)
+        ∙ (λ i. unless_error (error_at Sql (sym fit.is_made i)) (text_at Sql (sym fit.is_made i)))
         ∙ ap (λ error. unless_error error (text_at Sql r)) none
     given (Some error) some failed = cc failed

@@ -1,14 +1,15 @@
 -- The texts of conditions that are made of others, or of no values.
-use Rattle.std.specs.Prelude.{◌≡◌, ℕ, List, [], ◌∷◌, ◌++◌, Bool, codes, if◌then◌else◌, map}
+use Rattle.std.specs.Prelude.{◌≡◌, ℕ, List, [], ◌∷◌, ◌++◌, Bool, codes, if◌then◌else◌, map, Option, None, Some}
 use Rattle.sql_parts.specs.Like.{like_escaped}
 use Rattle.sql_parts.specs.Quoting.{quoted}
 use Rattle.sql_parts.specs.Text.{join_with}
 use Rattle.sql_parts.specs.Tokens.{tokens}
 use Rattle.sql_builder.specs.Truths.{Truth, Valuation, truth}
-use Rattle.sql_builder.specs.Condition.{InList, condition_bytes, mask_text, not_text}
+use Rattle.sql_builder.specs.Condition.{Compare, InList, IsNull, condition_bytes, mask_text, not_text}
 use Rattle.sql_builder.specs.Layout.{byte_units}
 use Rattle.sql_builder.specs.Phrases.{in_brackets}
 use Rattle.sql_builder.specs.declared.condition.Percent.{Percent}
+use Rattle.sql_builder.specs.declared.condition.Relation.TheVariants.{Eq}
 
 -- a condition that is true, or false
 abbrev pub constant_text : Bool → List ℕ
@@ -18,6 +19,11 @@ constant_text holds = if holds then codes "1 = 1" else codes "1 = 0"
 abbrev pub list_text : Bool → List ℕ → List (List ℕ) → List ℕ
 list_text negated field [] = constant_text negated
 list_text negated field (value ∷ values) = condition_bytes (InList negated field (value ∷ values))
+
+-- a field that has this value; without a value, it is NULL
+abbrev pub equal_or_null : List ℕ → Option (List ℕ) → List ℕ
+equal_or_null field None = condition_bytes (IsNull field)
+equal_or_null field (Some value) = condition_bytes (Compare Eq field value)
 
 -- a text as a mask of LIKE with percent signs: `!` is before each wildcard and each `!` of the text
 abbrev pub escaped_mask : Percent → List ℕ → List ℕ

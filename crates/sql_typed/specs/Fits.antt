@@ -1,30 +1,30 @@
 -- Statements whose texts all fit, by their types.
-use Rattle.std.specs.Prelude.{◌≡◌, ℕ, Bool, false, IsTrue, List, [], ◌∷◌, ◌++◌}
+use Rattle.std.specs.Prelude.{◌≡◌, Bool, false, IsTrue, List, [], ◌∷◌, ◌++◌}
 use Rattle.std.specs.List.{list_all}
 use Rattle.sql_builder.specs.Builder.{ClauseTexts}
 use Rattle.sql_builder.specs.Calls.{CallText, StartText, call_raw_texts, start_raw_texts}
 use Rattle.sql_builder.specs.RawFragments.{is_fit}
 use Rattle.sql_builder.specs.StatementLaws.{made_by}
 
--- A table, and the calls that were made after it.
+-- What has made a statement: its start, and the calls that were made after it.
 pub record Made : Type 0 where
-  pub table : List ℕ
+  pub start : StartText
   pub calls : List CallText
 
--- a table, and no call
-abbrev pub on_table : List ℕ → Made
-on_table table = record { table = table; calls = [] }
+-- a start, and no call
+abbrev pub beginning : StartText → Made
+beginning start = record { start = start; calls = [] }
 
 -- one more call
 abbrev pub adding : CallText → Made → Made
-adding call made = record { table = made.table; calls = made.calls ++ call ∷ [] }
+adding call made = record { start = made.start; calls = made.calls ++ call ∷ [] }
 
 -- the texts of a call fit
 abbrev pub call_fits : CallText → Bool
 call_fits call = list_all is_fit (call_raw_texts false call)
 
 -- these clauses are what a start and calls make, and the texts of all fit
-pub record IsFitBy (start : StartText) (calls : List CallText) (r : ClauseTexts) : Type 0 where
-  pub made : r ≡ made_by start calls
-  pub start_fits : IsTrue (list_all is_fit (start_raw_texts start))
-  pub calls_fit : IsTrue (list_all call_fits calls)
+pub record IsFitBy (made : Made) (r : ClauseTexts) : Type 0 where
+  pub is_made : r ≡ made_by made.start made.calls
+  pub start_fits : IsTrue (list_all is_fit (start_raw_texts made.start))
+  pub calls_fit : IsTrue (list_all call_fits made.calls)

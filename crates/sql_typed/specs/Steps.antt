@@ -1,9 +1,8 @@
 -- The calls that steps make.
-use Rattle.std.specs.Prelude.{◌≡◌, ℕ, List, ◌++◌, Ok, string_bytes}
+use Rattle.std.specs.Prelude.{string_bytes}
 use Rattle.sql_builder.specs.Calls as call
-use Rattle.sql_builder.specs.Calls.{CallText, Cond, StartText, Sql, binary_call, call_view, unary_call}
+use Rattle.sql_builder.specs.Calls.{CallText, Cond, binary_call, call_view, unary_call}
 use Rattle.sql_builder.specs.Condition.{Raw}
-use Rattle.sql_builder.specs.Statement.{statement}
 use Rattle.sql_typed.specs.declared.select.JoinKind.{JoinKind}
 use Rattle.sql_typed.specs.declared.select.JoinKind.TheVariants as kind
 use Rattle.sql_typed.specs.declared.statement.Step.{Step}
@@ -14,7 +13,7 @@ abbrev pub step_call : Step → CallText
 step_call (step.Unary clause text) = unary_call clause text.now
 step_call (step.Binary clause first second) = binary_call clause first.now second.now
 step_call (step.Condition family condition) = Cond family (Raw (string_bytes condition))
-step_call (step.Other other) = call_view other
+step_call (step.Word word) = call_view word
 
 -- the call of an operator
 abbrev pub operator_call : JoinKind → CallText
@@ -24,7 +23,3 @@ operator_call kind.LeftOuter = call.LeftOuter
 operator_call kind.Right = call.Right
 operator_call kind.RightOuter = call.RightOuter
 operator_call kind.Cross = call.Cross
-
--- a text with the statement of these calls behind it
-abbrev pub PrintsBehind : StartText → List CallText → List ℕ → List ℕ → Type 0
-PrintsBehind start calls before after = (text : List ℕ) × (after ≡ before ++ text) × (statement start calls Sql ≡ Ok text)

@@ -14,7 +14,11 @@ pub mod texts;
 
 pub use changes::{Delete, Insert, Update};
 pub use condition::Condition;
-pub use operand_text::{FragmentText, OperandText};
+pub use operand_text::{FragmentText, OperandText, operand};
 pub use select::{JoinKind, Select};
+use sql_parts::SqlBuilderError;
 pub use statement::Statement;
 pub use texts::{Query, Row, TableQuery};
+
+/// What a call gives, or why it fails.
+pub type Result<T> = std::result::Result<T, SqlBuilderError>;

@@ -1,12 +1,15 @@
 //! Types all of whose texts fit where a statement takes an operand, or a fragment: by their types
 //! alone.
-ghost use Rattle.std.specs.Prelude.{pos, IsTrue};
+ghost use Rattle.std.specs.Prelude.{◌≡◌, pos, IfOk, IsTrue, string_bytes};
+ghost use Rattle.sql_parts.specs.Error.{FailsOnlyByMemory};
 ghost use Rattle.sql_parts.specs.Literal.{literal_value, whole};
 ghost use Rattle.sql_parts.specs.Operands.{ServesAsOperand, is_fragment};
 ghost use Rattle.sql_parts.proofs.fragments.OperandFacts.{bool-serves, is-fragment, literal-serves};
 
+use crate::Result;
 use sql_parts::text::{Fragment, Operand, OwnedOperand, ToText};
 use sql_parts::{Literal, SqlArg, Value};
+use std::alloc::Global;
 
 /// A type each of whose texts is an operand without a top-level clause keyword. Implement it for types
 /// of your own; no `&str` is one, so untrusted text goes in as a `Value`.
@@ -19,6 +22,18 @@ pub trait OperandText: ToText {
 pub trait FragmentText: ToText {
     /// Each text of the type is one.
     ghost fits_as_fragment: { (x : Self) → IsTrue (is_fragment (Self.text x)) };
+}
+
+/// The text of an operand, made: values of different types become a row of one type so. It fails only
+/// if memory runs out.
+/// `Insert::into(alloc, Fragment::of("t"))?.field(Operand::of("a"))?.values(&[operand(alloc, Value("b"))?])?.sql()?` →
+/// `INSERT INTO t (a) VALUES ('b');`
+pub fn operand<V: OperandText>(alloc: Global, value: V) -> Result<OwnedOperand>
+    ensures text { IfOk result (λ owned. string_bytes owned.text ≡ V.text value) }
+    ensures memory { FailsOnlyByMemory result }
+{
+    let text = value.to_text(alloc)?;
+    Ok(OwnedOperand { text })
 }
 
 impl<A: SqlArg> OperandText for Value<A> {

@@ -1,21 +1,21 @@
 //! The calls of SELECT, and what it prints as a query. Each call fails only if memory runs out.
-ghost use Rattle.std.specs.Prelude.{◌≡◌, ◌⊎◌, ◌++◌, [], ◌∷◌, Err, IfErr, IfOk, IsNone, IsTrue, Ok, string_bytes};
-ghost use Rattle.sql_parts.specs.Error.{FailsOnlyByMemory, IsMemory};
+ghost use Rattle.std.specs.Prelude.{◌≡◌, ◌⊎◌, ◌++◌, [], ◌∷◌, Err, IfErr, IfOk, IsTrue, string_bytes};
+ghost use Rattle.sql_parts.specs.Error.{IsMemory};
 ghost use Rattle.sql_parts.specs.Text.{decimal_text};
 ghost use Rattle.sql_builder.specs.Calls.{AndTable, Count, CountAs, Distinct, Field, GroupBy, Having, Join, Limit, Natural, Offset, On, OnEq, OrderAsc, OrderDesc, SelectFrom, Subquery, SubqueryAs, Union, UnionAll, call_view};
 ghost use Rattle.sql_builder.specs.Calls as finish;
-ghost use Rattle.sql_builder.specs.Meaning.{HasTruthOf, condition_groups};
-ghost use Rattle.sql_builder.specs.Statement.{error_at, statement};
-ghost use Rattle.sql_builder.specs.StatementLaws.{made_by};
-ghost use Rattle.sql_typed.specs.Fits.{adding, on_table};
+ghost use Rattle.sql_builder.specs.Statement.{statement};
+ghost use Rattle.sql_typed.specs.Fits.{adding, beginning};
+ghost use Rattle.sql_typed.specs.Printed.{IsPrinted};
+ghost use Rattle.sql_typed.specs.Results.{Gives};
 ghost use Rattle.sql_typed.specs.Steps.{operator_call};
 
+use crate::Result;
 use crate::condition::Condition;
 use crate::operand_text::{FragmentText, OperandText};
-use crate::statement::{SelectKind, Statement};
+use crate::statement::{SelectKind, Statement, Step};
 use crate::texts::{Query, TableQuery};
-use sql_builder::SqlBuilderError;
-use sql_builder::calls::{BinaryClause, Call, Finish, UnaryClause};
+use sql_builder::calls::{BinaryClause, Call, Finish, TableStart, UnaryClause};
 use sql_parts::text::OwnedOperand;
 use std::alloc::Global;
 
@@ -55,84 +55,64 @@ fn join_operator(kind: JoinKind) -> Call
 impl Statement<SelectKind> {
     /// A SELECT from this table.
     /// `Select::from(alloc, Fragment::of("t"))?.sql()?` → `SELECT * FROM t;`
-    pub fn from<T: FragmentText>(alloc: Global, table: T) -> Result<Select, SqlBuilderError>
-        ensures made { IfOk result (λ s. s ≡ on_table (T.text table)) }
-        ensures memory { FailsOnlyByMemory result }
+    pub fn from<T: FragmentText>(alloc: Global, table: T) -> Result<Select>
+        ensures made { Gives result (beginning (SelectFrom (T.text table))) }
     {
-        Statement::starting_on(alloc, table)
+        Statement::begin(alloc, TableStart::SelectFrom, table)
     }
 
     /// One more field.
-    /// `Select::from(alloc, Fragment::of("t"))?.field(Operand::of("a"))?.sql()?` →
-    /// `SELECT a FROM t;`
-    pub fn field<F: OperandText>(self, field: F) -> Result<Select, SqlBuilderError>
-        ensures made { IfOk result (λ s. s ≡ adding (Field (F.text field)) self) }
-        ensures memory { FailsOnlyByMemory result }
+    /// `Select::from(alloc, Fragment::of("t"))?.field(Operand::of("a"))?.sql()?` → `SELECT a FROM t;`
+    pub fn field<F: OperandText>(self, field: F) -> Result<Select>
+        ensures made { Gives result (adding (Field (F.text field)) self) }
     {
         self.with_operand(UnaryClause::Field, field)
     }
 
     /// The number of the values of a field.
-    /// `Select::from(alloc, Fragment::of("t"))?.count(Operand::of("*"))?.sql()?` →
-    /// `SELECT COUNT(*) FROM t;`
-    pub fn count<F: OperandText>(self, field: F) -> Result<Select, SqlBuilderError>
-        ensures made { IfOk result (λ s. s ≡ adding (Count (F.text field)) self) }
-        ensures memory { FailsOnlyByMemory result }
+    /// `Select::from(alloc, Fragment::of("t"))?.count(Operand::of("*"))?.sql()?` → `SELECT COUNT(*) FROM t;`
+    pub fn count<F: OperandText>(self, field: F) -> Result<Select>
+        ensures made { Gives result (adding (Count (F.text field)) self) }
     {
         self.with_operand(UnaryClause::Count, field)
     }
 
     /// The number of the values of a field, under a name.
-    /// `Select::from(alloc, Fragment::of("t"))?.count_as(Operand::of("*"), Operand::of("n"))?.sql()?` →
-    /// `SELECT COUNT(*) AS n FROM t;`
-    pub fn count_as<F: OperandText, N: OperandText>(
-        self,
-        field: F,
-        name: N,
-    ) -> Result<Select, SqlBuilderError>
-        ensures made { IfOk result (λ s. s ≡ adding (CountAs (F.text field) (N.text name)) self) }
-        ensures memory { FailsOnlyByMemory result }
+    /// `Select::from(alloc, Fragment::of("t"))?.count_as(Operand::of("*"), Operand::of("n"))?.sql()?` → `SELECT COUNT(*) AS n FROM t;`
+    pub fn count_as<F: OperandText, N: OperandText>(self, field: F, name: N) -> Result<Select>
+        ensures made { Gives result (adding (CountAs (F.text field) (N.text name)) self) }
     {
         self.with_pair(BinaryClause::CountAs, field, name)
     }
 
     /// Selects equal rows once.
-    /// `Select::from(alloc, Fragment::of("t"))?.distinct()?.field(Operand::of("a"))?.sql()?` →
-    /// `SELECT DISTINCT a FROM t;`
-    pub fn distinct(self) -> Result<Select, SqlBuilderError>
-        ensures made { IfOk result (λ s. s ≡ adding Distinct self) }
-        ensures memory { FailsOnlyByMemory result }
+    /// `Select::from(alloc, Fragment::of("t"))?.distinct()?.field(Operand::of("a"))?.sql()?` → `SELECT DISTINCT a FROM t;`
+    pub fn distinct(self) -> Result<Select>
+        ensures made { Gives result (adding Distinct self) }
     {
         self.with_word(Call::Distinct)
     }
 
     /// One more table.
-    /// `Select::from(alloc, Fragment::of("t"))?.and_table(Fragment::of("u"))?.sql()?` →
-    /// `SELECT * FROM t, u;`
-    pub fn and_table<T: FragmentText>(self, table: T) -> Result<Select, SqlBuilderError>
-        ensures made { IfOk result (λ s. s ≡ adding (AndTable (T.text table)) self) }
-        ensures memory { FailsOnlyByMemory result }
+    /// `Select::from(alloc, Fragment::of("t"))?.and_table(Fragment::of("u"))?.sql()?` → `SELECT * FROM t, u;`
+    pub fn and_table<T: FragmentText>(self, table: T) -> Result<Select>
+        ensures made { Gives result (adding (AndTable (T.text table)) self) }
     {
         self.with_fragment(UnaryClause::AndTable, table)
     }
 
     /// The next join is NATURAL.
-    /// `Select::from(alloc, Fragment::of("t"))?.natural()?.join(JoinKind::Left, Fragment::of("u"))?.sql()?` →
-    /// `SELECT * FROM t NATURAL LEFT JOIN u;`
-    pub fn natural(self) -> Result<Select, SqlBuilderError>
-        ensures made { IfOk result (λ s. s ≡ adding Natural self) }
-        ensures memory { FailsOnlyByMemory result }
+    /// `Select::from(alloc, Fragment::of("t"))?.natural()?.join(JoinKind::Left, Fragment::of("u"))?.sql()?` → `SELECT * FROM t NATURAL LEFT JOIN u;`
+    pub fn natural(self) -> Result<Select>
+        ensures made { Gives result (adding Natural self) }
     {
         self.with_word(Call::Natural)
     }
 
     /// A join with this table.
-    /// `Select::from(alloc, Fragment::of("t"))?.join(JoinKind::Left, Fragment::of("u"))?.sql()?` →
-    /// `SELECT * FROM t LEFT JOIN u;`
-    pub fn join<T: FragmentText>(self, kind: JoinKind, table: T) -> Result<Select, SqlBuilderError>
-        ensures made { IfOk result (λ s.
-            s ≡ adding (Join (T.text table)) (adding (operator_call kind) self)) }
-        ensures memory { FailsOnlyByMemory result }
+    /// `Select::from(alloc, Fragment::of("t"))?.join(JoinKind::Left, Fragment::of("u"))?.sql()?` → `SELECT * FROM t LEFT JOIN u;`
+    pub fn join<T: FragmentText>(self, kind: JoinKind, table: T) -> Result<Select>
+        ensures made { Gives result (adding (Join (T.text table)) (adding (operator_call kind) self)) }
     {
         let statement = self.with_word(join_operator(kind))?;
         statement.with_fragment(UnaryClause::Join, table)
@@ -141,33 +121,25 @@ impl Statement<SelectKind> {
     /// A constraint of the last join; without a join it does nothing.
     /// `Select::from(alloc, Fragment::of("t"))?.join(JoinKind::Cross, Fragment::of("u"))?.on(&is_null(alloc, Operand::of("a"))?)?.sql()?` →
     /// `SELECT * FROM t CROSS JOIN u ON a IS NULL;`
-    pub fn on(self, condition: &Condition) -> Result<Select, SqlBuilderError>
-        ensures made { IfOk result (λ s. s ≡ adding (On (string_bytes condition.now.text)) self) }
-        ensures memory { FailsOnlyByMemory result }
+    pub fn on(self, condition: &Condition) -> Result<Select>
+        ensures made { Gives result (adding (On (string_bytes condition.now.text)) self) }
     {
-        self.with_constraint(UnaryClause::On, condition)
+        self.with_fragment(UnaryClause::On, condition.as_fragment())
     }
 
     /// The constraint `left = right` of the last join; without a join it does nothing.
     /// `Select::from(alloc, Fragment::of("t"))?.join(JoinKind::Inner, Fragment::of("u"))?.on_eq(Operand::of("t.a"), Operand::of("u.b"))?.sql()?` →
     /// `SELECT * FROM t INNER JOIN u ON t.a = u.b;`
-    pub fn on_eq<L: OperandText, R: OperandText>(
-        self,
-        left: L,
-        right: R,
-    ) -> Result<Select, SqlBuilderError>
-        ensures made { IfOk result (λ s. s ≡ adding (OnEq (L.text left) (R.text right)) self) }
-        ensures memory { FailsOnlyByMemory result }
+    pub fn on_eq<L: OperandText, R: OperandText>(self, left: L, right: R) -> Result<Select>
+        ensures made { Gives result (adding (OnEq (L.text left) (R.text right)) self) }
     {
         self.with_pair(BinaryClause::OnEq, left, right)
     }
 
     /// One more field of GROUP BY.
-    /// `Select::from(alloc, Fragment::of("t"))?.group_by(Operand::of("a"))?.sql()?` →
-    /// `SELECT * FROM t GROUP BY a;`
-    pub fn group_by<F: OperandText>(self, field: F) -> Result<Select, SqlBuilderError>
-        ensures made { IfOk result (λ s. s ≡ adding (GroupBy (F.text field)) self) }
-        ensures memory { FailsOnlyByMemory result }
+    /// `Select::from(alloc, Fragment::of("t"))?.group_by(Operand::of("a"))?.sql()?` → `SELECT * FROM t GROUP BY a;`
+    pub fn group_by<F: OperandText>(self, field: F) -> Result<Select>
+        ensures made { Gives result (adding (GroupBy (F.text field)) self) }
     {
         self.with_operand(UnaryClause::GroupBy, field)
     }
@@ -176,82 +148,66 @@ impl Statement<SelectKind> {
     /// GROUP BY.
     /// `Select::from(alloc, Fragment::of("t"))?.group_by(Operand::of("a"))?.having(&gt(alloc, Operand::of("a"), 1)?)?.sql()?` →
     /// `SELECT * FROM t GROUP BY a HAVING a > 1;`
-    pub fn having(self, condition: &Condition) -> Result<Select, SqlBuilderError>
-        ensures made { IfOk result (λ s.
-            s ≡ adding (Having (string_bytes condition.now.text)) self) }
-        ensures memory { FailsOnlyByMemory result }
+    pub fn having(self, condition: &Condition) -> Result<Select>
+        ensures made { Gives result (adding (Having (string_bytes condition.now.text)) self) }
     {
-        self.with_constraint(UnaryClause::Having, condition)
+        self.with_fragment(UnaryClause::Having, condition.as_fragment())
     }
 
     /// One more field of ORDER BY, which is left out beside a union.
-    /// `Select::from(alloc, Fragment::of("t"))?.order_asc(Operand::of("a"))?.sql()?` →
-    /// `SELECT * FROM t ORDER BY a;`
-    pub fn order_asc<F: OperandText>(self, field: F) -> Result<Select, SqlBuilderError>
-        ensures made { IfOk result (λ s. s ≡ adding (OrderAsc (F.text field)) self) }
-        ensures memory { FailsOnlyByMemory result }
+    /// `Select::from(alloc, Fragment::of("t"))?.order_asc(Operand::of("a"))?.sql()?` → `SELECT * FROM t ORDER BY a;`
+    pub fn order_asc<F: OperandText>(self, field: F) -> Result<Select>
+        ensures made { Gives result (adding (OrderAsc (F.text field)) self) }
     {
         self.with_operand(UnaryClause::OrderAsc, field)
     }
 
     /// One more field of ORDER BY, descending.
-    /// `Select::from(alloc, Fragment::of("t"))?.order_desc(Operand::of("a"))?.sql()?` →
-    /// `SELECT * FROM t ORDER BY a DESC;`
-    pub fn order_desc<F: OperandText>(self, field: F) -> Result<Select, SqlBuilderError>
-        ensures made { IfOk result (λ s. s ≡ adding (OrderDesc (F.text field)) self) }
-        ensures memory { FailsOnlyByMemory result }
+    /// `Select::from(alloc, Fragment::of("t"))?.order_desc(Operand::of("a"))?.sql()?` → `SELECT * FROM t ORDER BY a DESC;`
+    pub fn order_desc<F: OperandText>(self, field: F) -> Result<Select>
+        ensures made { Gives result (adding (OrderDesc (F.text field)) self) }
     {
         self.with_operand(UnaryClause::OrderDesc, field)
     }
 
     /// LIMIT; the last call counts.
     /// `Select::from(alloc, Fragment::of("t"))?.limit(3)?.sql()?` → `SELECT * FROM t LIMIT 3;`
-    pub fn limit(self, most: u64) -> Result<Select, SqlBuilderError>
-        ensures made { IfOk result (λ s. s ≡ adding (Limit (decimal_text most)) self) }
-        ensures memory { FailsOnlyByMemory result }
+    pub fn limit(self, most: u64) -> Result<Select>
+        ensures made { Gives result (adding (Limit (decimal_text most)) self) }
     {
         self.with_operand(UnaryClause::Limit, most)
     }
 
     /// OFFSET; the last call counts.
-    /// `Select::from(alloc, Fragment::of("t"))?.limit(3)?.offset(2)?.sql()?` →
-    /// `SELECT * FROM t LIMIT 3 OFFSET 2;`
-    pub fn offset(self, skipped: u64) -> Result<Select, SqlBuilderError>
-        ensures made { IfOk result (λ s. s ≡ adding (Offset (decimal_text skipped)) self) }
-        ensures memory { FailsOnlyByMemory result }
+    /// `Select::from(alloc, Fragment::of("t"))?.limit(3)?.offset(2)?.sql()?` → `SELECT * FROM t LIMIT 3 OFFSET 2;`
+    pub fn offset(self, skipped: u64) -> Result<Select>
+        ensures made { Gives result (adding (Offset (decimal_text skipped)) self) }
     {
         self.with_operand(UnaryClause::Offset, skipped)
     }
 
     /// UNION and a query.
-    /// `Select::from(alloc, Fragment::of("t"))?.union(&query)?.sql()?` →
-    /// `SELECT * FROM t UNION SELECT b FROM t;`
-    pub fn union(self, query: &Query) -> Result<Select, SqlBuilderError>
-        ensures made { IfOk result (λ s. s ≡ adding (Union (string_bytes query.now.text)) self) }
-        ensures memory { FailsOnlyByMemory result }
+    /// `Select::from(alloc, Fragment::of("t"))?.union(&query)?.sql()?` → `SELECT * FROM t UNION SELECT b FROM t;`
+    pub fn union(self, query: &Query) -> Result<Select>
+        ensures made { Gives result (adding (Union (string_bytes query.now.text)) self) }
     {
-        self.with_union(UnaryClause::Union, query)
+        self.add(Step::Unary(UnaryClause::Union, query.text.as_str()))
     }
 
     /// UNION ALL and a query.
-    /// `Select::from(alloc, Fragment::of("t"))?.union_all(&query)?.sql()?` →
-    /// `SELECT * FROM t UNION ALL SELECT b FROM t;`
-    pub fn union_all(self, query: &Query) -> Result<Select, SqlBuilderError>
-        ensures made { IfOk result (λ s. s ≡ adding (UnionAll (string_bytes query.now.text)) self) }
-        ensures memory { FailsOnlyByMemory result }
+    /// `Select::from(alloc, Fragment::of("t"))?.union_all(&query)?.sql()?` → `SELECT * FROM t UNION ALL SELECT b FROM t;`
+    pub fn union_all(self, query: &Query) -> Result<Select>
+        ensures made { Gives result (adding (UnionAll (string_bytes query.now.text)) self) }
     {
-        self.with_union(UnaryClause::UnionAll, query)
+        self.add(Step::Unary(UnaryClause::UnionAll, query.text.as_str()))
     }
 
     /// The query, as a type that says that it is balanced. It fails as `sql` does.
     /// `Select::from(alloc, Fragment::of("t"))?.query()?.text` → `SELECT * FROM t`
-    pub fn query(&self) -> Result<Query, SqlBuilderError>
-        ensures statement { IfOk result (λ q. statement (SelectFrom self.now.table) self.now.calls finish.Query
-            ≡ Ok (string_bytes q.text)) }
-        ensures truth { IfOk result (λ q. HasTruthOf (condition_groups self.now.calls)
-            (string_bytes q.text)) }
+    pub fn query(&self) -> Result<Query>
+        ensures printed { IfOk result (λ q. IsPrinted self.now finish.Query (string_bytes q.text)) }
         ensures error { IfErr result (λ e. IsMemory e
-            ⊎ (statement (SelectFrom self.now.table) self.now.calls finish.Query ≡ Err e)) }
+            ⊎ (statement self.now.start self.now.calls finish.Query ≡ Err e)) }
     {
         let text = self.print(&Finish::Query)?;
         Ok(Query { text })
@@ -259,24 +215,22 @@ impl Statement<SelectKind> {
 
     /// The query in brackets, as an operand or a table. It fails as `sql` does.
     /// `Select::from(alloc, Fragment::of("t"))?.subquery()?.text` → `(SELECT * FROM t)`
-    pub fn subquery(&self) -> Result<OwnedOperand, SqlBuilderError>
-        ensures statement { IfOk result (λ q. statement (SelectFrom self.now.table) self.now.calls Subquery
-            ≡ Ok (string_bytes q.text)) }
+    pub fn subquery(&self) -> Result<OwnedOperand>
+        ensures printed { IfOk result (λ q. IsPrinted self.now Subquery (string_bytes q.text)) }
         ensures error { IfErr result (λ e. IsMemory e
-            ⊎ (statement (SelectFrom self.now.table) self.now.calls Subquery ≡ Err e)) }
+            ⊎ (statement self.now.start self.now.calls Subquery ≡ Err e)) }
     {
         let text = self.print(&Finish::Subquery)?;
         Ok(OwnedOperand { text })
     }
 
     /// The query in brackets under a name, as a table. It fails as `sql` does.
-    /// `Select::from(alloc, Fragment::of("t"))?.subquery_as(Operand::of("s"))?.text` →
-    /// `(SELECT * FROM t) AS s`
-    pub fn subquery_as<N: OperandText>(&self, name: N) -> Result<TableQuery, SqlBuilderError>
-        ensures statement { IfOk result (λ q. statement (SelectFrom self.now.table) self.now.calls
-            (SubqueryAs (N.text name)) ≡ Ok (string_bytes q.text)) }
-        ensures error { IfErr result (λ e. IsMemory e ⊎ (statement (SelectFrom self.now.table)
-            self.now.calls (SubqueryAs (N.text name)) ≡ Err e)) }
+    /// `Select::from(alloc, Fragment::of("t"))?.subquery_as(Operand::of("s"))?.text` → `(SELECT * FROM t) AS s`
+    pub fn subquery_as<N: OperandText>(&self, name: N) -> Result<TableQuery>
+        ensures printed { IfOk result (λ q.
+            IsPrinted self.now (SubqueryAs (N.text name)) (string_bytes q.text)) }
+        ensures error { IfErr result (λ e. IsMemory e
+            ⊎ (statement self.now.start self.now.calls (SubqueryAs (N.text name)) ≡ Err e)) }
     {
         let name = name.to_text(self.alloc)?;
         let text = self.print(&Finish::SubqueryAs(name))?;

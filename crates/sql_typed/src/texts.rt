@@ -6,12 +6,32 @@ ghost use Rattle.sql_parts.specs.Fragments.{balanced};
 ghost use Rattle.sql_parts.specs.Operands.{is_fragment};
 ghost use Rattle.sql_parts.specs.Text.{texts};
 
+use crate::Result;
 use crate::operand_text::{FragmentText, OperandText};
-use sql_builder::SqlBuilderError;
 use sql_parts::ToText;
-use sql_parts::text::copies;
+use sql_parts::text::Fragment;
 use std::alloc::Global;
 use std::borrow::CowStr;
+
+/// A condition: its text is balanced and has no top-level clause keyword.
+#[derive(Drop)]
+pub struct Condition {
+    /// The text.
+    pub text: String,
+    pub ghost fits: { IsTrue (is_fragment (string_bytes text)) },
+}
+
+impl Condition {
+    /// The condition, borrowed as a fragment. It can't fail.
+    /// `is_null(alloc, Operand::of("a"))?.as_fragment().text` → `a IS NULL`
+    pub fn as_fragment(&self) -> Fragment<'_>
+        ensures { result.text.now ≡ string_bytes self.now.text }
+    {
+        Fragment {
+            text: self.text.as_str(),
+        }
+    }
+}
 
 /// A printed query: its text is balanced.
 #[derive(Drop)]
@@ -32,11 +52,11 @@ pub struct TableQuery {
 impl ToText for TableQuery {
     ghost text = { λ table. string_bytes table.text };
 
-    fn to_text(&self, alloc: Global) -> Result<String, SqlBuilderError> {
+    fn to_text(&self, alloc: Global) -> Result<String> {
         self.text.to_text(alloc)
     }
 
-    fn as_text(&self, _alloc: Global) -> Result<CowStr<'_>, SqlBuilderError> {
+    fn as_text(&self, _alloc: Global) -> Result<CowStr<'_>> {
         Ok(CowStr::Borrowed(self.text.as_str()))
     }
 }
@@ -60,32 +80,19 @@ impl Row {
     pub fn new(alloc: Global) -> Row
         ensures { result.values.items ≡ [] }
     {
-        Row {
-            alloc,
-            values: Vec::new(alloc),
-        }
+        let values = Vec::new(alloc);
+        Row { alloc, values }
     }
 
     /// The row with one more value. It fails only if memory runs out.
     /// `Row::new(alloc).value(Value("it's"))?.value(Literal::Null)?.values` → `['it''s', NULL]`
-    pub fn value<V: OperandText>(self, value: V) -> Result<Row, SqlBuilderError>
+    pub fn value<V: OperandText>(mut self, value: V) -> Result<Row>
         ensures values { IfOk result (λ row. texts row.values.items
             ≡ texts self.values.items ++ V.text value ∷ []) }
         ensures memory { FailsOnlyByMemory result }
     {
-        let Row { alloc, mut values } = self;
-        let value = value.to_text(alloc)?;
-        values.push(value)?;
-        Ok(Row { alloc, values })
-    }
-
-    /// A row of values of one type. It fails only if memory runs out.
-    /// `Row::of(alloc, &[Value("it's"), Value("b")])?.values` → `['it''s', 'b']`
-    pub fn of<V: OperandText>(alloc: Global, values: &[V]) -> Result<Row, SqlBuilderError>
-        ensures values { IfOk result (λ row. texts row.values.items ≡ map V.text values.now) }
-        ensures memory { FailsOnlyByMemory result }
-    {
-        let values = copies(alloc, values)?;
-        Ok(Row { alloc, values })
+        let value = value.to_text(self.alloc)?;
+        self.values.push(value)?;
+        Ok(self)
     }
 }

@@ -1,12 +1,23 @@
-use Rattle.std.proofs.Common.{◌∙◌, ap}
+use Rattle.std.proofs.Common.{◌∙◌, ◌++◌, ap, codes}
 use Rattle.sql_parts.specs.Operands.{is_fragment}
 use Rattle.sql_builder.specs.Condition.{mask_text}
-use Rattle.sql_typed.proofs.ConditionLemmas.{fits_as, like_fragment}
+use Rattle.sql_typed.specs.Conditions.{like_text}
+use Rattle.sql_typed.proofs.ConditionLemmas.{fits_as, like_fragment, like_text_is}
 use Rattle.sql_typed.proofs.condition.like_escaped.Goals as goal
 
 pub invariant_of-result : goal.invariant_of-result
 invariant_of-result g c = record {
-  fits = ap is_fragment c.in_ok-text.ensures.text
+  fits = ap is_fragment (c.in_ok-push_str.ensures.bytes ∙ ap (λ text. text ++ codes " ESCAPE '!'") c.in_ok-text.ensures.text
+      ∙ like_text_is c.args.negated c.args.percent c.as_str.result.now c.as_str-2.result.now)
       ∙ like_fragment c.args.negated c.as_str.result.now (mask_text c.args.percent c.as_str-2.result.now)
       (fits_as (c.as_str.ensures.value ∙ c.in_ok-field.ensures.text) (g.met.F.OperandText.serves_as_operand c.args.field));
+}
+
+pub returns : goal.returns
+returns g c = record {
+  text = c.in_ok-push_str.ensures.bytes ∙ ap (λ text. text ++ codes " ESCAPE '!'") c.in_ok-text.ensures.text
+      ∙ like_text_is c.args.negated c.args.percent c.as_str.result.now c.as_str-2.result.now
+      ∙ ap (λ field. like_text c.args.negated field (mask_text c.args.percent c.as_str-2.result.now)) (c.as_str.ensures.value ∙ c.in_ok-field.ensures.text)
+      ∙ ap (λ mask. like_text c.args.negated (g.F.ToText.text c.args.field) (mask_text c.args.percent mask))
+      (c.as_str-2.ensures.value ∙ c.in_ok-mask.ensures.text);
 }

@@ -1,4 +1,4 @@
 use Rattle.sql_typed.proofs.select.Statement+SelectKind.query.Goals as goal
 
 pub invariant_of-result : goal.invariant_of-result
-invariant_of-result c = record { fits = c.in_ok-text.ensures.nests }
+invariant_of-result c = record { fits = c.in_ok-text.ensures.printed.nests }

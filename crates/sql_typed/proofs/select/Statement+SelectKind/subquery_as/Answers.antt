@@ -9,6 +9,6 @@ print-requires g c = record { fits = and_from _ _ (fits_as c.in_ok-name.ensures.
 
 pub invariant_of-result : goal.invariant_of-result
 invariant_of-result g c = record {
-  fits = c.in_ok-text.ensures.nests_as_table
+  fits = c.in_ok-text.ensures.printed.nests_as_table
       (ap (λ text. not (has_clause_word text)) c.in_ok-name.ensures.text ∙ (g.met.N.OperandText.serves_as_operand c.args.name).no_clause_word);
 }

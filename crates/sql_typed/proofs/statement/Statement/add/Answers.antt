@@ -1,5 +1,5 @@
-use Rattle.std.proofs.Common.{◌∙◌, ap, rules, subst, sym}
-use Rattle.sql_typed.specs.Fits.{IsFitBy, Made, adding}
+use Rattle.std.proofs.Common.{◌∙◌, ◌++◌, ap, rules, subst, sym}
+use Rattle.sql_typed.specs.Fits.{IsFitBy, Made}
 use Rattle.sql_typed.specs.Steps.{step_call}
 use Rattle.sql_typed.proofs.FitLemmas.{one_more}
 use Rattle.sql_typed.proofs.statement.Statement.add.Goals as goal
@@ -7,7 +7,6 @@ use Rattle.sql_typed.proofs.statement.Statement.add.Goals as goal
 pub invariant_of-result : goal.invariant_of-result
 invariant_of-result g c =
     let before = c.self.inside.made.value in
-    let call = step_call c.args.step in
-    subst (λ (m : Made). IsFitBy (g.K.Kind.start m.table) m.calls c.make_step.new.builder)
-    (sym (c.one_more-made.ensures ∙ ap (λ k. adding k before) c.of-call.ensures))
-    (one_more (g.K.Kind.start before.table) before.calls call c.self.inside.builder c.make_step.new.builder (search rules) c.self.invariant c.requires.fits)
+    subst (λ (made : Made). IsFitBy made c.make_step.new.builder)
+    (sym (c.of-made.ensures ∙ ap (λ (call : Made). record { start = before.start; calls = before.calls ++ call.calls }) c.of-call.ensures))
+    (one_more before (step_call c.args.step) c.self.inside.builder.value c.make_step.new.builder (search rules) c.self.invariant c.requires.fits)
