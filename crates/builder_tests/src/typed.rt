@@ -12,7 +12,7 @@ use sql_typed::condition::{
     is_not_null, is_null, le, like, lt, ne, not, not_between, not_contains, not_ends_with,
     not_in_query, not_in_values, not_like, not_starts_with, raw, starts_with,
 };
-use sql_typed::{Delete, Insert, JoinKind, Query, Row, Select, Update};
+use sql_typed::{Delete, Insert, JoinKind, Query, Row, Select, Update, operand};
 use std::alloc::Global;
 use std::test::Fail;
 
@@ -193,17 +193,19 @@ fn changes(rt: HostRuntime) -> Result<(), Fail> {
         .field(Operand::of("b"))?
         .row(Row::new(alloc).value(Value("it's"))?.value(2)?)?
         .values(&[Literal::Text(String::from_str(alloc, "c")?), Literal::Null])?
+        .values(&[operand(alloc, Value("d"))?, operand(alloc, 3)?])?
         .returning(Operand::of("id"))?;
     assert_eq!(rt;
         insert.sql()?.as_str(),
-        "INSERT INTO t (a, b) VALUES ('it''s', 2), ('c', NULL) RETURNING id;"
+        "INSERT INTO t (a, b) VALUES ('it''s', 2), ('c', NULL), ('d', 3) RETURNING id;"
     );
     let update = Update::table(alloc, Fragment::of("t"))?
         .set(a(), Value("b"))?
+        .set_str(Operand::of("b"), Value("it's"))?
         .and_where(is_null(alloc, a())?)?;
     assert_eq!(rt;
         update.sql()?.as_str(),
-        "UPDATE t SET a = 'b' WHERE a IS NULL;"
+        "UPDATE t SET a = 'b', b = 'it''s' WHERE a IS NULL;"
     );
     let delete = Delete::from(alloc, Fragment::of("t"))?.and_where(eq(alloc, a(), 1)?)?;
     assert_eq!(rt;

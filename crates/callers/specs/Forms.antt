@@ -11,7 +11,8 @@ use Rattle.sql_builder.specs.declared.condition.Percent.TheVariants.{Any}
 use Rattle.sql_builder.specs.declared.condition.Relation.TheVariants.{Ge, Gt}
 use Rattle.sql_parts.specs.Quoting.{dquoted}
 use Rattle.sql_parts.specs.declared.arg.Value.{Value}
-use Rattle.sql_typed.specs.Conditions.{equal_or_null, escaped_mask, like_text, list_text}
+use Rattle.sql_builder.specs.Combined.{like_text}
+use Rattle.sql_typed.specs.Conditions.{equal_or_null, escaped_mask, list_text}
 use Rattle.sql_typed.specs.Fits.{Made, adding, beginning}
 use Rattle.callers.specs.declared.form.Form.{Form}
 

@@ -1,5 +1,6 @@
 pub mod ClauseFacts
 pub mod FitLemmas
+pub mod FitListLemmas
 pub mod InsertFitLemmas
 pub mod NeutralLemmas
 pub mod PassLemmas

@@ -1,4 +1,5 @@
 pub mod AtomLemmas
+pub mod CombinedLemmas
 pub mod ConditionGroupLemmas
 pub mod ConnectiveLemmas
 pub mod FormLemmas

@@ -2,9 +2,11 @@ pub mod Builder
 pub mod Calls
 pub mod BuilderLoans
 pub mod Clauses
+pub mod Combined
 pub mod Concat
 pub mod Condition
 pub mod Filters
+pub mod FitCalls
 pub mod RawFragments
 pub mod RawTexts
 pub mod TextTests

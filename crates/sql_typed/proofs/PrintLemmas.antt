@@ -1,11 +1,12 @@
 -- What a statement prints whose texts all fit.
 use Rattle.std.proofs.Common.{◌≡◌, ◌&&◌, ◌++◌, ◌∙◌, ap, sym, refl, codes, not, ℕ, Option, None, Some, List, Ok, IfOk, Result, String, string_bytes, subst, true}
 use Rattle.std.specs.List.{list_all}
-use Rattle.std.specs.Prelude.{IfSome, IsTrue, OnOk, Err, ◌⊎◌, IfErr, IsNone}
+use Rattle.std.specs.Prelude.{IfSome, IsTrue, OnOk, Err, IsNone, IsOk, length, ◌+◌, ◌≤◌}
 use Rattle.std.specs.Result.{result_map_both}
 use Rattle.std.proofs.lemmas.Bool.{and_parts}
 use Rattle.std.proofs.lemmas.Result.{IfOk-weaker}
 use Rattle.sql_parts.specs.Fragments.{balanced, has_clause_word, has_top_level, is_joining, is_word, operand}
+use Rattle.sql_parts.specs.Error.{FailsOnlyByMemory}
 use Rattle.sql_parts.specs.Operands.{ServesAsOperand, is_fragment}
 use Rattle.sql_parts.specs.Readers.{marks, outer_states}
 use Rattle.sql_parts.specs.StringTexts.{outline}
@@ -29,8 +30,9 @@ use Rattle.sql_builder.proofs.reading.SubqueryLemmas.{subqueries_nest}
 use Rattle.sql_builder.proofs.statements.StatementLawLemmas.{builders_print_statements, statements_are_closed, statements_have_truth, statements_keep_tokens}
 use Rattle.sql_builder.proofs.statements.StatementLawLemmas.{statements_nest, statements_read_back}
 use Rattle.sql_typed.specs.Fits.{IsFitBy, Made}
-use Rattle.sql_typed.specs.Printed.{IsPrinted, PrintsBehind}
-use Rattle.sql_typed.proofs.FitLemmas.{ends_in_one, texts_fit, where_unenclosed}
+use Rattle.sql_typed.specs.Printed.{FailsAs, FailsWith, IsPrinted, PrintsBehind}
+use Rattle.sql_builder.proofs.fragments.FitListLemmas.{ends_in_one, where_unenclosed}
+use Rattle.sql_typed.proofs.FitLemmas.{texts_fit}
 
 -- clauses that are borrowed are those of the statement
 pub borrowed : {made given : Made} {r lent : ClauseTexts} → made ≡ given → lent ≡ r → IsFitBy made r → IsFitBy given lent
@@ -118,3 +120,32 @@ printed_behind made r fit (Ok x) before after appended failed =
         ∙ (λ i. unless_error (error_at Sql (sym fit.is_made i)) (text_at Sql (sym fit.is_made i)))
         ∙ ap (λ error. unless_error error (text_at Sql r)) none
     given (Some error) some failed = cc failed
+
+-- how it fails, by what the builder's call says
+pub fails_as : {T : Type 0} (made : Made) (finish : FinishText) (r : ClauseTexts) (fit : IsFitBy made r) (result : Result T SqlBuilderError)
+    → IfSome (error_at finish r) (λ e. result ≡ Err e) → (IsNone (error_at finish r) → FailsOnlyByMemory result) → FailsAs made finish result
+fails_as made finish r fit result failed memory =
+    subst (λ (k : ClauseTexts). FailsWith (error_at finish k) result) fit.is_made (by (error_at finish r) failed memory)
+  where
+    by : (error : Option SqlBuilderError) → IfSome error (λ e. result ≡ Err e) → (IsNone error → FailsOnlyByMemory result) → FailsWith error result
+    by None failed memory = memory refl
+    by (Some error) failed memory = failed
+
+-- an error is passed on, and so is that there is none
+pub passed_on : {T U : Type 0} (known : Option SqlBuilderError) (error : SqlBuilderError) (one : Result T SqlBuilderError) (other : Result U SqlBuilderError)
+    → one ≡ Err error → other ≡ Err error → FailsWith known one → FailsWith known other
+passed_on {T} {U} None error one other is also failed =
+    subst (λ (r : Result U SqlBuilderError). FailsOnlyByMemory r) (sym also) (subst (λ (r : Result T SqlBuilderError). FailsOnlyByMemory r) is failed)
+passed_on (Some wanted) error one other is also failed = let same : error ≡ wanted = cc (sym is ∙ failed) in also ∙ ap Err same
+
+pub given_on : {T U : Type 0} (known : Option SqlBuilderError) (x : T) (y : U) (one : Result T SqlBuilderError) (other : Result U SqlBuilderError)
+    → one ≡ Ok x → other ≡ Ok y → FailsWith known one → FailsWith known other
+given_on {T} {U} None x y one other is also failed = subst (λ (r : Result U SqlBuilderError). FailsOnlyByMemory r) (sym also) tt
+given_on (Some wanted) x y one other is also failed = cc (sym is ∙ failed)
+
+-- with room, it succeeds
+pub has_room : {T : Type 0} (made : Made) (r : ClauseTexts) (fit : IsFitBy made r) (result : Result T SqlBuilderError) (used most : ℕ)
+    → (IsNone (error_at Sql r) → used + length (text_at Sql r) ≤ most → IsOk result)
+    → IsNone (error_at Sql (made_by made.start made.calls)) → used + length (text_at Sql (made_by made.start made.calls)) ≤ most → IsOk result
+has_room made r fit result used most succeeds =
+    subst (λ (k : ClauseTexts). IsNone (error_at Sql k) → used + length (text_at Sql k) ≤ most → IsOk result) fit.is_made succeeds

@@ -1,8 +1,9 @@
 -- Statements whose texts all fit, by their types.
-use Rattle.std.specs.Prelude.{◌≡◌, Bool, false, IsTrue, List, [], ◌∷◌, ◌++◌}
+use Rattle.std.specs.Prelude.{◌≡◌, IsTrue, List, [], ◌∷◌, ◌++◌}
 use Rattle.std.specs.List.{list_all}
 use Rattle.sql_builder.specs.Builder.{ClauseTexts}
-use Rattle.sql_builder.specs.Calls.{CallText, StartText, call_raw_texts, start_raw_texts}
+use Rattle.sql_builder.specs.Calls.{CallText, StartText, start_raw_texts}
+use Rattle.sql_builder.specs.FitCalls.{call_fits}
 use Rattle.sql_builder.specs.RawFragments.{is_fit}
 use Rattle.sql_builder.specs.StatementLaws.{made_by}
 
@@ -18,10 +19,6 @@ beginning start = record { start = start; calls = [] }
 -- one more call
 abbrev pub adding : CallText → Made → Made
 adding call made = record { start = made.start; calls = made.calls ++ call ∷ [] }
-
--- the texts of a call fit
-abbrev pub call_fits : CallText → Bool
-call_fits call = list_all is_fit (call_raw_texts false call)
 
 -- these clauses are what a start and calls make, and the texts of all fit
 pub record IsFitBy (made : Made) (r : ClauseTexts) : Type 0 where

@@ -1,23 +1,25 @@
 -- What a text is that a finish prints of a statement whose texts all fit.
-use Rattle.std.specs.Prelude.{◌≡◌, ◌++◌, ℕ, Bool, IsTrue, List, Ok, map}
+use Rattle.std.specs.Prelude.{◌≡◌, ◌++◌, ℕ, Bool, IsTrue, List, Option, None, Some, Result, Ok, Err, map}
 use Rattle.std.specs.List.{list_all}
+use Rattle.sql_parts.specs.Error.{FailsOnlyByMemory}
 use Rattle.sql_parts.specs.Operands.{is_fragment}
 use Rattle.sql_parts.specs.Readers.{Part, Reader, IsInsideAtEach, emptied, has_plain_text, marks, outer_states, parts_bytes}
 use Rattle.sql_parts.specs.StringTexts.{outline}
 use Rattle.sql_parts.specs.Tokens.{closed, tokens}
+use Rattle.sql_parts.specs.declared.error.SqlBuilderError.{SqlBuilderError}
 use Rattle.sql_builder.specs.Calls.{FinishText, Sql, kind_of}
 use Rattle.sql_builder.specs.Clauses.{Clauses, map_clauses}
 use Rattle.sql_builder.specs.Interference.{answer_of, outlines}
 use Rattle.sql_builder.specs.Meaning.{HasTruthOf, condition_groups, is_nested, is_unenclosed, prints_where}
 use Rattle.sql_builder.specs.Reading.{clause_list, read}
 use Rattle.sql_builder.specs.Shape.{EndsInOneSemicolon, shape}
-use Rattle.sql_builder.specs.Statement.{statement}
+use Rattle.sql_builder.specs.Statement.{error_at, statement}
 use Rattle.sql_builder.specs.StatementLaws.{made_by}
 use Rattle.sql_builder.specs.StatementReaders.{parts_at, text_of_parts}
 use Rattle.sql_builder.specs.Subqueries.{makes_table}
 use Rattle.sql_typed.specs.Fits.{Made}
 
--- two statements whose pieces have the same tokens, one by one, but for the texts of strings
+-- two statements whose pieces have the same tokens, one by one, but for the texts of strings, or that fail alike
 abbrev pub DifferInStrings : FinishText → Made → Made → Type 0
 DifferInStrings finish one other = outlines one.start one.calls finish ≡ outlines other.start other.calls finish
 
@@ -35,7 +37,7 @@ ReadersIgnoreTexts made finish text = (next : Reader) (plain : ℕ → Bool) (st
 pub record IsPrinted (made : Made) (finish : FinishText) (text : List ℕ) : Type 0 where
   -- it is the statement of the calls
   pub is_statement : statement made.start made.calls finish ≡ Ok text
-  -- each text that is quoted is one token
+  -- its tokens are those of its pieces, one after another
   pub has_tokens : shape made.start made.calls finish ≡ Ok (tokens text)
   -- every quote and comment in it is closed
   pub is_closed : IsTrue (closed text)
@@ -53,6 +55,15 @@ pub record IsPrinted (made : Made) (finish : FinishText) (text : List ℕ) : Typ
   pub no_interference : (other : Made) → DifferInStrings finish made other → answer_of outline other.start other.calls finish ≡ Ok (outline text)
   -- nor does any reader, as a database's lexer, read it otherwise
   pub readers_ignore_texts : ReadersIgnoreTexts made finish text
+
+-- how a call fails: with this error where there is one, and else only if memory runs out
+abbrev pub FailsWith : {T : Type 0} → Option SqlBuilderError → Result T SqlBuilderError → Type 0
+FailsWith None result = FailsOnlyByMemory result
+FailsWith (Some error) result = result ≡ Err error
+
+-- printing fails with the error of the calls where they have one, and else only if memory runs out
+abbrev pub FailsAs : {T : Type 0} → Made → FinishText → Result T SqlBuilderError → Type 0
+FailsAs made finish result = FailsWith (error_at finish (made_by made.start made.calls)) result
 
 -- a text with what `sql` prints behind it
 abbrev pub PrintsBehind : Made → List ℕ → List ℕ → Type 0

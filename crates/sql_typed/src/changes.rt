@@ -48,7 +48,7 @@ impl Statement<InsertKind> {
         self.with_values(row.values.as_slice())
     }
 
-    /// One more row, whose values are of one type, as `Literal`.
+    /// One more row, whose values are of one type, such as `Literal`.
     /// `Insert::into(alloc, Fragment::of("t"))?.field(Operand::of("a"))?.values(&[Literal::Null])?.sql()?` → `INSERT INTO t (a) VALUES (NULL);`
     pub fn values<V: OperandText>(self, values: &[V]) -> Result<Insert>
         ensures made { Gives result (adding (Values (map V.text values.now)) self) }

@@ -3,13 +3,14 @@
 ghost use Rattle.std.specs.Prelude.{◌≡◌, ◌++◌, [], ◌∷◌, IfOk, IsTrue, OnOk, false, map, option_map, string_bytes, true};
 ghost use Rattle.sql_parts.specs.Error.{FailsOnlyByMemory};
 ghost use Rattle.sql_parts.specs.Tokens.{tokens};
+ghost use Rattle.sql_builder.specs.Combined.{IsCombined, combined_text, constant_text, like_text, negation_text};
 ghost use Rattle.sql_builder.specs.Condition.{Between, Compare, InList, InQuery, IsNotNull, IsNull, Like, condition_bytes};
 ghost use Rattle.sql_builder.specs.Layout.{byte_units};
 ghost use Rattle.sql_builder.specs.Phrases.{in_brackets};
 ghost use Rattle.sql_builder.specs.Truths.{Valuation, and_all, not3, or_all, truth};
 ghost use Rattle.sql_builder.specs.declared.condition.Percent.TheVariants as percent;
 ghost use Rattle.sql_builder.specs.declared.condition.Relation.TheVariants.{Eq, Ge, Gt, Le, Lt, Ne};
-ghost use Rattle.sql_typed.specs.Conditions.{IsCombined, combined_text, constant_text, equal_or_null, escaped_mask, joined_text, joining_text, like_text, list_text, negation_text};
+ghost use Rattle.sql_typed.specs.Conditions.{equal_or_null, escaped_mask, list_text};
 ghost use Rattle.sql_typed.specs.Results.{Prints};
 
 use crate::Result;
@@ -149,7 +150,7 @@ fn liked<F: OperandText>(
     Ok(Condition { text })
 }
 
-/// `field LIKE 'mask'`, with the percent signs that the constant says. A `%` or `_` of the mask is a
+/// `field LIKE 'mask'`, with the percent signs that `percent` says. A `%` or `_` of the mask is a
 /// wildcard too.
 /// `like(alloc, Percent::Left, Operand::of("a"), Value("b"))?.text` → `a LIKE 'b%'`
 pub fn like<F: OperandText>(
@@ -164,7 +165,7 @@ pub fn like<F: OperandText>(
     liked(alloc, false, percent, field, mask)
 }
 
-/// `field NOT LIKE 'mask'`, with the percent signs that the constant says. A `%` or `_` of the mask is a
+/// `field NOT LIKE 'mask'`, with the percent signs that `percent` says. A `%` or `_` of the mask is a
 /// wildcard too.
 /// `not_like(alloc, Percent::Any, Operand::of("a"), Value("b"))?.text` → `a NOT LIKE '%b%'`
 pub fn not_like<F: OperandText>(

@@ -1,12 +1,10 @@
-//! The calls of SELECT, and what it prints as a query. Each call fails only if memory runs out.
-ghost use Rattle.std.specs.Prelude.{◌≡◌, ◌⊎◌, ◌++◌, [], ◌∷◌, Err, IfErr, IfOk, IsTrue, string_bytes};
-ghost use Rattle.sql_parts.specs.Error.{IsMemory};
+//! The calls of SELECT, each of which fails only if memory runs out, and what it prints as a query.
+ghost use Rattle.std.specs.Prelude.{◌≡◌, ◌++◌, [], ◌∷◌, IfOk, IsTrue, string_bytes};
 ghost use Rattle.sql_parts.specs.Text.{decimal_text};
 ghost use Rattle.sql_builder.specs.Calls.{AndTable, Count, CountAs, Distinct, Field, GroupBy, Having, Join, Limit, Natural, Offset, On, OnEq, OrderAsc, OrderDesc, SelectFrom, Subquery, SubqueryAs, Union, UnionAll, call_view};
 ghost use Rattle.sql_builder.specs.Calls as finish;
-ghost use Rattle.sql_builder.specs.Statement.{statement};
 ghost use Rattle.sql_typed.specs.Fits.{adding, beginning};
-ghost use Rattle.sql_typed.specs.Printed.{IsPrinted};
+ghost use Rattle.sql_typed.specs.Printed.{FailsAs, IsPrinted};
 ghost use Rattle.sql_typed.specs.Results.{Gives};
 ghost use Rattle.sql_typed.specs.Steps.{operator_call};
 
@@ -206,8 +204,7 @@ impl Statement<SelectKind> {
     /// `Select::from(alloc, Fragment::of("t"))?.query()?.text` → `SELECT * FROM t`
     pub fn query(&self) -> Result<Query>
         ensures printed { IfOk result (λ q. IsPrinted self.now finish.Query (string_bytes q.text)) }
-        ensures error { IfErr result (λ e. IsMemory e
-            ⊎ (statement self.now.start self.now.calls finish.Query ≡ Err e)) }
+        ensures error { FailsAs self.now finish.Query result }
     {
         let text = self.print(&Finish::Query)?;
         Ok(Query { text })
@@ -217,8 +214,7 @@ impl Statement<SelectKind> {
     /// `Select::from(alloc, Fragment::of("t"))?.subquery()?.text` → `(SELECT * FROM t)`
     pub fn subquery(&self) -> Result<OwnedOperand>
         ensures printed { IfOk result (λ q. IsPrinted self.now Subquery (string_bytes q.text)) }
-        ensures error { IfErr result (λ e. IsMemory e
-            ⊎ (statement self.now.start self.now.calls Subquery ≡ Err e)) }
+        ensures error { FailsAs self.now Subquery result }
     {
         let text = self.print(&Finish::Subquery)?;
         Ok(OwnedOperand { text })
@@ -229,11 +225,9 @@ impl Statement<SelectKind> {
     pub fn subquery_as<N: OperandText>(&self, name: N) -> Result<TableQuery>
         ensures printed { IfOk result (λ q.
             IsPrinted self.now (SubqueryAs (N.text name)) (string_bytes q.text)) }
-        ensures error { IfErr result (λ e. IsMemory e
-            ⊎ (statement self.now.start self.now.calls (SubqueryAs (N.text name)) ≡ Err e)) }
+        ensures error { FailsAs self.now (SubqueryAs (N.text name)) result }
     {
-        let name = name.to_text(self.alloc)?;
-        let text = self.print(&Finish::SubqueryAs(name))?;
+        let text = self.builder.subquery_as(name)?;
         Ok(TableQuery { text })
     }
 }

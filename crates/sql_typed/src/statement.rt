@@ -1,7 +1,7 @@
 //! A statement by value.
-ghost use Rattle.std.specs.Prelude.{◌≡◌, ◌⊎◌, ◌++◌, [], ◌∷◌, Err, IfErr, IfOk, IsNone, IsTrue, List, Ok, map, OnErr, OnOk, ℕ, string_bytes};
+ghost use Rattle.std.specs.Prelude.{◌≡◌, ◌+◌, ◌≤◌, ◌++◌, [], ◌∷◌, IfOk, IsNone, IsOk, length, string_capacity, string_len, IsTrue, List, Ok, map, OnErr, OnOk, ℕ, string_bytes};
 ghost use Rattle.std.specs.List.{list_all};
-ghost use Rattle.sql_parts.specs.Error.{FailsOnlyByMemory, IsMemory};
+ghost use Rattle.sql_parts.specs.Error.{FailsOnlyByMemory};
 ghost use Rattle.sql_parts.specs.Fragments.{balanced};
 ghost use Rattle.sql_parts.specs.StringTexts.{outline};
 ghost use Rattle.sql_parts.specs.Text.{texts};
@@ -9,16 +9,17 @@ ghost use Rattle.sql_parts.specs.Tokens.{closed, tokens};
 ghost use Rattle.sql_builder.specs.Builder.{with_call};
 ghost use Rattle.sql_builder.specs.Calls.{Cond, Returning, ReturningId, Sql, Values, binary_call, call_view, finish_raw_texts, finish_view, kind_of, start_on, unary_call};
 ghost use Rattle.sql_builder.specs.Condition.{Raw};
+ghost use Rattle.sql_builder.specs.FitCalls.{call_fits};
 ghost use Rattle.sql_builder.specs.Interference.{answer_of};
 ghost use Rattle.sql_builder.specs.Meaning.{HasTruthOf, condition_groups, prints_where};
 ghost use Rattle.sql_builder.specs.RawFragments.{is_fit};
 ghost use Rattle.sql_builder.specs.Reading.{clause_list, read};
 ghost use Rattle.sql_builder.specs.Shape.{EndsInOneSemicolon, shape};
-ghost use Rattle.sql_builder.specs.Statement.{error_at, statement};
+ghost use Rattle.sql_builder.specs.Statement.{error_at, statement, text_at};
 ghost use Rattle.sql_builder.specs.StatementLaws.{made_by};
 ghost use Rattle.sql_builder.specs.declared.condition.Family.TheVariants.{And, Or};
-ghost use Rattle.sql_typed.specs.Fits.{Made, adding, beginning, call_fits};
-ghost use Rattle.sql_typed.specs.Printed.{DifferInStrings, IsPrinted, PrintsBehind, ReadersIgnoreTexts};
+ghost use Rattle.sql_typed.specs.Fits.{Made, adding, beginning};
+ghost use Rattle.sql_typed.specs.Printed.{DifferInStrings, FailsAs, IsPrinted, PrintsBehind, ReadersIgnoreTexts};
 ghost use Rattle.sql_typed.specs.Results.{Gives};
 ghost use Rattle.sql_typed.specs.Steps.{step_call};
 
@@ -88,7 +89,7 @@ impl Model for MadeOf {
 pub struct Statement<K> {
     pub(crate) alloc: Global,
     // in a box, since a call moves its statement
-    builder: Box<SqlBuilder>,
+    pub(crate) builder: Box<SqlBuilder>,
     made: GhostValue<MadeOf>,
     kind: PhantomData<K>,
 }
@@ -246,24 +247,19 @@ impl<K> Statement<K> {
         requires fits { IsTrue (list_all is_fit (finish_raw_texts (finish_view finish.now))) }
         ensures printed { IfOk result (λ s.
             IsPrinted self.now (finish_view finish.now) (string_bytes s)) }
-        ensures error { IfErr result (λ e. IsMemory e ⊎ (statement self.now.start self.now.calls
-            (finish_view finish.now) ≡ Err e)) }
-        ensures memory { IsNone (error_at (finish_view finish.now)
-            (made_by self.now.start self.now.calls)) → FailsOnlyByMemory result }
+        ensures error { FailsAs self.now (finish_view finish.now) result }
     {
         print(&self.builder, finish)
     }
 
-    /// The statement. It fails with `NoTableName`, `NoValues`, `NoSetFields` or `NoGroupBy` as the
-    /// builder's `sql`, and else only if memory runs out. Nothing is asked of any text.
+    /// The statement. It fails with `NoValues` for an INSERT without a row, `NoSetFields` for an UPDATE
+    /// that sets nothing, `NoGroupBy` for a HAVING without a GROUP BY, and else only if memory runs
+    /// out. Nothing is asked of any text.
     /// `Select::from(alloc, Fragment::of("t"))?.and_where(eq(alloc, Operand::of("a"), Value("it's"))?)?.sql()?` → `SELECT * FROM t WHERE a = 'it''s';`
     pub fn sql(&self) -> Result<String>
         ensures statement { IfOk result (λ s.
             statement self.now.start self.now.calls Sql ≡ Ok (string_bytes s)) }
-        ensures error { IfErr result (λ e. IsMemory e
-            ⊎ (statement self.now.start self.now.calls Sql ≡ Err e)) }
-        ensures memory { IsNone (error_at Sql (made_by self.now.start self.now.calls))
-            → FailsOnlyByMemory result }
+        ensures error { FailsAs self.now Sql result }
         ensures tokens { IfOk result (λ s.
             shape self.now.start self.now.calls Sql ≡ Ok (tokens (string_bytes s))) }
         ensures closed { IfOk result (λ s. IsTrue (closed (string_bytes s))) }
@@ -282,6 +278,7 @@ impl<K> Statement<K> {
     }
 
     /// Appends to a text what `sql` prints. It fails where `sql` does, and then the text is as it was.
+    /// Where the text has room, memory can't run out.
     /// ```
     /// let mut s = String::from_str(alloc, "-- ")?;
     /// Select::from(alloc, Fragment::of("t"))?.print_to(&mut s)?;
@@ -291,15 +288,18 @@ impl<K> Statement<K> {
         ensures appended { OnOk result
             (PrintsBehind self.now (string_bytes out.old) (string_bytes out.new)) }
         ensures unchanged { OnErr result (string_bytes out.new ≡ string_bytes out.old) }
-        ensures error { IfErr result (λ e. IsMemory e
-            ⊎ (statement self.now.start self.now.calls Sql ≡ Err e)) }
+        ensures error { FailsAs self.now Sql result }
+        ensures succeeds { let clauses = made_by self.now.start self.now.calls in
+            IsNone (error_at Sql clauses) → string_len out.old + length (text_at Sql clauses)
+            ≤ string_capacity out.old → IsOk result }
     {
         print_to(&self.builder, &Finish::Sql, out)
     }
 }
 
 impl<K: Filters> Statement<K> {
-    /// A condition in a group of its own, which the others join by AND.
+    /// A condition in a group of its own, which the others join by AND. It fails only if memory runs
+    /// out, as the three calls below do.
     /// `Delete::from(alloc, Fragment::of("t"))?.and_where(eq(alloc, Operand::of("a"), Value("it's"))?)?.sql()?` → `DELETE FROM t WHERE a = 'it''s';`
     pub fn and_where(self, condition: Condition) -> Result<Statement<K>>
         ensures made { (text : List ℕ) → string_bytes condition.text ≡ text

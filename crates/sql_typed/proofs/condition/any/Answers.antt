@@ -2,8 +2,9 @@ use Rattle.std.proofs.Common.{map, string_bytes, subst, sym, ◌≡◌, false, O
 use Rattle.sql_parts.specs.declared.error.SqlBuilderError.{SqlBuilderError}
 use Rattle.std.specs.Prelude.{IfOk}
 use Rattle.sql_builder.specs.Truths.{or_all}
-use Rattle.sql_typed.specs.Conditions.{IsCombined, combined_text}
-use Rattle.sql_typed.proofs.ConditionLemmas.{any_combined, conditions_fit, printed-is}
+use Rattle.sql_builder.specs.Combined.{IsCombined, combined_text}
+use Rattle.sql_builder.proofs.truth.CombinedLemmas.{any_combined}
+use Rattle.sql_typed.proofs.ConditionLemmas.{conditions_fit, printed-is}
 use Rattle.sql_typed.proofs.condition.any.Goals as goal
 
 pub returns-clause-truth : goal.returns-clause-truth

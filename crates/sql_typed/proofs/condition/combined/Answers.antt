@@ -1,8 +1,9 @@
 use Rattle.std.proofs.Common.{◌≡◌, ◌∙◌, ap, arith, map, string_bytes}
 use Rattle.std.proofs.lemmas.Grind.{common_steps}
 use Rattle.sql_parts.specs.Operands.{is_fragment}
-use Rattle.sql_typed.specs.Conditions.{combined_text}
-use Rattle.sql_typed.proofs.ConditionLemmas.{combined_fragment, conditions_fit}
+use Rattle.sql_builder.specs.Combined.{combined_text}
+use Rattle.sql_builder.proofs.truth.CombinedLemmas.{combined_fragment}
+use Rattle.sql_typed.proofs.ConditionLemmas.{conditions_fit}
 use Rattle.sql_typed.proofs.condition.combined.Goals as goal
 
 pub invariant_of-result : goal.invariant_of-result

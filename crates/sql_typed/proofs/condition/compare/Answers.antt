@@ -2,7 +2,7 @@ use Rattle.std.proofs.Common.{◌∙◌, ap, refl}
 use Rattle.std.proofs.lemmas.Bool.{and_from}
 use Rattle.sql_parts.specs.Operands.{is_fragment}
 use Rattle.sql_builder.specs.Condition.{Compare}
-use Rattle.sql_typed.proofs.ConditionLemmas.{condition_fragment, fits_as}
+use Rattle.sql_builder.proofs.truth.CombinedLemmas.{condition_fragment, fits_as}
 use Rattle.sql_typed.proofs.condition.compare.Goals as goal
 
 pub invariant_of-result : goal.invariant_of-result

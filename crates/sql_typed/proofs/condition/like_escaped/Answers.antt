@@ -1,8 +1,8 @@
 use Rattle.std.proofs.Common.{◌∙◌, ◌++◌, ap, codes}
 use Rattle.sql_parts.specs.Operands.{is_fragment}
 use Rattle.sql_builder.specs.Condition.{mask_text}
-use Rattle.sql_typed.specs.Conditions.{like_text}
-use Rattle.sql_typed.proofs.ConditionLemmas.{fits_as, like_fragment, like_text_is}
+use Rattle.sql_builder.specs.Combined.{like_text}
+use Rattle.sql_builder.proofs.truth.CombinedLemmas.{fits_as, like_fragment, like_text_is}
 use Rattle.sql_typed.proofs.condition.like_escaped.Goals as goal
 
 pub invariant_of-result : goal.invariant_of-result

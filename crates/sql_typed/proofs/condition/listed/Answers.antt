@@ -2,7 +2,8 @@ use Rattle.std.proofs.Common.{◌∙◌, ap, map, sym}
 use Rattle.std.proofs.lemmas.Bool.{and_from}
 use Rattle.sql_parts.specs.Operands.{is_fragment}
 use Rattle.sql_builder.specs.Condition.{InList, condition_bytes}
-use Rattle.sql_typed.proofs.ConditionLemmas.{condition_fragment, fits_as, list_given, operands_fit}
+use Rattle.sql_builder.proofs.truth.CombinedLemmas.{condition_fragment, fits_as, operands_fit}
+use Rattle.sql_typed.proofs.ConditionLemmas.{list_given}
 use Rattle.sql_typed.proofs.condition.listed.Goals as goal
 
 pub invariant_of-result : goal.invariant_of-result

@@ -4,7 +4,7 @@ use Rattle.sql_parts.specs.Tokens.{tokens}
 use Rattle.sql_builder.specs.Layout.{byte_units}
 use Rattle.sql_builder.specs.Phrases.{in_brackets}
 use Rattle.sql_builder.specs.Truths.{truth}
-use Rattle.sql_typed.proofs.ConditionLemmas.{negation_fragment, negation_truth}
+use Rattle.sql_builder.proofs.truth.CombinedLemmas.{negation_fragment, negation_truth}
 use Rattle.std.specs.Prelude.{string_bytes}
 use Rattle.sql_typed.proofs.condition.not.Goals as goal
 

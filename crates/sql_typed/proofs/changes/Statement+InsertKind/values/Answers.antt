@@ -1,4 +1,4 @@
-use Rattle.sql_typed.proofs.ConditionLemmas.{operands_balanced}
+use Rattle.sql_builder.proofs.truth.CombinedLemmas.{operands_balanced}
 use Rattle.sql_typed.proofs.changes.Statement+InsertKind.values.Goals as goal
 
 pub with_values-requires : goal.with_values-requires

@@ -1,5 +1,5 @@
 use Rattle.std.proofs.Common.{◌≡◌, ◌∙◌, ap, refl, true}
-use Rattle.sql_typed.specs.Fits.{call_fits}
+use Rattle.sql_builder.specs.FitCalls.{call_fits}
 use Rattle.sql_typed.specs.Steps.{operator_call}
 use Rattle.sql_typed.specs.declared.select.JoinKind.{JoinKind}
 use Rattle.sql_typed.specs.declared.select.JoinKind.TheVariants.{Inner, Left, LeftOuter, Right, RightOuter, Cross}

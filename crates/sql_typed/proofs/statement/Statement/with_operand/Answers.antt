@@ -1,6 +1,6 @@
 use Rattle.std.proofs.Common.{◌∙◌, refl}
-use Rattle.sql_typed.proofs.ConditionLemmas.{fits_as}
-use Rattle.sql_typed.proofs.FitLemmas.{unary_fits}
+use Rattle.sql_builder.proofs.truth.CombinedLemmas.{fits_as}
+use Rattle.sql_builder.proofs.fragments.FitListLemmas.{unary_fits}
 use Rattle.sql_typed.proofs.statement.Statement.with_operand.Goals as goal
 
 pub add-requires : goal.add-requires

@@ -1,7 +1,8 @@
 use Rattle.std.proofs.Common.{◌∙◌, ◌++◌, ap, map, rules, subst, sym}
 use Rattle.sql_builder.specs.Calls.{Values}
 use Rattle.sql_typed.specs.Fits.{IsFitBy, Made}
-use Rattle.sql_typed.proofs.FitLemmas.{one_more, row_fits}
+use Rattle.sql_builder.proofs.fragments.FitListLemmas.{row_fits}
+use Rattle.sql_typed.proofs.FitLemmas.{one_more}
 use Rattle.sql_typed.proofs.statement.Statement.with_values.Goals as goal
 
 pub invariant_of-result : goal.invariant_of-result

@@ -1,0 +1,319 @@
+-- The texts of conditions are fragments, and what is true of those that are made of others.
+use Rattle.std.proofs.Common.{◌≡◌, refl, sym, ◌∙◌, ap, subst, ℕ, Bool, true, false, not, ◌&&◌, List, [], ◌∷◌, ◌++◌, map, pos, codes, append-nil, append_assoc, length, ◌≤◌, arith}
+use Rattle.std.specs.Prelude.{flat_map}
+use Rattle.std.specs.List.{AllByRecursion, list_all}
+use Rattle.std.proofs.lemmas.Bool.{and_from, and_parts, not_from_false}
+use Rattle.std.proofs.lemmas.List.Folds.{list_all-append}
+use Rattle.sql_parts.specs.Fragments.{balanced, is_clause_word, is_joining}
+use Rattle.sql_parts.specs.Operands.{ServesAsOperand, is_fragment}
+use Rattle.sql_parts.specs.Quoting.{quoted}
+use Rattle.sql_parts.specs.Text.{join_with}
+use Rattle.sql_parts.specs.Tokens.{Token, Str, Word, tokens}
+use Rattle.sql_parts.proofs.tokens.JoinFacts.{Edged}
+use Rattle.sql_parts.proofs.fragments.DepthFacts.{closes_from, has_top_level, has_top_level-is, is_balanced, is_balanced-is, is_even}
+use Rattle.sql_builder.specs.Calls.{Cond, SelectFrom, Sql}
+use Rattle.sql_builder.specs.Condition.{ConditionText, Like, condition_bytes, condition_pieces, condition_raw_texts, mask_text, not_text}
+use Rattle.sql_builder.specs.Layout.{byte_units}
+use Rattle.sql_builder.specs.Phrases as phrase
+use Rattle.sql_builder.specs.Pieces.{Pieces, Fixed, Quoted, Raw, fixed_piece, pieces_text, quoted_piece, raw_piece}
+use Rattle.sql_builder.specs.RawFragments.{are_fit, has_closed_fragments, is_closed_piece, is_fit}
+use Rattle.sql_builder.specs.RawTexts.{Bare, Enclosed}
+use Rattle.sql_builder.specs.Shape.{cond_tokens, pieces_tokens}
+use Rattle.sql_builder.specs.Truths.{Valuation, and_all, not3, or_all, truth}
+use Rattle.sql_builder.specs.WhereTokens.{in_brackets, joined}
+use Rattle.sql_builder.specs.declared.condition.Family.TheVariants.{And}
+use Rattle.sql_builder.specs.declared.condition.Percent.{Percent}
+use Rattle.sql_builder.proofs.fragments.FitLemmas.{fit_conditions}
+use Rattle.sql_builder.proofs.pieces.ClauseShapeLemmas.{condition_keeps}
+use Rattle.sql_builder.proofs.pieces.ShapeLemmas.{Inside, brackets-inside, joined-inside, pieces_tokens-brackets, quoted-inside, raw-inside, shaped, text-append}
+use Rattle.sql_builder.proofs.pieces.ShapeLemmas.{closing-last, words-between, words-first, words-following, words-last}
+use Rattle.sql_builder.proofs.reading.ClauseWordLemmas.{are_fit-is, fit-balanced, fragments_closed}
+use Rattle.sql_builder.proofs.tokens.BalancedFacts.{IsPlain, balanced_closed, balanced_even, even_closes, is_balanced-brackets, is_condition-append}
+use Rattle.sql_builder.proofs.tokens.BalancedFacts.{is_condition-joined, is_even-brackets, no_clause-brackets}
+use Rattle.sql_builder.proofs.tokens.WhereTokenFacts.{and_word, is_condition, is_group, not_word, or_word}
+use Rattle.sql_builder.proofs.truth.ConditionGroupLemmas.{condition-fit, pieces_tokens-joined}
+use Rattle.sql_builder.proofs.truth.ConnectiveLemmas.{none-brackets, or3-False, truth_brackets}
+use Rattle.sql_builder.proofs.truth.TruthLemmas.{of_not}
+use Rattle.sql_builder.proofs.truth.WhereLemmas.{bracketed_groups, condition_closes, condition_no_clause, truth_group, truth_joined}
+use Rattle.sql_builder.specs.Combined.{IsCombined, combined_text, joined_text, like_text, negation_text}
+
+-- a text is a fragment where its tokens are a condition
+fragment-is : (text : List ℕ) → is_fragment text ≡ is_condition (tokens text)
+fragment-is text i = is_balanced-is (tokens text) i && not (has_top_level-is is_clause_word (tokens text) i)
+
+pub condition-of : (text : List ℕ) → is_fragment text ≡ true → is_condition (tokens text) ≡ true
+condition-of text is = sym (fragment-is text) ∙ is
+
+pub fragment_closed : (text : List ℕ) → is_fragment text ≡ true → has_closed_fragments (raw_piece text) ≡ true
+fragment_closed text is = and_from _ _ (balanced_closed text (and_parts (balanced text) _ is).0) refl
+
+-- pieces whose tokens are a condition
+from-pieces : (ps : Pieces) → Inside ps → has_closed_fragments ps ≡ true → is_condition (pieces_tokens ps) ≡ true → is_fragment (pieces_text ps) ≡ true
+from-pieces ps inside shut is = fragment-is (pieces_text ps) ∙ ap is_condition ((shaped ps inside).shape_is shut) ∙ is
+
+-- ---- conditions on a field
+
+pub condition_fragment : (condition : ConditionText) → list_all is_fit (condition_raw_texts condition) ≡ true
+    → is_fragment (condition_bytes condition) ≡ true
+condition_fragment condition fits =
+    let fit : are_fit (condition_pieces condition) ≡ true =
+    (and_parts (are_fit (condition_pieces condition)) true
+    (fit_conditions (SelectFrom (codes "t")) (Cond And condition ∷ []) Sql (and_from _ _ (and_from _ _ refl (and_from _ _ fits refl)) refl))).0 in
+    let shut = fragments_closed (condition_pieces condition) (fit-balanced (pos 0) (condition_pieces condition) (sym (are_fit-is (condition_pieces condition)) ∙ fit)) in
+    fragment-is (condition_bytes condition) ∙ ap is_condition ((condition_keeps condition).0 shut) ∙ condition-fit condition fit
+
+-- a text that an operand has is a fragment
+pub fits_as : {text given : List ℕ} → text ≡ given → ServesAsOperand given → is_fragment text ≡ true
+fits_as is serves = ap is_fragment is ∙ and_from _ _ serves.is_balanced serves.no_clause_word
+
+pub operands_fit : {X : Type 0} (text : X → List ℕ) → ((x : X) → ServesAsOperand (text x)) → (values : List X)
+    → list_all is_fit (map Enclosed (map text values)) ≡ true
+operands_fit text serves [] = refl
+operands_fit text serves (value ∷ values) = and_from _ _ (serves value).is_balanced (operands_fit text serves values)
+
+pub operands_balanced : {X : Type 0} (text : X → List ℕ) → ((x : X) → ServesAsOperand (text x)) → (values : List X) → list_all balanced (map text values) ≡ true
+operands_balanced text serves [] = refl
+operands_balanced text serves (value ∷ values) = and_from _ _ (serves value).is_balanced (operands_balanced text serves values)
+
+-- ---- a mask in which `!` escapes
+
+like-pieces : Bool → List ℕ → List ℕ → Pieces
+like-pieces negated field mask = raw_piece field ++ (fixed_piece (not_text negated ++ codes " LIKE ") ++ (quoted_piece mask ++ fixed_piece (codes " ESCAPE '!'")))
+
+like-inside : (negated : Bool) (field mask : List ℕ) → Inside (like-pieces negated field mask)
+unfolding like-pieces
+like-inside true field mask =
+    words-between (codes " NOT LIKE ") (raw_piece field) (quoted_piece mask ++ fixed_piece (codes " ESCAPE '!'"))
+    (record { is_closed = refl; plain = refl; begins = refl; ends = refl }) (raw-inside field)
+    (words-last (codes " ESCAPE '!'") (quoted_piece mask) (record { is_closed = refl; plain = refl }) (words-following (codes " ESCAPE '!'") [] refl) (quoted-inside mask))
+like-inside false field mask =
+    words-between (codes " LIKE ") (raw_piece field) (quoted_piece mask ++ fixed_piece (codes " ESCAPE '!'"))
+    (record { is_closed = refl; plain = refl; begins = refl; ends = refl }) (raw-inside field)
+    (words-last (codes " ESCAPE '!'") (quoted_piece mask) (record { is_closed = refl; plain = refl }) (words-following (codes " ESCAPE '!'") [] refl) (quoted-inside mask))
+
+like-condition : (negated : Bool) (field mask : List ℕ) → is_condition (tokens field) ≡ true → is_condition (pieces_tokens (like-pieces negated field mask)) ≡ true
+unfolding like-pieces
+like-condition true field mask is = is_condition-append (tokens field) (Word (codes "NOT") ∷ Word (codes "LIKE") ∷ Str mask ∷ Word (codes "ESCAPE") ∷ Str (codes "!") ∷ []) is refl refl
+like-condition false field mask is = is_condition-append (tokens field) (Word (codes "LIKE") ∷ Str mask ∷ Word (codes "ESCAPE") ∷ Str (codes "!") ∷ []) is refl refl
+
+-- the text of a condition with ESCAPE behind it
+pub like_text_is : (negated : Bool) (percent : Percent) (field mask : List ℕ) → condition_bytes (Like negated percent field mask) ++ codes " ESCAPE '!'"
+    ≡ like_text negated field (mask_text percent mask)
+like_text_is negated percent field mask =
+    let words = not_text negated ++ codes " LIKE " in
+    append_assoc field (words ++ quoted (mask_text percent mask)) (codes " ESCAPE '!'")
+    ∙ ap (λ rest. field ++ rest) (append_assoc words (quoted (mask_text percent mask)) (codes " ESCAPE '!'"))
+
+pub like_fragment : (negated : Bool) (field mask : List ℕ) → is_fragment field ≡ true → is_fragment (like_text negated field mask) ≡ true
+unfolding like-pieces
+like_fragment negated field mask is =
+    from-pieces (like-pieces negated field mask) (like-inside negated field mask) (fragment_closed field is) (like-condition negated field mask (condition-of field is))
+
+-- ---- conditions joined by a word
+
+bracketed : List ℕ → Pieces
+bracketed text = phrase.in_brackets fixed_piece (raw_piece text)
+
+joined-pieces : List ℕ → List (List ℕ) → Pieces
+joined-pieces words texts = phrase.in_brackets fixed_piece (join_with (fixed_piece words) (map bracketed texts))
+
+abbrev brackets : List ℕ → List ℕ
+brackets text = phrase.in_brackets byte_units text
+
+further-text : (words : List ℕ) (texts : List (List ℕ)) → pieces_text (flat_map (λ item. fixed_piece words ++ item) (map bracketed texts))
+    ≡ flat_map (λ item. words ++ item) (map brackets texts)
+unfolding bracketed
+further-text words [] = refl
+further-text words (t ∷ texts) =
+    text-append (fixed_piece words ++ bracketed t) (flat_map (λ item. fixed_piece words ++ item) (map bracketed texts))
+    ∙ ap (λ rest. (words ++ brackets t) ++ rest) (further-text words texts)
+
+join-text : (words : List ℕ) (texts : List (List ℕ)) → pieces_text (join_with (fixed_piece words) (map bracketed texts)) ≡ join_with words (map brackets texts)
+unfolding bracketed
+join-text words [] = refl
+join-text words (t ∷ texts) =
+    text-append (bracketed t) (flat_map (λ item. fixed_piece words ++ item) (map bracketed texts)) ∙ ap (λ rest. brackets t ++ rest) (further-text words texts)
+
+joined-text : (words : List ℕ) (texts : List (List ℕ)) → pieces_text (joined-pieces words texts) ≡ joined_text words texts
+unfolding joined-pieces
+joined-text words texts =
+    let items = join_with (fixed_piece words) (map bracketed texts) in
+    ap (λ text. codes "(" ++ text) (text-append items (fixed_piece (codes ")")) ∙ ap (λ text. text ++ codes ")") (join-text words texts))
+
+bracketed-inside : (texts : List (List ℕ)) → AllByRecursion Inside (map bracketed texts)
+unfolding bracketed
+bracketed-inside [] = tt
+bracketed-inside (t ∷ texts) = (brackets-inside (raw_piece t) (raw-inside t), bracketed-inside texts)
+
+closed-both : (x y : Pieces) → has_closed_fragments x ≡ true → has_closed_fragments y ≡ true → has_closed_fragments (x ++ y) ≡ true
+closed-both x y one other = list_all-append is_closed_piece x y ∙ and_from _ _ one other
+
+further-closed : (words : List ℕ) (texts : List (List ℕ)) → list_all is_fragment texts ≡ true
+    → has_closed_fragments (flat_map (λ item. fixed_piece words ++ item) (map bracketed texts)) ≡ true
+unfolding bracketed
+further-closed words [] all = refl
+further-closed words (t ∷ texts) all =
+    let both = and_parts (is_fragment t) (list_all is_fragment texts) all in
+    closed-both (fixed_piece words ++ bracketed t) (flat_map (λ item. fixed_piece words ++ item) (map bracketed texts)) (fragment_closed t both.0)
+    (further-closed words texts both.1)
+
+joined-closed : (words t : List ℕ) (texts : List (List ℕ)) → list_all is_fragment (t ∷ texts) ≡ true → has_closed_fragments (joined-pieces words (t ∷ texts)) ≡ true
+unfolding bracketed joined-pieces
+joined-closed words t texts all =
+    let both = and_parts (is_fragment t) (list_all is_fragment texts) all in
+    let further = flat_map (λ item. fixed_piece words ++ item) (map bracketed texts) in
+    closed-both (bracketed t ++ further) (fixed_piece (codes ")"))
+    (closed-both (bracketed t) further (fragment_closed t both.0) (further-closed words texts both.1)) refl
+
+abbrev in_each : List (List ℕ) → List (List Token)
+in_each texts = map (λ text. in_brackets (tokens text)) texts
+
+each-tokens : (texts : List (List ℕ)) → map pieces_tokens (map bracketed texts) ≡ in_each texts
+unfolding bracketed
+each-tokens [] = refl
+each-tokens (t ∷ texts) = λ i. (pieces_tokens-brackets (raw_piece t) ∙ ap in_brackets (append-nil (tokens t))) i ∷ each-tokens texts i
+
+brackets-condition : (ts : List Token) → is_condition ts ≡ true → is_condition (in_brackets ts) ≡ true
+brackets-condition ts is =
+    let even = balanced_even ts (and_parts (is_balanced ts) _ is).0 in
+    and_from _ _ (is_balanced-brackets ts even) (not_from_false _ (no_clause-brackets ts even))
+
+each-condition : (texts : List (List ℕ)) → list_all is_fragment texts ≡ true → list_all is_condition (in_each texts) ≡ true
+each-condition [] all = refl
+each-condition (t ∷ texts) all =
+    let both = and_parts (is_fragment t) (list_all is_fragment texts) all in
+    and_from _ _ (brackets-condition (tokens t) (condition-of t both.0)) (each-condition texts both.1)
+
+-- a word that joins conditions
+record Joins (words : List ℕ) (w : Token) : Type 0 where
+  edged : Edged words
+  is : tokens words ≡ w ∷ []
+  plain : IsPlain w
+
+or_joins : Joins (codes " OR ") or_word
+or_joins = record {
+  edged = record { is_closed = refl; plain = refl; begins = refl; ends = refl };
+  is = refl;
+  plain = record { flat = refl; whole = refl; no_clause = refl };
+}
+
+and_joins : Joins (codes " AND ") and_word
+and_joins = record {
+  edged = record { is_closed = refl; plain = refl; begins = refl; ends = refl };
+  is = refl;
+  plain = record { flat = refl; whole = refl; no_clause = refl };
+}
+
+module _ {words : List ℕ} {w : Token} (joins : Joins words w) (t : List ℕ) (texts : List (List ℕ)) (all : list_all is_fragment (t ∷ texts) ≡ true) where
+  pieces-are : pieces_tokens (joined-pieces words (t ∷ texts)) ≡ in_brackets (joined w (in_each (t ∷ texts)))
+  unfolding joined-pieces
+  pieces-are =
+      pieces_tokens-brackets (join_with (fixed_piece words) (map bracketed (t ∷ texts)))
+      ∙ ap in_brackets (pieces_tokens-joined words w joins.is (map bracketed (t ∷ texts)) ∙ ap (joined w) (each-tokens (t ∷ texts)))
+
+  inside-all : Inside (joined-pieces words (t ∷ texts))
+  unfolding joined-pieces
+  inside-all =
+      brackets-inside (join_with (fixed_piece words) (map bracketed (t ∷ texts)))
+      (joined-inside words joins.edged (map bracketed (t ∷ texts)) (bracketed-inside (t ∷ texts)))
+
+  joined-condition : is_condition (joined w (in_each (t ∷ texts))) ≡ true
+  joined-condition = is_condition-joined w (in_brackets (tokens t)) (in_each texts) joins.plain (each-condition (t ∷ texts) all)
+
+  joined-fragment : is_fragment (joined_text words (t ∷ texts)) ≡ true
+  joined-fragment =
+      ap is_fragment (sym (joined-text words (t ∷ texts)))
+      ∙ from-pieces (joined-pieces words (t ∷ texts)) inside-all (joined-closed words t texts all)
+      (ap is_condition pieces-are ∙ brackets-condition (joined w (in_each (t ∷ texts))) joined-condition)
+
+  joined-tokens : tokens (joined_text words (t ∷ texts)) ≡ in_brackets (joined w (in_each (t ∷ texts)))
+  joined-tokens =
+      ap tokens (sym (joined-text words (t ∷ texts)))
+      ∙ (shaped (joined-pieces words (t ∷ texts)) inside-all).shape_is (joined-closed words t texts all) ∙ pieces-are
+
+pub combined_fragment : (conjunction : Bool) (texts : List (List ℕ)) → list_all is_fragment texts ≡ true → is_fragment (combined_text conjunction texts) ≡ true
+combined_fragment true [] all = refl
+combined_fragment false [] all = refl
+combined_fragment true (t ∷ texts) all = joined-fragment and_joins t texts all
+combined_fragment false (t ∷ texts) all = joined-fragment or_joins t texts all
+
+-- ---- truth
+
+truth-in : (facts : Valuation) (ts : List Token) → is_condition ts ≡ true → truth facts (in_brackets ts) ≡ truth facts ts
+truth-in facts ts is = truth_brackets facts ts (condition_closes ts is) (condition_no_clause ts is)
+
+truths-in : (facts : Valuation) (texts : List (List ℕ)) → list_all is_fragment texts ≡ true
+    → map (truth facts) (in_each texts) ≡ map (λ text. truth facts (tokens text)) texts
+truths-in facts [] all = refl
+truths-in facts (t ∷ texts) all =
+    let both = and_parts (is_fragment t) (list_all is_fragment texts) all in
+    λ i. truth-in facts (tokens t) (condition-of t both.0) i ∷ truths-in facts texts both.1 i
+
+abbrev alone : List ℕ → List (List Token)
+alone text = tokens text ∷ []
+
+groups-are : (texts : List (List ℕ)) → bracketed_groups (map alone texts) ≡ in_each texts
+groups-are [] = refl
+groups-are (t ∷ texts) = ap (λ more. in_brackets (tokens t) ∷ more) (groups-are texts)
+
+groups-fit : (texts : List (List ℕ)) → list_all is_fragment texts ≡ true → list_all is_group (map alone texts) ≡ true
+groups-fit [] all = refl
+groups-fit (t ∷ texts) all =
+    let both = and_parts (is_fragment t) (list_all is_fragment texts) all in and_from _ _ (and_from _ _ (condition-of t both.0) refl) (groups-fit texts both.1)
+
+truths-alone : (facts : Valuation) (texts : List (List ℕ)) → map (λ group. or_all (map (truth facts) group)) (map alone texts)
+    ≡ map (λ text. truth facts (tokens text)) texts
+truths-alone facts [] = refl
+truths-alone facts (t ∷ texts) = λ i. or3-False (truth facts (tokens t)) i ∷ truths-alone facts texts i
+
+pub any_combined : (texts : List (List ℕ)) → list_all is_fragment texts ≡ true → IsCombined or_all texts (combined_text false texts)
+any_combined [] all = tt
+any_combined (t ∷ texts) all = λ facts.
+    ap (truth facts) (joined-tokens or_joins t texts all)
+    ∙ truth-in facts (joined or_word (in_each (t ∷ texts))) (joined-condition or_joins t texts all)
+    ∙ truth_group facts (in_brackets (tokens t)) (in_each texts) (each-condition (t ∷ texts) all)
+    ∙ ap or_all (truths-in facts (t ∷ texts) all)
+
+pub all_combined : (texts : List (List ℕ)) → list_all is_fragment texts ≡ true → IsCombined and_all texts (combined_text true texts)
+all_combined [] all = tt
+all_combined (t ∷ texts) all = λ facts.
+    ap (truth facts) (joined-tokens and_joins t texts all)
+    ∙ truth-in facts (joined and_word (in_each (t ∷ texts))) (joined-condition and_joins t texts all)
+    ∙ ap (λ items. truth facts (joined and_word items)) (sym (groups-are (t ∷ texts)))
+    ∙ truth_joined facts (alone t) (map alone texts) (groups-fit (t ∷ texts) all)
+    ∙ ap and_all (truths-alone facts (t ∷ texts))
+
+-- ---- NOT
+
+negation-pieces : List ℕ → Pieces
+negation-pieces text = fixed_piece (codes "NOT (") ++ (raw_piece text ++ fixed_piece (codes ")"))
+
+negation-inside : (text : List ℕ) → Inside (negation-pieces text)
+unfolding negation-pieces
+negation-inside text =
+    words-first (codes "NOT (") (raw_piece text ++ fixed_piece (codes ")")) (record { is_closed = refl; plain = refl }) refl
+    (closing-last (raw_piece text) (raw-inside text))
+
+negation-are : (text : List ℕ) → pieces_tokens (negation-pieces text) ≡ not_word ∷ in_brackets (tokens text)
+unfolding negation-pieces in_brackets
+negation-are text = refl
+
+not-condition : (ts : List Token) → is_condition ts ≡ true → is_condition (not_word ∷ in_brackets ts) ≡ true
+not-condition ts is =
+    let even = balanced_even ts (and_parts (is_balanced ts) _ is).0 in
+    and_from _ _ (is_even-brackets ts even) (not_from_false _ (no_clause-brackets ts even))
+
+pub negation_fragment : (text : List ℕ) → is_fragment text ≡ true → is_fragment (negation_text text) ≡ true
+unfolding negation-pieces
+negation_fragment text is =
+    from-pieces (negation-pieces text) (negation-inside text) (fragment_closed text is)
+    (ap is_condition (negation-are text) ∙ not-condition (tokens text) (condition-of text is))
+
+pub negation_truth : (text : List ℕ) → is_fragment text ≡ true → (facts : Valuation) → truth facts (tokens (negation_text text)) ≡ not3 (truth facts (tokens text))
+unfolding negation-pieces
+negation_truth text is facts =
+    let ts = tokens text in
+    let here = condition-of text is in
+    ap (truth facts) ((shaped (negation-pieces text) (negation-inside text)).shape_is (fragment_closed text is) ∙ negation-are text)
+    ∙ of_not facts (in_brackets ts) (not_from_false _ (has_top_level-is is_joining (in_brackets ts) ∙ none-brackets is_joining ts refl (condition_closes ts here)))
+    ∙ ap not3 (truth-in facts ts here)
