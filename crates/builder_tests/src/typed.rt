@@ -3,6 +3,7 @@
 use callers::form::{Form, search};
 use callers::searches::{Search, search_printed};
 use callers::typed::search_typed;
+use callers::values::Column;
 use sql_builder::SqlBuilderError;
 use sql_builder::calls::Percent;
 use sql_builder::prelude::*;
@@ -255,11 +256,11 @@ fn asks_by_a_form(rt: HostRuntime) -> Result<(), Fail> {
         price: None,
         genres: None,
         in_stock: false,
-        column: "price",
+        column: Column::Price,
     };
     assert_eq!(rt;
         search(alloc, &nothing)?.as_str(),
-        "SELECT title FROM books ORDER BY \"price\";"
+        "SELECT title FROM books ORDER BY price;"
     );
     let everything = Form {
         title: Some("50%_'"),
@@ -267,11 +268,11 @@ fn asks_by_a_form(rt: HostRuntime) -> Result<(), Fail> {
         price: Some(3),
         genres: Some(&[]),
         in_stock: true,
-        column: "a\"; --",
+        column: Column::Title,
     };
     assert_eq!(rt;
         search(alloc, &everything)?.as_str(),
-        "SELECT title FROM books WHERE (title LIKE '%50!%!_''%' ESCAPE '!') AND (author IS NULL) AND (price >= 3) AND (1 = 0) AND (stock > 0) ORDER BY \"a\"\"; --\";"
+        "SELECT title FROM books WHERE (title LIKE '%50!%!_''%' ESCAPE '!') AND (author IS NULL) AND (price >= 3) AND (1 = 0) AND (stock > 0) ORDER BY title;"
     );
     let genres = [Value("it's"), Value("b")];
     let some = Form {
@@ -281,7 +282,7 @@ fn asks_by_a_form(rt: HostRuntime) -> Result<(), Fail> {
     };
     assert_eq!(rt;
         search(alloc, &some)?.as_str(),
-        "SELECT title FROM books WHERE (author = 'O''Neill') AND (genre IN ('it''s', 'b')) ORDER BY \"price\";"
+        "SELECT title FROM books WHERE (author = 'O''Neill') AND (genre IN ('it''s', 'b')) ORDER BY price;"
     );
     Ok(())
 }

@@ -4,16 +4,15 @@ use Rattle.std.specs.Borrow.{Bor}
 use Rattle.sql_parts.specs.Literal.{literal_text, words}
 use Rattle.sql_builder.specs.Calls.{Cond, Field, OrderAsc, SelectFrom}
 use Rattle.sql_builder.specs.Condition.{Compare, Raw, condition_bytes}
-use Rattle.sql_builder.specs.Quoting.{quoted}
 use Rattle.sql_builder.specs.Text.{decimal_text}
 use Rattle.sql_builder.specs.declared.condition.Family.TheVariants.{And}
 use Rattle.sql_builder.specs.declared.condition.Percent.TheVariants.{Any}
 use Rattle.sql_builder.specs.declared.condition.Relation.TheVariants.{Ge, Gt}
-use Rattle.sql_parts.specs.Quoting.{dquoted}
 use Rattle.sql_parts.specs.declared.arg.Value.{Value}
 use Rattle.sql_builder.specs.Combined.{like_text}
 use Rattle.sql_typed.specs.Conditions.{equal_or_null, escaped_mask, list_text}
 use Rattle.sql_typed.specs.Fits.{Made, adding, beginning}
+use Rattle.callers.specs.Columns.{column_text}
 use Rattle.callers.specs.declared.form.Form.{Form}
 
 -- one more condition
@@ -47,7 +46,7 @@ in_stock stocked before = if stocked then where_also (condition_bytes (Compare G
 -- the titles of such books, in the order of a column
 abbrev pub asked : Form → Made
 asked form =
-    adding (OrderAsc (dquoted form.column.now))
+    adding (OrderAsc (column_text form.column))
     (in_stock form.in_stock
     (of_genres form.genres
     (from_price form.price

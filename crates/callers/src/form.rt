@@ -1,14 +1,16 @@
 //! A search form: what users type narrows a search and orders it. No proof is written for it.
-ghost use Rattle.std.specs.Prelude.{◌≡◌, option_map, string_bytes, IfOk, IsTrue};
+ghost use Rattle.std.specs.Prelude.{◌≡◌, string_bytes, IfOk, IsTrue, Ok};
+ghost use Rattle.sql_builder.specs.Calls.{Sql};
 ghost use Rattle.sql_builder.specs.Meaning.{HasTruthOf, condition_groups};
 ghost use Rattle.sql_builder.specs.Shape.{EndsInOneSemicolon};
+ghost use Rattle.sql_builder.specs.Statement.{statement};
 ghost use Rattle.sql_builder.specs.Tokens.{closed, tokens};
 ghost use Rattle.sql_typed.specs.Results.{Gives};
 ghost use Rattle.callers.specs.Forms.{asked, from_price, in_stock, of_author, of_genres, of_title};
 
-use sql_builder::SqlName;
+use crate::values::Column;
 use sql_builder::arg::Value;
-use sql_builder::text::{Fragment, Operand, Quotes};
+use sql_builder::text::{Fragment, Operand};
 use sql_typed::condition::{contains, eq_or_null, ge, gt, in_values};
 use sql_typed::{Result, Select};
 use std::alloc::Global;
@@ -27,7 +29,7 @@ pub struct Form<'a> {
     /// Whether it has to be in stock.
     pub in_stock: bool,
     /// The column that orders what is found.
-    pub column: &'a str,
+    pub column: Column,
 }
 
 fn with_title(alloc: Global, books: Select, title: Option<&str>) -> Result<Select>
@@ -86,13 +88,14 @@ pub fn asking(alloc: Global, form: &Form<'_>) -> Result<Select>
     let books = priced_from(alloc, books, form.price)?;
     let books = of_these(alloc, books, form.genres)?;
     let books = stocked(alloc, books, form.in_stock)?;
-    let column = SqlName::new(alloc, form.column)?.operand(Quotes::Double)?;
-    books.order_asc(column)
+    books.order_asc(form.column)
 }
 
 /// The statement of a form, whatever was typed: closed, with one `;`, and a WHERE that has the truth
-/// of the filters that are given. It fails only if memory runs out.
+/// of the filters that are given.
 pub fn search(alloc: Global, form: &Form<'_>) -> Result<String>
+    ensures statement { IfOk result (λ s. let asked = asked form.now in
+        statement asked.start asked.calls Sql ≡ Ok (string_bytes s)) }
     ensures closed { IfOk result (λ s. IsTrue (closed (string_bytes s))) }
     ensures semicolon { IfOk result (λ s. EndsInOneSemicolon (tokens (string_bytes s))) }
     ensures truth { IfOk result (λ s. HasTruthOf (condition_groups (asked form.now).calls)

@@ -1,7 +1,10 @@
 //! The search of `searches` by types, which takes no proof.
-ghost use Rattle.std.specs.Prelude.{◌≡◌, string_bytes, IfOk, IsTrue};
+ghost use Rattle.std.specs.Prelude.{◌≡◌, codes, string_bytes, IfOk, IsTrue, Ok};
+ghost use Rattle.sql_builder.specs.Calls.{Sql};
 ghost use Rattle.sql_builder.specs.Meaning.{HasTruthOf, condition_groups};
 ghost use Rattle.sql_builder.specs.Shape.{EndsInOneSemicolon};
+ghost use Rattle.sql_builder.specs.Statement.{statement};
+ghost use Rattle.sql_builder.specs.StringTexts.{outline};
 ghost use Rattle.sql_builder.specs.Tokens.{closed, tokens};
 ghost use Rattle.sql_typed.specs.Results.{Gives};
 ghost use Rattle.callers.specs.TypedSearches.{asked, by_author, by_price, by_stock, by_title};
@@ -19,12 +22,12 @@ pub fn titled(alloc: Global, books: Select, title: Option<&str>) -> Result<Selec
     ensures made { Gives result (by_title title.entry books) }
 {
     match title {
-        Some(title) => Ok(books.and_where(like(
+        Some(title) => books.and_where(like(
             alloc,
             Percent::Any,
-            Operand { text: "title" },
+            Operand::of("title"),
             Value(title),
-        )?)?),
+        )?),
         None => Ok(books),
     }
 }
@@ -34,7 +37,7 @@ pub fn written_by(alloc: Global, books: Select, author: Option<&str>) -> Result<
     ensures made { Gives result (by_author author.entry books) }
 {
     match author {
-        Some(author) => Ok(books.and_where(eq(alloc, Operand { text: "author" }, Value(author))?)?),
+        Some(author) => books.and_where(eq(alloc, Operand::of("author"), Value(author))?),
         None => Ok(books),
     }
 }
@@ -44,7 +47,7 @@ pub fn priced_from(alloc: Global, books: Select, price: Option<u32>) -> Result<S
     ensures made { Gives result (by_price price books) }
 {
     match price {
-        Some(price) => Ok(books.and_where(ge(alloc, Operand { text: "price" }, price)?)?),
+        Some(price) => books.and_where(ge(alloc, Operand::of("price"), price)?),
         None => Ok(books),
     }
 }
@@ -54,7 +57,7 @@ pub fn stocked(alloc: Global, books: Select, in_stock: bool) -> Result<Select>
     ensures made { Gives result (by_stock in_stock books) }
 {
     if in_stock {
-        Ok(books.and_where(gt(alloc, Operand { text: "stock" }, 0)?)?)
+        books.and_where(gt(alloc, Operand::of("stock"), 0)?)
     } else {
         Ok(books)
     }
@@ -64,7 +67,7 @@ pub fn stocked(alloc: Global, books: Select, in_stock: bool) -> Result<Select>
 pub fn searching(alloc: Global, search: &Search<'_>) -> Result<Select>
     ensures made { Gives result (asked search.now) }
 {
-    let books = Select::from(alloc, Fragment { text: "books" })?.field(Operand { text: "title" })?;
+    let books = Select::from(alloc, Fragment::of("books"))?.field(Operand::of("title"))?;
     let books = titled(alloc, books, search.title)?;
     let books = written_by(alloc, books, search.author)?;
     let books = priced_from(alloc, books, search.least_price)?;
@@ -74,11 +77,23 @@ pub fn searching(alloc: Global, search: &Search<'_>) -> Result<Select>
 /// The titles of the books that a search asks for. Whatever its texts are, the statement is closed
 /// and ends in its only `;`, and its WHERE has the truth of the filters that are given.
 pub fn search_typed(alloc: Global, search: &Search<'_>) -> Result<String>
+    ensures statement { IfOk result (λ s. let asked = asked search.now in
+        statement asked.start asked.calls Sql ≡ Ok (string_bytes s)) }
     ensures closed { IfOk result (λ s. IsTrue (closed (string_bytes s))) }
     ensures semicolon { IfOk result (λ s. EndsInOneSemicolon (tokens (string_bytes s))) }
     ensures truth { IfOk result (λ s. HasTruthOf (condition_groups (asked search.now).calls)
         (string_bytes s)) }
 {
     let books = searching(alloc, search)?;
+    books.sql()
+}
+
+/// The books of this author. Whoever it is, the tokens are the same, but for the text of the string.
+pub fn by_author(alloc: Global, author: &str) -> Result<String>
+    ensures same { IfOk result (λ s. outline (string_bytes s)
+        ≡ tokens (codes "SELECT * FROM books WHERE author = '';")) }
+{
+    let books = Select::from(alloc, Fragment::of("books"))?;
+    let books = books.and_where(eq(alloc, Operand::of("author"), Value(author))?)?;
     books.sql()
 }

@@ -9,10 +9,11 @@ ghost use Rattle.callers.specs.Columns.{column_text};
 
 use sql_builder::prelude::*;
 use sql_builder::{SqlBuilderError, name};
+use sql_typed::OperandText;
 use std::alloc::Global;
 
 /// A column of the table of books: untrusted text is none.
-#[derive(Drop)]
+#[derive(Clone, Copy, Drop)]
 pub enum Column {
     /// The title.
     Title,
@@ -30,6 +31,16 @@ impl ToText for Column {
         };
         Ok(String::from_str(alloc, name)?)
     }
+}
+
+impl OperandText for Column {
+    ghost use Rattle.std.specs.Prelude.{refl};
+    ghost use Rattle.callers.specs.declared.values.Column.TheVariants.{Title, Price};
+
+    ghost serves_as_operand = { elim [
+      | Title ↦ record { is_operand = refl; is_balanced = refl; is_closed = refl; no_clause_word = refl }
+      | Price ↦ record { is_operand = refl; is_balanced = refl; is_closed = refl; no_clause_word = refl }
+    ] };
 }
 
 /// A price in cents.

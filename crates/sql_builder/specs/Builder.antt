@@ -3,7 +3,7 @@ use Rattle.std.specs.Prelude.{ℕ, List, [], ◌∷◌, ◌++◌, None, Some, Bo
 use Rattle.sql_parts.specs.Error.{IsMemory}
 use Rattle.sql_parts.specs.declared.error.SqlBuilderError.{SqlBuilderError}
 use Rattle.sql_builder.specs.Calls as call
-use Rattle.sql_builder.specs.Calls.{CallText, StartText, binary_call, kind_of, unary_call, variadic_call}
+use Rattle.sql_builder.specs.Calls.{CallText, StartText, binary_call, kind_of, nullary_call, unary_call, variadic_call}
 use Rattle.sql_builder.specs.Clauses.{Clauses, new_clauses}
 use Rattle.sql_builder.specs.Layout.{byte_units}
 use Rattle.sql_builder.specs.Phrases.{constraint, count, count_as, equation, further_table, join, order, row}
@@ -18,6 +18,8 @@ use Rattle.sql_builder.specs.declared.clauses.JoinOperator.{JoinOperator}
 use Rattle.sql_builder.specs.declared.clauses.JoinOperator.TheVariants as operator
 use Rattle.sql_builder.specs.declared.steps.BinaryClause.{BinaryClause}
 use Rattle.sql_builder.specs.declared.steps.BinaryClause.TheVariants as binary
+use Rattle.sql_builder.specs.declared.steps.NullaryClause.{NullaryClause}
+use Rattle.sql_builder.specs.declared.steps.NullaryClause.TheVariants as nullary
 use Rattle.sql_builder.specs.declared.steps.UnaryClause.{UnaryClause}
 use Rattle.sql_builder.specs.declared.steps.UnaryClause.TheVariants as unary
 use Rattle.sql_builder.specs.declared.steps.VariadicClause.{VariadicClause}
@@ -200,6 +202,10 @@ with_call (call.Limit limit) r = with_limit limit r
 with_call (call.Offset offset) r = with_offset offset r
 with_call (call.Cond family condition) r = with_condition family condition r
 
+-- a call without a text
+abbrev pub with_nullary : NullaryClause → ClauseTexts → ClauseTexts
+with_nullary clause r = with_call (nullary_call clause) r
+
 -- a call with one text
 abbrev pub with_unary : UnaryClause → List ℕ → ClauseTexts → ClauseTexts
 with_unary clause text r = with_call (unary_call clause text) r
@@ -211,6 +217,11 @@ with_binary clause first second r = with_call (binary_call clause first second) 
 -- a call with a list of texts
 abbrev pub with_variadic : VariadicClause → List (List ℕ) → ClauseTexts → ClauseTexts
 with_variadic clause texts r = with_call (variadic_call clause texts) r
+
+-- how a call without a text fails: one of them takes memory
+abbrev pub IsNullaryError : NullaryClause → SqlBuilderError → Type 0
+IsNullaryError nullary.ReturningId error = IsMemory error
+IsNullaryError _ error = ⊥
 
 -- how a call with one text fails
 abbrev pub IsUnaryError : UnaryClause → ClauseTexts → SqlBuilderError → Type 0

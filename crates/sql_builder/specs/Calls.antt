@@ -20,6 +20,8 @@ use Rattle.sql_builder.specs.declared.calls.TableStart.{TableStart}
 use Rattle.sql_builder.specs.declared.calls.TableStart.TheVariants as on_case
 use Rattle.sql_builder.specs.declared.steps.BinaryClause.{BinaryClause}
 use Rattle.sql_builder.specs.declared.steps.BinaryClause.TheVariants as binary
+use Rattle.sql_builder.specs.declared.steps.NullaryClause.{NullaryClause}
+use Rattle.sql_builder.specs.declared.steps.NullaryClause.TheVariants as nullary
 use Rattle.sql_builder.specs.declared.steps.UnaryClause.{UnaryClause}
 use Rattle.sql_builder.specs.declared.steps.UnaryClause.TheVariants as unary
 use Rattle.sql_builder.specs.declared.steps.VariadicClause.{VariadicClause}
@@ -149,6 +151,18 @@ abbrev pub of_list {ℓ} : {X : Type ℓ} → (StartText → List CallText → F
 of_list f start calls finish = f (start_view start) (map call_view calls) (finish_view finish)
 
 -- ---- the calls of a clause that a constant names
+
+-- a call without a text
+abbrev pub nullary_call : NullaryClause → CallText
+nullary_call nullary.Natural = Natural
+nullary_call nullary.Left = Left
+nullary_call nullary.LeftOuter = LeftOuter
+nullary_call nullary.Right = Right
+nullary_call nullary.RightOuter = RightOuter
+nullary_call nullary.Inner = Inner
+nullary_call nullary.Cross = Cross
+nullary_call nullary.Distinct = Distinct
+nullary_call nullary.ReturningId = ReturningId
 
 -- a call with one text
 abbrev pub unary_call : UnaryClause → List ℕ → CallText

@@ -1,11 +1,16 @@
 -- The texts of conditions that are made of others, and of LIKE with an escape character.
-use Rattle.std.specs.Prelude.{◌≡◌, ℕ, List, [], ◌∷◌, ◌++◌, Bool, codes, if◌then◌else◌, map}
+use Rattle.std.specs.Prelude.{◌≡◌, ℕ, IsTrue, List, [], ◌∷◌, ◌++◌, Bool, codes, if◌then◌else◌, map}
+use Rattle.std.specs.List.{list_all}
+use Rattle.sql_parts.specs.Operands.{is_fragment}
 use Rattle.sql_parts.specs.Quoting.{quoted}
+use Rattle.sql_parts.specs.StringTexts.{outline}
 use Rattle.sql_parts.specs.Text.{join_with}
 use Rattle.sql_parts.specs.Tokens.{tokens}
-use Rattle.sql_builder.specs.Condition.{not_text}
+use Rattle.sql_builder.specs.Condition.{ConditionText, condition_bytes, condition_pieces, not_text}
+use Rattle.sql_builder.specs.Interference.{piece_outline}
 use Rattle.sql_builder.specs.Layout.{byte_units}
 use Rattle.sql_builder.specs.Phrases.{in_brackets}
+use Rattle.sql_builder.specs.RawFragments.{has_closed_fragments}
 use Rattle.sql_builder.specs.Truths.{Truth, Valuation, truth}
 
 -- a condition that is true, or false
@@ -38,3 +43,26 @@ IsCombined combining (first ∷ further) text =
 -- NOT and a condition in brackets
 abbrev pub negation_text : List ℕ → List ℕ
 negation_text condition = codes "NOT (" ++ (condition ++ codes ")")
+
+-- ---- texts of strings
+
+-- conditions whose pieces have the same tokens, one by one, but for the texts of strings, and of which the one's fragments are closed,
+-- have the same tokens, but for these texts
+abbrev pub ConditionsFollowTheirPieces : Type 0
+ConditionsFollowTheirPieces = (one other : ConditionText) → map piece_outline (condition_pieces one) ≡ map piece_outline (condition_pieces other)
+    → IsTrue (has_closed_fragments (condition_pieces one)) → outline (condition_bytes one) ≡ outline (condition_bytes other)
+
+-- so have a field that is like a mask, whatever the mask is,
+abbrev pub MasksFollowTheirField : Type 0
+MasksFollowTheirField = (negated : Bool) (one other mask other_mask : List ℕ) → outline one ≡ outline other → IsTrue (is_fragment one)
+    → outline (like_text negated one mask) ≡ outline (like_text negated other other_mask)
+
+-- conditions that are joined,
+abbrev pub CombinedFollowTheirParts : Type 0
+CombinedFollowTheirParts = (conjunction : Bool) (one other : List (List ℕ)) → map outline one ≡ map outline other
+    → IsTrue (list_all is_fragment one) → outline (combined_text conjunction one) ≡ outline (combined_text conjunction other)
+
+-- and the NOT of a condition
+abbrev pub NegationsFollowTheirPart : Type 0
+NegationsFollowTheirPart = (one other : List ℕ) → outline one ≡ outline other → IsTrue (is_fragment one)
+    → outline (negation_text one) ≡ outline (negation_text other)

@@ -19,6 +19,7 @@ pub mod Meaning
 pub mod TokenParts
 pub mod Phrases
 pub mod Printed
+pub mod PrintedLists
 pub mod Reading
 pub mod Shape
 pub mod Statement

@@ -1,22 +1,19 @@
 //! The builder: calls add clauses to it, and it prints a statement of them.
-ghost use Rattle.std.specs.Prelude.{◌≡◌, [], map, IfOk, OnErr, OnOk, string_bytes};
+ghost use Rattle.std.specs.Prelude.{◌≡◌, [], map, IfOk, string_bytes};
 ghost use Rattle.sql_parts.specs.Error.{FailsOnlyByMemory};
-ghost use Rattle.sql_parts.specs.Text.{texts};
 ghost use Rattle.sql_builder.specs.Builder.{started};
 ghost use Rattle.sql_builder.specs.Calls.{SelectFrom, SelectValues, InsertInto, UpdateTable, DeleteFrom};
 ghost use Rattle.sql_builder.specs.Clauses.{new_clauses};
-ghost use Rattle.sql_builder.specs.declared.clauses.Kind.TheVariants as TheKinds;
 
 use crate::clauses::{GroupedCondition, JoinOperator, Kind, copy_conditions};
-use crate::concat::replace;
+use crate::ghost_list::Bytes;
 use crate::optional_text::OptionalText;
+use crate::printed_list::PrintedList;
 use crate::text_list::TextList;
-use crate::union_list::UnionList;
-use sql_parts::text::{Items, Texts, copies};
+use sql_parts::text::Items;
 use sql_parts::{SqlBuilderError, ToText};
-use std::alloc::{AllocError, Global};
+use std::alloc::Global;
 use std::marker::Model;
-use std::mem::swap;
 
 /// A builder of a statement. Contracts see it as its clauses, each text as its bytes.
 pub struct SqlBuilder {
@@ -25,7 +22,7 @@ pub struct SqlBuilder {
     // The table text, with every table that was added.
     pub(crate) table: String,
     // Each join with its constraints.
-    pub(crate) joins: Vec<String>,
+    pub(crate) joins: PrintedList<Bytes>,
     // The operator of the joins to come.
     pub(crate) operator: Option<JoinOperator>,
     // Whether the next join is NATURAL.
@@ -39,7 +36,7 @@ pub struct SqlBuilder {
     pub(crate) group_fields: TextList,
     pub(crate) having: OptionalText,
     pub(crate) conditions: Vec<GroupedCondition>,
-    pub(crate) unions: UnionList,
+    pub(crate) unions: PrintedList<(bool, Bytes)>,
     pub(crate) order_fields: TextList,
     pub(crate) limit: OptionalText,
     pub(crate) offset: OptionalText,
@@ -79,7 +76,6 @@ impl Drop for SqlBuilder {
 impl Model for SqlBuilder {
     ghost use Rattle.std.specs.Prelude.{List, ℕ, string_bytes};
     ghost use Rattle.sql_builder.specs.Builder.{group_texts};
-    ghost use Rattle.sql_parts.specs.Text.{texts};
     ghost use Rattle.sql_builder.specs.Clauses.{Clauses};
 
     ghost Value = { Clauses (List ℕ) };
@@ -87,7 +83,7 @@ impl Model for SqlBuilder {
     ghost view = { λ b. record {
       kind = b.kind;
       table = string_bytes b.table;
-      joins = texts b.joins.items;
+      joins = b.joins;
       operator = b.operator;
       natural = b.natural;
       distinct = b.distinct;
@@ -116,7 +112,12 @@ type OptionalTexts = (
 );
 
 // Copies of the conditions, GROUP BY, the unions and ORDER BY.
-type FurtherClauses = (Vec<GroupedCondition>, TextList, UnionList, TextList);
+type FurtherClauses = (
+    Vec<GroupedCondition>,
+    TextList,
+    PrintedList<(bool, Bytes)>,
+    TextList,
+);
 
 impl SqlBuilder {
     ghost use Rattle.sql_builder.specs.Builder.{group_texts};
@@ -128,7 +129,7 @@ impl SqlBuilder {
             alloc,
             kind,
             table,
-            joins: Vec::new(alloc),
+            joins: PrintedList::new(alloc),
             operator: None,
             natural: false,
             distinct: false,
@@ -140,7 +141,7 @@ impl SqlBuilder {
             group_fields: TextList::new(alloc),
             having: OptionalText::new(alloc),
             conditions: Vec::new(alloc),
-            unions: UnionList::new(alloc),
+            unions: PrintedList::new(alloc),
             order_fields: TextList::new(alloc),
             limit: OptionalText::new(alloc),
             offset: OptionalText::new(alloc),
@@ -160,8 +161,8 @@ impl SqlBuilder {
         Ok(SqlBuilder::new(alloc, kind, table, TextList::new(alloc)))
     }
 
-    // Removes every clause but the table and the fields, and keeps the buffers.
-    fn clear(&mut self, kind: Kind)
+    /// Removes every clause but the table and the fields, and keeps the buffers.
+    pub(crate) fn clear(&mut self, kind: Kind)
         ensures { self.new ≡ new_clauses kind self.old.table self.old.fields }
     {
         self.kind = kind;
@@ -180,35 +181,6 @@ impl SqlBuilder {
         self.order_fields.clear();
         self.limit.clear();
         self.offset.clear();
-    }
-
-    /// Makes this the builder of a statement on a table. Where memory runs out, it is as it was.
-    pub(crate) fn restart_on(&mut self, kind: Kind, table: &str) -> Result<(), AllocError>
-        ensures restarted { OnOk result (self.new ≡ new_clauses kind table.now []) }
-        ensures unchanged { OnErr result (self.new ≡ self.old) }
-    {
-        replace(&mut self.table, table)?;
-        self.fields.clear();
-        self.clear(kind);
-        Ok(())
-    }
-
-    /// Makes this the builder of a SELECT of values that are taken one after another. Where memory
-    /// runs out, it is as it was.
-    pub(crate) fn restart_values<'a, T: Texts<'a>>(
-        &mut self,
-        values: T,
-    ) -> Result<(), SqlBuilderError>
-        ensures restarted { OnOk result
-            (self.new ≡ new_clauses TheKinds.SelectValues [] (T.left values)) }
-        ensures unchanged { OnErr result (self.new ≡ self.old) }
-        ensures memory { FailsOnlyByMemory result }
-    {
-        self.spare.refill(self.alloc, values)?;
-        swap(&mut self.fields, &mut self.spare);
-        self.table.clear();
-        self.clear(Kind::SelectValues);
-        Ok(())
     }
 
     // The four starts are functions of their own, since as parts of their callers they copied a builder
@@ -271,14 +243,14 @@ impl SqlBuilder {
 
     // A copy of all clauses is made in four steps, none of which holds more than five copies where
     // it fails: the proof of all in one takes long.
-    fn copy_tables(&self) -> Result<(String, Vec<String>), SqlBuilderError>
+    fn copy_tables(&self) -> Result<(String, PrintedList<Bytes>), SqlBuilderError>
         ensures tables { IfOk result (λ copy. string_bytes copy.0 ≡ self.now.table) }
-        ensures joins { IfOk result (λ copy. texts copy.1.items ≡ self.now.joins) }
+        ensures joins { IfOk result (λ copy. copy.1 ≡ self.now.joins) }
         ensures memory { FailsOnlyByMemory result }
     {
         Ok((
             self.table.to_text(self.alloc)?,
-            copies(self.alloc, &self.joins)?,
+            self.joins.copy(self.alloc)?,
         ))
     }
 

@@ -1,5 +1,5 @@
 //! Lists of calls, as values, and the statement that a list makes.
-ghost use Rattle.std.specs.Prelude.{◌≡◌, ◌⊎◌, ◌≤◌, ◌+◌, ◌-◌, ◌^◌, ◌++◌, length, map, min, IfErr, IfOk, IfSome, IsNone, IsOk, IsTrue, Ok, OnErr, OnOk, string_bytes, string_capacity, string_len};
+ghost use Rattle.std.specs.Prelude.{◌≡◌, [], ◌⊎◌, ◌≤◌, ◌+◌, ◌-◌, ◌^◌, ◌++◌, length, map, min, IfErr, IfOk, IfSome, IsNone, IsOk, IsTrue, Ok, OnErr, OnOk, string_bytes, string_capacity, string_len};
 ghost use Rattle.sql_parts.specs.Error.{FailsOnlyByMemory, IsMemory};
 ghost use Rattle.sql_builder.specs.Builder.{started, IsCallError, with_call};
 ghost use Rattle.sql_builder.specs.Calls.{SelectValues, kind_of, call_view, finish_view, of_list, start_on, start_view};
@@ -17,15 +17,19 @@ use crate::builder::SqlBuilder;
 pub use crate::checks::{
     CheckedError, Place, Unfit, check, check_confined, run_checked, run_confined,
 };
-use crate::clauses::{JoinOperator, Kind};
+use crate::clauses::Kind;
+use crate::concat::replace;
 pub use crate::condition::{BorrowedCondition, Condition, Family, Percent, Relation};
+use crate::ghost_list::GhostList;
+use crate::out::Count;
 pub use crate::steps::{
-    BinaryClause, UnaryClause, VariadicClause, add_condition, condition_text, make_binary,
-    make_condition, make_order, make_unary, make_variadic,
+    BinaryClause, NullaryClause, UnaryClause, VariadicClause, add_condition, condition_text,
+    make_binary, make_condition, make_nullary, make_order, make_unary, make_variadic,
 };
 use sql_parts::SqlBuilderError;
 use sql_parts::text::{Items, Texts};
-use std::alloc::Global;
+use std::alloc::{AllocError, Global};
+use std::mem::swap;
 
 /// How a list of calls begins.
 #[derive(Drop)]
@@ -202,7 +206,10 @@ pub fn restart_on(
         TableStart::UpdateTable => Kind::UpdateTable,
         TableStart::DeleteFrom => Kind::DeleteFrom,
     };
-    Ok(builder.restart_on(kind, table)?)
+    replace(&mut builder.table, table)?;
+    builder.fields.clear();
+    builder.clear(kind);
+    Ok(())
 }
 
 /// Makes a builder that of a SELECT of values that are taken one after another, without a table, and
@@ -220,7 +227,11 @@ pub fn restart_values<'a, T: Texts<'a>>(
     ensures unchanged { OnErr result (builder.new ≡ builder.old) }
     ensures memory { FailsOnlyByMemory result }
 {
-    builder.restart_values(values)
+    builder.spare.refill(builder.alloc, values)?;
+    swap(&mut builder.fields, &mut builder.spare);
+    builder.table.clear();
+    builder.clear(Kind::SelectValues);
+    Ok(())
 }
 
 /// Makes a call of a builder. It fails only if memory runs out, and then leaves the builder as it
@@ -236,38 +247,15 @@ pub fn make(builder: &mut SqlBuilder, call: &Call) -> Result<(), SqlBuilderError
     ensures memory { IfErr result (IsCallError (call_view call.now) builder.old) }
 {
     match call {
-        Call::Natural => {
-            builder.natural = true;
-            Ok(())
-        }
-        Call::Left => {
-            builder.operator = Some(JoinOperator::Left);
-            Ok(())
-        }
-        Call::LeftOuter => {
-            builder.operator = Some(JoinOperator::LeftOuter);
-            Ok(())
-        }
-        Call::Right => {
-            builder.operator = Some(JoinOperator::Right);
-            Ok(())
-        }
-        Call::RightOuter => {
-            builder.operator = Some(JoinOperator::RightOuter);
-            Ok(())
-        }
-        Call::Inner => {
-            builder.operator = Some(JoinOperator::Inner);
-            Ok(())
-        }
-        Call::Cross => {
-            builder.operator = Some(JoinOperator::Cross);
-            Ok(())
-        }
-        Call::Distinct => {
-            builder.distinct = true;
-            Ok(())
-        }
+        Call::Natural => make_nullary(builder, NullaryClause::Natural),
+        Call::Left => make_nullary(builder, NullaryClause::Left),
+        Call::LeftOuter => make_nullary(builder, NullaryClause::LeftOuter),
+        Call::Right => make_nullary(builder, NullaryClause::Right),
+        Call::RightOuter => make_nullary(builder, NullaryClause::RightOuter),
+        Call::Inner => make_nullary(builder, NullaryClause::Inner),
+        Call::Cross => make_nullary(builder, NullaryClause::Cross),
+        Call::Distinct => make_nullary(builder, NullaryClause::Distinct),
+        Call::ReturningId => make_nullary(builder, NullaryClause::ReturningId),
         Call::AndTable(table) => make_unary(builder, UnaryClause::AndTable, table),
         Call::Join(table) => make_unary(builder, UnaryClause::Join, table),
         Call::On(constraint) => make_unary(builder, UnaryClause::On, constraint),
@@ -284,7 +272,6 @@ pub fn make(builder: &mut SqlBuilder, call: &Call) -> Result<(), SqlBuilderError
         Call::OrderDesc(field) => make_unary(builder, UnaryClause::OrderDesc, field),
         Call::Limit(limit) => make_unary(builder, UnaryClause::Limit, limit),
         Call::Offset(offset) => make_unary(builder, UnaryClause::Offset, offset),
-        Call::ReturningId => make_unary(builder, UnaryClause::Returning, "id"),
         Call::OnEq(left, right) => make_binary(builder, BinaryClause::OnEq, left, right),
         Call::CountAs(field, name) => make_binary(builder, BinaryClause::CountAs, field, name),
         Call::SetTo(field, value) => make_binary(builder, BinaryClause::SetTo, field, value),
@@ -322,6 +309,16 @@ fn build(alloc: Global, start: &Start, calls: &[Call]) -> Result<SqlBuilder, Sql
     Ok(builder)
 }
 
+// An empty text with room for just what `print` gives.
+#[inline(always)]
+fn room_for(builder: &SqlBuilder, finish: &Finish) -> Result<String, AllocError>
+    ensures empty { IfOk result (λ s. string_bytes s ≡ []) }
+    ensures exact { IfOk result (λ s. string_capacity s
+        ≡ length (text_at (finish_view finish.now) builder.now)) }
+{
+    String::with_capacity(builder.alloc, printed_length(builder, finish))
+}
+
 /// Prints a builder. It fails as the printing call that is meant does, or because memory runs out.
 /// What `begin` and `make` have made prints the statement of its start and calls, which is what `run`
 /// gives (`laws::builders_print_statements`); the laws of statements say the rest of it.
@@ -335,7 +332,10 @@ pub fn print(builder: &SqlBuilder, finish: &Finish) -> Result<String, SqlBuilder
     ensures memory { IsNone (error_at (finish_view finish.now) builder.now)
         → FailsOnlyByMemory result }
 {
-    builder.print(finish)
+    builder.check_finish(finish)?;
+    let mut out = room_for(builder, finish)?;
+    builder.push_finished(finish, &mut out);
+    Ok(out)
 }
 
 /// How many bytes `print` gives, or the greatest `usize` where there are more; also where `print`
@@ -345,7 +345,9 @@ pub fn print(builder: &SqlBuilder, finish: &Finish) -> Result<String, SqlBuilder
 pub fn printed_length(builder: &SqlBuilder, finish: &Finish) -> usize
     ensures { result ≡ min (length (text_at (finish_view finish.now) builder.now)) (2 ^ 64 - 1) }
 {
-    builder.printed_len(finish)
+    let mut count = Count::with_room(GhostList::of(&(builder, finish)));
+    builder.push_finished(finish, &mut count);
+    count.len()
 }
 
 /// Appends to a text what `print` gives. It fails where `print` does, and then the text is as it was.
@@ -371,7 +373,10 @@ pub fn print_to(
         → string_len out.old + length (text_at (finish_view finish.now) builder.now)
         ≤ string_capacity out.old → IsOk result }
 {
-    builder.print_to(finish, out)
+    builder.check_finish(finish)?;
+    out.reserve(printed_length(builder, finish))?;
+    builder.push_finished(finish, out);
+    Ok(())
 }
 
 /// Makes the builder, makes the calls in order, and prints: the statement that the whole list

@@ -1,15 +1,12 @@
 //! What a builder keeps of its clauses.
 ghost use Rattle.std.specs.List.{list_any};
-ghost use Rattle.std.specs.Prelude.{◌≡◌, codes, if◌then◌else◌, map, IfOk, OnOk, OnErr};
+ghost use Rattle.std.specs.Prelude.{◌≡◌, map, IfOk};
 ghost use Rattle.sql_parts.specs.Error.{FailsOnlyByMemory};
-ghost use Rattle.sql_parts.specs.Text.{texts};
-ghost use Rattle.sql_builder.specs.Builder.{condition_in_group, extend_last};
-ghost use Rattle.sql_builder.specs.Concat.{concat_bytes};
+ghost use Rattle.sql_builder.specs.Builder.{condition_in_group};
 ghost use Rattle.sql_builder.specs.Phrases.{operator_text};
 
-use crate::concat::{Part, append};
 use sql_parts::{SqlBuilderError, ToText};
-use std::alloc::{AllocError, Global};
+use std::alloc::Global;
 
 /// The kind of a statement.
 #[derive(Clone, Copy)]
@@ -58,14 +55,6 @@ impl JoinOperator {
 }
 
 impl GroupedCondition {
-    /// What precedes it, where it is not the first and several groups are in brackets.
-    pub(crate) fn words(&self) -> &'static str
-        ensures { result.now
-            ≡ (if self.now.opens_group then codes ") AND (" else codes " OR ") }
-    {
-        if self.opens_group { ") AND (" } else { " OR " }
-    }
-
     fn copy(&self, alloc: Global) -> Result<GroupedCondition, SqlBuilderError>
         ensures copied { IfOk result (λ copied.
             condition_in_group copied ≡ condition_in_group self.now) }
@@ -83,18 +72,6 @@ pub(crate) fn any_opens_group(conditions: &[GroupedCondition]) -> bool
     ensures { result ≡ list_any (λ condition. condition.opens_group) conditions.now }
 {
     conditions.iter().any(|condition| condition.opens_group)
-}
-
-/// Appends to the last join. Where there is none, nothing is done.
-pub(crate) fn append_to_last(joins: &mut [String], parts: &[Part<'_>]) -> Result<(), AllocError>
-    ensures ok { OnOk result
-        (texts joins.new ≡ extend_last (concat_bytes parts.now) (texts joins.old)) }
-    ensures err { OnErr result (texts joins.new ≡ texts joins.old) }
-{
-    match joins.last_mut() {
-        Some(join) => append(join, parts),
-        None => Ok(()),
-    }
 }
 
 /// Copies of the conditions. As a part of `clone` it took a step more for each.

@@ -67,6 +67,7 @@ pub(crate) fn replace(text: &mut String, with: &str) -> Result<(), AllocError>
 }
 
 /// Appends the parts, after one allocation at most. Where that fails, the text is as it was.
+#[inline(always)]
 pub(crate) fn append(text: &mut String, parts: &[Part<'_>]) -> Result<(), AllocError>
     ensures added { OnOk result
         (string_bytes text.new ≡ string_bytes text.old ++ concat_bytes parts.now) }

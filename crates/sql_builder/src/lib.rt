@@ -12,14 +12,14 @@ mod concat;
 mod condition;
 mod ghost_list;
 pub mod laws;
-mod lengths;
 mod optional_text;
+mod out;
 mod phrases;
 pub mod prelude;
+mod printed_list;
 mod printing;
 mod steps;
 mod text_list;
-mod union_list;
 mod where_calls;
 
 pub use builder::SqlBuilder;

@@ -69,10 +69,9 @@ impl OptionalText {
     pub(crate) fn copy(&self, alloc: Global) -> Result<OptionalText, AllocError>
         ensures { IfOk result (λ copy. copy ≡ self.now) }
     {
-        let mut copy = OptionalText::new(alloc);
-        if let Some(text) = self.get() {
-            copy.set(text)?;
-        }
-        Ok(copy)
+        Ok(OptionalText {
+            text: String::from_str(alloc, self.get().unwrap_or(""))?,
+            is_some: self.is_some,
+        })
     }
 }

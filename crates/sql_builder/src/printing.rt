@@ -1,46 +1,45 @@
-//! Prints a builder's clauses as a statement or a query. Each call first adds up the bytes that it
-//! will write, and asks for them in one allocation; then it writes, which can't fail.
+//! Prints a builder's clauses as a statement or a query: to a count of the bytes first, so that room
+//! for them is asked for in one allocation, and then to a text, which can't fail.
 ghost use Rattle.std.specs.Prelude.{◌≡◌, [], ◌∷◌, ◌++◌, IfOk, IfSome, IsNone, IsOk, OnErr, OnOk, length, map, string_bytes, string_capacity};
 ghost use Rattle.std.specs.List.{list_any};
 ghost use Rattle.sql_parts.specs.Error.{FailsOnlyByMemory};
-ghost use Rattle.sql_parts.specs.Text.{texts};
 ghost use Rattle.sql_builder.specs.Builder.{condition_in_group, group_texts};
 ghost use Rattle.sql_builder.specs.Calls.{Query, Sql, Subquery, SubqueryAs, finish_view};
-ghost use Rattle.sql_builder.specs.Concat.{HasRoom, Writes};
+ghost use Rattle.sql_builder.specs.Concat.{Fits, Prints};
 ghost use Rattle.sql_builder.specs.Layout.{byte_units, fields_or_star, query, query_error, query_values, sql_error, select_opening, sql, subquery, subquery_as};
 ghost use Rattle.sql_builder.specs.Meaning.{HasTruthOfGroups, Nests, ReadsBack};
 ghost use Rattle.sql_builder.specs.Phrases.{comma_list};
-ghost use Rattle.sql_builder.specs.Printed.{delete_bytes, further_bytes, further_condition, group_by_bytes, insert_bytes, inserted_bytes, join_bytes, optional_bytes, order_by_bytes, query_end, query_start, statement_bytes, update_bytes, where_bytes, where_end, where_opening};
+ghost use Rattle.sql_builder.specs.Printed.{delete_bytes, further_bytes, further_condition, group_by_bytes, insert_bytes, inserted_bytes, optional_bytes, order_by_bytes, query_end, query_start, statement_bytes, update_bytes, where_bytes, where_end, where_opening};
 ghost use Rattle.sql_builder.specs.Shape.{HasShape, IsClosedAs, as_fragments};
 ghost use Rattle.sql_builder.specs.Statement.{error_at, text_at, unless_error};
 ghost use Rattle.sql_builder.specs.Subqueries.{NestsAsTable};
 ghost use Rattle.sql_builder.specs.Pieces.{fixed_piece, raw_piece};
 
 use crate::builder::SqlBuilder;
-use crate::calls::Finish;
+use crate::calls::{Finish, print};
 use crate::clauses::{GroupedCondition, Kind, any_opens_group};
-use crate::concat::push_text;
+use crate::ghost_list::Bytes;
 use crate::optional_text::OptionalText;
+use crate::out::Out;
+use crate::printed_list::PrintedList;
 use crate::text_list::TextList;
-use crate::union_list::UnionList;
 use sql_parts::{SqlBuilderError, ToText};
-use std::alloc::AllocError;
 
 // Words, and a text behind them. It is a part of each caller, where the words' length is known.
 #[inline(always)]
-fn push_clause(out: &mut String, words: &str, text: &str)
-    requires room { HasRoom out.old (words.now ++ text.now) }
-    ensures { Writes out.old out.new (words.now ++ text.now) }
+fn push_clause<O: Out>(out: &mut O, words: &str, text: &str)
+    requires room { Fits (O.room out.old) (words.now ++ text.now) }
+    ensures { Prints O.printed O.room out.old out.new (words.now ++ text.now) }
 {
-    push_text(out, words);
-    push_text(out, text);
+    out.push(words);
+    out.push(text);
 }
 
 // The words, and the text behind them, if there is one.
 #[inline(always)]
-fn push_optional(out: &mut String, words: &str, text: &OptionalText)
-    requires room { HasRoom out.old (optional_bytes words.now text.now) }
-    ensures { Writes out.old out.new (optional_bytes words.now text.now) }
+fn push_optional<O: Out>(out: &mut O, words: &str, text: &OptionalText)
+    requires room { Fits (O.room out.old) (optional_bytes words.now text.now) }
+    ensures { Prints O.printed O.room out.old out.new (optional_bytes words.now text.now) }
 {
     if let Some(text) = text.get() {
         push_clause(out, words, text);
@@ -49,27 +48,16 @@ fn push_optional(out: &mut String, words: &str, text: &OptionalText)
 
 // Words, and a list of texts with commas between them.
 #[inline(always)]
-fn push_list(out: &mut String, words: &str, items: &TextList)
-    requires room { HasRoom out.old (words.now ++ comma_list byte_units items.now) }
-    ensures { Writes out.old out.new (words.now ++ comma_list byte_units items.now) }
+fn push_list<O: Out>(out: &mut O, words: &str, items: &TextList)
+    requires room { Fits (O.room out.old) (words.now ++ comma_list byte_units items.now) }
+    ensures { Prints O.printed O.room out.old out.new (words.now ++ comma_list byte_units items.now) }
 {
     push_clause(out, words, items.as_str());
 }
 
-/// The words that a query begins with.
-pub(crate) fn select_words(distinct: bool) -> &'static str
-    ensures { result.now ≡ select_opening distinct }
-{
-    if distinct {
-        "SELECT DISTINCT "
-    } else {
-        "SELECT "
-    }
-}
-
-/// The fields, or `*` where there are none.
+// The fields, or `*` where there are none.
 #[tactic(auto, using(crate::proofs::output::PrintingLemmas::some_fields, crate::proofs::output::PrintingLemmas::no_fields))]
-pub(crate) fn fields_text(fields: &TextList) -> &str
+fn fields_text(fields: &TextList) -> &str
     ensures { result.now ≡ fields_or_star byte_units fields.now }
 {
     if fields.is_empty() {
@@ -79,49 +67,44 @@ pub(crate) fn fields_text(fields: &TextList) -> &str
     }
 }
 
-fn push_select(out: &mut String, distinct: bool, fields: &TextList)
-    requires room { HasRoom out.old (select_opening distinct ++ fields_or_star byte_units fields.now) }
-    ensures { Writes out.old out.new (select_opening distinct ++ fields_or_star byte_units fields.now) }
+fn push_select<O: Out>(out: &mut O, distinct: bool, fields: &TextList)
+    requires room { Fits (O.room out.old) (select_opening distinct ++ fields_or_star byte_units fields.now) }
+    ensures { Prints O.printed O.room out.old out.new (select_opening distinct ++ fields_or_star byte_units fields.now) }
 {
-    push_clause(out, select_words(distinct), fields_text(fields));
-}
-
-#[tactic(auto, using(crate::proofs::output::LoopFacts::one_more))]
-fn push_joins(out: &mut String, joins: &[String])
-    requires room { HasRoom out.old (join_bytes (texts joins.now)) }
-    ensures { Writes out.old out.new (join_bytes (texts joins.now)) }
-{
-    for join in joins {
-        push_clause(out, " ", join.as_str());
-    }
+    let words = if distinct {
+        "SELECT DISTINCT "
+    } else {
+        "SELECT "
+    };
+    push_clause(out, words, fields_text(fields));
 }
 
 // The brackets of two neighbours are written at once, and by words of a length that is known here.
 #[inline(always)]
-fn push_further_condition(out: &mut String, condition: &GroupedCondition)
-    requires room { HasRoom out.old (further_condition (condition_in_group condition.now)) }
-    ensures { Writes out.old out.new (further_condition (condition_in_group condition.now)) }
+fn push_further_condition<O: Out>(out: &mut O, condition: &GroupedCondition)
+    requires room { Fits (O.room out.old) (further_condition (condition_in_group condition.now)) }
+    ensures { Prints O.printed O.room out.old out.new (further_condition (condition_in_group condition.now)) }
 {
     if condition.opens_group {
-        push_text(out, ") AND (");
+        out.push(") AND (");
     } else {
-        push_text(out, " OR ");
+        out.push(" OR ");
     }
-    push_text(out, condition.text.as_str());
+    out.push(condition.text.as_str());
 }
 
 #[tactic(auto, using(crate::proofs::output::LoopFacts::one_more))]
-fn push_further_conditions(out: &mut String, conditions: &[GroupedCondition])
-    requires room { HasRoom out.old (further_bytes (map condition_in_group conditions.now)) }
-    ensures { Writes out.old out.new (further_bytes (map condition_in_group conditions.now)) }
+fn push_further_conditions<O: Out>(out: &mut O, conditions: &[GroupedCondition])
+    requires room { Fits (O.room out.old) (further_bytes (map condition_in_group conditions.now)) }
+    ensures { Prints O.printed O.room out.old out.new (further_bytes (map condition_in_group conditions.now)) }
 {
     for condition in conditions {
         push_further_condition(out, condition);
     }
 }
 
-/// What is in front of the first condition and behind the last.
-pub(crate) fn where_words(further: &[GroupedCondition]) -> (&'static str, &'static str)
+// What is in front of the first condition and behind the last.
+fn where_words(further: &[GroupedCondition]) -> (&'static str, &'static str)
     ensures opening { result.0.now ≡ where_opening (list_any (λ c. c.opens_group) further.now) }
     ensures end { result.1.now ≡ where_end (list_any (λ c. c.opens_group) further.now) }
 {
@@ -132,19 +115,19 @@ pub(crate) fn where_words(further: &[GroupedCondition]) -> (&'static str, &'stat
     }
 }
 
-fn push_conditions(out: &mut String, first: &GroupedCondition, further: &[GroupedCondition])
-    requires room { HasRoom out.old (where_bytes (group_texts (first.now ∷ further.now))) }
-    ensures { Writes out.old out.new (where_bytes (group_texts (first.now ∷ further.now))) }
+fn push_conditions<O: Out>(out: &mut O, first: &GroupedCondition, further: &[GroupedCondition])
+    requires room { Fits (O.room out.old) (where_bytes (group_texts (first.now ∷ further.now))) }
+    ensures { Prints O.printed O.room out.old out.new (where_bytes (group_texts (first.now ∷ further.now))) }
 {
     let (opening, end) = where_words(further);
     push_clause(out, opening, first.text.as_str());
     push_further_conditions(out, further);
-    push_text(out, end);
+    out.push(end);
 }
 
-fn push_where(out: &mut String, conditions: &[GroupedCondition])
-    requires room { HasRoom out.old (where_bytes (group_texts conditions.now)) }
-    ensures { Writes out.old out.new (where_bytes (group_texts conditions.now)) }
+fn push_where<O: Out>(out: &mut O, conditions: &[GroupedCondition])
+    requires room { Fits (O.room out.old) (where_bytes (group_texts conditions.now)) }
+    ensures { Prints O.printed O.room out.old out.new (where_bytes (group_texts conditions.now)) }
 {
     if let Some((first, further)) = conditions.split_first() {
         push_conditions(out, first, further);
@@ -152,9 +135,9 @@ fn push_where(out: &mut String, conditions: &[GroupedCondition])
 }
 
 #[tactic(auto, using(crate::proofs::output::PrintingLemmas::some_group_fields, std::proofs::lemmas::List::append_assoc))]
-fn push_group_by(out: &mut String, fields: &TextList, having: &OptionalText)
-    requires room { HasRoom out.old (group_by_bytes fields.now having.now) }
-    ensures { Writes out.old out.new (group_by_bytes fields.now having.now) }
+fn push_group_by<O: Out>(out: &mut O, fields: &TextList, having: &OptionalText)
+    requires room { Fits (O.room out.old) (group_by_bytes fields.now having.now) }
+    ensures { Prints O.printed O.room out.old out.new (group_by_bytes fields.now having.now) }
 {
     if !fields.is_empty() {
         push_list(out, " GROUP BY ", fields);
@@ -164,9 +147,9 @@ fn push_group_by(out: &mut String, fields: &TextList, having: &OptionalText)
 
 // ORDER BY is printed only where there is no union.
 #[tactic(auto, using(crate::proofs::output::PrintingLemmas::ordered))]
-fn push_order_by(out: &mut String, unions: &UnionList, fields: &TextList)
-    requires room { HasRoom out.old (order_by_bytes unions.now fields.now) }
-    ensures { Writes out.old out.new (order_by_bytes unions.now fields.now) }
+fn push_order_by<O: Out>(out: &mut O, unions: &PrintedList<(bool, Bytes)>, fields: &TextList)
+    requires room { Fits (O.room out.old) (order_by_bytes unions.now fields.now) }
+    ensures { Prints O.printed O.room out.old out.new (order_by_bytes unions.now fields.now) }
 {
     if unions.is_empty() && !fields.is_empty() {
         push_list(out, " ORDER BY ", fields);
@@ -175,9 +158,9 @@ fn push_order_by(out: &mut String, unions: &UnionList, fields: &TextList)
 
 impl SqlBuilder {
     #[tactic(auto, using(crate::proofs::output::PrintingLemmas::query_is))]
-    fn push_query(&self, out: &mut String)
-        requires room { HasRoom out.old (query byte_units self.now) }
-        ensures { Writes out.old out.new (query byte_units self.now) }
+    fn push_query<O: Out>(&self, out: &mut O)
+        requires room { Fits (O.room out.old) (query byte_units self.now) }
+        ensures { Prints O.printed O.room out.old out.new (query byte_units self.now) }
     {
         self.push_query_start(out);
         push_where(out, &self.conditions);
@@ -185,36 +168,36 @@ impl SqlBuilder {
     }
 
     // What precedes the conditions of a query.
-    fn push_query_start(&self, out: &mut String)
-        requires room { HasRoom out.old (query_start self.now) }
-        ensures { Writes out.old out.new (query_start self.now) }
+    fn push_query_start<O: Out>(&self, out: &mut O)
+        requires room { Fits (O.room out.old) (query_start self.now) }
+        ensures { Prints O.printed O.room out.old out.new (query_start self.now) }
     {
         push_select(out, self.distinct, &self.fields);
         push_clause(out, " FROM ", self.table.as_str());
-        push_joins(out, &self.joins);
+        out.push(self.joins.as_str());
     }
 
     // What follows the conditions of a query.
-    fn push_query_end(&self, out: &mut String)
-        requires room { HasRoom out.old (query_end self.now) }
-        ensures { Writes out.old out.new (query_end self.now) }
+    fn push_query_end<O: Out>(&self, out: &mut O)
+        requires room { Fits (O.room out.old) (query_end self.now) }
+        ensures { Prints O.printed O.room out.old out.new (query_end self.now) }
     {
         push_group_by(out, &self.group_fields, &self.having);
-        push_text(out, self.unions.as_str());
+        out.push(self.unions.as_str());
         push_order_by(out, &self.unions, &self.order_fields);
         push_optional(out, " LIMIT ", &self.limit);
         push_optional(out, " OFFSET ", &self.offset);
     }
 
-    fn push_values(&self, out: &mut String)
-        requires room { HasRoom out.old (query_values byte_units self.now) }
-        ensures { Writes out.old out.new (query_values byte_units self.now) }
+    fn push_values<O: Out>(&self, out: &mut O)
+        requires room { Fits (O.room out.old) (query_values byte_units self.now) }
+        ensures { Prints O.printed O.room out.old out.new (query_values byte_units self.now) }
     {
         push_list(out, "SELECT ", &self.fields);
     }
 
-    /// What an INSERT inserts, its query or its rows, and the words between its fields and that.
-    pub(crate) fn inserted(&self) -> (&'static str, &str)
+    // What an INSERT inserts, its query or its rows, and the words between its fields and that.
+    fn inserted(&self) -> (&'static str, &str)
         ensures { result.0.now ++ result.1.now ≡ inserted_bytes self.now.query self.now.rows }
     {
         match self.query.get() {
@@ -223,9 +206,9 @@ impl SqlBuilder {
         }
     }
 
-    fn push_insert(&self, out: &mut String)
-        requires room { HasRoom out.old (insert_bytes self.now) }
-        ensures { Writes out.old out.new (insert_bytes self.now) }
+    fn push_insert<O: Out>(&self, out: &mut O)
+        requires room { Fits (O.room out.old) (insert_bytes self.now) }
+        ensures { Prints O.printed O.room out.old out.new (insert_bytes self.now) }
     {
         push_clause(out, "INSERT INTO ", self.table.as_str());
         push_list(out, " (", &self.fields);
@@ -234,9 +217,9 @@ impl SqlBuilder {
         push_optional(out, " RETURNING ", &self.returning);
     }
 
-    fn push_update(&self, out: &mut String)
-        requires room { HasRoom out.old (update_bytes self.now) }
-        ensures { Writes out.old out.new (update_bytes self.now) }
+    fn push_update<O: Out>(&self, out: &mut O)
+        requires room { Fits (O.room out.old) (update_bytes self.now) }
+        ensures { Prints O.printed O.room out.old out.new (update_bytes self.now) }
     {
         push_clause(out, "UPDATE ", self.table.as_str());
         push_list(out, " SET ", &self.sets);
@@ -244,18 +227,18 @@ impl SqlBuilder {
         push_optional(out, " RETURNING ", &self.returning);
     }
 
-    fn push_delete(&self, out: &mut String)
-        requires room { HasRoom out.old (delete_bytes self.now) }
-        ensures { Writes out.old out.new (delete_bytes self.now) }
+    fn push_delete<O: Out>(&self, out: &mut O)
+        requires room { Fits (O.room out.old) (delete_bytes self.now) }
+        ensures { Prints O.printed O.room out.old out.new (delete_bytes self.now) }
     {
         push_clause(out, "DELETE FROM ", self.table.as_str());
         push_where(out, &self.conditions);
         push_optional(out, " RETURNING ", &self.returning);
     }
 
-    fn push_statement(&self, out: &mut String)
-        requires room { HasRoom out.old (statement_bytes self.now) }
-        ensures { Writes out.old out.new (statement_bytes self.now) }
+    fn push_statement<O: Out>(&self, out: &mut O)
+        requires room { Fits (O.room out.old) (statement_bytes self.now) }
+        ensures { Prints O.printed O.room out.old out.new (statement_bytes self.now) }
     {
         match self.kind {
             Kind::SelectFrom => self.push_query(out),
@@ -266,35 +249,36 @@ impl SqlBuilder {
         }
     }
 
-    fn push_sql(&self, out: &mut String)
-        requires room { HasRoom out.old (sql byte_units self.now) }
-        ensures { Writes out.old out.new (sql byte_units self.now) }
+    fn push_sql<O: Out>(&self, out: &mut O)
+        requires room { Fits (O.room out.old) (sql byte_units self.now) }
+        ensures { Prints O.printed O.room out.old out.new (sql byte_units self.now) }
     {
         self.push_statement(out);
-        push_text(out, ";");
+        out.push(";");
     }
 
-    fn push_subquery(&self, out: &mut String)
-        requires room { HasRoom out.old (subquery byte_units self.now) }
-        ensures { Writes out.old out.new (subquery byte_units self.now) }
+    fn push_subquery<O: Out>(&self, out: &mut O)
+        requires room { Fits (O.room out.old) (subquery byte_units self.now) }
+        ensures { Prints O.printed O.room out.old out.new (subquery byte_units self.now) }
     {
-        push_text(out, "(");
+        out.push("(");
         self.push_query(out);
-        push_text(out, ")");
+        out.push(")");
     }
 
-    fn push_subquery_as(&self, name: &str, out: &mut String)
-        requires room { HasRoom out.old (subquery_as byte_units name.now self.now) }
-        ensures { Writes out.old out.new (subquery_as byte_units name.now self.now) }
+    fn push_subquery_as<O: Out>(&self, name: &str, out: &mut O)
+        requires room { Fits (O.room out.old) (subquery_as byte_units name.now self.now) }
+        ensures { Prints O.printed O.room out.old out.new (subquery_as byte_units name.now self.now) }
     {
-        push_text(out, "(");
+        out.push("(");
         self.push_query(out);
         push_clause(out, ") AS ", name);
     }
 
-    fn push_finished(&self, finish: &Finish, out: &mut String)
-        requires room { HasRoom out.old (text_at (finish_view finish.now) self.now) }
-        ensures { Writes out.old out.new (text_at (finish_view finish.now) self.now) }
+    /// Prints what a finish gives, also where it fails.
+    pub(crate) fn push_finished<O: Out>(&self, finish: &Finish, out: &mut O)
+        requires room { Fits (O.room out.old) (text_at (finish_view finish.now) self.now) }
+        ensures { Prints O.printed O.room out.old out.new (text_at (finish_view finish.now) self.now) }
     {
         match finish {
             Finish::Sql => self.push_sql(out),
@@ -334,7 +318,8 @@ impl SqlBuilder {
         }
     }
 
-    fn check_finish(&self, finish: &Finish) -> Result<(), SqlBuilderError>
+    /// The error of a finish, if it has one, memory apart.
+    pub(crate) fn check_finish(&self, finish: &Finish) -> Result<(), SqlBuilderError>
         ensures { result ≡ unless_error (error_at (finish_view finish.now) self.now) tt }
     {
         match finish {
@@ -342,49 +327,6 @@ impl SqlBuilder {
             Finish::QueryValues => Ok(()),
             Finish::Query | Finish::Subquery | Finish::SubqueryAs(_) => self.check_query(),
         }
-    }
-
-    // An empty text with room for just the text of a finish.
-    #[inline(always)]
-    fn room_for(&self, finish: &Finish) -> Result<String, AllocError>
-        ensures empty { IfOk result (λ s. string_bytes s ≡ []) }
-        ensures exact { IfOk result (λ s. string_capacity s
-            ≡ length (text_at (finish_view finish.now) self.now)) }
-    {
-        String::with_capacity(self.alloc, self.printed_len(finish))
-    }
-
-    /// The text of a finish, in one allocation of its length. Its callers take the Result apart by
-    /// `?`, so that search finds what follows of the text.
-    pub(crate) fn print(&self, finish: &Finish) -> Result<String, SqlBuilderError>
-        ensures text { IfOk result (λ s. string_bytes s ≡ text_at (finish_view finish.now) self.now) }
-        ensures error { IfSome (error_at (finish_view finish.now) self.now)
-            (λ error. result ≡ Err error) }
-        ensures memory { IsNone (error_at (finish_view finish.now) self.now)
-            → FailsOnlyByMemory result }
-    {
-        self.check_finish(finish)?;
-        let mut out = self.room_for(finish)?;
-        self.push_finished(finish, &mut out);
-        Ok(out)
-    }
-
-    /// Appends the text of a finish, after one allocation at most.
-    pub(crate) fn print_to(&self, finish: &Finish, out: &mut String) -> Result<(), SqlBuilderError>
-        ensures appended { OnOk result (string_bytes out.new
-            ≡ string_bytes out.old ++ text_at (finish_view finish.now) self.now) }
-        ensures unchanged { OnErr result (string_bytes out.new ≡ string_bytes out.old) }
-        ensures error { IfSome (error_at (finish_view finish.now) self.now)
-            (λ error. result ≡ Err error) }
-        ensures memory { IsNone (error_at (finish_view finish.now) self.now)
-            → FailsOnlyByMemory result }
-        ensures succeeds { IsNone (error_at (finish_view finish.now) self.now)
-            → HasRoom out.old (text_at (finish_view finish.now) self.now) → IsOk result }
-    {
-        self.check_finish(finish)?;
-        out.reserve(self.printed_len(finish))?;
-        self.push_finished(finish, out);
-        Ok(())
     }
 
     /// The statement, ended by `;`. It fails with `NoTableName` where the table text is empty and
@@ -412,7 +354,7 @@ impl SqlBuilder {
         ensures error { IfSome (sql_error self.now) (λ error. result ≡ Err error) }
         ensures memory { IsNone (sql_error self.now) → FailsOnlyByMemory result }
     {
-        let statement = self.print(&Finish::Sql)?;
+        let statement = print(self, &Finish::Sql)?;
         Ok(statement)
     }
 
@@ -438,7 +380,7 @@ impl SqlBuilder {
         ensures error { IfSome (query_error self.now) (λ error. result ≡ Err error) }
         ensures memory { IsNone (query_error self.now) → FailsOnlyByMemory result }
     {
-        let query = self.print(&Finish::Query)?;
+        let query = print(self, &Finish::Query)?;
         Ok(query)
     }
 
@@ -456,7 +398,7 @@ impl SqlBuilder {
             ReadsBack (query_values fixed_piece (as_fragments self.now)) (string_bytes s)) }
         ensures memory { FailsOnlyByMemory result }
     {
-        let query = self.print(&Finish::QueryValues)?;
+        let query = print(self, &Finish::QueryValues)?;
         Ok(query)
     }
 
@@ -475,7 +417,7 @@ impl SqlBuilder {
         ensures error { IfSome (query_error self.now) (λ error. result ≡ Err error) }
         ensures memory { IsNone (query_error self.now) → FailsOnlyByMemory result }
     {
-        let query = self.print(&Finish::Subquery)?;
+        let query = print(self, &Finish::Subquery)?;
         Ok(query)
     }
 
@@ -501,7 +443,7 @@ impl SqlBuilder {
     {
         self.check_query()?;
         let name = name.to_text(self.alloc)?;
-        let query = self.print(&Finish::SubqueryAs(name))?;
+        let query = print(self, &Finish::SubqueryAs(name))?;
         Ok(query)
     }
 }

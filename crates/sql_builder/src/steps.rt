@@ -3,24 +3,44 @@
 ghost use Rattle.std.specs.Prelude.{◌≡◌, [], ◌∷◌, ◌++◌, map, codes, string_bytes, IfErr, IfOk, OnOk, OnErr};
 ghost use Rattle.sql_parts.specs.Error.{FailsOnlyByMemory};
 ghost use Rattle.sql_parts.specs.Quoting.{escaped};
-ghost use Rattle.sql_builder.specs.Builder.{with_condition, with_condition_bytes, with_order, with_returning, IsBinaryError, IsUnaryError, with_binary, with_unary, with_variadic};
+ghost use Rattle.sql_builder.specs.Builder.{with_condition, with_condition_bytes, with_order, with_returning, IsBinaryError, IsNullaryError, IsUnaryError, with_binary, with_nullary, with_unary, with_variadic};
 ghost use Rattle.sql_builder.specs.Concat.{concat_bytes};
 ghost use Rattle.sql_builder.specs.Condition.{borrowed_view, condition_bytes};
 ghost use Rattle.sql_builder.specs.Steps.{AddsBinary, Applies};
 
 use crate::builder::SqlBuilder;
-use crate::clauses::{GroupedCondition, JoinOperator, append_to_last};
+use crate::clauses::{GroupedCondition, JoinOperator};
 use crate::concat::{Part, append};
 use crate::condition::{BorrowedCondition, Family};
+use crate::ghost_list::GhostList;
 use sql_parts::loan::Held;
 use sql_parts::text::{Items, Texts};
 use sql_parts::{SqlBuilderError, ToText, escaped, split_at_quote};
 use std::alloc::Global;
 use std::mem::swap;
 
-// How many bytes are asked for at first for a join, so that one with a short constraint takes one
-// allocation.
-const JOIN_ROOM: usize = 40;
+/// A call without a text.
+#[derive(Clone, Copy)]
+pub enum NullaryClause {
+    /// `natural`.
+    Natural,
+    /// `left`.
+    Left,
+    /// `left_outer`.
+    LeftOuter,
+    /// `right`.
+    Right,
+    /// `right_outer`.
+    RightOuter,
+    /// `inner`.
+    Inner,
+    /// `cross`.
+    Cross,
+    /// `distinct`.
+    Distinct,
+    /// `returning_id`.
+    ReturningId,
+}
 
 /// A call with one text.
 #[derive(Clone, Copy)]
@@ -84,7 +104,7 @@ pub enum VariadicClause {
 }
 
 impl SqlBuilder {
-    ghost use Rattle.sql_builder.specs.Builder.{with_fields, with_fields_set, with_group_field, with_having, with_join, with_limit, with_offset, with_on, with_query, with_set, with_table, with_union};
+    ghost use Rattle.sql_builder.specs.Builder.{IsConstraintError, with_fields, with_fields_set, with_group_field, with_having, with_join, with_limit, with_offset, with_on, with_query, with_set, with_table, with_union};
 
     fn push_table(&mut self, table: &str) -> Result<(), SqlBuilderError>
         ensures { Applies result self.old self.new (with_table table.now) }
@@ -92,32 +112,41 @@ impl SqlBuilder {
         Ok(append(&mut self.table, &[Part(", "), Part(table)])?)
     }
 
+    // A function of its own, as the two that print constraints and unions, so that the others have less
+    // to clear.
+    #[inline(never)]
+    #[tactic(auto, using(crate::proofs::output::LoopFacts::printed_push))]
     fn push_join(&mut self, table: &str) -> Result<(), SqlBuilderError>
         ensures { Applies result self.old self.new (with_join table.now) }
     {
         let natural = if self.natural { "NATURAL " } else { "" };
         let words = JoinOperator::words(self.operator);
-        let mut join = String::with_capacity(self.alloc, JOIN_ROOM)?;
-        append(&mut join, &[Part(natural), Part(words), Part(table)])?;
-        self.joins.push(join)?;
+        let parts = [Part(" "), Part(natural), Part(words), Part(table)];
+        let joins = GhostList::of(&(&self.joins, parts));
+        self.joins.print(&parts, joins)?;
         self.natural = false;
         Ok(())
     }
 
-    // A constraint of the last join, in three parts.
+    // A constraint of the last join, in three parts. Without a join it does nothing, and can't fail.
+    #[inline(never)]
+    #[tactic(auto, using(crate::proofs::output::LoopFacts::printed_extended))]
     fn push_constraint<'a>(
         &mut self,
         left: &'a str,
         sign: &'a str,
         right: &'a str,
     ) -> Result<(), SqlBuilderError>
-        ensures { Applies result self.old self.new
+        ensures done { Applies result self.old self.new
             (with_on (left.now ++ (sign.now ++ right.now))) }
+        ensures memory { IfErr result (IsConstraintError self.old) }
     {
-        Ok(append_to_last(
-            &mut self.joins,
-            &[Part(" ON "), Part(left), Part(sign), Part(right)],
-        )?)
+        if self.joins.is_empty() {
+            return Ok(());
+        }
+        let parts = [Part(" ON "), Part(left), Part(sign), Part(right)];
+        let joins = GhostList::of(&(&self.joins, parts));
+        Ok(self.joins.print(&parts, joins)?)
     }
 
     fn push_field(&mut self, parts: &[Part<'_>]) -> Result<(), SqlBuilderError>
@@ -208,10 +237,14 @@ impl SqlBuilder {
         Ok(self.having.set(condition)?)
     }
 
+    #[inline(never)]
+    #[tactic(auto, using(crate::proofs::output::LoopFacts::printed_push))]
     fn push_union(&mut self, all: bool, query: &str) -> Result<(), SqlBuilderError>
         ensures { Applies result self.old self.new (with_union all query.now) }
     {
-        Ok(self.unions.push(all, query)?)
+        let words = if all { " UNION ALL " } else { " UNION " };
+        let unions = GhostList::of(&(&self.unions, all, query));
+        Ok(self.unions.print(&[Part(words), Part(query)], unions)?)
     }
 
     fn put_limit(&mut self, limit: &str) -> Result<(), SqlBuilderError>
@@ -243,6 +276,32 @@ impl SqlBuilder {
     }
 }
 
+/// Makes a call without a text. `returning_id` fails only if memory runs out, and then leaves the
+/// builder as it was; the others can't fail.
+/// ```
+/// let mut b = SqlBuilder::select_from(alloc, "t")?;
+/// make_nullary(&mut b, NullaryClause::Distinct)?;
+/// b.sql()?; // SELECT DISTINCT * FROM t;
+/// ```
+pub fn make_nullary(builder: &mut SqlBuilder, clause: NullaryClause) -> Result<(), SqlBuilderError>
+    ensures made { OnOk result (builder.new ≡ with_nullary clause builder.old) }
+    ensures unchanged { OnErr result (builder.new ≡ builder.old) }
+    ensures memory { IfErr result (IsNullaryError clause) }
+{
+    match clause {
+        NullaryClause::Natural => builder.natural = true,
+        NullaryClause::Left => builder.operator = Some(JoinOperator::Left),
+        NullaryClause::LeftOuter => builder.operator = Some(JoinOperator::LeftOuter),
+        NullaryClause::Right => builder.operator = Some(JoinOperator::Right),
+        NullaryClause::RightOuter => builder.operator = Some(JoinOperator::RightOuter),
+        NullaryClause::Inner => builder.operator = Some(JoinOperator::Inner),
+        NullaryClause::Cross => builder.operator = Some(JoinOperator::Cross),
+        NullaryClause::Distinct => builder.distinct = true,
+        NullaryClause::ReturningId => return builder.put_returning("id"),
+    }
+    Ok(())
+}
+
 /// Makes a call with one text. It fails only if memory runs out, and then leaves the builder as it
 /// was; `on` without a join can't fail.
 /// ```
@@ -262,7 +321,6 @@ pub fn make_unary(
     match clause {
         UnaryClause::AndTable => builder.push_table(text),
         UnaryClause::Join => builder.push_join(text),
-        UnaryClause::On if builder.joins.is_empty() => Ok(()),
         UnaryClause::On => builder.push_constraint(text, "", ""),
         UnaryClause::Field => builder.push_field(&[Part(text)]),
         UnaryClause::SetField => builder.set_only_field(text),
@@ -299,7 +357,6 @@ pub fn make_binary<'a>(
     ensures memory { IfErr result (IsBinaryError clause builder.old) }
 {
     match clause {
-        BinaryClause::OnEq if builder.joins.is_empty() => Ok(()),
         BinaryClause::OnEq => builder.push_constraint(first, " = ", second),
         BinaryClause::CountAs => builder.push_field(&[
             Part("COUNT("),

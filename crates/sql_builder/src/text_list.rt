@@ -106,7 +106,7 @@ impl TextList {
         ensures unchanged { OnErr result (self.new ≡ self.old) }
     {
         let len = total_len(parts);
-        self.text.reserve(len)?;
+        self.text.reserve(len.saturating_sub(self.text.len()))?;
         self.text.clear();
         push_all(&mut self.text, parts);
         self.has_items = true;
@@ -184,8 +184,10 @@ impl TextList {
     pub(crate) fn copy(&self, alloc: Global) -> Result<TextList, AllocError>
         ensures { IfOk result (λ copy. copy ≡ self.now) }
     {
-        let mut copy = TextList::new(alloc);
-        copy.append(self)?;
-        Ok(copy)
+        Ok(TextList {
+            text: String::from_str(alloc, self.text.as_str())?,
+            has_items: self.has_items,
+            items: GhostList::of(&self.items),
+        })
     }
 }

@@ -1,6 +1,5 @@
 -- What the code says of tokens, in the words of their definition.
-use Prim.Native.Char.{code}
-use Rattle.std.specs.Prelude.{◌≡◌, ℕ, ◌==◌, ◌||◌, List, [], ◌∷◌, Option, Some, None, drop, if◌then◌else◌, option_map}
+use Rattle.std.specs.Prelude.{◌≡◌, ℕ, List, [], ◌∷◌, Option, Some, None, drop, option_map}
 use Rattle.std.specs.Borrow.{Bor}
 use Rattle.sql_parts.specs.Tokens as tokens
 use Rattle.sql_parts.specs.declared.tokenizer.Token.{Token}
@@ -28,9 +27,3 @@ behind_bytes text bytes = option_map (λ count. drop count text) bytes
 -- the bytes of a text that may be there
 abbrev pub optional_bytes : Option (Bor (List ℕ)) → Option (List ℕ)
 optional_bytes text = option_map (λ borrowed. borrowed.now) text
-
--- the delimiter that closes a quote which a byte opens
-abbrev pub closing_delimiter : ℕ → Option ℕ
-closing_delimiter byte =
-    if byte == code "'" || byte == code "\"" || byte == code "`" then Some byte
-    else (if byte == code "[" then Some (code "]") else None)

@@ -107,7 +107,11 @@ impl SqlArg for bool {
     ghost literal = { truth };
 
     fn sql_arg(&self, alloc: Global) -> Result<String, SqlBuilderError> {
-        Ok(String::from_str(alloc, truth_word(*self))?)
+        Ok(if *self {
+            String::from_str(alloc, "TRUE")?
+        } else {
+            String::from_str(alloc, "FALSE")?
+        })
     }
 
     fn push_sql_arg(&self, _alloc: Global, out: &mut String) -> Result<(), SqlBuilderError> {

@@ -1,8 +1,12 @@
 //! Names that are bound to values.
-ghost use Rattle.std.specs.Prelude.{◌≡◌, ◌<◌, ◌++◌, ℕ, List, Option, IfOk, OnOk, length, option_copied, option_map, string_bytes, unwrap_or, ⊤};
+ghost use Rattle.std.specs.Prelude.{◌≡◌, ◌<◌, ◌++◌, ℕ, List, Option, IfOk, OnErr, OnOk, length, option_copied, option_map, string_bytes, unwrap_or, ⊤};
+ghost use Rattle.std.specs.BTreeMap.{IsFromIterResult};
 ghost use Rattle.std.specs.Borrow.{Bor};
+ghost use Rattle.std.specs.Cmp.Lexicographic.{slice_cmp};
 ghost use Rattle.std.specs.HashMap.{get_by};
+ghost use Rattle.std.specs.Io.{StartsWith};
 ghost use Rattle.std.specs.Map.{lookup};
+ghost use Rattle.std.specs.Ordering.{nat_cmp};
 ghost use Rattle.std.specs.Str.{bytes_eq};
 ghost use Rattle.sql_parts.specs.Error.{FailsOnlyByMemory};
 ghost use Rattle.sql_parts.specs.Literal.{LiteralValue, literal_text, null};
@@ -10,7 +14,7 @@ ghost use Rattle.sql_parts.specs.Pairs.{ArePlaces, last_value};
 
 use crate::arg::SqlArg;
 use crate::error::SqlBuilderError;
-use std::alloc::Global;
+use std::alloc::{AllocError, Global};
 use std::collections::{BTreeMap, HashMap};
 
 /// What binds names to literals: a map, or pairs of which the last one with a name counts.
@@ -44,7 +48,8 @@ pub trait BindNames {
     }
 
     /// Appends the literal of the name, or NULL where it has none. The places are those that
-    /// `places` gave, or none. It fails only if memory runs out.
+    /// `places` gave, or none. It fails only if memory runs out, and then the text has what it had,
+    /// and perhaps a part of the literal behind it.
     /// ```
     /// let mut text = String::new(alloc);
     /// { let mut names: Vec<(&str, Box<dyn SqlArg>)> = Vec::new(alloc); names.push(("a", Box::new(alloc, 1)?))?; names }.push_named(alloc, &{ let mut names: Vec<(&str, Box<dyn SqlArg>)> = Vec::new(alloc); names.push(("a", Box::new(alloc, 1)?))?; names }.places(alloc)?, "a", &mut text)?;
@@ -61,6 +66,7 @@ pub trait BindNames {
             → are_places self.now places.now.entries }
         ensures literal { OnOk result (string_bytes out.new ≡ string_bytes out.old
             ++ literal_text (unwrap_or (literals self.now name.now) null)) }
+        ensures kept { OnErr result (StartsWith (string_bytes out.new) (string_bytes out.old)) }
         ensures memory { FailsOnlyByMemory result }
     {
         let _ = places;
@@ -97,6 +103,7 @@ fn push_found(
 ) -> Result<(), SqlBuilderError>
     ensures literal { OnOk result (string_bytes out.new ≡ string_bytes out.old
         ++ literal_text (unwrap_or (option_map (λ b. literal b) (option_copied found.entry)) null)) }
+    ensures kept { OnErr result (StartsWith (string_bytes out.new) (string_bytes out.old)) }
     ensures memory { FailsOnlyByMemory result }
 {
     match found {
@@ -113,6 +120,16 @@ fn last_value<'a, V>(pairs: &'a [(&str, V)], name: &str) -> Option<&'a V>
     Some(value)
 }
 
+// A map of the last place of each name, which is sorted once, in place of a search for each.
+fn sorted<'a>(
+    alloc: Global,
+    places: Vec<(&'a str, usize)>,
+) -> Result<BTreeMap<&'a str, usize>, AllocError>
+    ensures { IfOk result (IsFromIterResult (λ one other. slice_cmp nat_cmp one.now other.now) places.entry.items) }
+{
+    places.into_iter().collect(alloc)
+}
+
 // The place of the last pair with each name, where there are many pairs.
 fn places_of<'a, V>(
     alloc: Global,
@@ -125,11 +142,11 @@ fn places_of<'a, V>(
     if pairs.len() < LONG {
         return Ok(BTreeMap::new(alloc));
     }
-    let mut places = BTreeMap::new(alloc);
+    let mut places = Vec::with_capacity(alloc, pairs.len())?;
     for (place, (name, _)) in pairs.iter().enumerate() {
-        let _ = places.insert(*name, place)?;
+        places.push((*name, place))?;
     }
-    Ok(places)
+    Ok(sorted(alloc, places)?)
 }
 
 // The place of the name.

@@ -162,11 +162,11 @@ fn begins_with_digit(text: &str) -> bool
 // What is read at a prefix, and the text behind it.
 #[inline(always)]
 fn place_behind<'t>(marks: Marks<'_>, seen: usize, behind: &'t str) -> (Place<'t>, &'t str)
+    requires first { marks_of marks ≡ templates.First → seen ≡ 0 }
     ensures { RepresentsPlace (prefix (marks_of marks.entry)) behind.now result
         (place_behind (marks_of marks.entry) seen behind.now) }
 {
     match marks {
-        Marks::First if seen > 0 => (Place::Prefix, behind),
         Marks::Num(_) if begins_with_digit(behind) => (Place::Prefix, behind),
         Marks::First | Marks::Num(_) | Marks::Name(_) => {
             (Place::Holds(Value::Argument(0)), behind)

@@ -1,6 +1,6 @@
 //! What can be written as a text.
 
-ghost use Rattle.std.specs.Prelude.{◌≡◌, [], ◌∷◌, ℕ, List, MatchOption, map, string_bytes, IfOk};
+ghost use Rattle.std.specs.Prelude.{◌≡◌, [], ◌∷◌, ℕ, List, MatchOption, map, string_bytes, IfOk, OnErr};
 ghost use Rattle.std.specs.Char.{encode_utf8};
 ghost use Rattle.std.specs.Cow.{cow_str_bytes};
 ghost use Rattle.sql_parts.specs.Error.{FailsOnlyByMemory};
@@ -43,12 +43,13 @@ pub trait Texts<'a>: Drop {
     /// The texts that are left.
     ghost left: { Self → List (List ℕ) };
 
-    /// Takes the next text, if one is left. It fails only if memory runs out.
+    /// Takes the next text, if one is left. It fails only if memory runs out, and then takes none.
     /// `Items { items: &["a"] }.next_text(alloc)?` → `Some(a)`
     fn next_text(&mut self, alloc: Global) -> Result<Option<CowStr<'a>>, SqlBuilderError>
         ensures next { IfOk result (λ next. MatchOption next
             ((left self.old ≡ []) × (left self.new ≡ []))
             (λ text. left self.old ≡ cow_str_bytes text ∷ left self.new)) }
+        ensures kept { OnErr result (left self.new ≡ left self.old) }
         ensures memory { FailsOnlyByMemory result };
 }
 

@@ -1,9 +1,9 @@
 //! The tokens of a text, read from its front.
-ghost use Rattle.std.specs.Prelude.{◌≡◌, ◌<◌, [], ◌∷◌, IfSome, MatchOption, Some, drop, length, option_map, take};
+ghost use Rattle.std.specs.Prelude.{◌≡◌, ◌<◌, ℕ, List, [], ◌∷◌, IfSome, MatchOption, None, Some, drop, length, option_map, take};
 ghost use Rattle.std.specs.List.{prefix_len};
-ghost use Rattle.sql_parts.specs.Tokenizer.{IsRead, Represents, behind_bytes, closing_delimiter, optional_bytes};
+ghost use Rattle.sql_parts.specs.Tokenizer.{IsRead, Represents, behind_bytes, optional_bytes};
 ghost use Rattle.sql_parts.specs.Tokens as tokens;
-ghost use Rattle.sql_parts.specs.Tokens.{closed, inside, is_blank, is_word_byte, reach};
+ghost use Rattle.sql_parts.specs.Tokens.{closed, inside, is_word_byte, reach, unquoted};
 ghost use Rattle.sql_parts.specs.declared.tokenizer.Token.TheVariants as seen;
 
 /// A token of a text. What is between quotes isn't stored.
@@ -32,30 +32,10 @@ const WORD_BYTES: [u8; 256] = [
 ];
 
 #[inline(always)]
-fn is_blank(byte: u8) -> bool
-    ensures { result ≡ is_blank byte }
-{
-    matches!(byte, b' ' | b'\t' | b'\n' | b'\r')
-}
-
-#[inline(always)]
 fn is_word_byte(byte: u8) -> bool
     ensures { result ≡ is_word_byte byte }
 {
     WORD_BYTES[usize::from(byte)] == 1
-}
-
-// The delimiter that closes a quote which the byte opens, where it opens one.
-#[inline(always)]
-fn closing_delimiter(byte: u8) -> Option<char>
-    ensures delimiter { result ≡ closing_delimiter byte }
-    ensures one_byte { IfSome result (λ delimiter. delimiter < 128) }
-{
-    match byte {
-        b'\'' | b'"' | b'`' => Some(char::from(byte)),
-        b'[' => Some(']'),
-        _ => None,
-    }
 }
 
 // The text behind the first such ending, where there is one.
@@ -96,6 +76,27 @@ fn ended<'t>(token: Option<Token<'t>>, behind: Option<&'t str>) -> (Option<Token
     }
 }
 
+// What is behind the opening of a comment that ends so, up to that end.
+// It is no part of `read`, which would clear room for the result at each word.
+#[inline(always)]
+fn read_comment<'t>(ending: &str, comment: &'t str) -> (Option<Token<'t>>, &'t str)
+    requires some { 0 < length ending.now }
+    ensures { MatchOption (behind_bytes comment.now (reach ending.now comment.now)) ((result.0 ≡ Some seen.Open) × (result.1.now ≡ []))
+        (λ behind. (result.0 ≡ None) × (result.1.now ≡ behind)) }
+{
+    ended(None, behind_ending(ending, comment))
+}
+
+// What is behind the opening delimiter of a quote, up to the one that closes it.
+#[inline(always)]
+fn read_quoted(delimiter: char, quoted: &str) -> (Option<Token<'_>>, &str)
+    requires one_byte { delimiter < 128 }
+    ensures { (token : List ℕ → tokens.Token) → ((text : List ℕ) → Represents seen.Quoted (token text))
+        → IsRead quoted.now result (unquoted token quoted.now (inside delimiter quoted.now)) }
+{
+    ended(Some(Token::Quoted), behind_quote(delimiter, quoted))
+}
+
 // The run of word characters at the front of a text, and the text behind it.
 #[inline(always)]
 fn split_word(text: &str) -> (&str, &str)
@@ -121,18 +122,22 @@ fn read(first: u8, text: &str) -> (Option<Token<'_>>, &str)
         return (Some(Token::Word(word)), rest);
     }
     let behind = &text[1..];
-    if is_blank(first) {
-        return (None, behind);
-    }
-    if let Some(comment) = text.strip_prefix("--") {
-        return ended(None, behind_ending("\n", comment));
-    }
-    if let Some(comment) = text.strip_prefix("/*") {
-        return ended(None, behind_ending("*/", comment));
-    }
-    match closing_delimiter(first) {
-        Some(delimiter) => ended(Some(Token::Quoted), behind_quote(delimiter, behind)),
-        None => (Some(Token::Symbol(first)), behind),
+    let symbol = (Some(Token::Symbol(first)), behind);
+    match first {
+        b' ' | b'\t' | b'\n' | b'\r' => (None, behind),
+        b'-' => match text.strip_prefix("--") {
+            Some(comment) => read_comment("\n", comment),
+            None => symbol,
+        },
+        b'/' => match text.strip_prefix("/*") {
+            Some(comment) => read_comment("*/", comment),
+            None => symbol,
+        },
+        b'\'' => read_quoted('\'', behind),
+        b'"' => read_quoted('"', behind),
+        b'`' => read_quoted('`', behind),
+        b'[' => read_quoted(']', behind),
+        _ => symbol,
     }
 }
 

@@ -7,6 +7,7 @@
 pub mod changes;
 pub mod condition;
 mod ghost_value;
+pub mod laws;
 pub mod operand_text;
 pub mod select;
 pub mod statement;

@@ -3,38 +3,27 @@ use Rattle.std.specs.Prelude.{ℕ, List, [], ◌∷◌, Option, Some, None, true
 use Rattle.std.specs.Option.{option_and_then, option_or}
 use Rattle.sql_builder.specs.Condition as condition
 use Rattle.sql_builder.specs.Condition.{ConditionText}
+use Rattle.sql_builder.specs.declared.calls.TableStart.TheVariants as start
 use Rattle.sql_builder.specs.declared.condition.Family.{Family}
 use Rattle.sql_builder.specs.declared.condition.Family.TheVariants.{And, Or}
 use Rattle.sql_builder.specs.declared.condition.Percent.TheVariants as percent
 use Rattle.sql_builder.specs.declared.condition.Relation.TheVariants as relation
+use Rattle.sql_builder.specs.declared.steps.BinaryClause.TheVariants as binary
+use Rattle.sql_builder.specs.declared.steps.UnaryClause.TheVariants as unary
+use Rattle.sql_builder.specs.declared.steps.VariadicClause.TheVariants as variadic
 use Rattle.sqlb.specs.declared.names.Ending.{Ending}
 use Rattle.sqlb.specs.declared.names.Ending.TheVariants.{Raw, IsNull, IsNotNull, Compare, Like, InList, InQuoted, InQuery, Between}
 use Rattle.sqlb.specs.declared.names.Meaning.{Meaning}
 use Rattle.sqlb.specs.declared.names.Meaning.TheVariants as means
 use Rattle.sqlb.specs.declared.names.Nullary.TheVariants as nullary
-use Rattle.sqlb.specs.declared.names.Unary.TheVariants as unary
-use Rattle.sqlb.specs.declared.names.Binary.TheVariants as binary
-use Rattle.sqlb.specs.declared.names.Flagged.TheVariants as flagged
-use Rattle.sqlb.specs.declared.names.Variadic.TheVariants as variadic
 
 -- what is beside a name in a table, if the table has it
 abbrev pub found_in : {M : Type 0} → List (List ℕ × M) → List ℕ → Option M
 found_in table name = option_map (λ entry. entry.1) (find (λ entry. bytes_eq name entry.0) table)
 
--- the names that open a statement, and what each means
-unfoldable pub starts : List (List ℕ × Meaning)
-starts =
-    (codes "select_from", means.Unary unary.SelectFrom) ∷
-    (codes "insert_into", means.Unary unary.InsertInto) ∷
-    (codes "update_table", means.Unary unary.UpdateTable) ∷
-    (codes "delete_from", means.Unary unary.DeleteFrom) ∷
-    (codes "select_values", means.Variadic variadic.SelectValues) ∷
-    []
-
--- those of tables and of joins
-unfoldable pub joins : List (List ℕ × Meaning)
-joins =
-    (codes "and_table", means.Unary unary.AndTable) ∷
+-- the names that take no argument, and what each means
+unfoldable pub nullaries : List (List ℕ × Meaning)
+nullaries =
     (codes "natural", means.Nullary nullary.Natural) ∷
     (codes "left", means.Nullary nullary.Left) ∷
     (codes "left_outer", means.Nullary nullary.LeftOuter) ∷
@@ -42,6 +31,23 @@ joins =
     (codes "right_outer", means.Nullary nullary.RightOuter) ∷
     (codes "inner", means.Nullary nullary.Inner) ∷
     (codes "cross", means.Nullary nullary.Cross) ∷
+    (codes "distinct", means.Nullary nullary.Distinct) ∷
+    (codes "returning_id", means.Nullary nullary.ReturningId) ∷
+    (codes "sql", means.Nullary nullary.Sql) ∷
+    (codes "query", means.Nullary nullary.Query) ∷
+    (codes "query_values", means.Nullary nullary.QueryValues) ∷
+    (codes "subquery", means.Nullary nullary.Subquery) ∷
+    []
+
+-- those that open a statement, and those of tables and joins
+unfoldable pub tables : List (List ℕ × Meaning)
+tables =
+    (codes "select_from", means.Start start.SelectFrom) ∷
+    (codes "insert_into", means.Start start.InsertInto) ∷
+    (codes "update_table", means.Start start.UpdateTable) ∷
+    (codes "delete_from", means.Start start.DeleteFrom) ∷
+    (codes "select_values", means.SelectValues) ∷
+    (codes "and_table", means.Unary unary.AndTable) ∷
     (codes "join", means.Unary unary.Join) ∷
     (codes "on", means.Unary unary.On) ∷
     (codes "on_eq", means.Binary binary.OnEq) ∷
@@ -50,7 +56,6 @@ joins =
 -- those of what is selected, set, inserted and returned: fields, values and rows
 unfoldable pub lists : List (List ℕ × Meaning)
 lists =
-    (codes "distinct", means.Nullary nullary.Distinct) ∷
     (codes "field", means.Unary unary.Field) ∷
     (codes "fields", means.Variadic variadic.Fields) ∷
     (codes "set_field", means.Unary unary.SetField) ∷
@@ -62,40 +67,22 @@ lists =
     (codes "values", means.Variadic variadic.Values) ∷
     (codes "select", means.Unary unary.Select) ∷
     (codes "returning", means.Unary unary.Returning) ∷
-    (codes "returning_id", means.Nullary nullary.ReturningId) ∷
     []
 
--- those of what ends a statement: groups, order, limits and unions
+-- those of what ends a statement: groups, order, limits, unions and subqueries
 unfoldable pub ends : List (List ℕ × Meaning)
 ends =
     (codes "group_by", means.Unary unary.GroupBy) ∷
     (codes "having", means.Unary unary.Having) ∷
-    (codes "order_by", means.Flagged flagged.OrderBy) ∷
+    (codes "order_by", means.OrderBy) ∷
     (codes "order_asc", means.Unary unary.OrderAsc) ∷
     (codes "order_desc", means.Unary unary.OrderDesc) ∷
     (codes "limit", means.Unary unary.Limit) ∷
     (codes "offset", means.Unary unary.Offset) ∷
     (codes "union", means.Unary unary.Union) ∷
     (codes "union_all", means.Unary unary.UnionAll) ∷
+    (codes "subquery_as", means.SubqueryAs) ∷
     []
-
--- those that print a statement
-unfoldable pub finishes : List (List ℕ × Meaning)
-finishes =
-    (codes "sql", means.Nullary nullary.Sql) ∷
-    (codes "query", means.Nullary nullary.Query) ∷
-    (codes "query_values", means.Nullary nullary.QueryValues) ∷
-    (codes "subquery", means.Nullary nullary.Subquery) ∷
-    (codes "subquery_as", means.Unary unary.SubqueryAs) ∷
-    []
-
--- what the name of a call that adds no condition means
-unfoldable pub other_call : List ℕ → Option Meaning
-other_call name =
-    option_or (found_in starts name)
-    (option_or (found_in joins name)
-    (option_or (found_in lists name)
-    (option_or (found_in ends name) (found_in finishes name))))
 
 -- the endings of a condition by itself, of NULL, and of comparisons, and what each adds, but for its texts
 unfoldable pub comparisons : List (List ℕ × Ending)
@@ -164,8 +151,11 @@ without_prefix prefix name = if bytes_eq (take (length prefix) name) prefix then
 abbrev pub condition_call : Family → List ℕ → List ℕ → Option Meaning
 condition_call family prefix name = option_map (λ ending. means.Where family ending) (option_and_then ending_of (without_prefix prefix name))
 
--- what a name means: `and_where` or `or_where` with an ending, or another call; names are compared exactly
+-- what a name means: `and_where` or `or_where` with an ending, or one of the tables; names are compared exactly
 unfoldable pub meaning_of : List ℕ → Option Meaning
 meaning_of name =
     option_or (condition_call And (codes "and_where") name)
-    (option_or (condition_call Or (codes "or_where") name) (other_call name))
+    (option_or (condition_call Or (codes "or_where") name)
+    (option_or (found_in nullaries name)
+    (option_or (found_in tables name)
+    (option_or (found_in lists name) (found_in ends name)))))

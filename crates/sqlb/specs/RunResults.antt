@@ -70,21 +70,20 @@ abbrev pub UnlessWriteFails : {T : Type 0} → Result T Fault → Type 0 → Typ
 UnlessWriteFails (Err Write) P = Unit {0}
 UnlessWriteFails _ P = P
 
--- bytes that were buffered are lost only where a read or a write failed
-abbrev pub LosesOnlyIfStreamFails : {T : Type 0} → Result T Fault → List ℕ → Type 0
-LosesOnlyIfStreamFails (Err Write) lost = Unit {0}
-LosesOnlyIfStreamFails (Err Read) lost = Unit {0}
-LosesOnlyIfStreamFails _ lost = lost ≡ []
+-- bytes that were buffered are lost only where the writer has failed
+abbrev pub LosesOnlyIfFailed : Bool → List ℕ → Type 0
+LosesOnlyIfFailed true lost = Unit {0}
+LosesOnlyIfFailed false lost = lost ≡ []
 
 -- A run over a buffered writer, by its answer: so many bytes were read, and what the writer below holds, with what is lost behind
 -- it, is what it and its buffer held before, and what was written; this agrees with what the bytes read say to print.
-abbrev pub RunsBuffered : {T : Type 0} → Result T Fault → Option (List ℕ) → Option (List ℕ) → Bool → Option (List ℕ) → Option (List ℕ) → Type 0
-RunsBuffered answer unread left ended held below =
+abbrev pub RunsBuffered : {T : Type 0} → Result T Fault → Option (List ℕ) → Option (List ℕ) → Bool → Option (List ℕ) → Option (List ℕ) → Bool → Type 0
+RunsBuffered answer unread left ended held below failed =
     (taken : List ℕ) × (written : List ℕ) × (lost : List ℕ)
     × Consumes unread left taken
     × Appends held (append_known below lost) written
     × AgreesWithOutput answer written (output taken)
-    × LosesOnlyIfStreamFails answer lost
+    × LosesOnlyIfFailed failed lost
     × UnlessWriteFails answer (EndsUnlessStopped answer written ended × (ended ≡ true → MemoryRunsOutInLine answer written taken))
 
 -- the exit status of an answer: 0 where there is no fault

@@ -1,12 +1,12 @@
 -- What the lines of an input do one after another.
 use Rattle.std.specs.Prelude.{◌≡◌, ℕ, List, Bool, true, false, Option, Some, None, Result, Ok, Err, IsOk, option_map}
 use Rattle.sql_builder.specs.Builder.{ClauseTexts, started, with_call}
-use Rattle.sql_builder.specs.Calls.{FinishText, StartText, clauses}
+use Rattle.sql_builder.specs.Calls.{FinishText, clauses}
 use Rattle.sql_builder.specs.Clauses.{map_clauses}
 use Rattle.sql_builder.specs.SqlBuilderError.{SqlBuilderError}
 use Rattle.sql_builder.specs.Statement.{error_at, text_at, unless_error}
 use Rattle.sql_builder.specs.Pieces.{pieces_text}
-use Rattle.sqlb.specs.Lines.{CommandResult, Starts, Calls, Finishes}
+use Rattle.sqlb.specs.Lines.{CommandResult, CommandText, Starts, Calls, Finishes}
 use Rattle.sqlb.specs.Output.{Answer, OpenStatement, finish_answer}
 use Rattle.sqlb.specs.declared.fault.Reason.{Reason}
 use Rattle.sqlb.specs.declared.fault.Reason.TheVariants.{NoStatement, StatementOpen}
@@ -61,15 +61,6 @@ Runs (Ok finished) old new text command = (given_answer old command ≡ Ok (prin
 Runs (Err (Rejected reason)) old new text command = (given_answer old command ≡ Err reason) × (new ≡ old)
 Runs (Err Memory) old new text command = IsOk (given_answer old command) × (new ≡ old)
 
--- A statement is opened, and nothing is printed.
-abbrev pub Opens : Result Bool LineError → Option ClauseTexts → Option ClauseTexts → StartText → Type 0
-Opens result old new start = (text : List ℕ) → Runs result old new text (Ok (Starts start))
-
--- A call is made of the open statement, and nothing is printed. Without a statement memory can't run out.
-abbrev pub Adds : Result Bool LineError → Option ClauseTexts → Option ClauseTexts → (ClauseTexts → ClauseTexts) → Type 0
-Adds (Ok finished) None new given = ⊥
-Adds (Ok finished) (Some r) new given = (finished ≡ false) × (new ≡ Some (given r))
-Adds (Err (Rejected reason)) None new given = (reason ≡ NoStatement) × (new ≡ None)
-Adds (Err (Rejected reason)) (Some r) new given = ⊥
-Adds (Err Memory) None new given = ⊥
-Adds (Err Memory) (Some r) new given = new ≡ Some r
+-- A start or a call is run, whatever is printed.
+abbrev pub Does : Result Bool LineError → Option ClauseTexts → Option ClauseTexts → CommandText → Type 0
+Does result old new command = (text : List ℕ) → Runs result old new text (Ok command)

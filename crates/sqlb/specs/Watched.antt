@@ -1,11 +1,13 @@
 -- What contracts see of a watched reader or writer, and the results that set its flags.
 use Rattle.std.specs.Prelude.{ℕ, Bool, true, false, ◌&&◌, ◌==◌, not, List, length, Result, Ok, Err}
 
--- A reader or a writer, and what its calls have returned so far.
+-- A reader or a writer, what its calls have returned so far, and whether a call was made after one had failed, or a read after
+-- it had ended.
 pub record Watch (T : Type 0) : Type 0 where
   pub inner : T
   pub failed : Bool
   pub ended : Bool
+  pub retried : Bool
 
 -- a call took or gave no byte, where there was room for one
 abbrev pub is_none_of : ℕ → List ℕ → Bool

@@ -35,6 +35,7 @@ pub(crate) fn read_all<R: Read>(alloc: Global, reader: &mut Watched<R>) -> Resul
     ensures end { OnOk result (IsAtEnd (R.remaining reader.new.inner)) }
     ensures flags { OnOk result ((reader.new.failed ≡ false) × (reader.new.ended ≡ true)) }
     ensures fails { ReadingFails result reader.new.failed reader.new.ended }
+    ensures retried { reader.new.retried ≡ reader.old.retried }
 {
     let mut buffer = Vec::new(alloc);
     let mut filled = 0;
@@ -42,7 +43,7 @@ pub(crate) fn read_all<R: Read>(alloc: Global, reader: &mut Watched<R>) -> Resul
         if make_room(&mut buffer, filled).is_err() {
             return Err(Fault::Memory);
         }
-        match reader.read_on(&mut buffer[filled..]) {
+        match reader.read(&mut buffer[filled..]) {
             Ok(0) => {
                 buffer.truncate(filled);
                 return Ok(buffer);

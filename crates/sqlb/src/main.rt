@@ -23,9 +23,10 @@ use crate::streams::run_streams;
 use crate::watched::Watched;
 use std::process::ExitCode;
 
+// No contract can say which stream is which, nor what the process ends with: `tests/program` does, by
+// its rows of what is printed, said and returned, and by `try_streams`.
 fn main(rt: HostRuntime) -> ExitCode {
     let mut input = Watched::new(rt.stdin());
     let mut errors = Watched::new(rt.stderr());
-    let ended = run_streams(rt.alloc(), &mut input, rt.stdout(), &mut errors);
-    ExitCode::from(ended.status)
+    ExitCode::from(run_streams(rt.alloc(), &mut input, rt.stdout(), &mut errors).status)
 }

@@ -1,32 +1,40 @@
 //! The names that a line may begin with, and the conditions that some of them add.
-ghost use Rattle.std.specs.Prelude.{◌≡◌, ◌≢◌, ◌++◌, ℕ, List, false, OnOk, ok_or};
+ghost use Rattle.std.specs.Prelude.{◌≡◌, OnOk, ok_or};
 ghost use Rattle.sql_builder.specs.Condition.{borrowed_view};
 ghost use Rattle.sqlb.specs.Arguments.{IsTaken};
 ghost use Rattle.sqlb.specs.Names.{comparisons, condition_of, ending_of, likes, memberships};
-ghost use Rattle.sqlb.specs.Names.{condition_call, meaning_of, other_call};
-ghost use Rattle.sqlb.specs.Names.{ends, finishes, found_in, joins, lists, starts};
+ghost use Rattle.sqlb.specs.Names.{condition_call, ends, found_in, lists, meaning_of, nullaries, tables};
 ghost use Rattle.sqlb.specs.Script.{Checks};
 ghost use Rattle.sqlb.specs.declared.fault.Reason.TheVariants.{WrongArguments};
 
 use crate::arguments::Arguments;
 use crate::fault::Reason;
-use sql_builder::calls::{BorrowedCondition, Family, Percent, Relation};
+use sql_builder::calls::{
+    BinaryClause, BorrowedCondition, Family, Percent, Relation, TableStart, UnaryClause,
+    VariadicClause,
+};
 
 /// What a name means, by how many arguments it takes.
 #[derive(Clone, Copy)]
 pub(crate) enum Meaning {
     /// It takes none.
     Nullary(Nullary),
+    /// It opens a statement on one table.
+    Start(TableStart),
+    /// It opens a statement of any number of values.
+    SelectValues,
     /// It takes one.
-    Unary(Unary),
+    Unary(UnaryClause),
     /// It takes two.
-    Binary(Binary),
-    /// It takes two, of which the second is `true` or `false`.
-    Flagged(Flagged),
+    Binary(BinaryClause),
+    /// It takes a field, and `true` or `false`.
+    OrderBy,
     /// It takes any number.
-    Variadic(Variadic),
+    Variadic(VariadicClause),
     /// It adds a condition of this family; its ending says how many it takes.
     Where(Family, Ending),
+    /// It prints a subquery of one name.
+    SubqueryAs,
 }
 
 /// A name that takes no argument.
@@ -45,56 +53,6 @@ pub(crate) enum Nullary {
     Query,
     QueryValues,
     Subquery,
-}
-
-/// A name that takes one.
-#[derive(Clone, Copy)]
-pub(crate) enum Unary {
-    SelectFrom,
-    InsertInto,
-    UpdateTable,
-    DeleteFrom,
-    AndTable,
-    Join,
-    On,
-    Field,
-    SetField,
-    Count,
-    Select,
-    Returning,
-    GroupBy,
-    Having,
-    Union,
-    UnionAll,
-    OrderAsc,
-    OrderDesc,
-    Limit,
-    Offset,
-    SubqueryAs,
-}
-
-/// A name that takes two.
-#[derive(Clone, Copy)]
-pub(crate) enum Binary {
-    OnEq,
-    CountAs,
-    SetTo,
-    SetStr,
-}
-
-/// A name that takes two, of which the second is `true` or `false`.
-#[derive(Clone, Copy)]
-pub(crate) enum Flagged {
-    OrderBy,
-}
-
-/// A name that takes any number.
-#[derive(Clone, Copy)]
-pub(crate) enum Variadic {
-    SelectValues,
-    Fields,
-    SetFields,
-    Values,
 }
 
 /// A condition, but for its texts. A truth value says whether it is the NOT form.
@@ -220,52 +178,21 @@ impl Ending {
     }
 }
 
-// Whether the first byte leaves it open that a name begins with a prefix.
-#[inline(always)]
-fn may_begin<'a>(name: &'a str, prefix: &'a str) -> bool
-    ensures { result ≡ false → (rest : List ℕ) → name.now ≢ prefix.now ++ rest }
-{
-    match (name.as_bytes(), prefix.as_bytes()) {
-        ([first, ..], [sought, ..]) => first == sought,
-        ([], [_, ..]) => false,
-        _ => true,
-    }
-}
-
 // A condition of this family, where the name is the prefix and an ending.
 #[inline(always)]
 fn condition_call(family: Family, prefix: &str, name: &str) -> Option<Meaning>
     ensures { result ≡ condition_call family prefix.now name.now }
 {
-    if !may_begin(name, prefix) {
-        return None;
-    }
     let ending = name.strip_prefix(prefix)?;
     Some(Meaning::Where(family, Ending::of(ending)?))
 }
 
-// The names that open a statement.
-#[tactic(auto, unfolding(crate::specs::Names::starts))]
-fn start_call(name: &str) -> Option<Meaning>
-    ensures { result ≡ found_in starts name.now }
+// The names that take no argument.
+#[tactic(auto, unfolding(crate::specs::Names::nullaries))]
+fn nullary_call(name: &str) -> Option<Meaning>
+    ensures { result ≡ found_in nullaries name.now }
 {
     Some(match name {
-        "select_from" => Meaning::Unary(Unary::SelectFrom),
-        "insert_into" => Meaning::Unary(Unary::InsertInto),
-        "update_table" => Meaning::Unary(Unary::UpdateTable),
-        "delete_from" => Meaning::Unary(Unary::DeleteFrom),
-        "select_values" => Meaning::Variadic(Variadic::SelectValues),
-        _ => return None,
-    })
-}
-
-// The names of tables and of joins.
-#[tactic(auto, unfolding(crate::specs::Names::joins))]
-fn join_call(name: &str) -> Option<Meaning>
-    ensures { result ≡ found_in joins name.now }
-{
-    Some(match name {
-        "and_table" => Meaning::Unary(Unary::AndTable),
         "natural" => Meaning::Nullary(Nullary::Natural),
         "left" => Meaning::Nullary(Nullary::Left),
         "left_outer" => Meaning::Nullary(Nullary::LeftOuter),
@@ -273,9 +200,31 @@ fn join_call(name: &str) -> Option<Meaning>
         "right_outer" => Meaning::Nullary(Nullary::RightOuter),
         "inner" => Meaning::Nullary(Nullary::Inner),
         "cross" => Meaning::Nullary(Nullary::Cross),
-        "join" => Meaning::Unary(Unary::Join),
-        "on" => Meaning::Unary(Unary::On),
-        "on_eq" => Meaning::Binary(Binary::OnEq),
+        "distinct" => Meaning::Nullary(Nullary::Distinct),
+        "returning_id" => Meaning::Nullary(Nullary::ReturningId),
+        "sql" => Meaning::Nullary(Nullary::Sql),
+        "query" => Meaning::Nullary(Nullary::Query),
+        "query_values" => Meaning::Nullary(Nullary::QueryValues),
+        "subquery" => Meaning::Nullary(Nullary::Subquery),
+        _ => return None,
+    })
+}
+
+// The names that open a statement, and those of tables and joins.
+#[tactic(auto, unfolding(crate::specs::Names::tables))]
+fn table_call(name: &str) -> Option<Meaning>
+    ensures { result ≡ found_in tables name.now }
+{
+    Some(match name {
+        "on" => Meaning::Unary(UnaryClause::On),
+        "join" => Meaning::Unary(UnaryClause::Join),
+        "on_eq" => Meaning::Binary(BinaryClause::OnEq),
+        "and_table" => Meaning::Unary(UnaryClause::AndTable),
+        "select_from" => Meaning::Start(TableStart::SelectFrom),
+        "insert_into" => Meaning::Start(TableStart::InsertInto),
+        "delete_from" => Meaning::Start(TableStart::DeleteFrom),
+        "update_table" => Meaning::Start(TableStart::UpdateTable),
+        "select_values" => Meaning::SelectValues,
         _ => return None,
     })
 }
@@ -286,67 +235,39 @@ fn list_call(name: &str) -> Option<Meaning>
     ensures { result ≡ found_in lists name.now }
 {
     Some(match name {
-        "distinct" => Meaning::Nullary(Nullary::Distinct),
-        "field" => Meaning::Unary(Unary::Field),
-        "fields" => Meaning::Variadic(Variadic::Fields),
-        "set_field" => Meaning::Unary(Unary::SetField),
-        "set_fields" => Meaning::Variadic(Variadic::SetFields),
-        "count" => Meaning::Unary(Unary::Count),
-        "count_as" => Meaning::Binary(Binary::CountAs),
-        "set" => Meaning::Binary(Binary::SetTo),
-        "set_str" => Meaning::Binary(Binary::SetStr),
-        "values" => Meaning::Variadic(Variadic::Values),
-        "select" => Meaning::Unary(Unary::Select),
-        "returning" => Meaning::Unary(Unary::Returning),
-        "returning_id" => Meaning::Nullary(Nullary::ReturningId),
+        "set" => Meaning::Binary(BinaryClause::SetTo),
+        "field" => Meaning::Unary(UnaryClause::Field),
+        "count" => Meaning::Unary(UnaryClause::Count),
+        "fields" => Meaning::Variadic(VariadicClause::Fields),
+        "values" => Meaning::Variadic(VariadicClause::Values),
+        "select" => Meaning::Unary(UnaryClause::Select),
+        "set_str" => Meaning::Binary(BinaryClause::SetStr),
+        "count_as" => Meaning::Binary(BinaryClause::CountAs),
+        "set_field" => Meaning::Unary(UnaryClause::SetField),
+        "returning" => Meaning::Unary(UnaryClause::Returning),
+        "set_fields" => Meaning::Variadic(VariadicClause::SetFields),
         _ => return None,
     })
 }
 
-// The names of groups, order, limits and unions.
+// The names of groups, order, limits, unions and subqueries.
 #[tactic(auto, unfolding(crate::specs::Names::ends))]
 fn end_call(name: &str) -> Option<Meaning>
     ensures { result ≡ found_in ends name.now }
 {
     Some(match name {
-        "group_by" => Meaning::Unary(Unary::GroupBy),
-        "having" => Meaning::Unary(Unary::Having),
-        "order_by" => Meaning::Flagged(Flagged::OrderBy),
-        "order_asc" => Meaning::Unary(Unary::OrderAsc),
-        "order_desc" => Meaning::Unary(Unary::OrderDesc),
-        "limit" => Meaning::Unary(Unary::Limit),
-        "offset" => Meaning::Unary(Unary::Offset),
-        "union" => Meaning::Unary(Unary::Union),
-        "union_all" => Meaning::Unary(Unary::UnionAll),
+        "limit" => Meaning::Unary(UnaryClause::Limit),
+        "union" => Meaning::Unary(UnaryClause::Union),
+        "having" => Meaning::Unary(UnaryClause::Having),
+        "offset" => Meaning::Unary(UnaryClause::Offset),
+        "group_by" => Meaning::Unary(UnaryClause::GroupBy),
+        "order_by" => Meaning::OrderBy,
+        "order_asc" => Meaning::Unary(UnaryClause::OrderAsc),
+        "union_all" => Meaning::Unary(UnaryClause::UnionAll),
+        "order_desc" => Meaning::Unary(UnaryClause::OrderDesc),
+        "subquery_as" => Meaning::SubqueryAs,
         _ => return None,
     })
-}
-
-// The names that print a statement.
-#[tactic(auto, unfolding(crate::specs::Names::finishes))]
-fn finish_call(name: &str) -> Option<Meaning>
-    ensures { result ≡ found_in finishes name.now }
-{
-    Some(match name {
-        "sql" => Meaning::Nullary(Nullary::Sql),
-        "query" => Meaning::Nullary(Nullary::Query),
-        "query_values" => Meaning::Nullary(Nullary::QueryValues),
-        "subquery" => Meaning::Nullary(Nullary::Subquery),
-        "subquery_as" => Meaning::Unary(Unary::SubqueryAs),
-        _ => return None,
-    })
-}
-
-// Another call.
-#[tactic(auto, unfolding(crate::specs::Names::other_call))]
-fn other_call(name: &str) -> Option<Meaning>
-    ensures { result ≡ other_call name.now }
-{
-    start_call(name)
-        .or_else(|| join_call(name))
-        .or_else(|| list_call(name))
-        .or_else(|| end_call(name))
-        .or_else(|| finish_call(name))
 }
 
 impl Meaning {
@@ -357,6 +278,9 @@ impl Meaning {
     {
         condition_call(Family::And, "and_where", name)
             .or_else(|| condition_call(Family::Or, "or_where", name))
-            .or_else(|| other_call(name))
+            .or_else(|| nullary_call(name))
+            .or_else(|| table_call(name))
+            .or_else(|| list_call(name))
+            .or_else(|| end_call(name))
     }
 }

@@ -15,10 +15,11 @@ pub(crate) fn write_all<W: Write>(writer: &mut Watched<W>, bytes: &[u8]) -> Resu
     ensures wrote { (written : List ℕ) × Appends (W.contents writer.old.inner)
         (W.contents writer.new.inner) written × WritesOrFails result written bytes.now writer.new.failed }
     ensures ended { writer.new.ended ≡ writer.old.ended }
+    ensures retried { writer.new.retried ≡ writer.old.retried }
 {
     let mut rest = bytes;
     'writes: while !rest.is_empty() {
-        match writer.write_on(rest) {
+        match writer.write(rest) {
             Ok(0) | Err(_) => return Err(Fault::Write),
             Ok(n) => rest = &rest[n..],
         }
@@ -33,6 +34,7 @@ pub(crate) fn write_parts<W: Write>(writer: &mut Watched<W>, parts: &[&[u8]]) ->
         (W.contents writer.new.inner) written
         × WritesOrFails result written (flat_map (λ part. part.now) parts.now) writer.new.failed }
     ensures ended { writer.new.ended ≡ writer.old.ended }
+    ensures retried { writer.new.retried ≡ writer.old.retried }
 {
     for part in parts {
         write_all(writer, part)?;
@@ -47,6 +49,7 @@ pub(crate) fn write_line<W: Write>(writer: &mut Watched<W>, text: &str) -> Resul
         (W.contents writer.new.inner) written
         × WritesOrFails result written (text.now ++ codes "\n") writer.new.failed }
     ensures ended { writer.new.ended ≡ writer.old.ended }
+    ensures retried { writer.new.retried ≡ writer.old.retried }
 {
     write_parts(writer, &[text.as_bytes(), b"\n"])
 }
@@ -80,6 +83,7 @@ pub fn write_fault<W: Write>(fault: &Fault, writer: &mut Watched<W>) -> Result<(
         (W.contents writer.new.inner) written
         × WritesOrFails result written (fault_text fault.now ++ codes "\n") writer.new.failed }
     ensures ended { writer.new.ended ≡ writer.old.ended }
+    ensures retried { writer.new.retried ≡ writer.old.retried }
 {
     match fault {
         Fault::At(line, reason) => {

@@ -33,6 +33,7 @@ fn run_lines<W: Write>(
     ensures failed { FailsOnlyToWrite result writer.new.failed }
     ensures no_memory { IfErr result NamesNoMemory }
     ensures ended { writer.new.ended ≡ writer.old.ended }
+    ensures retried { writer.new.retried ≡ writer.old.retried }
 {
     let (text, has_invalid_line) = lines_of_text(input);
     let mut statement = String::new(alloc);
@@ -96,6 +97,10 @@ pub fn run_input<R: Read, W: Write>(
     ensures read { IsErrOf result Fault.Read ↔ (reader.new.failed ≡ true) }
     ensures write { IsErrOf result Fault.Write ↔ (writer.new.failed ≡ true) }
 
+    // Nothing is called after it has failed, nor read after its end.
+    ensures reads { reader.new.retried ≡ reader.old.retried }
+    ensures writes { writer.new.retried ≡ writer.old.retried }
+
     // Out of memory is returned as `Memory`, and never as a line's reason.
     ensures no_memory { IfErr result NamesNoMemory }
 {
@@ -116,12 +121,17 @@ pub(crate) fn run_flushed<R: Read, W: Write + Drop>(
     requires reader_not_ended { reader.old.ended ≡ false }
 
     ensures ran { RunsBuffered result.1 (R.remaining reader.old.inner) (R.remaining reader.new.inner)
-        reader.new.ended (writer_contents W.contents writer) (W.contents result.0.inner) }
+        reader.new.ended (writer_contents W.contents writer) (W.contents result.0.inner)
+        result.0.failed }
     ensures read { IsErrOf result.1 Fault.Read ↔ (reader.new.failed ≡ true) }
 
     // Unless a read has failed, `Write` is answered exactly where a write or a flush has failed.
     ensures write { reader.new.failed ≡ false
         → (IsErrOf result.1 Fault.Write ↔ (result.0.failed ≡ true)) }
+
+    // Nothing is called after it has failed, nor read after its end.
+    ensures reads { reader.new.retried ≡ reader.old.retried }
+    ensures writes { result.0.retried ≡ false }
     ensures no_memory { IfErr result.1 NamesNoMemory }
 {
     let mut writer = Watched::new(writer);
@@ -130,7 +140,7 @@ pub(crate) fn run_flushed<R: Read, W: Write + Drop>(
     if writer.failed() {
         return (writer.into_below(), Err(Fault::Write));
     }
-    let flushed = writer.flush_on();
+    let flushed = writer.flush();
     let below = writer.into_below();
     match answer {
         Err(Fault::Read) => (below, Err(Fault::Read)),

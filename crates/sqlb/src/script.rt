@@ -1,13 +1,14 @@
 //! The statement that is open, and what the lines do to it. Each returns whether the line finished
 //! the statement.
 ghost use Rattle.std.specs.Prelude.{◌≡◌, IfErr, IfOk, IfSome, IsErrOf, IsSome, None, Ok, OnOk, is_some, string_bytes};
-ghost use Rattle.sql_builder.specs.Builder.{HasJoin, with_condition, with_order, MayTakeMemory, with_binary, with_call, with_unary, with_variadic};
-ghost use Rattle.sql_builder.specs.Calls.{SelectValues, SubqueryAs, call_view, finish_view, start_on};
+ghost use Rattle.sql_builder.specs.Builder.{HasJoin, MayTakeMemory};
+ghost use Rattle.sql_builder.specs.Calls.{Cond, OrderBy, SelectValues, SubqueryAs};
+ghost use Rattle.sql_builder.specs.Calls.{binary_call, call_view, finish_view, start_on, unary_call, variadic_call};
 ghost use Rattle.sql_builder.specs.Condition.{borrowed_view};
 ghost use Rattle.sql_builder.specs.declared.steps.BinaryClause.TheVariants.{OnEq};
 ghost use Rattle.sql_builder.specs.declared.steps.UnaryClause.TheVariants.{On};
-ghost use Rattle.sqlb.specs.Lines.{Finishes};
-ghost use Rattle.sqlb.specs.Script.{Opens, Runs, Adds};
+ghost use Rattle.sqlb.specs.Lines.{Calls, Finishes, Starts};
+ghost use Rattle.sqlb.specs.Script.{Does, Runs};
 ghost use Rattle.sqlb.specs.declared.fault.Fault.TheVariants.{Memory};
 ghost use Rattle.sqlb.specs.declared.fault.LineError.TheVariants as out;
 ghost use Rattle.sqlb.specs.declared.fault.Reason.TheVariants.{NoStatement, StatementOpen};
@@ -88,7 +89,7 @@ impl Script {
 
     /// Opens a statement on a table, where none is open.
     pub(crate) fn start_on(&mut self, start: TableStart, table: &str) -> Result<bool, LineError>
-        ensures { Opens result self.old self.new (start_on start table.now) }
+        ensures { Does result self.old self.new (Starts (start_on start table.now)) }
     {
         self.check_closed()?;
         restart_on(&mut self.builder, start, table)?;
@@ -99,7 +100,7 @@ impl Script {
     /// Opens a statement of values, where none is open.
     #[inline(never)]
     pub(crate) fn start_values(&mut self, values: Arguments<'_>) -> Result<bool, LineError>
-        ensures { Opens result self.old self.new (SelectValues values.entry.parts) }
+        ensures { Does result self.old self.new (Starts (SelectValues values.entry.parts)) }
     {
         self.check_closed()?;
         restart_values(&mut self.builder, values)?;
@@ -109,7 +110,7 @@ impl Script {
 
     /// Makes a call of the open statement.
     pub(crate) fn add_call(&mut self, call: &Call) -> Result<bool, LineError>
-        ensures given { Adds result self.old self.new (with_call (call_view call.now)) }
+        ensures given { Does result self.old self.new (Calls (call_view call.now)) }
         ensures memory { IsErrOf result out.Memory
             → IfSome self.old (MayTakeMemory (call_view call.now)) }
     {
@@ -120,7 +121,7 @@ impl Script {
 
     /// Makes a call of the open statement with one text.
     pub(crate) fn add_unary(&mut self, clause: UnaryClause, text: &str) -> Result<bool, LineError>
-        ensures given { Adds result self.old self.new (with_unary clause text.now) }
+        ensures given { Does result self.old self.new (Calls (unary_call clause text.now)) }
         ensures memory { IsErrOf result out.Memory
             → IfSome self.old (λ r. clause ≡ On → HasJoin r) }
     {
@@ -136,7 +137,8 @@ impl Script {
         first: &'a str,
         second: &'a str,
     ) -> Result<bool, LineError>
-        ensures given { Adds result self.old self.new (with_binary clause first.now second.now) }
+        ensures given { Does result self.old self.new
+            (Calls (binary_call clause first.now second.now)) }
         ensures memory { IsErrOf result out.Memory
             → IfSome self.old (λ r. clause ≡ OnEq → HasJoin r) }
     {
@@ -147,7 +149,7 @@ impl Script {
 
     /// Orders the open statement by a field.
     pub(crate) fn add_order(&mut self, field: &str, descending: bool) -> Result<bool, LineError>
-        ensures { Adds result self.old self.new (with_order descending field.now) }
+        ensures { Does result self.old self.new (Calls (OrderBy field.now descending)) }
     {
         self.check_open()?;
         make_order(&mut self.builder, field, descending)?;
@@ -160,7 +162,7 @@ impl Script {
         clause: VariadicClause,
         texts: Arguments<'_>,
     ) -> Result<bool, LineError>
-        ensures { Adds result self.old self.new (with_variadic clause texts.entry.parts) }
+        ensures { Does result self.old self.new (Calls (variadic_call clause texts.entry.parts)) }
     {
         self.check_open()?;
         make_variadic(&mut self.builder, clause, texts)?;
@@ -173,8 +175,8 @@ impl Script {
         family: Family,
         condition: BorrowedCondition<'a, Arguments<'a>>,
     ) -> Result<bool, LineError>
-        ensures { Adds result self.old self.new
-            (with_condition family (borrowed_view (λ left. left.parts) condition.entry)) }
+        ensures { Does result self.old self.new
+            (Calls (Cond family (borrowed_view (λ left. left.parts) condition.entry))) }
     {
         self.check_open()?;
         make_condition(&mut self.builder, family, condition)?;

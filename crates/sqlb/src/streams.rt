@@ -33,6 +33,7 @@ fn report<E: Write>(answer: &Result<(), Fault>, errors: &mut Watched<E>) -> u8
     ensures reported { IfErr answer.now (λ fault. (written : List ℕ)
         × Appends (E.contents errors.old.inner) (E.contents errors.new.inner) written
         × IsWrittenUnless errors.new.failed (fault_text fault ++ codes "\n") written) }
+    ensures retried { errors.new.retried ≡ errors.old.retried }
     ensures status { result ≡ status_of answer.now }
 {
     match answer {
@@ -58,7 +59,7 @@ pub(crate) fn run_streams<R: Read, W: Write + Drop, E: Write>(
     requires errors_not_failed { errors.old.failed ≡ false }
     ensures ran { IfSome result.writer (λ below. RunsBuffered result.answer
         (R.remaining reader.old.inner) (R.remaining reader.new.inner) reader.new.ended
-        (W.contents writer) (W.contents below.inner)) }
+        (W.contents writer) (W.contents below.inner) below.failed) }
     ensures not_run { IsNone result.writer
         → (result.answer ≡ Err Fault.Memory) × (reader.new ≡ reader.old) }
     ensures read { IsErrOf result.answer Fault.Read ↔ (reader.new.failed ≡ true) }
@@ -66,6 +67,11 @@ pub(crate) fn run_streams<R: Read, W: Write + Drop, E: Write>(
     // Unless a read has failed, `Write` is answered exactly where a write or a flush has failed.
     ensures write { reader.new.failed ≡ false → (IsErrOf result.answer Fault.Write
         ↔ IsSomeAnd result.writer (λ below. below.failed ≡ true)) }
+
+    // Nothing is called after it has failed, nor read after its end.
+    ensures reads { reader.new.retried ≡ reader.old.retried }
+    ensures writes { IfSome result.writer (λ below. below.retried ≡ false) }
+    ensures reports { errors.new.retried ≡ errors.old.retried }
     ensures no_memory { IfErr result.answer NamesNoMemory }
 
     // The fault goes to `errors`, and nothing else does.

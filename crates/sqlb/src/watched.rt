@@ -1,4 +1,5 @@
-//! A reader or a writer that remembers whether it failed and whether it ended.
+//! A reader or a writer that remembers whether it failed, whether it ended, and whether it was called
+//! after that.
 ghost use Rattle.std.specs.Prelude.{◌≡◌, ◌||◌, [], false, is_err, OnOk};
 ghost use Rattle.std.specs.Io.{ReadsAtMost, WritesAtMost};
 ghost use Rattle.std.specs.Io.Buffered.{writer_buffer, writer_contents, writer_inner};
@@ -16,6 +17,8 @@ pub struct Watched<T> {
     inner: T,
     has_failed: bool,
     has_ended: bool,
+    // Nothing but contracts reads it. As ghost data a proof by hand could give it any value.
+    was_retried: bool,
 }
 
 impl<T> Model for Watched<T> {
@@ -23,7 +26,12 @@ impl<T> Model for Watched<T> {
 
     ghost Value = { Watch T };
 
-    ghost view = { λ w. record { inner = w.inner; failed = w.has_failed; ended = w.has_ended } };
+    ghost view = { λ w. record {
+      inner = w.inner;
+      failed = w.has_failed;
+      ended = w.has_ended;
+      retried = w.was_retried;
+    } };
 }
 
 impl<T> Watched<T> {
@@ -32,11 +40,13 @@ impl<T> Watched<T> {
         ensures inner { result.inner ≡ inner }
         ensures failed { result.failed ≡ false }
         ensures ended { result.ended ≡ false }
+        ensures retried { result.retried ≡ false }
     {
         Watched {
             inner,
             has_failed: false,
             has_ended: false,
+            was_retried: false,
         }
     }
 
@@ -70,7 +80,10 @@ impl<R: Read> Watched<R> {
             result buf.new }
         ensures failed { self.new.failed ≡ (self.old.failed || is_err result) }
         ensures ended { self.new.ended ≡ (self.old.ended || gives_end result buf.old) }
+        ensures retried { self.new.retried
+            ≡ (self.old.retried || (self.old.failed || self.old.ended)) }
     {
+        self.was_retried |= self.has_failed || self.has_ended;
         let answer = self.inner.read(buf);
         match &answer {
             Ok(0) if !buf.is_empty() => self.has_ended = true,
@@ -78,19 +91,6 @@ impl<R: Read> Watched<R> {
             Err(_) => self.has_failed = true,
         }
         answer
-    }
-
-    // A read by one who tries no failed read again, and reads nothing past the end.
-    pub(crate) fn read_on(&mut self, buf: &mut [u8]) -> io::Result<usize>
-        requires not_failed { self.old.failed ≡ false }
-        requires not_ended { self.old.ended ≡ false }
-        ensures bound { ReadsAtMost result buf.new }
-        ensures bytes { ReadConsumes (R.remaining self.old.inner) (R.remaining self.new.inner)
-            result buf.new }
-        ensures failed { self.new.failed ≡ is_err result }
-        ensures ended { self.new.ended ≡ gives_end result buf.old }
-    {
-        self.read(buf)
     }
 }
 
@@ -102,7 +102,9 @@ impl<W: Write> Watched<W> {
             result buf.now }
         ensures failed { self.new.failed ≡ (self.old.failed || fails_to_write result buf.now) }
         ensures ended { self.new.ended ≡ self.old.ended }
+        ensures retried { self.new.retried ≡ (self.old.retried || self.old.failed) }
     {
+        self.was_retried |= self.has_failed;
         let answer = self.inner.write(buf);
         match &answer {
             Ok(0) if !buf.is_empty() => self.has_failed = true,
@@ -110,18 +112,6 @@ impl<W: Write> Watched<W> {
             Err(_) => self.has_failed = true,
         }
         answer
-    }
-
-    // A write by one who tries no failed write again.
-    pub(crate) fn write_on(&mut self, buf: &[u8]) -> io::Result<usize>
-        requires not_failed { self.old.failed ≡ false }
-        ensures bound { WritesAtMost result buf.now }
-        ensures bytes { WriteAppends (W.contents self.old.inner) (W.contents self.new.inner)
-            result buf.now }
-        ensures failed { self.new.failed ≡ fails_to_write result buf.now }
-        ensures ended { self.new.ended ≡ self.old.ended }
-    {
-        self.write(buf)
     }
 }
 
@@ -132,27 +122,28 @@ impl<W: Write + Drop> Watched<BufWriter<W>> {
         ensures inner { result.inner ≡ writer_inner self.inner }
         ensures failed { result.failed ≡ self.failed }
         ensures ended { result.ended ≡ self.ended }
+        ensures retried { result.retried ≡ self.retried }
     {
         Watched {
             inner: self.inner.into_parts().0,
             has_failed: self.has_failed,
             has_ended: self.has_ended,
+            was_retried: self.was_retried,
         }
     }
 
-    // A flush by one who tries nothing again after an error.
-    pub(crate) fn flush_on(&mut self) -> io::Result<()>
-        requires not_failed { self.old.failed ≡ false }
+    /// A flush of the buffer, and its result.
+    pub(crate) fn flush(&mut self) -> io::Result<()>
         ensures bytes { Keeps (writer_contents W.contents self.old.inner)
             (writer_contents W.contents self.new.inner) }
         ensures emptied { OnOk result (writer_buffer self.new.inner ≡ []) }
-        ensures failed { self.new.failed ≡ is_err result }
+        ensures failed { self.new.failed ≡ (self.old.failed || is_err result) }
         ensures ended { self.new.ended ≡ self.old.ended }
+        ensures retried { self.new.retried ≡ (self.old.retried || self.old.failed) }
     {
+        self.was_retried |= self.has_failed;
         let answer = self.inner.flush();
-        if answer.is_err() {
-            self.has_failed = true;
-        }
+        self.has_failed |= answer.is_err();
         answer
     }
 }

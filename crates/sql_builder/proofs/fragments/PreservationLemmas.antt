@@ -74,30 +74,28 @@ constraint_in-following (call.On text) = words-following (codes " ON ") (raw_pie
 constraint_in-following (call.OnEq left right) = words-following (codes " ON ") (equation fixed_piece (raw_piece left) (raw_piece right)) refl
 constraint_in-following _ = none-following
 
-record Ends (words : List ℕ) : Type 0 where
-  is_whole : Whole words
-  ends : ends_with is_edge words ≡ true
-
-join-ends : (natural : Bool) (chosen : Option JoinOperator) → Ends (join_words natural chosen)
-join-ends true None = record { is_whole = record { is_closed = refl; plain = refl }; ends = refl }
-join-ends true (Some operator.Left) = record { is_whole = record { is_closed = refl; plain = refl }; ends = refl }
-join-ends true (Some operator.LeftOuter) = record { is_whole = record { is_closed = refl; plain = refl }; ends = refl }
-join-ends true (Some operator.Right) = record { is_whole = record { is_closed = refl; plain = refl }; ends = refl }
-join-ends true (Some operator.RightOuter) = record { is_whole = record { is_closed = refl; plain = refl }; ends = refl }
-join-ends true (Some operator.Inner) = record { is_whole = record { is_closed = refl; plain = refl }; ends = refl }
-join-ends true (Some operator.Cross) = record { is_whole = record { is_closed = refl; plain = refl }; ends = refl }
-join-ends false None = record { is_whole = record { is_closed = refl; plain = refl }; ends = refl }
-join-ends false (Some operator.Left) = record { is_whole = record { is_closed = refl; plain = refl }; ends = refl }
-join-ends false (Some operator.LeftOuter) = record { is_whole = record { is_closed = refl; plain = refl }; ends = refl }
-join-ends false (Some operator.Right) = record { is_whole = record { is_closed = refl; plain = refl }; ends = refl }
-join-ends false (Some operator.RightOuter) = record { is_whole = record { is_closed = refl; plain = refl }; ends = refl }
-join-ends false (Some operator.Inner) = record { is_whole = record { is_closed = refl; plain = refl }; ends = refl }
-join-ends false (Some operator.Cross) = record { is_whole = record { is_closed = refl; plain = refl }; ends = refl }
+-- the words of a join are whole, end at an edge, and are neutral
+join-words : (natural : Bool) (chosen : Option JoinOperator)
+    → (Whole (join_words natural chosen) × (ends_with is_edge (join_words natural chosen) ≡ true)) × Neutral (fixed_piece (join_words natural chosen))
+join-words true None = ((record { is_closed = refl; plain = refl }, refl), record { even = refl; no_word = refl })
+join-words true (Some operator.Left) = ((record { is_closed = refl; plain = refl }, refl), record { even = refl; no_word = refl })
+join-words true (Some operator.LeftOuter) = ((record { is_closed = refl; plain = refl }, refl), record { even = refl; no_word = refl })
+join-words true (Some operator.Right) = ((record { is_closed = refl; plain = refl }, refl), record { even = refl; no_word = refl })
+join-words true (Some operator.RightOuter) = ((record { is_closed = refl; plain = refl }, refl), record { even = refl; no_word = refl })
+join-words true (Some operator.Inner) = ((record { is_closed = refl; plain = refl }, refl), record { even = refl; no_word = refl })
+join-words true (Some operator.Cross) = ((record { is_closed = refl; plain = refl }, refl), record { even = refl; no_word = refl })
+join-words false None = ((record { is_closed = refl; plain = refl }, refl), record { even = refl; no_word = refl })
+join-words false (Some operator.Left) = ((record { is_closed = refl; plain = refl }, refl), record { even = refl; no_word = refl })
+join-words false (Some operator.LeftOuter) = ((record { is_closed = refl; plain = refl }, refl), record { even = refl; no_word = refl })
+join-words false (Some operator.Right) = ((record { is_closed = refl; plain = refl }, refl), record { even = refl; no_word = refl })
+join-words false (Some operator.RightOuter) = ((record { is_closed = refl; plain = refl }, refl), record { even = refl; no_word = refl })
+join-words false (Some operator.Inner) = ((record { is_closed = refl; plain = refl }, refl), record { even = refl; no_word = refl })
+join-words false (Some operator.Cross) = ((record { is_closed = refl; plain = refl }, refl), record { even = refl; no_word = refl })
 
 join_after-inside : (before : List CallText) (table : List ℕ) → Inside (join_after before table)
 join_after-inside before table =
-    let words = join-ends (natural_of before) (operator_of before) in
-    words-first (join_words (natural_of before) (operator_of before)) (raw_piece table) words.is_whole words.ends (raw-inside table)
+    let words = (join-words (natural_of before) (operator_of before)).0 in
+    words-first (join_words (natural_of before) (operator_of before)) (raw_piece table) words.0 words.1 (raw-inside table)
 
 join_in-all : (before : List CallText) (c : CallText) (after : List CallText) → AllInside (join_in before c after)
 join_in-all before (call.Join table) after =
@@ -197,22 +195,6 @@ clauses-parts start calls =
     }
 
 -- ---- any property that each step preserves
-
-join-neutral : (natural : Bool) (chosen : Option JoinOperator) → Neutral (fixed_piece (join_words natural chosen))
-join-neutral true None = record { even = refl; no_word = refl }
-join-neutral true (Some operator.Left) = record { even = refl; no_word = refl }
-join-neutral true (Some operator.LeftOuter) = record { even = refl; no_word = refl }
-join-neutral true (Some operator.Right) = record { even = refl; no_word = refl }
-join-neutral true (Some operator.RightOuter) = record { even = refl; no_word = refl }
-join-neutral true (Some operator.Inner) = record { even = refl; no_word = refl }
-join-neutral true (Some operator.Cross) = record { even = refl; no_word = refl }
-join-neutral false None = record { even = refl; no_word = refl }
-join-neutral false (Some operator.Left) = record { even = refl; no_word = refl }
-join-neutral false (Some operator.LeftOuter) = record { even = refl; no_word = refl }
-join-neutral false (Some operator.Right) = record { even = refl; no_word = refl }
-join-neutral false (Some operator.RightOuter) = record { even = refl; no_word = refl }
-join-neutral false (Some operator.Inner) = record { even = refl; no_word = refl }
-join-neutral false (Some operator.Cross) = record { even = refl; no_word = refl }
 
 -- lists of calls that are all fit
 abbrev call_ok : Bool → (RawText → Bool) → CallText → Bool
@@ -394,7 +376,7 @@ module _ (enclosed : Bool) (ok : RawText → Bool) (fine : List ℕ → Bool) (P
   join_in-preserved before (call.Join table) after here all = (
     preserved.joins.append (join_after before table) (flat_map constraint_in (until is_join after))
         (preserved.joins.append (fixed_piece (join_words (natural_of before) (operator_of before))) (raw_piece table)
-        (preserved.joins.words (join_words (natural_of before) (operator_of before)) (join-neutral (natural_of before) (operator_of before)))
+        (preserved.joins.words (join_words (natural_of before) (operator_of before)) (join-words (natural_of before) (operator_of before)).1)
         (one preserved table here))
         (flat-preserved constraint_in constraint_in-preserved (until is_join after) (until-all (call_ok enclosed ok) is_join after all)),
     tt,

@@ -144,7 +144,7 @@ whole-outline [] = refl
 whole-outline (piece ∷ printed) =
     map-append blank_token (piece_tokens piece) (pieces_tokens printed) ∙ ap (λ more. piece_outline piece ++ more) (whole-outline printed)
 
-pieces-outline : (one other : Pieces) → map piece_outline one ≡ map piece_outline other → Shaped one → Shaped other → has_closed_fragments one ≡ true
+pub pieces-outline : (one other : Pieces) → map piece_outline one ≡ map piece_outline other → Shaped one → Shaped other → has_closed_fragments one ≡ true
     → outline (pieces_text one) ≡ outline (pieces_text other)
 pieces-outline one other same shaped also is = ap blank (shaped.shape_is is) ∙ blanks_alike ∙ sym (ap blank (also.shape_is (no_open-closed other none)))
   where

@@ -34,31 +34,13 @@ use Rattle.sql_builder.specs.Filters.{until}
 use Rattle.sql_builder.proofs.reading.NestingLemmas.{query-balanced}
 use Rattle.sql_builder.proofs.reading.LayoutLemmas.{query-opens}
 use Rattle.sql_builder.proofs.reading.SectionLemmas.{Neutral, Front, any_union, before-append, neutral-front, front-append, lead_on, opening_clauses}
-use Rattle.sql_builder.proofs.reading.SectionLemmas.{own-top_level}
+use Rattle.sql_builder.proofs.reading.SectionLemmas.{joined, own-top_level, parts-joined}
 use Rattle.sql_builder.proofs.reading.SectionLemmas.{section-clauses, starts-lead, union-flags, with_last, sections-front, until-after, union-flag}
 use Rattle.sql_builder.proofs.reading.ClauseWordLemmas.{are_fit-is, are_fit_from, fit-balanced, fit-flags, fragments_closed, flags, same-parts, shape-even}
 use Rattle.sql_builder.proofs.tokens.DepthFacts.{at_end-closes}
 use Rattle.sql_builder.proofs.tokens.PartFacts.{semicolon-none, semicolon-one}
 use Rattle.sql_builder.proofs.pieces.ShapeLemmas.{pieces_tokens-append}
 use Rattle.sql_builder.proofs.statements.StatementLawLemmas.{of_pieces}
-
--- ---- the parts of lists that are joined
-
-abbrev joined : Parts → Parts → Parts
-joined one other = record { lead = lead_on other.lead one.lead one.rest; rest = with_last other.lead one.rest ++ other.rest }
-
-joined-front : (is : Bool) (t : Token) (lead : List Token) (rest : List Clause) (other : Parts)
-    → with_front is t (joined (record { lead = lead; rest = rest }) other) ≡ joined (with_front is t (record { lead = lead; rest = rest })) other
-joined-front true t lead [] other = refl
-joined-front true t lead (c ∷ cs) other = refl
-joined-front false t lead [] other = refl
-joined-front false t lead (c ∷ cs) other = refl
-
-parts-joined : (test : Token → Bool) (a b : List Placed) → parts_at test (a ++ b) ≡ joined (parts_at test a) (parts_at test b)
-parts-joined test [] b = refl
-parts-joined test (m ∷ a) b =
-    ap (with_front (at_top_level test m) (fragments.token_of m)) (parts-joined test a b)
-    ∙ joined-front (at_top_level test m) (fragments.token_of m) (parts_at test a).lead (parts_at test a).rest (parts_at test b)
 
 -- ---- tokens that have no top-level UNION
 

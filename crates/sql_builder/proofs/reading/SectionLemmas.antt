@@ -246,20 +246,40 @@ sections-front P (s ∷ sections) all =
     (front-append (tokens s.opening ++ own s.body) (own (concat_sections fixed_piece sections))
     (front-append (tokens s.opening) (own s.body) all.0.front (neutral-front s.body all.0.neutral)) (sections-front P sections all.1))
 
+-- ---- the parts of lists that are joined
+
+-- the last clause goes on
+abbrev pub with_last : List Token → List Clause → List Clause
+with_last ts [] = []
+with_last ts (c ∷ []) = (c.0, c.1 ++ ts) ∷ []
+with_last ts (c ∷ d ∷ cs) = c ∷ with_last ts (d ∷ cs)
+
+with_last-nil : (cs : List Clause) → with_last [] cs ≡ cs
+with_last-nil [] = refl
+with_last-nil (c ∷ []) = ap (λ (ts : List Token). (c.0, ts) ∷ []) (append-nil c.1)
+with_last-nil (c ∷ d ∷ cs) = ap (◌∷◌ c) (with_last-nil (d ∷ cs))
+
+abbrev pub lead_on : List Token → List Token → List Clause → List Token
+lead_on ts lead [] = lead ++ ts
+lead_on ts lead (c ∷ cs) = lead
+
+abbrev pub joined : Parts → Parts → Parts
+joined one other = record { lead = lead_on other.lead one.lead one.rest; rest = with_last other.lead one.rest ++ other.rest }
+
+joined-front : (is : Bool) (t : Token) (lead : List Token) (rest : List Clause) (other : Parts)
+    → with_front is t (joined (record { lead = lead; rest = rest }) other) ≡ joined (with_front is t (record { lead = lead; rest = rest })) other
+joined-front true t lead [] other = refl
+joined-front true t lead (c ∷ cs) other = refl
+joined-front false t lead [] other = refl
+joined-front false t lead (c ∷ cs) other = refl
+
+pub parts-joined : (test : Token → Bool) (a b : List Placed) → parts_at test (a ++ b) ≡ joined (parts_at test a) (parts_at test b)
+parts-joined test [] b = refl
+parts-joined test (m ∷ a) b =
+    ap (with_front (at_top_level test m) (token_of m)) (parts-joined test a b)
+    ∙ joined-front (at_top_level test m) (token_of m) (parts_at test a).lead (parts_at test a).rest (parts_at test b)
+
 -- the clauses of sections are those of each
-parts-cut : (test : Token → Bool) (a b : List Placed) → (parts_at test b).lead ≡ [] → (parts_at test (a ++ b)).rest ≡ (parts_at test a).rest
-    ++ (parts_at test b).rest
-parts-cut test a b none = ap (λ (ps : Parts). ps.rest) (cut a)
-  where
-    step : (is : Bool) (t : Token) (one : Parts) (more : List Clause) → with_front is t (record { lead = one.lead; rest = one.rest ++ more })
-        ≡ record { lead = (with_front is t one).lead; rest = (with_front is t one).rest ++ more }
-    step true t one more = refl
-    step false t one more = refl
-
-    cut : (c : List Placed) → parts_at test (c ++ b) ≡ record { lead = (parts_at test c).lead; rest = (parts_at test c).rest ++ (parts_at test b).rest }
-    cut [] = λ i. record { lead = none i; rest = (parts_at test b).rest }
-    cut (m ∷ c) = ap (with_front (at_top_level test m) (token_of m)) (cut c) ∙ step (at_top_level test m) (token_of m) (parts_at test c) (parts_at test b).rest
-
 pub starts-lead : (ts : List Token) (ms : List Placed) → begins_with is_clause_word ts ≡ true → (parts_at is_clause_word (map TopLevel ts ++ ms)).lead ≡ []
 starts-lead [] ms h = absurd (false≢true h)
 starts-lead (t ∷ ts) ms h = ap (λ b. (with_front b t (parts_at is_clause_word (map TopLevel ts ++ ms))).lead) h
@@ -275,34 +295,10 @@ clauses-sections P [] all = refl
 clauses-sections P (s ∷ sections) all =
     let more = concat_sections fixed_piece sections in
     ap (λ ms. (parts_at is_clause_word ms).rest) (flat_map-append own_placed (section_pieces s) more)
-    ∙ parts-cut is_clause_word (flat_map own_placed (section_pieces s)) (flat_map own_placed more) (sections-lead P sections all.1)
+    ∙ ap (λ (ps : Parts). ps.rest) (parts-joined is_clause_word (flat_map own_placed (section_pieces s)) (flat_map own_placed more))
+    ∙ ap (λ ts. with_last ts (clauses_in (section_pieces s)) ++ clauses_in more) (sections-lead P sections all.1)
+    ∙ ap (λ cs. cs ++ clauses_in more) (with_last-nil (clauses_in (section_pieces s)))
     ∙ ap (λ cs. clauses_in (section_pieces s) ++ cs) (clauses-sections P sections all.1)
-
--- the last clause goes on
-abbrev pub with_last : List Token → List Clause → List Clause
-with_last ts [] = []
-with_last ts (c ∷ []) = (c.0, c.1 ++ ts) ∷ []
-with_last ts (c ∷ d ∷ cs) = c ∷ with_last ts (d ∷ cs)
-
-abbrev pub lead_on : List Token → List Token → List Clause → List Token
-lead_on ts lead [] = lead ++ ts
-lead_on ts lead (c ∷ cs) = lead
-
-abbrev on : List Token → Parts → Parts
-on ts one = record { lead = lead_on ts one.lead one.rest; rest = with_last ts one.rest }
-
-on-front : (is : Bool) (t : Token) (ts lead : List Token) (rest : List Clause) → with_front is t (on ts (record { lead = lead; rest = rest }))
-    ≡ on ts (with_front is t (record { lead = lead; rest = rest }))
-on-front true t ts lead [] = refl
-on-front true t ts lead (c ∷ cs) = refl
-on-front false t ts lead [] = refl
-on-front false t ts lead (c ∷ cs) = refl
-
-parts-on : (test : Token → Bool) (a b : List Placed) → list_any (at_top_level test) b ≡ false → parts_at test (a ++ b) ≡ on (map token_of b) (parts_at test a)
-parts-on test [] b none = parts-none test b none
-parts-on test (m ∷ a) b none =
-    ap (with_front (at_top_level test m) (token_of m)) (parts-on test a b none)
-    ∙ on-front (at_top_level test m) (token_of m) (map token_of b) (parts_at test a).lead (parts_at test a).rest
 
 -- the clauses of a section: those of its opening words, the last with the body
 abbrev pub opening_clauses : List ℕ → List Clause
@@ -310,6 +306,10 @@ opening_clauses opening = (parts_at is_clause_word (map TopLevel (tokens opening
 
 pub section-clauses : (s : Section Piece) → Neutral s.body → clauses_in (section_pieces s) ≡ with_last (pieces_tokens s.body) (opening_clauses s.opening)
 section-clauses s neutral =
-    ap (λ (ps : Parts). ps.rest) (parts-on is_clause_word (map TopLevel (tokens s.opening)) (flat_map own_placed s.body)
-    (own-top_level is_clause_word s.body ∙ neutral.no_word))
+    let words = map TopLevel (tokens s.opening) in
+    let body = flat_map own_placed s.body in
+    ap (λ (ps : Parts). ps.rest) (parts-joined is_clause_word words body)
+    ∙ ap (λ (ps : Parts). with_last ps.lead (opening_clauses s.opening) ++ ps.rest)
+    (parts-none is_clause_word body (own-top_level is_clause_word s.body ∙ neutral.no_word))
+    ∙ append-nil (with_last (map token_of body) (opening_clauses s.opening))
     ∙ ap (λ ts. with_last ts (opening_clauses s.opening)) (own-shape s.body)

@@ -35,7 +35,14 @@ use Rattle.sql_builder.proofs.truth.ConditionGroupLemmas.{condition-fit, pieces_
 use Rattle.sql_builder.proofs.truth.ConnectiveLemmas.{none-brackets, or3-False, truth_brackets}
 use Rattle.sql_builder.proofs.truth.TruthLemmas.{of_not}
 use Rattle.sql_builder.proofs.truth.WhereLemmas.{bracketed_groups, condition_closes, condition_no_clause, truth_group, truth_joined}
-use Rattle.sql_builder.specs.Combined.{IsCombined, combined_text, joined_text, like_text, negation_text}
+use Rattle.sql_parts.specs.StringTexts.{blank, outline}
+use Rattle.sql_builder.specs.Combined.{CombinedFollowTheirParts, ConditionsFollowTheirPieces, IsCombined, MasksFollowTheirField, NegationsFollowTheirPart}
+use Rattle.sql_builder.specs.Combined.{combined_text, joined_text, like_text, negation_text}
+use Rattle.sql_builder.specs.Interference.{piece_outline}
+use Rattle.sql_builder.proofs.conditions.ConditionLemmas.{condition-inside, condition_printed}
+use Rattle.sql_builder.proofs.interference.OutlineLemmas.{pieces-outline}
+use Rattle.sql_builder.proofs.pieces.LayoutMapLemmas.{joined_in_form}
+use Rattle.std.proofs.lemmas.List.{map-append}
 
 -- a text is a fragment where its tokens are a condition
 fragment-is : (text : List ℕ) → is_fragment text ≡ is_condition (tokens text)
@@ -204,6 +211,11 @@ and_joins = record {
   plain = record { flat = refl; whole = refl; no_clause = refl };
 }
 
+joined_inside : {words : List ℕ} {w : Token} → Joins words w → (texts : List (List ℕ)) → Inside (joined-pieces words texts)
+unfolding joined-pieces
+joined_inside {words} joins texts =
+    brackets-inside (join_with (fixed_piece words) (map bracketed texts)) (joined-inside words joins.edged (map bracketed texts) (bracketed-inside texts))
+
 module _ {words : List ℕ} {w : Token} (joins : Joins words w) (t : List ℕ) (texts : List (List ℕ)) (all : list_all is_fragment (t ∷ texts) ≡ true) where
   pieces-are : pieces_tokens (joined-pieces words (t ∷ texts)) ≡ in_brackets (joined w (in_each (t ∷ texts)))
   unfolding joined-pieces
@@ -212,10 +224,7 @@ module _ {words : List ℕ} {w : Token} (joins : Joins words w) (t : List ℕ) (
       ∙ ap in_brackets (pieces_tokens-joined words w joins.is (map bracketed (t ∷ texts)) ∙ ap (joined w) (each-tokens (t ∷ texts)))
 
   inside-all : Inside (joined-pieces words (t ∷ texts))
-  unfolding joined-pieces
-  inside-all =
-      brackets-inside (join_with (fixed_piece words) (map bracketed (t ∷ texts)))
-      (joined-inside words joins.edged (map bracketed (t ∷ texts)) (bracketed-inside (t ∷ texts)))
+  inside-all = joined_inside joins (t ∷ texts)
 
   joined-condition : is_condition (joined w (in_each (t ∷ texts))) ≡ true
   joined-condition = is_condition-joined w (in_brackets (tokens t)) (in_each texts) joins.plain (each-condition (t ∷ texts) all)
@@ -317,3 +326,72 @@ negation_truth text is facts =
     ap (truth facts) ((shaped (negation-pieces text) (negation-inside text)).shape_is (fragment_closed text is) ∙ negation-are text)
     ∙ of_not facts (in_brackets ts) (not_from_false _ (has_top_level-is is_joining (in_brackets ts) ∙ none-brackets is_joining ts refl (condition_closes ts here)))
     ∙ ap not3 (truth-in facts ts here)
+
+-- ---- texts of strings
+
+abbrev outlines : Pieces → List (List Token)
+outlines ps = map piece_outline ps
+
+alike : (one other : Pieces) → outlines one ≡ outlines other → Inside one → Inside other → has_closed_fragments one ≡ true
+    → outline (pieces_text one) ≡ outline (pieces_text other)
+alike one other same inside also shut = pieces-outline one other same (shaped one inside) (shaped other also) shut
+
+pub condition_outline : ConditionsFollowTheirPieces
+condition_outline one other same shut =
+    ap outline (sym (condition_printed one))
+    ∙ alike (condition_pieces one) (condition_pieces other) same (condition-inside one) (condition-inside other) shut
+    ∙ ap outline (condition_printed other)
+
+pub mask_outline : MasksFollowTheirField
+unfolding like-pieces
+mask_outline negated one other mask other_mask same is =
+    alike (like-pieces negated one mask) (like-pieces negated other other_mask)
+    (ap (λ (field : List Token). field ∷ outlines (fixed_piece (not_text negated ++ codes " LIKE ") ++ (quoted_piece mask ++ fixed_piece (codes " ESCAPE '!'")))) same)
+    (like-inside negated one mask) (like-inside negated other other_mask) (fragment_closed one is)
+
+bracketed-outlines : (one other : List (List ℕ)) → map outline one ≡ map outline other
+    → map outlines (map bracketed one) ≡ map outlines (map bracketed other)
+unfolding bracketed
+bracketed-outlines [] [] same = refl
+bracketed-outlines [] (u ∷ us) same = cc same
+bracketed-outlines (t ∷ ts) [] same = cc same
+bracketed-outlines (t ∷ ts) (u ∷ us) same =
+    let first : outline t ≡ outline u = cc same in
+    let further : map outline ts ≡ map outline us = cc same in
+    let more = bracketed-outlines ts us further in
+    λ i. (blank (tokens (codes "(")) ∷ first i ∷ blank (tokens (codes ")")) ∷ []) ∷ more i
+
+joined-outlines : (words : List ℕ) (texts : List (List ℕ)) → outlines (joined-pieces words texts)
+    ≡ outlines (fixed_piece (codes "(")) ++ (join_with (outlines (fixed_piece words)) (map outlines (map bracketed texts)) ++ outlines (fixed_piece (codes ")")))
+unfolding joined-pieces
+joined-outlines words texts =
+    ap (λ more. blank (tokens (codes "(")) ∷ more)
+    (map-append piece_outline (join_with (fixed_piece words) (map bracketed texts)) (fixed_piece (codes ")"))
+    ∙ ap (λ items. items ++ outlines (fixed_piece (codes ")")))
+    (joined_in_form fixed_piece (λ w. outlines (fixed_piece w)) outlines refl (map-append piece_outline) (λ w. refl) words (map bracketed texts)))
+
+joined-alike : {words : List ℕ} {w : Token} → Joins words w → (t : List ℕ) (ts other : List (List ℕ)) → map outline (t ∷ ts) ≡ map outline other
+    → list_all is_fragment (t ∷ ts) ≡ true → outline (joined_text words (t ∷ ts)) ≡ outline (joined_text words other)
+joined-alike {words} joins t ts other same all =
+    ap outline (sym (joined-text words (t ∷ ts)))
+    ∙ alike (joined-pieces words (t ∷ ts)) (joined-pieces words other)
+    (joined-outlines words (t ∷ ts)
+    ∙ ap (λ items. outlines (fixed_piece (codes "(")) ++ (join_with (outlines (fixed_piece words)) items ++ outlines (fixed_piece (codes ")"))))
+    (bracketed-outlines (t ∷ ts) other same)
+    ∙ sym (joined-outlines words other))
+    (joined_inside joins (t ∷ ts)) (joined_inside joins other) (joined-closed words t ts all)
+    ∙ ap outline (joined-text words other)
+
+pub combined_outline : CombinedFollowTheirParts
+combined_outline conjunction [] [] same all = refl
+combined_outline conjunction [] (u ∷ us) same all = cc same
+combined_outline conjunction (t ∷ ts) [] same all = cc same
+combined_outline true (t ∷ ts) (u ∷ us) same all = joined-alike and_joins t ts (u ∷ us) same all
+combined_outline false (t ∷ ts) (u ∷ us) same all = joined-alike or_joins t ts (u ∷ us) same all
+
+pub negation_outline : NegationsFollowTheirPart
+unfolding negation-pieces
+negation_outline one other same is =
+    alike (negation-pieces one) (negation-pieces other)
+    (ap (λ (text : List Token). outlines (fixed_piece (codes "NOT (")) ++ (text ∷ outlines (fixed_piece (codes ")")))) same)
+    (negation-inside one) (negation-inside other) (fragment_closed one is)

@@ -54,6 +54,9 @@ module _ (test : Token → Bool) (same : Ignores test) where
       sum_by-cons (weight test) (blank_token t) (blank ts) ∙ (λ i. (if test-blank test same t i then 1 else 0) + count-blank ts i)
       ∙ sym (sum_by-cons (weight test) t ts)
 
+  taken-blank : (ts : List Token) (place : ℕ) → count_by test (take place (blank ts)) ≡ count_by test (take place ts)
+  taken-blank ts place = ap (count_by test) (take-map blank_token place ts) ∙ count-blank (take place ts)
+
   at-blank : (ts : List Token) (place : ℕ) → is_at test (blank ts) place ≡ is_at test ts place
   at-blank [] place = refl
   at-blank (t ∷ ts) zero = test-blank test same t
@@ -69,14 +72,8 @@ empty-blank (t ∷ ts) = refl
 
 -- ---- depths
 
-raised : (ts : List Token) (place : ℕ) → count_by raises (take place (blank ts)) ≡ count_by raises (take place ts)
-raised ts place = ap (count_by raises) (take-map blank_token place ts) ∙ count-blank raises (λ text. refl) (take place ts)
-
-lowered : (ts : List Token) (place : ℕ) → count_by lowers (take place (blank ts)) ≡ count_by lowers (take place ts)
-lowered ts place = ap (count_by lowers) (take-map blank_token place ts) ∙ count-blank lowers (λ text. refl) (take place ts)
-
 pub depth_at-blank : (ts : List Token) → depth_at (blank ts) ≡ depth_at ts
-depth_at-blank ts = λ i place. pos (raised ts place i) -ℤ pos (lowered ts place i)
+depth_at-blank ts = λ i place. pos (taken-blank raises (λ text. refl) ts place i) -ℤ pos (taken-blank lowers (λ text. refl) ts place i)
 
 pub has_top_level-blank : (test : Token → Bool) → Ignores test → (ts : List Token) → has_top_level test (blank ts) ≡ has_top_level test ts
 has_top_level-blank test same ts = λ i. list_any (λ place. int_eq (depth_at-blank ts i place) (pos 0)) (places-blank test same ts i)

@@ -1,11 +1,11 @@
 -- Worked rows: what the definitions give, by computing.
-use Rattle.std.specs.Prelude.{◌≡◌, ◌^◌, ◌-◌, pos, negsuc, Some, None, true, codes, refl, ◌∷◌}
+use Rattle.std.specs.Prelude.{◌≡◌, ◌^◌, ◌-◌, negsuc, Some, true, codes, refl, ◌∷◌}
 use Rattle.std.proofs.Common.{arith, ap, sym, ◌∙◌}
 use Rattle.std.specs.Fmt.{decimal, digits}
 use Rattle.sql_parts.proofs.bytes.DecimalFacts.{unsigned_text}
-use Rattle.sql_parts.specs.Literal.{literal_or_null, literal_text, literal_value, null, truth, whole, words}
+use Rattle.sql_parts.specs.Literal.{literal_or_null, literal_text, literal_value, null, whole, words}
 use Rattle.sql_parts.specs.Quoting.{baquoted, brquoted, dquoted, escaped, quoted}
-use Rattle.sql_parts.specs.Text.{bool_text, number_text}
+use Rattle.sql_parts.specs.Text.{bool_text}
 use Rattle.sql_parts.specs.declared.arg.Literal.TheVariants.{Whole}
 
 dquoted-delimiter : dquoted (codes "a\"b") ≡ codes "\"a\"\"b\""
@@ -20,33 +20,11 @@ baquoted-delimiter = refl
 escaped-world : escaped (codes "Hello, 'World'") ≡ codes "Hello, ''World''"
 escaped-world = refl
 
-baquoted-world : baquoted (codes "Hello, 'World'") ≡ codes "`Hello, 'World'`"
-baquoted-world = refl
-
-dquoted-world : dquoted (codes "Hello, 'World'") ≡ codes "\"Hello, 'World'\""
-dquoted-world = refl
-
-quoted-empty : quoted (codes "") ≡ codes "''"
-quoted-empty = refl
-
 quoted-world : quoted (codes "Hello, 'World'") ≡ codes "'Hello, ''World'''"
 quoted-world = refl
 
-quoted-number : quoted (number_text (negsuc 4)) ≡ codes "'-5'"
-quoted-number = refl
-
 bool_text-true : bool_text true ≡ codes "true"
 bool_text-true = refl
-
-number_text-zero : number_text (pos 0) ≡ codes "0"
-number_text-zero = refl
-
-greatest : decimal (2 ^ 128 - 1) ≡ codes "340282366920938463463374607431768211455"
-unfolding digits
-greatest = refl
-
-literal_text-greatest : literal_text (whole (pos (2 ^ 128 - 1))) ≡ codes "340282366920938463463374607431768211455"
-literal_text-greatest = sym (unsigned_text (2 ^ 128 - 1) (omega arith)) ∙ greatest
 
 least : decimal (2 ^ 127) ≡ codes "170141183460469231731687303715884105728"
 unfolding digits
@@ -58,20 +36,8 @@ literal_text-least = ap (λ text. 45 ∷ text) (sym (unsigned_text (2 ^ 127) (om
 literal_text-null : literal_text null ≡ codes "NULL"
 literal_text-null = refl
 
-literal_text-true : literal_text (truth true) ≡ codes "TRUE"
-literal_text-true = refl
-
-literal_text-none : literal_text (literal_or_null words None) ≡ codes "NULL"
-literal_text-none = refl
-
 literal_text-some : literal_text (literal_or_null words (Some (codes "foo"))) ≡ codes "'foo'"
 literal_text-some = refl
 
-literal_text-some_none : literal_text (literal_or_null (literal_or_null words) (Some None)) ≡ codes "NULL"
-literal_text-some_none = refl
-
 literal_text-whole : literal_text (literal_value (Whole (negsuc 4))) ≡ codes "-5"
 literal_text-whole = refl
-
-literal_text-words : literal_text (words (codes "it's")) ≡ codes "'it''s'"
-literal_text-words = refl

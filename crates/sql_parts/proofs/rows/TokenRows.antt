@@ -8,20 +8,11 @@ use Rattle.sql_parts.specs.Tokens.{Word, Str, Name, Symbol, Open, tokens, closed
 closed-comment_without_end : closed (codes "a -- b") ≡ false
 closed-comment_without_end = refl
 
-closed-comment : closed (codes "a -- b\n") ≡ true
-closed-comment = refl
-
 closed-star_shared : closed (codes "/*/") ≡ false
 closed-star_shared = refl
 
 closed-quoted : closed (codes "'it''s'") ≡ true
 closed-quoted = refl
-
-closed-quote_without_end : closed (codes "'it''s") ≡ false
-closed-quote_without_end = refl
-
-closed-empty : closed [] ≡ true
-closed-empty = refl
 
 has_semicolon-bare : has_semicolon (codes "a;b") ≡ true
 has_semicolon-bare = refl
@@ -59,53 +50,5 @@ apart-cycle = refl
 apart-in_quotes : apart (codes "'?'") (marks.First) ≡ false
 apart-in_quotes = refl
 
-apart-behind_a_word : apart (codes "a$1") (marks.Nums 1) ≡ false
-apart-behind_a_word = refl
-
 apart-past_the_list : apart (codes "a$1") (marks.Nums 0) ≡ true
 apart-past_the_list = refl
-
-apart-no_arguments : apart (codes "?") (marks.Cycle 0) ≡ false
-apart-no_arguments = refl
-
-apart-name : apart (codes "(:n:)") (marks.Names) ≡ true
-apart-name = refl
-
-apart-side_by_side : apart (codes "??") (marks.Cycle 2) ≡ false
-apart-side_by_side = refl
-
-apart-behind_a_sign : apart (codes "-?") (marks.First) ≡ false
-apart-behind_a_sign = refl
-
-apart-last : apart (codes "x=?") (marks.First) ≡ true
-apart-last = refl
-
-apart-in_brackets : apart (codes "f(?)") (marks.First) ≡ true
-apart-in_brackets = refl
-
-apart-first : apart (codes "?;") (marks.First) ≡ true
-apart-first = refl
-
-apart-alone : apart (codes "?") (marks.First) ≡ true
-apart-alone = refl
-
-apart-one_name : apart (codes ":a:") (marks.Name (codes "a")) ≡ true
-apart-one_name = refl
-
-apart-behind_a_comment : apart (codes "/* x */ ?") (marks.First) ≡ true
-apart-behind_a_comment = refl
-
-apart-behind_a_dot : apart (codes "a.?") (marks.First) ≡ false
-apart-behind_a_dot = refl
-
-apart-before_a_word : apart (codes "$1a") (marks.Nums 1) ≡ false
-apart-before_a_word = refl
-
-apart-in_a_comment : apart (codes "a -- ?\n") (marks.First) ≡ false
-apart-in_a_comment = refl
-
-apart-beside_a_longer_number : apart (codes "a = $12 AND b = $1") (marks.Num 1) ≡ true
-apart-beside_a_longer_number = refl
-
-apart-longer_number : apart (codes "$12") (marks.Num 1) ≡ true
-apart-longer_number = refl

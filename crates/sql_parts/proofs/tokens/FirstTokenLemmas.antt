@@ -1,17 +1,17 @@
 -- What the methods of a text say of the tokens at its front.
 use Rattle.std.proofs.Common.{◌≡◌, ◌≢◌, ℕ, zero, suc, ◌+◌, ◌<◌, ◌≤◌, true, false, List, [], ◌∷◌, ◌++◌, length, get_or, take, drop, Option, Some, None, refl}
-use Rattle.std.proofs.Common.{sym, ap, ◌∙◌, arith, ne_eqb, eq-eqb, length-append, length-drop, subst, ◌⊎◌, inl, inr, Bor}
-use Rattle.std.specs.Prelude.{◌==◌, codes, option_map}
+use Rattle.std.proofs.Common.{sym, ap, ◌∙◌, arith, ne_eqb, eq-eqb, length-append, length-drop, subst, Bor}
+use Rattle.std.specs.Prelude.{◌==◌, option_map}
 use Rattle.std.specs.List.{prefix_len}
 use Rattle.std.specs.Str.Pattern.{LacksTextAt}
 use Rattle.std.specs.Str.{IsCharBoundary, IsUtf8}
 use Rattle.std.proofs.Math.Seq.{drop-append_seam, drop-length}
 use Rattle.std.proofs.lemmas.Bool.Decides.{nat_tests}
 use Rattle.std.proofs.lemmas.Str.{IsCharBoundary-after_ascii}
-use Rattle.std.proofs.lemmas.Bool.{cases_Bool, eqb-true, false≢true}
+use Rattle.std.proofs.lemmas.Bool.{false≢true}
 use Rattle.std.specs.Prelude.{MatchOption}
-use Rattle.sql_parts.specs.Tokenizer.{IsRead, Represents, behind_bytes, closing_delimiter, optional_bytes}
-use Rattle.sql_parts.specs.Tokens.{Token, Word, Str, Name, Symbol, Open, first, inside, is_blank, is_word_byte, reach, tokens, tokens_from, unquoted, word}
+use Rattle.sql_parts.specs.Tokenizer.{IsRead, Represents, behind_bytes, optional_bytes}
+use Rattle.sql_parts.specs.Tokens.{Token, Word, Open, first, inside, is_word_byte, reach, tokens, tokens_from, unquoted, word}
 use Rattle.sql_parts.specs.declared.tokenizer.Token as declared
 use Rattle.sql_parts.specs.declared.tokenizer.Token.TheVariants as seen
 use Rattle.sql_parts.proofs.templates.ResolveLemmas.{starts_with-yes, starts_with-no}
@@ -162,41 +162,6 @@ word-read byte text found rest front is here left =
     rw (first-word byte behind is)
     (ap Word (sym (here ∙ (λ i. take (bytes i) (front i)))), left ∙ (λ i. drop (bytes i) (front i)))
 
--- what a quote opens is a text or a name
-abbrev pub Opens : ℕ → ℕ → List ℕ → Type 0
-Opens byte delimiter behind = (first byte behind ≡ unquoted Str behind (inside delimiter behind)) ⊎
-    (first byte behind ≡ unquoted Name behind (inside delimiter behind))
-
-opens : (byte delimiter : ℕ) (behind : List ℕ) → closing_delimiter byte ≡ Some delimiter → Opens byte delimiter behind
-opens byte delimiter behind =
-    let at : (other closing : ℕ) → (byte == other) ≡ true → closing_delimiter other ≡ Some closing → Opens other closing behind → closing_delimiter byte
-    ≡ Some delimiter → Opens byte delimiter behind =
-    λ other closing same closes is. subst (λ b. closing_delimiter b ≡ Some delimiter → Opens b delimiter behind) (sym (eqb-true byte other same))
-    (λ marked. let equal : closing ≡ delimiter = cc (closes, marked) in subst (λ m. Opens other m behind) equal is) in
-    elim (cases_Bool (byte == 39)) [
-      | inl same ↦ at 39 39 same refl (inl refl)
-      | inr no_single ↦ elim (cases_Bool (byte == 34)) [
-        | inl same ↦ at 34 34 same refl (inr refl)
-        | inr no_double ↦ elim (cases_Bool (byte == 96)) [
-          | inl same ↦ at 96 96 same refl (inr refl)
-          | inr no_back ↦ elim (cases_Bool (byte == 91)) [
-            | inl same ↦ at 91 93 same refl (inr refl)
-            | inr no_square ↦ λ closes. let none : closing_delimiter byte ≡ None = rw (no_single, no_double, no_back, no_square) in absurd (cc (none, closes))
-          ]
-        ]
-      ]
-    ]
-
-first-symbol : (byte : ℕ) (behind : List ℕ) → is_word_byte byte ≡ false → LacksTextAt (codes "--") (byte ∷ behind) 0
-    → LacksTextAt (codes "/*") (byte ∷ behind) 0 → is_blank byte ≡ false
-    → closing_delimiter byte ≡ None → first byte behind ≡ (Symbol byte ∷ [], 0)
-first-symbol byte behind no_word no_line no_block no_blank no_quote =
-    let isnt : (other closing : ℕ) → closing_delimiter other ≡ Some closing → (byte == other)
-    ≡ false = λ other closing closes. ne_eqb byte other (λ same. let none : closing_delimiter other ≡ None = ap closing_delimiter (sym same)
-    ∙ no_quote in absurd (cc (none, closes))) in
-    rw (no_blank, starts_with-no (byte ∷ behind) (codes "--") no_line, starts_with-no (byte ∷ behind) (codes "/*") no_block)
-    (rw (isnt 39 39 refl, isnt 34 34 refl, isnt 96 96 refl, isnt 91 93 refl, no_word) refl)
-
 is-open : (behind : List ℕ) (read : Option declared.Token × Bor (List ℕ)) → read.0 ≡ Some seen.Open → read.1.now ≡ []
     → IsRead behind read (Open ∷ [], length behind)
 is-open behind (None, rest) is none = absurd (cc is)
@@ -208,7 +173,7 @@ is-open behind (Some token, rest) is none =
 abbrev pub IsEnded : Option declared.Token → Option (Bor (List ℕ)) → Option declared.Token × Bor (List ℕ) → Type 0
 IsEnded token found read = MatchOption found ((read.0 ≡ Some seen.Open) × (read.1.now ≡ [])) (λ rest. read ≡ (token, rest))
 
-by-inside : (token : List ℕ → Token) → ((text : List ℕ) → Represents seen.Quoted (token text))
+pub by-inside : (token : List ℕ → Token) → ((text : List ℕ) → Represents seen.Quoted (token text))
     → (behind : List ℕ) (whole : Option (List ℕ × ℕ)) (found : Option (Bor (List ℕ))) (read : Option declared.Token × Bor (List ℕ))
     → optional_bytes found ≡ behind_bytes behind (taken whole) → IsEnded (Some seen.Quoted) found read → IsRead behind read (unquoted token behind whole)
 by-inside token quoted behind None None read is ended = is-open behind read ended.0 ended.1
@@ -217,27 +182,6 @@ by-inside token quoted behind (Some whole) None read is ended = absurd (cc is)
 by-inside token quoted behind (Some whole) (Some rest) read is ended =
     let left : rest.now ≡ drop whole.1 behind = cc is in
     subst (λ r. IsRead behind r (token whole.0 ∷ [], whole.1)) (sym ended) (quoted whole.0, left)
-
-pub quoted-read : (byte delimiter : ℕ) (behind quoted : List ℕ) (found : Option (Bor (List ℕ))) (read : Option declared.Token × Bor (List ℕ))
-    → closing_delimiter byte ≡ Some delimiter → quoted ≡ behind
-    → optional_bytes found ≡ behind_bytes quoted (taken (inside delimiter quoted)) → IsEnded (Some seen.Quoted) found read
-    → IsRead behind read (first byte behind)
-quoted-read byte delimiter behind quoted found read closes same is ended =
-    let here = subst (λ text. optional_bytes found ≡ behind_bytes text (taken (inside delimiter text))) same is in
-    elim (opens byte delimiter behind closes) [
-      | inl str ↦ subst (IsRead behind read) (sym str) (by-inside Str (λ text. tt) behind (inside delimiter behind) found read here ended)
-      | inr name ↦ subst (IsRead behind read) (sym name) (by-inside Name (λ text. tt) behind (inside delimiter behind) found read here ended)
-    ]
-
-pub symbol-read : (byte : ℕ) (text : List ℕ) (rest : Bor (List ℕ)) → text ≡ byte ∷ drop 1 text → is_word_byte byte ≡ false → LacksTextAt (codes "--") text 0
-    → LacksTextAt (codes "/*") text 0
-    → is_blank byte ≡ false → closing_delimiter byte ≡ None → rest.now ≡ drop 1 text
-    → IsRead (drop 1 text) (Some (seen.Symbol byte), rest) (first byte (drop 1 text))
-symbol-read byte text rest front no_word no_line no_block no_blank no_quote left =
-    let lacks : (opening : List ℕ) → LacksTextAt opening text 0
-    → LacksTextAt opening (byte ∷ drop 1 text) 0 = λ opening none. subst (λ t. LacksTextAt opening t 0) front none in
-    subst (IsRead (drop 1 text) (Some (seen.Symbol byte), rest))
-    (sym (first-symbol byte (drop 1 text) no_word (lacks (codes "--") no_line) (lacks (codes "/*") no_block) no_blank no_quote)) (refl, left)
 
 -- a byte that is no word's is a character
 pub cut-first : (byte : ℕ) (text : List ℕ) → IsUtf8 text → text ≡ byte ∷ drop 1 text → is_word_byte byte ≡ false → IsCharBoundary text 1

@@ -11,7 +11,7 @@ use Rattle.sql_builder.specs.Filters.{until}
 use Rattle.sql_builder.specs.SqlBuilderError.TheVariants.{NoSetFields, NoTableName, NoValues}
 use Rattle.sqlb.specs.Fault.{fault_text}
 use Rattle.sqlb.specs.Lines.{lines, command_of, command_in}
-use Rattle.sqlb.specs.Names.{comparisons, ending_of, ends, finishes, joins, likes, lists, meaning_of, memberships, other_call, starts}
+use Rattle.sqlb.specs.Names.{comparisons, ending_of, ends, likes, lists, meaning_of, memberships, nullaries, tables}
 use Rattle.sqlb.specs.Output.{Output, accepted_answers, answers, open_statement, output, output_of}
 use Rattle.sqlb.specs.RunResults.{status_of}
 use Rattle.sqlb.specs.declared.fault.Fault.TheVariants.{At, Memory, Read, Write}
@@ -98,7 +98,7 @@ rows = (
     []
 
 outputs : map (λ row. output row.0) rows ≡ map (λ row. row.1) rows
-unfolding open_statement meaning_of other_call starts joins lists ends finishes ending_of comparisons likes memberships
+unfolding open_statement nullaries meaning_of tables lists ends ending_of comparisons likes memberships
 outputs = outputs-computed rows refl
 
 not_utf8 : output_of (Err NotUtf8 ∷ []) ≡ stops [] 1 NotUtf8
@@ -118,11 +118,11 @@ accepted input ascii = ap (λ commands. until is_err (answers commands)) (comman
 
 -- memory may run out in the first line or the second, and not in the third, which fails a check
 accepted-unknown : accepted_answers (codes "select_from\tt\nsql\nfrobnicate\n") ≡ Ok None ∷ Ok (Some (codes "SELECT * FROM t;")) ∷ []
-unfolding open_statement meaning_of other_call starts joins lists ends finishes ending_of comparisons likes memberships
+unfolding open_statement nullaries meaning_of tables lists ends ending_of comparisons likes memberships
 accepted-unknown = accepted _ refl
 
 accepted-first_fails : accepted_answers (codes "sql\n") ≡ []
-unfolding open_statement meaning_of other_call starts joins lists ends finishes ending_of comparisons likes memberships
+unfolding open_statement nullaries meaning_of tables lists ends ending_of comparisons likes memberships
 accepted-first_fails = accepted _ refl
 
 -- the exit status without a fault, of a line's, and of those that name no line

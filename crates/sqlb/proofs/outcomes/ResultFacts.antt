@@ -1,11 +1,11 @@
 -- A run that stops before the end of its input, and one over a buffered writer that is flushed.
 use Rattle.std.proofs.Common.{◌≡◌, ℕ, Bool, List, [], refl, true, false, ◌++◌, ap, subst, sym, ◌∙◌}
-use Rattle.std.specs.Prelude.{Option, Result, Err, Ok, OnOk, flat_map, is_err}
+use Rattle.std.specs.Prelude.{◌||◌, Option, Result, Err, Ok, OnOk, flat_map, is_err}
 use Rattle.std.specs.Io.KnownBytes.{Appends, Consumes, append_known}
 use Rattle.std.proofs.KnownBytes.{Appends-nil}
 use Rattle.sqlb.specs.Streams.{ReadingFails}
 use Rattle.sqlb.specs.Output.{output, Output, output_text}
-use Rattle.sqlb.specs.RunResults.{EndsUnlessStopped, AgreesWithOutput, MemoryRunsOutInLine, LosesOnlyIfStreamFails, UnlessWriteFails}
+use Rattle.sqlb.specs.RunResults.{EndsUnlessStopped, AgreesWithOutput, LosesOnlyIfFailed, MemoryRunsOutInLine, UnlessWriteFails}
 use Rattle.sqlb.specs.declared.fault.Fault.{Fault}
 use Rattle.sqlb.specs.declared.fault.Fault.TheVariants.{At, Memory, Read, Write}
 use Rattle.std.specs.declared.io.buffered.BufWriter.{BufWriter}
@@ -39,14 +39,6 @@ pub appends-lost : {W A : Type 0} (contents : W → Option (List ℕ)) (start : 
 appends-lost contents start buffered below written is appends =
     subst (λ inner. Appends start (append_known (contents inner) (writer_buffer buffered)) written) (sym is) appends
 
--- nothing is lost where nothing is held back
-pub loses_none : {T : Type 0} (result : Result T Fault) (lost : List ℕ) → lost ≡ [] → LosesOnlyIfStreamFails result lost
-loses_none (Ok done) lost none = none
-loses_none (Err (At line reason)) lost none = none
-loses_none (Err Memory) lost none = none
-loses_none (Err Write) lost none = tt
-loses_none (Err Read) lost none = tt
-
 -- what a run has written is a beginning of the output, whatever it answers
 pub ran-begins : {T : Type 0} (result : Result T Fault) (written : List ℕ) (out : Output) → AgreesWithOutput result written out
     → StartsWith (output_text out) written
@@ -59,7 +51,10 @@ ran-begins (Err Memory) written out ran =
 ran-begins (Err Write) written out ran = ran
 ran-begins (Err Read) written out ran = rw ran refl
 
--- what holds of each success holds where there was no error
-pub unless_err : {T E : Type 0} (result : Result T E) {P : Type 0} → is_err result ≡ false → OnOk result P → P
-unless_err (Ok value) none holds = holds
-unless_err (Err error) none holds = cc none
+-- nothing is lost where a flush has succeeded, which is where the writer has not failed
+pub loses_none : {T E : Type 0} (flushed : Result T E) (before failed : Bool) (lost : List ℕ) → failed ≡ (before || is_err flushed) → OnOk flushed (lost ≡ [])
+    → LosesOnlyIfFailed failed lost
+loses_none flushed before true lost is none = tt
+loses_none (Ok done) before false lost is none = none
+loses_none (Err error) true false lost is none = cc is
+loses_none (Err error) false false lost is none = cc is

@@ -8,7 +8,7 @@ use Rattle.sql_builder.proofs.statements.RunLemmas.{clauses-push, clauses_start}
 use Rattle.sql_builder.proofs.statements.StatementLawLemmas.{builders_print_statements}
 use Rattle.sqlb.specs.Lines.{CommandResult, Starts, Calls, Finishes}
 use Rattle.sqlb.specs.Output.{OpenStatement, answer, finish_answer}
-use Rattle.sqlb.specs.Script.{Runs, Adds, given, given_after, given_answer}
+use Rattle.sqlb.specs.Script.{given, given_after, given_answer}
 use Rattle.sql_builder.specs.declared.condition.Family.{Family}
 use Rattle.sqlb.specs.declared.fault.LineError.{LineError}
 use Rattle.sqlb.specs.declared.fault.LineError.TheVariants.{Memory, Rejected}
@@ -42,16 +42,6 @@ given-after (Some inside) (Ok (Calls call)) = ap (λ r. Some r) (clauses-push in
 pub given-is_some : (o : Option OpenStatement) → is_some (option_map given o) ≡ is_some o
 given-is_some None = refl
 given-is_some (Some inside) = refl
-
--- a call of the open statement is what a line that makes it does
-pub runs_call : (result : Result Bool LineError) (old new : Option ClauseTexts) (call : CallText) (text : List ℕ)
-    → Adds result old new (with_call call) → Runs result old new text (Ok (Calls call))
-runs_call (Ok finished) None new call text e = absurd e
-runs_call (Ok finished) (Some r) new call text e = (rw e.0 refl, e.1)
-runs_call (Err (Rejected reason)) None new call text e = (ap Err (sym e.0), e.1)
-runs_call (Err (Rejected reason)) (Some r) new call text e = absurd e
-runs_call (Err Memory) None new call text e = absurd e
-runs_call (Err Memory) (Some r) new call text e = (refl, e)
 
 -- the arguments of a condition that fit make its call
 pub makes_condition : (family : Family) (o : Option ConditionText) (condition : ConditionText) → ok_or o WrongArguments ≡ Ok condition

@@ -1,23 +1,11 @@
-use Rattle.std.proofs.Common.{arith, ap, length, length-append}
+use Rattle.std.proofs.Common.{arith}
 use Rattle.sql_builder.specs.Builder.{condition_in_group}
 use Rattle.sql_builder.specs.Printed.{further_condition}
 use Rattle.sql_builder.proofs.output.LoopFacts.{within_values}
 use Rattle.sql_builder.proofs.printing.push_further_conditions.Goals as goal
 
 pub push_further_condition-requires : goal.push_further_condition-requires
-push_further_condition-requires c =
-    let before = ap length c.loop-condition.invariant.0 in
+push_further_condition-requires g c =
     let all = within_values further_condition condition_in_group c.args.conditions.now c.loop-condition.condition-index c.condition-item.result
     c.loop-condition-test.true c.condition-item.is in
-    record {
-      room = grind (
-        arith,
-        length-append,
-        before,
-        all,
-        c.loop-condition.invariant.1,
-        c.loop-condition.out.bytes.ok.0,
-        c.args.out.now.bytes.ok.0,
-        c.requires.room,
-      );
-    }
+    record { room = omega (arith, all, c.loop-condition.invariant.1, c.requires.room) }

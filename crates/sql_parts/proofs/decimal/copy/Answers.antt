@@ -1,10 +1,10 @@
-use Rattle.std.proofs.Common.{◌≡◌, ◌-◌, arith, drop, length-drop, subst, sym}
+use Rattle.std.proofs.Common.{◌-◌, arith, drop, length-drop, subst, sym}
 use Rattle.std.specs.Str.{IsAscii}
 use Rattle.std.proofs.lemmas.List.{take_all}
 use Rattle.std.proofs.lemmas.Str.{IsUtf8-from_ascii}
 use Rattle.sql_parts.proofs.decimal.copy.Goals as goal
 
-pub unreachable-requires : goal.unreachable-requires
-unreachable-requires c =
+pub from_utf8_unchecked-requires : goal.from_utf8_unchecked-requires
+from_utf8_unchecked-requires c =
     let whole = take_all (40 - c.args.start) (drop c.args.start c.args.text.now) (omega (arith, length-drop c.args.start c.args.text.now)) in
-    c.in-Err.ensures.cases.0 (IsUtf8-from_ascii _ (subst IsAscii (sym whole) c.requires.ascii))
+    IsUtf8-from_ascii _ (subst IsAscii (sym whole) c.requires.ascii)

@@ -1,4 +1,4 @@
-use Rattle.std.proofs.Common.{◌≡◌, ℕ, suc, ◌+◌, ◌-◌, ◌*◌, ◌/◌, ◌%◌, ◌∷◌, ◌++◌, ◌∙◌, List, ap, append_assoc, arith, drop, sym}
+use Rattle.std.proofs.Common.{◌≡◌, suc, ◌+◌, ◌-◌, ◌*◌, ◌/◌, ◌%◌, ◌++◌, ◌∙◌, ap, append_assoc, arith, drop, sym}
 use Rattle.sql_parts.specs.Decimal.{last_digits}
 use Rattle.sql_parts.proofs.bytes.DigitLemmas.{last-pair, pair}
 use Rattle.sql_parts.proofs.decimal.write_last.Goals as goal

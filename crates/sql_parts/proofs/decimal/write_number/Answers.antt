@@ -1,4 +1,4 @@
-use Rattle.std.proofs.Common.{◌≡◌, ◌-◌, ◌*◌, ◌/◌, ◌++◌, ◌∙◌, ap, append-nil, append_assoc, arith, drop, refl, sym}
+use Rattle.std.proofs.Common.{◌-◌, ◌*◌, ◌/◌, ◌++◌, ◌∙◌, ap, append-nil, append_assoc, arith, drop, refl, sym}
 use Rattle.std.specs.Fmt.{decimal}
 use Rattle.std.proofs.lemmas.List.{drop_all}
 use Rattle.sql_parts.specs.Decimal.{last_digits}

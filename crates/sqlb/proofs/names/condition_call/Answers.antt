@@ -10,6 +10,3 @@ returns c =
     let found = c.in_ok-ending.ensures.cases in
     sym (called c.args.family c.args.prefix.now c.in_ok-ending.ending.now c.args.name.now c.in_ok-of.field-0
     (found.1.1 ∙ ap (λ rest. c.args.prefix.now ++ rest) (sym found.2)) (sym c.of.ensures.ending ∙ c.in_ok-of.was))
-
-pub returns-then-not-may_begin : goal.returns-then-not-may_begin
-returns-then-not-may_begin c = sym (no_call c.args.family c.args.prefix.now c.args.name.now (c.may_begin.ensures c.if-not-may_begin.true))

@@ -1,39 +1,38 @@
-use Rattle.std.proofs.Common.{◌≡◌, [], sym, ◌∙◌}
+use Rattle.std.proofs.Common.{◌∙◌}
 use Rattle.std.specs.Io.Buffered.{writer_buffer}
 use Rattle.std.proofs.KnownBytes.{Appends-kept}
 use Rattle.sqlb.specs.Output.{output}
-use Rattle.sqlb.proofs.outcomes.ResultFacts.{appends-lost, loses_none, ran-begins, unless_err, unless_write_fails}
+use Rattle.sqlb.proofs.outcomes.ResultFacts.{appends-lost, loses_none, ran-begins, unless_write_fails}
 use Rattle.sqlb.proofs.run.run_flushed.Goals as goal
 
 pub returns-in_default-clause-ran : goal.returns-in_default-clause-ran
 returns-in_default-clause-ran g c =
     let ran = rw c.new-writer.ensures.inner at c.run_input-answer.ensures.ran in
-    let contents = g.W.Write.contents in
-    let buffered = c.flush_on-flushed.new.self.inner in
+    let buffered = c.flush-flushed.new.self.inner in
     let lost = writer_buffer buffered in (
       ran.0,
       ran.1,
       lost,
       ran.2,
-      appends-lost contents _ buffered _ ran.1 c.into_below-below.ensures.inner (Appends-kept _ _ _ ran.1 ran.3 c.flush_on-flushed.ensures.bytes),
+      appends-lost g.W.Write.contents _ buffered _ ran.1 c.into_below-below.ensures.inner
+          (Appends-kept _ _ _ ran.1 ran.3 c.flush-flushed.ensures.bytes),
       ran-begins c.run_input-answer.result ran.1 (output ran.0) ran.4,
-      tt,
+      loses_none c.flush-flushed.result _ _ lost (c.into_below-below.ensures.failed ∙ c.flush-flushed.ensures.failed) c.flush-flushed.ensures.emptied,
       tt,
     )
 
 pub returns-in_default-2-clause-ran : goal.returns-in_default-2-clause-ran
 returns-in_default-2-clause-ran g c =
     let ran = rw c.new-writer.ensures.inner at c.run_input-answer.ensures.ran in
-    let contents = g.W.Write.contents in
-    let buffered = c.flush_on-flushed.new.self.inner in
-    let lost = writer_buffer buffered in
-    let none : lost ≡ [] = unless_err c.flush_on-flushed.result (sym c.is_err.ensures.value ∙ c.if-is_err.false) c.flush_on-flushed.ensures.emptied in (
+    let buffered = c.flush-flushed.new.self.inner in
+    let lost = writer_buffer buffered in (
       ran.0,
       ran.1,
       lost,
       ran.2,
-      appends-lost contents _ buffered _ ran.1 c.into_below-below.ensures.inner (Appends-kept _ _ _ ran.1 ran.3 c.flush_on-flushed.ensures.bytes),
+      appends-lost g.W.Write.contents _ buffered _ ran.1 c.into_below-below.ensures.inner
+          (Appends-kept _ _ _ ran.1 ran.3 c.flush-flushed.ensures.bytes),
       ran.4,
-      loses_none c.run_input-answer.result lost none,
+      loses_none c.flush-flushed.result _ _ lost (c.into_below-below.ensures.failed ∙ c.flush-flushed.ensures.failed) c.flush-flushed.ensures.emptied,
       unless_write_fails c.run_input-answer.result _ (ran.5, ran.6),
     )

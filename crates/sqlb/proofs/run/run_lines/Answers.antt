@@ -17,6 +17,7 @@ lines-init g c =
     rw (c.of-arguments.ensures.behind, c.requires.none_open) record {
       not_failed = c.requires.not_failed;
       ended = refl;
+      retried = refl;
       counted = omega (arith, short);
       taken = c.of-arguments.ensures.parts;
       ahead = (all.0, all.1, progress-first _ c.args.input.now _ all.2);
@@ -41,6 +42,7 @@ lines-preserved-in-Continue-1 g c =
     rw (c.in-Ok-true.ensures.taken.1) record {
       not_failed = wrote.2.1;
       ended = c.write_line.ensures.ended ∙ c.lines.invariant.ended;
+      retried = c.write_line.ensures.retried ∙ c.lines.invariant.retried;
       counted = omega (arith, c.lines.invariant.counted, next.shorter);
       taken = c.in-Ok-true.ensures.taken.0;
       ahead = (
@@ -58,6 +60,7 @@ lines-preserved g c =
     rw (c.in-Ok-false.ensures.taken.1) record {
       not_failed = c.lines.invariant.not_failed;
       ended = c.lines.invariant.ended;
+      retried = c.lines.invariant.retried;
       counted = omega (arith, c.lines.invariant.counted, next.shorter);
       taken = c.in-Ok-false.ensures.taken.0;
       ahead = (

@@ -7,6 +7,7 @@ abbrev pub invariant-lines : goal.invariant-lines
 invariant-lines g l = record {
   not_failed : l.writer.failed ≡ false;
   ended : l.writer.ended ≡ l.initial.writer.ended;
+  retried : l.writer.retried ≡ l.initial.writer.retried;
   counted : l.number + length l.arguments.behind < 2 ^ 63;
   taken : l.arguments.parts ≡ [];
   ahead : (unread : List (List ℕ)) × UnreadLines l.has_invalid_line unread

@@ -4,17 +4,17 @@ use Rattle.sql_builder.specs.Layout.{byte_units}
 use Rattle.sql_builder.specs.Phrases.{comma_list}
 use Rattle.sql_builder.specs.Printed.{inserted_bytes, optional_bytes}
 use Rattle.sql_builder.proofs.output.PrintingLemmas.{insert_is}
-use Rattle.sql_builder.proofs.output.LoopFacts.{writes_both}
+use Rattle.sql_builder.proofs.output.LoopFacts.{prints_both}
 use Rattle.sql_builder.proofs.builder.SqlBuilder.push_insert.Goals as goal
 
 pub returns : goal.returns
-returns c =
+returns g c =
     let r = the_view c.self.inside in
     rw (← c.self.view_is) (rw (insert_is r)
-    (writes_both (codes "INSERT INTO " ++ r.table) _ c.args.out.now c.push_clause.new.out c.push_optional.new.out
+    (prints_both g.O.Out.printed g.O.Out.room (codes "INSERT INTO " ++ r.table) _ c.args.out.now c.push_clause.new.out c.push_optional.new.out
     (rw (c.as_str.ensures.value) at c.push_clause.ensures)
-    (writes_both (codes " (" ++ comma_list byte_units r.fields) _ c.push_clause.new.out c.push_list.new.out c.push_optional.new.out
+    (prints_both g.O.Out.printed g.O.Out.room (codes " (" ++ comma_list byte_units r.fields) _ c.push_clause.new.out c.push_list.new.out c.push_optional.new.out
     c.push_list.ensures
-    (writes_both (inserted_bytes r.query r.rows) (optional_bytes (codes " RETURNING ") r.returning) c.push_list.new.out c.push_clause-2.new.out
+    (prints_both g.O.Out.printed g.O.Out.room (inserted_bytes r.query r.rows) (optional_bytes (codes " RETURNING ") r.returning) c.push_list.new.out c.push_clause-2.new.out
     c.push_optional.new.out
     (rw (c.inserted.ensures, ← c.self.view_is) at c.push_clause-2.ensures) c.push_optional.ensures))))

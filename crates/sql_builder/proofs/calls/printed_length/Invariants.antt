@@ -1,0 +1,6 @@
+use Rattle.sql_builder.specs.Calls.{finish_view}
+use Rattle.sql_builder.specs.Statement.{text_at}
+use Rattle.sql_builder.proofs.calls.printed_length.Given as goal
+
+abbrev pub ghost-of : goal.ghost-of
+ghost-of a = text_at (finish_view a.from.now.1.now) a.from.now.0.now
