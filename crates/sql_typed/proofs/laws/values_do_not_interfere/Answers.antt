@@ -1,0 +1,8 @@
+use Rattle.std.proofs.Common.{sym, ◌∙◌, ap}
+use Rattle.sql_parts.specs.StringTexts.{blank}
+use Rattle.sql_parts.specs.declared.delimiters.Quotes.TheVariants.{Single}
+use Rattle.sql_parts.proofs.tokens.TokenFacts.{between-tokens}
+use Rattle.sql_typed.proofs.laws.values_do_not_interfere.Goals as goal
+
+pub returns-clause-values : goal.returns-clause-values
+returns-clause-values c = λ one other. ap blank (between-tokens Single one) ∙ sym (ap blank (between-tokens Single other))
