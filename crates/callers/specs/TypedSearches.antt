@@ -33,3 +33,7 @@ abbrev pub asked : Search → Made
 asked search =
     by_stock search.in_stock
     (by_price search.least_price (by_author search.author (by_title search.title (adding (Field (codes "title")) (beginning (SelectFrom (codes "books")))))))
+
+-- the books of an author
+abbrev pub asked_of_author : List ℕ → Made
+asked_of_author author = asking (written_by author) (beginning (SelectFrom (codes "books")))

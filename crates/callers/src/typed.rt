@@ -7,7 +7,7 @@ ghost use Rattle.sql_builder.specs.Statement.{statement};
 ghost use Rattle.sql_builder.specs.StringTexts.{outline};
 ghost use Rattle.sql_builder.specs.Tokens.{closed, tokens};
 ghost use Rattle.sql_typed.specs.Results.{Gives};
-ghost use Rattle.callers.specs.TypedSearches.{asked, by_author, by_price, by_stock, by_title};
+ghost use Rattle.callers.specs.TypedSearches.{asked, asked_of_author, by_author, by_price, by_stock, by_title};
 
 use crate::searches::Search;
 use sql_builder::arg::Value;
@@ -88,12 +88,18 @@ pub fn search_typed(alloc: Global, search: &Search<'_>) -> Result<String>
     books.sql()
 }
 
+fn of_one_author(alloc: Global, author: &str) -> Result<Select>
+    ensures made { Gives result (asked_of_author author.now) }
+{
+    let books = Select::from(alloc, Fragment::of("books"))?;
+    written_by(alloc, books, Some(author))
+}
+
 /// The books of this author. Whoever it is, the tokens are the same, but for the text of the string.
-pub fn by_author(alloc: Global, author: &str) -> Result<String>
+pub fn of_author(alloc: Global, author: &str) -> Result<String>
     ensures same { IfOk result (λ s. outline (string_bytes s)
         ≡ tokens (codes "SELECT * FROM books WHERE author = '';")) }
 {
-    let books = Select::from(alloc, Fragment::of("books"))?;
-    let books = books.and_where(eq(alloc, Operand::of("author"), Value(author))?)?;
+    let books = of_one_author(alloc, author)?;
     books.sql()
 }

@@ -1,0 +1,28 @@
+-- The statement of an author differs from that of none in the text of a string alone.
+use Rattle.std.proofs.Common.{◌≡◌, ◌∷◌, Ok, Err, IfOk, List, Result, [], ap, codes, refl, subst, sym, ℕ, string_bytes}
+use Rattle.std.proofs.lemmas.Result.{IfOk-weaker}
+use Rattle.sql_parts.specs.Quoting.{quoted}
+use Rattle.sql_parts.specs.StringTexts.{outline}
+use Rattle.sql_parts.specs.Tokens.{Token, tokens}
+use Rattle.sql_builder.specs.Calls.{Sql}
+use Rattle.sql_builder.specs.Interference.{answer_of}
+use Rattle.sql_builder.proofs.interference.OutlineLemmas.{equation-outline}
+use Rattle.sql_typed.specs.Fits.{Made}
+use Rattle.sql_typed.specs.Printed.{DifferInStrings}
+use Rattle.callers.specs.TypedSearches.{asked_of_author}
+use Rattle.callers.proofs.typed.of_author.Goals as goal
+
+differ : (one other : List ℕ) → DifferInStrings Sql (asked_of_author one) (asked_of_author other)
+differ one other =
+    ap (λ (condition : List Token). Ok (tokens (codes "SELECT ") ∷ tokens (codes "*") ∷ tokens (codes " FROM ") ∷ tokens (codes "books") ∷ tokens (codes " WHERE ")
+    ∷ condition ∷ tokens (codes ";") ∷ []))
+    (equation-outline (codes "author") one other refl)
+
+pub returns : goal.returns
+returns c = record {
+  same = IfOk-weaker c.sql.result
+      (λ s. answer_of outline (asked_of_author []).start (asked_of_author []).calls Sql ≡ Ok (outline (string_bytes s)))
+      (λ s. outline (string_bytes s) ≡ tokens (codes "SELECT * FROM books WHERE author = '';")) (λ s same. sym (cc same))
+      (c.sql.ensures.no_interference (asked_of_author [])
+      (subst (λ (made : Made). DifferInStrings Sql made (asked_of_author [])) (sym c.in_ok-books.ensures.made) (differ c.args.author.now [])));
+}
