@@ -332,8 +332,8 @@ fn test_texts(bare: Demand, start: &Start, calls: &[Call], finish: &Finish) -> R
 /// Whether each text that the statement of a list prints unchanged fits in its place: it is
 /// balanced, and has no top-level clause keyword unless brackets of the builder's own are round it,
 /// or UNION precedes it. The fragments are then fit for all that `run` says of them. It fails with
-/// the first text that doesn't fit, as each query of `select`. It takes no memory, and reads a text
-/// that fits once.
+/// the first text that doesn't fit, as a query of `select` that begins with SELECT. It takes no
+/// memory, and reads a text that fits once.
 /// `check(&Start::DeleteFrom(String::from_str(alloc, "t; u")?), &[], &Finish::Sql)` fails with
 /// `Unfit { place: Start, text: 0, misfit: Semicolon }`
 #[tactic(auto, using(crate::proofs::fragments::UnfitLemmas::list_is_fit))]
@@ -344,9 +344,9 @@ pub fn check(start: &Start, calls: &[Call], finish: &Finish) -> Result<(), Unfit
     test_texts(Demand::Fragment, start, calls, finish)
 }
 
-/// Whether each text that the statement of a list prints unchanged is balanced, so that no quote,
-/// comment, `;` or bracket of it reaches beyond it. It fails with the first text that isn't. It takes
-/// no memory, and reads a text that is balanced once.
+/// Whether each text that the statement of a list prints unchanged is balanced: its quotes and
+/// comments are closed, it has no `;`, and its brackets match by count. It fails with the first text
+/// that isn't. It takes no memory, and reads a text that is balanced once.
 /// `check_confined(&Start::DeleteFrom(String::from_str(alloc, "t)")?), &[], &Finish::Sql)` fails with
 /// `Unfit { place: Start, text: 0, misfit: Brackets }`
 #[tactic(auto, using(crate::proofs::fragments::UnfitLemmas::list_is_balanced))]

@@ -6,6 +6,7 @@ ghost use Rattle.sql_builder.specs.Interference.{QuotesKeepTheirOutline};
 /// tokens, but for these texts: comparisons, IN and BETWEEN, LIKE of any mask, and what `all`, `any`
 /// and `not` make of such conditions. So statements of these have them too (`sql`:
 /// `no_interference`).
+/// `eq(alloc, Operand::of("a"), Value("b OR 1=1"))?.text` → `a = 'b OR 1=1'`
 #[tactic(auto, using(sql_builder::proofs::truth::CombinedLemmas::condition_outline, sql_builder::proofs::truth::CombinedLemmas::mask_outline, sql_builder::proofs::truth::CombinedLemmas::combined_outline, sql_builder::proofs::truth::CombinedLemmas::negation_outline))]
 pub fn values_do_not_interfere()
     ensures conditions { ConditionsFollowTheirPieces }
