@@ -1,8 +1,8 @@
-//! The calls that take borrowed texts, each once.
+//! The calls that take borrowed texts, or none, each once.
 
 use sql_builder::calls::{
-    BinaryClause, BorrowedCondition, Family, UnaryClause, VariadicClause, make_binary,
-    make_condition, make_order, make_unary, make_variadic,
+    BinaryClause, BorrowedCondition, Family, NullaryClause, UnaryClause, VariadicClause,
+    make_binary, make_condition, make_nullary, make_order, make_unary, make_variadic,
 };
 use sql_builder::text::{Items, Texts};
 use sql_builder::{SqlBuilder, SqlBuilderError};
@@ -11,6 +11,7 @@ use std::alloc::Global;
 use std::test::Fail;
 
 fn add_fields(builder: &mut SqlBuilder) -> Result<(), SqlBuilderError> {
+    make_nullary(builder, NullaryClause::Distinct)?;
     make_unary(builder, UnaryClause::Field, "a")?;
     make_binary(builder, BinaryClause::CountAs, "b", "n")?;
     let fields = Items { items: &["c", "d"] };
@@ -31,7 +32,7 @@ fn makes_calls_of_borrowed_texts(rt: HostRuntime) -> Result<(), Fail> {
     add_condition_and_order(&mut builder)?;
     assert_eq!(rt;
         builder.sql()?.as_str(),
-        "SELECT a, COUNT(b) AS n, c, d FROM t WHERE a IN (1, 2) ORDER BY a DESC;"
+        "SELECT DISTINCT a, COUNT(b) AS n, c, d FROM t WHERE a IN (1, 2) ORDER BY a DESC;"
     );
     Ok(())
 }
