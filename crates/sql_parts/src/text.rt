@@ -38,7 +38,8 @@ pub trait ToText: Drop {
     }
 }
 
-/// Texts that are taken one after another, so that a list of them need not be made.
+/// Texts that are taken one after another, so that a list of them need not be made. For the crates
+/// here alone.
 pub trait Texts<'a>: Drop {
     /// The texts that are left.
     ghost left: { Self → List (List ℕ) };
@@ -53,7 +54,7 @@ pub trait Texts<'a>: Drop {
         ensures memory { FailsOnlyByMemory result };
 }
 
-/// The texts of a slice.
+/// The texts of a slice. For the crates here alone.
 #[derive(Drop)]
 pub struct Items<'a, S> {
     /// What is left of the slice.
@@ -75,7 +76,7 @@ impl<'a, S: ToText> Texts<'a> for Items<'a, S> {
     }
 }
 
-/// The text of each item. It fails only if memory runs out.
+/// The text of each item. It fails only if memory runs out. For the crates here alone.
 /// `copies(alloc, &[1, 2])?` → `[1, 2]`
 pub fn copies<S: ToText>(alloc: Global, items: &[S]) -> Result<Vec<String>, SqlBuilderError>
     ensures copied { IfOk result (λ copied. texts copied.items ≡ map S.text items.now) }
@@ -88,7 +89,7 @@ pub fn copies<S: ToText>(alloc: Global, items: &[S]) -> Result<Vec<String>, SqlB
     Ok(copied)
 }
 
-/// A copy of the text, if there is one. It fails only if memory runs out.
+/// A copy of the text, if there is one. It fails only if memory runs out. For the crates here alone.
 /// `copy(alloc, &Some(String::from_str(alloc, "a")?))?` → `Some(a)`
 pub fn copy(alloc: Global, text: &Option<String>) -> Result<Option<String>, SqlBuilderError>
     ensures copied { IfOk result (λ copied. optional_text copied ≡ optional_text text.now) }
@@ -202,7 +203,7 @@ impl ToText for u8 {
     ghost text = { decimal_text };
 
     fn to_text(&self, alloc: Global) -> Result<String, SqlBuilderError> {
-        Ok(unsigned_text(alloc, u128::from(*self))?)
+        unsigned_text(alloc, u128::from(*self))
     }
 }
 
@@ -210,7 +211,7 @@ impl ToText for u16 {
     ghost text = { decimal_text };
 
     fn to_text(&self, alloc: Global) -> Result<String, SqlBuilderError> {
-        Ok(unsigned_text(alloc, u128::from(*self))?)
+        unsigned_text(alloc, u128::from(*self))
     }
 }
 
@@ -218,7 +219,7 @@ impl ToText for u32 {
     ghost text = { decimal_text };
 
     fn to_text(&self, alloc: Global) -> Result<String, SqlBuilderError> {
-        Ok(unsigned_text(alloc, u128::from(*self))?)
+        unsigned_text(alloc, u128::from(*self))
     }
 }
 
@@ -226,7 +227,7 @@ impl ToText for u64 {
     ghost text = { decimal_text };
 
     fn to_text(&self, alloc: Global) -> Result<String, SqlBuilderError> {
-        Ok(unsigned_text(alloc, u128::from(*self))?)
+        unsigned_text(alloc, u128::from(*self))
     }
 }
 
@@ -234,7 +235,7 @@ impl ToText for u128 {
     ghost text = { decimal_text };
 
     fn to_text(&self, alloc: Global) -> Result<String, SqlBuilderError> {
-        Ok(unsigned_text(alloc, *self)?)
+        unsigned_text(alloc, *self)
     }
 }
 
@@ -242,7 +243,7 @@ impl ToText for usize {
     ghost text = { decimal_text };
 
     fn to_text(&self, alloc: Global) -> Result<String, SqlBuilderError> {
-        Ok(unsigned_text(alloc, *self as u128)?)
+        unsigned_text(alloc, *self as u128)
     }
 }
 
@@ -250,7 +251,7 @@ impl ToText for i8 {
     ghost text = { number_text };
 
     fn to_text(&self, alloc: Global) -> Result<String, SqlBuilderError> {
-        Ok(signed_text(alloc, i128::from(*self))?)
+        signed_text(alloc, i128::from(*self))
     }
 }
 
@@ -258,7 +259,7 @@ impl ToText for i16 {
     ghost text = { number_text };
 
     fn to_text(&self, alloc: Global) -> Result<String, SqlBuilderError> {
-        Ok(signed_text(alloc, i128::from(*self))?)
+        signed_text(alloc, i128::from(*self))
     }
 }
 
@@ -266,7 +267,7 @@ impl ToText for i32 {
     ghost text = { number_text };
 
     fn to_text(&self, alloc: Global) -> Result<String, SqlBuilderError> {
-        Ok(signed_text(alloc, i128::from(*self))?)
+        signed_text(alloc, i128::from(*self))
     }
 }
 
@@ -274,7 +275,7 @@ impl ToText for i64 {
     ghost text = { number_text };
 
     fn to_text(&self, alloc: Global) -> Result<String, SqlBuilderError> {
-        Ok(signed_text(alloc, i128::from(*self))?)
+        signed_text(alloc, i128::from(*self))
     }
 }
 
@@ -282,7 +283,7 @@ impl ToText for i128 {
     ghost text = { number_text };
 
     fn to_text(&self, alloc: Global) -> Result<String, SqlBuilderError> {
-        Ok(signed_text(alloc, *self)?)
+        signed_text(alloc, *self)
     }
 }
 
@@ -290,7 +291,7 @@ impl ToText for isize {
     ghost text = { number_text };
 
     fn to_text(&self, alloc: Global) -> Result<String, SqlBuilderError> {
-        Ok(signed_text(alloc, *self as i128)?)
+        signed_text(alloc, *self as i128)
     }
 }
 
