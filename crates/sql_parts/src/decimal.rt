@@ -3,11 +3,9 @@ ghost use Rattle.std.specs.Prelude.{◌≡◌, ◌+◌, ◌/◌, ◌%◌, ◌<�
 ghost use Rattle.std.specs.Fmt.{decimal, signed_decimal};
 ghost use Rattle.std.specs.Str.{IsAscii};
 ghost use Rattle.sql_parts.specs.Decimal.{last_digits};
-ghost use Rattle.sql_parts.specs.Error.{FailsOnlyByMemory};
 ghost use Rattle.sql_parts.specs.Text.{decimal_text, number_text};
 
-use crate::error::SqlBuilderError;
-use std::alloc::Global;
+use std::alloc::{AllocError, Global};
 use std::str;
 
 static PAIRS: [u8; 200] =
@@ -111,21 +109,19 @@ fn write_signed(number: i128, text: &mut [u8; LONGEST]) -> usize
 
 // A copy of the end of a text of digits.
 #[inline(always)]
-fn copy(alloc: Global, text: &[u8; LONGEST], start: usize) -> Result<String, SqlBuilderError>
+fn copy(alloc: Global, text: &[u8; LONGEST], start: usize) -> Result<String, AllocError>
     requires start { start ≤ 40 }
     requires ascii { IsAscii (drop start text.now) }
-    ensures text { IfOk result (λ s. string_bytes s ≡ drop start text.now) }
-    ensures memory { FailsOnlyByMemory result }
+    ensures { IfOk result (λ s. string_bytes s ≡ drop start text.now) }
 {
     let digits = &text[start..];
     // It is proved that they are ASCII, so no test looks at them again.
-    Ok(String::from_str(alloc, unsafe { str::from_utf8_unchecked(digits) })?)
+    String::from_str(alloc, unsafe { str::from_utf8_unchecked(digits) })
 }
 
 /// The text of a number. It takes the number by value, so that its range is known.
-pub(crate) fn unsigned_text(alloc: Global, number: u128) -> Result<String, SqlBuilderError>
-    ensures text { IfOk result (λ s. string_bytes s ≡ decimal_text number) }
-    ensures memory { FailsOnlyByMemory result }
+pub(crate) fn unsigned_text(alloc: Global, number: u128) -> Result<String, AllocError>
+    ensures { IfOk result (λ s. string_bytes s ≡ decimal_text number) }
 {
     let mut text = [0; LONGEST];
     let start = write_number(number, &mut text);
@@ -133,9 +129,8 @@ pub(crate) fn unsigned_text(alloc: Global, number: u128) -> Result<String, SqlBu
 }
 
 /// The text of a number, with a minus before a negative one.
-pub(crate) fn signed_text(alloc: Global, number: i128) -> Result<String, SqlBuilderError>
-    ensures text { IfOk result (λ s. string_bytes s ≡ number_text number) }
-    ensures memory { FailsOnlyByMemory result }
+pub(crate) fn signed_text(alloc: Global, number: i128) -> Result<String, AllocError>
+    ensures { IfOk result (λ s. string_bytes s ≡ number_text number) }
 {
     let mut text = [0; LONGEST];
     let start = write_signed(number, &mut text);

@@ -203,7 +203,7 @@ impl ToText for u8 {
     ghost text = { decimal_text };
 
     fn to_text(&self, alloc: Global) -> Result<String, SqlBuilderError> {
-        unsigned_text(alloc, u128::from(*self))
+        Ok(unsigned_text(alloc, u128::from(*self))?)
     }
 }
 
@@ -211,7 +211,7 @@ impl ToText for u16 {
     ghost text = { decimal_text };
 
     fn to_text(&self, alloc: Global) -> Result<String, SqlBuilderError> {
-        unsigned_text(alloc, u128::from(*self))
+        Ok(unsigned_text(alloc, u128::from(*self))?)
     }
 }
 
@@ -219,7 +219,7 @@ impl ToText for u32 {
     ghost text = { decimal_text };
 
     fn to_text(&self, alloc: Global) -> Result<String, SqlBuilderError> {
-        unsigned_text(alloc, u128::from(*self))
+        Ok(unsigned_text(alloc, u128::from(*self))?)
     }
 }
 
@@ -227,7 +227,7 @@ impl ToText for u64 {
     ghost text = { decimal_text };
 
     fn to_text(&self, alloc: Global) -> Result<String, SqlBuilderError> {
-        unsigned_text(alloc, u128::from(*self))
+        Ok(unsigned_text(alloc, u128::from(*self))?)
     }
 }
 
@@ -235,7 +235,7 @@ impl ToText for u128 {
     ghost text = { decimal_text };
 
     fn to_text(&self, alloc: Global) -> Result<String, SqlBuilderError> {
-        unsigned_text(alloc, *self)
+        Ok(unsigned_text(alloc, *self)?)
     }
 }
 
@@ -243,7 +243,7 @@ impl ToText for usize {
     ghost text = { decimal_text };
 
     fn to_text(&self, alloc: Global) -> Result<String, SqlBuilderError> {
-        unsigned_text(alloc, *self as u128)
+        Ok(unsigned_text(alloc, *self as u128)?)
     }
 }
 
@@ -251,7 +251,7 @@ impl ToText for i8 {
     ghost text = { number_text };
 
     fn to_text(&self, alloc: Global) -> Result<String, SqlBuilderError> {
-        signed_text(alloc, i128::from(*self))
+        Ok(signed_text(alloc, i128::from(*self))?)
     }
 }
 
@@ -259,7 +259,7 @@ impl ToText for i16 {
     ghost text = { number_text };
 
     fn to_text(&self, alloc: Global) -> Result<String, SqlBuilderError> {
-        signed_text(alloc, i128::from(*self))
+        Ok(signed_text(alloc, i128::from(*self))?)
     }
 }
 
@@ -267,7 +267,7 @@ impl ToText for i32 {
     ghost text = { number_text };
 
     fn to_text(&self, alloc: Global) -> Result<String, SqlBuilderError> {
-        signed_text(alloc, i128::from(*self))
+        Ok(signed_text(alloc, i128::from(*self))?)
     }
 }
 
@@ -275,7 +275,7 @@ impl ToText for i64 {
     ghost text = { number_text };
 
     fn to_text(&self, alloc: Global) -> Result<String, SqlBuilderError> {
-        signed_text(alloc, i128::from(*self))
+        Ok(signed_text(alloc, i128::from(*self))?)
     }
 }
 
@@ -283,7 +283,7 @@ impl ToText for i128 {
     ghost text = { number_text };
 
     fn to_text(&self, alloc: Global) -> Result<String, SqlBuilderError> {
-        signed_text(alloc, *self)
+        Ok(signed_text(alloc, *self)?)
     }
 }
 
@@ -291,7 +291,7 @@ impl ToText for isize {
     ghost text = { number_text };
 
     fn to_text(&self, alloc: Global) -> Result<String, SqlBuilderError> {
-        signed_text(alloc, *self as i128)
+        Ok(signed_text(alloc, *self as i128)?)
     }
 }
 
