@@ -1,6 +1,5 @@
 //! Literals of SQL, and values that have one.
 ghost use Rattle.std.specs.Prelude.{◌≡◌, ◌++◌, pos, string_bytes, IfOk, OnErr, OnOk};
-ghost use Rattle.std.specs.Io.{StartsWith};
 ghost use Rattle.std.specs.Cow.{cow_str_bytes};
 ghost use Rattle.sql_parts.specs.Error.{FailsOnlyByMemory};
 ghost use Rattle.sql_parts.specs.Literal.{LiteralValue, literal_or_null, literal_text, literal_value};
@@ -43,8 +42,7 @@ pub trait SqlArg: Drop {
         ensures literal { IfOk result (λ s. string_bytes s ≡ literal_text (literal self.now)) }
         ensures memory { FailsOnlyByMemory result };
 
-    /// Appends the literal to a text. It fails only if memory runs out, and then the text has what it
-    /// had, and perhaps a part of the literal behind it.
+    /// Appends the literal to a text. It fails only if memory runs out, and then the text is as it was.
     /// ```
     /// let mut text = String::new(alloc);
     /// true.push_sql_arg(alloc, &mut text)?;
@@ -53,7 +51,7 @@ pub trait SqlArg: Drop {
     fn push_sql_arg(&self, alloc: Global, out: &mut String) -> Result<(), SqlBuilderError>
         ensures literal { OnOk result (string_bytes out.new
             ≡ string_bytes out.old ++ literal_text (literal self.now)) }
-        ensures kept { OnErr result (StartsWith (string_bytes out.new) (string_bytes out.old)) }
+        ensures kept { OnErr result (string_bytes out.new ≡ string_bytes out.old) }
         ensures memory { FailsOnlyByMemory result }
     {
         let text = self.sql_arg(alloc)?;

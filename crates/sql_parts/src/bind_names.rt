@@ -4,7 +4,6 @@ ghost use Rattle.std.specs.BTreeMap.{IsFromIterResult};
 ghost use Rattle.std.specs.Borrow.{Bor};
 ghost use Rattle.std.specs.Cmp.Lexicographic.{slice_cmp};
 ghost use Rattle.std.specs.HashMap.{get_by};
-ghost use Rattle.std.specs.Io.{StartsWith};
 ghost use Rattle.std.specs.Map.{lookup};
 ghost use Rattle.std.specs.Ordering.{nat_cmp};
 ghost use Rattle.std.specs.Str.{bytes_eq};
@@ -48,8 +47,7 @@ pub trait BindNames {
     }
 
     /// Appends the literal of the name, or NULL where it has none. The places are those that
-    /// `places` gave, or none. It fails only if memory runs out, and then the text has what it had,
-    /// and perhaps a part of the literal behind it.
+    /// `places` gave, or none. It fails only if memory runs out, and then the text is as it was.
     /// ```
     /// let mut text = String::new(alloc);
     /// { let mut names: Vec<(&str, Box<dyn SqlArg>)> = Vec::new(alloc); names.push(("a", Box::new(alloc, 1)?))?; names }.push_named(alloc, &{ let mut names: Vec<(&str, Box<dyn SqlArg>)> = Vec::new(alloc); names.push(("a", Box::new(alloc, 1)?))?; names }.places(alloc)?, "a", &mut text)?;
@@ -66,7 +64,7 @@ pub trait BindNames {
             → are_places self.now places.now.entries }
         ensures literal { OnOk result (string_bytes out.new ≡ string_bytes out.old
             ++ literal_text (unwrap_or (literals self.now name.now) null)) }
-        ensures kept { OnErr result (StartsWith (string_bytes out.new) (string_bytes out.old)) }
+        ensures kept { OnErr result (string_bytes out.new ≡ string_bytes out.old) }
         ensures memory { FailsOnlyByMemory result }
     {
         let _ = places;
@@ -103,7 +101,7 @@ fn push_found(
 ) -> Result<(), SqlBuilderError>
     ensures literal { OnOk result (string_bytes out.new ≡ string_bytes out.old
         ++ literal_text (unwrap_or (option_map (λ b. literal b) (option_copied found.entry)) null)) }
-    ensures kept { OnErr result (StartsWith (string_bytes out.new) (string_bytes out.old)) }
+    ensures kept { OnErr result (string_bytes out.new ≡ string_bytes out.old) }
     ensures memory { FailsOnlyByMemory result }
 {
     match found {

@@ -1,9 +1,9 @@
 //! Texts between quotes.
-ghost use Rattle.std.specs.Prelude.{◌≡◌, [], ◌∷◌, ◌++◌, codes, string_bytes, IfOk, IfSome, IsTrue, MatchOption, OnErr, OnOk};
+ghost use Rattle.std.specs.Prelude.{◌≡◌, ◌<◌, [], ◌∷◌, ◌++◌, codes, string_bytes, IfOk, IfSome, IsTrue, MatchOption, OnErr, OnOk};
 ghost use Rattle.std.specs.Cow.{cow_str_bytes};
 ghost use Rattle.std.specs.Io.{StartsWith};
 ghost use Rattle.sql_parts.specs.Error.{FailsOnlyByMemory};
-ghost use Rattle.sql_parts.specs.Quoting.{baquoted, between, brquoted, dquoted, escaped, quoted};
+ghost use Rattle.sql_parts.specs.Quoting.{baquoted, between, brquoted, doubled, dquoted, escaped, quoted};
 ghost use Rattle.sql_parts.specs.Tokens.{Name, Str, closed, quoted_token, tokens};
 
 use crate::delimiters::{Quotes, push_doubled, split_at_delimiter};
@@ -12,16 +12,31 @@ use crate::text::ToText;
 use std::alloc::{AllocError, Global};
 use std::borrow::CowStr;
 
-/// Appends the text between its delimiters, with each closing delimiter in it written twice.
+// Appends the text with each `delimiter` in it written twice, and the delimiter behind it.
 #[tactic(auto, using(crate::proofs::bytes::DoublingLemmas::starts_with_more))]
+fn push_closed(out: &mut String, delimiter: char, text: &str) -> Result<(), AllocError>
+    requires one_byte { delimiter < 128 }
+    ensures text { OnOk result (string_bytes out.new
+        ≡ string_bytes out.old ++ doubled delimiter text.now ++ delimiter ∷ []) }
+    ensures kept { OnErr result (StartsWith (string_bytes out.new) (string_bytes out.old)) }
+{
+    push_doubled(out, delimiter, text)?;
+    out.push(delimiter)
+}
+
+/// Appends the text between its delimiters, with each closing delimiter in it written twice.
 pub(crate) fn push_enclosed(out: &mut String, quotes: Quotes, text: &str) -> Result<(), AllocError>
     ensures text { OnOk result
         (string_bytes out.new ≡ string_bytes out.old ++ between quotes text.now) }
-    ensures kept { OnErr result (StartsWith (string_bytes out.new) (string_bytes out.old)) }
+    ensures kept { OnErr result (string_bytes out.new ≡ string_bytes out.old) }
 {
+    let before = out.len();
     out.push(quotes.opening())?;
-    push_doubled(out, quotes.closing(), text)?;
-    out.push(quotes.closing())
+    let pushed = push_closed(out, quotes.closing(), text);
+    if pushed.is_err() {
+        out.truncate(before);
+    }
+    pushed
 }
 
 #[tactic(auto, using(crate::proofs::tokens::TokenFacts::between_token, crate::proofs::tokens::TokenFacts::between_closed))]
@@ -85,7 +100,7 @@ pub fn escaped(alloc: Global, text: &str) -> Result<CowStr<'_>, AllocError>
 }
 
 /// Appends the text between single quotes, with each `'` in it doubled. It fails only if memory runs
-/// out; what was there stays.
+/// out, and then the text is as it was.
 /// ```
 /// let mut text = String::new(alloc);
 /// push_quoted(&mut text, "it's")?;
@@ -93,7 +108,7 @@ pub fn escaped(alloc: Global, text: &str) -> Result<CowStr<'_>, AllocError>
 /// ```
 pub fn push_quoted(out: &mut String, text: &str) -> Result<(), AllocError>
     ensures text { OnOk result (string_bytes out.new ≡ string_bytes out.old ++ quoted text.now) }
-    ensures kept { OnErr result (StartsWith (string_bytes out.new) (string_bytes out.old)) }
+    ensures kept { OnErr result (string_bytes out.new ≡ string_bytes out.old) }
 {
     push_enclosed(out, Quotes::Single, text)
 }
