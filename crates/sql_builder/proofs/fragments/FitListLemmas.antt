@@ -20,7 +20,7 @@ use Rattle.sql_builder.specs.StatementLaws.{made_by}
 use Rattle.sql_builder.specs.TextTests.{all_pass, is_plain, raw_text}
 use Rattle.sql_builder.proofs.fragments.PassLemmas.{printed-passes}
 use Rattle.sql_builder.proofs.fragments.PropertyLemmas.{calls-whatever, whatever}
-use Rattle.sql_builder.proofs.fragments.PreservationLemmas.{clauses-parts}
+use Rattle.sql_builder.proofs.fragments.NeutralLemmas.{clauses-inside}
 use Rattle.sql_builder.proofs.fragments.TextTestLemmas.{fit_texts_are_closed}
 use Rattle.sql_builder.proofs.lists.AllFacts.{all-weaker}
 use Rattle.sql_builder.proofs.pieces.LayoutShapeLemmas.{sql-semicolon}
@@ -137,7 +137,7 @@ pub ends_in_one : (start : StartText) (calls : List CallText) → has_fit_texts 
     → list_all call_fits calls ≡ true → IfOk (statement start calls Sql) (λ text. EndsInOneSemicolon (tokens text))
 ends_in_one start calls texts start_fits calls_fit =
     of_pieces start calls Sql (λ printed. IsTrue (has_closed_fragments printed)) (λ printed text. EndsInOneSemicolon (tokens text))
-    (λ is. sql-semicolon (clauses start calls) (clauses-parts start calls) is
+    (λ is. sql-semicolon (clauses start calls) (clauses-inside start calls) is
     (printed-passes is_plain whatever false start calls Sql (calls-whatever calls) (all-plain (start_raw_texts start) start_fits)
     (all-weaker call_fits (λ (c : CallText). all_pass is_plain (call_raw_texts false c)) (λ (c : CallText). all-plain (call_raw_texts false c)) calls calls_fit)
     refl))

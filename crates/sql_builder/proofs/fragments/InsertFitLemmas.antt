@@ -1,5 +1,5 @@
 -- Texts of an INSERT of a query that are fit make its fragments fit, whatever the query is.
-use Rattle.std.proofs.Common.{◌≡◌, refl, sym, ◌∙◌, ap, suc, Bool, true, false, ◌||◌, List, [], ◌∷◌, ◌++◌, Option, None, Some, map, codes}
+use Rattle.std.proofs.Common.{◌≡◌, refl, sym, ◌∙◌, ap, Bool, true, false, ◌||◌, List, [], ◌∷◌, ◌++◌, Option, None, Some, map, codes}
 use Rattle.std.specs.Prelude.{IfSome, filter_map, flat_map, if◌then◌else◌}
 use Rattle.std.specs.List.{cons_option, last_or, list_all, list_any}
 use Rattle.std.proofs.lemmas.Bool.{and_from, and_parts}
@@ -12,12 +12,12 @@ use Rattle.sql_builder.specs.Inserts.{FitTextsMakeFitTargets, is_fit_returning}
 use Rattle.sql_builder.specs.Layout.{insert_target}
 use Rattle.sql_builder.specs.Phrases.{comma_list}
 use Rattle.sql_builder.specs.Pieces.{Pieces, fixed_piece}
-use Rattle.sql_builder.proofs.fragments.FitLemmas.{Fit, Inner, fit-joins, fit-layout, insert_fit-preserved, target}
+use Rattle.sql_builder.proofs.fragments.FitLemmas.{Fit, Inner, fit-layout, insert_fit-preserved, fields-fit}
 use Rattle.sql_builder.proofs.fragments.PropertyLemmas.{calls-whatever, whatever}
 use Rattle.sql_builder.proofs.fragments.PreservationLemmas.{clauses-preserved}
-use Rattle.sql_builder.proofs.reading.LayoutLemmas.{target-preserved}
 use Rattle.sql_builder.proofs.reading.SectionLemmas.{Neutral}
 use Rattle.sql_builder.proofs.reading.ClauseWordLemmas.{are_fit-is}
+use Rattle.sql_builder.proofs.pieces.LayoutPropertyLemmas.{target-kept}
 
 -- a call without its query
 abbrev blank : CallText → CallText
@@ -88,10 +88,10 @@ fit_targets table calls all =
     let both = and_parts (is_fit (Bare table)) _ all in
     let start = call.InsertInto table in
     let from_start = call.SetFields [] ∷ calls in
-    let parts = clauses-preserved true is_fit whatever Fit Inner Neutral insert_fit-preserved start (map blank calls) (calls-whatever (map blank calls))
+    let parts = clauses-preserved true is_fit whatever Fit Fit Inner Neutral insert_fit-preserved start (map blank calls) (calls-whatever (map blank calls))
     (and_from _ _ both.0 refl) refl
     (all-blank calls both.1) in
-    let fits = target-preserved Fit Inner fit-layout (fit-joins (λ n. suc n)) target (clauses start (map blank calls)) parts in
+    let fits = target-kept fit-layout (clauses start (map blank calls)) parts fields-fit in
     let fields : fields_of start (map blank calls) ≡ fields_of start calls =
     ap (flat_map fields_in) (since-blank drops_fields drops-blank from_start) ∙ flat-blank fields_in fields-blank (since drops_fields from_start) in
     let target_is : insert_target fixed_piece (clauses start (map blank calls)) ≡ insert_target fixed_piece (clauses start calls) =

@@ -19,7 +19,7 @@ use Rattle.sql_builder.specs.Layout.{no_group_by_error}
 use Rattle.sql_builder.specs.Shape.{EndsInOneSemicolon}
 use Rattle.sql_builder.specs.Statement.{pieces}
 use Rattle.sql_builder.specs.Pieces.{Pieces, pieces_text}
-use Rattle.sql_builder.proofs.fragments.PreservationLemmas.{clauses-parts}
+use Rattle.sql_builder.proofs.fragments.NeutralLemmas.{clauses-inside}
 use Rattle.sql_builder.proofs.fragments.FitLemmas.{balanced_fragments, unless}
 use Rattle.sql_builder.proofs.pieces.LayoutShapeLemmas.{sql-semicolon}
 use Rattle.sql_builder.proofs.reading.ClauseWordLemmas.{fragments_closed}
@@ -77,7 +77,7 @@ plain_texts start calls finish all = unless _ (layout finish (clauses start call
 pub plain_texts_end : PlainTextsEndInOneSemicolon
 plain_texts_end start calls all plain =
     of_pieces start calls Sql (λ printed. IsTrue (has_closed_fragments printed)) (λ printed text. EndsInOneSemicolon (tokens text))
-    (λ is. sql-semicolon (clauses start calls) (clauses-parts start calls) is (fragments-pass is_plain start calls Sql plain)) all
+    (λ is. sql-semicolon (clauses start calls) (clauses-inside start calls) is (fragments-pass is_plain start calls Sql plain)) all
 
 -- ---- the error of a SELECT
 

@@ -39,10 +39,11 @@ use Rattle.sql_parts.specs.StringTexts.{blank, outline}
 use Rattle.sql_builder.specs.Combined.{CombinedFollowTheirParts, ConditionsFollowTheirPieces, IsCombined, MasksFollowTheirField, NegationsFollowTheirPart}
 use Rattle.sql_builder.specs.Combined.{combined_text, joined_text, like_text, negation_text}
 use Rattle.sql_builder.specs.Interference.{piece_outline}
-use Rattle.sql_builder.proofs.conditions.ConditionLemmas.{condition-inside, condition_printed}
+use Rattle.sql_builder.proofs.conditions.ConditionLemmas.{condition_printed}
 use Rattle.sql_builder.proofs.interference.OutlineLemmas.{pieces-outline}
 use Rattle.sql_builder.proofs.pieces.LayoutMapLemmas.{joined_in_form}
 use Rattle.std.proofs.lemmas.List.{map-append}
+use Rattle.sql_builder.proofs.fragments.NeutralLemmas.{condition-inside}
 
 -- a text is a fragment where its tokens are a condition
 fragment-is : (text : List ℕ) → is_fragment text ≡ is_condition (tokens text)

@@ -16,7 +16,6 @@ use Rattle.sql_builder.specs.Pieces.{Pieces, Fixed, fixed_piece, raw_piece}
 use Rattle.sql_builder.specs.declared.condition.Family.{Family}
 use Rattle.sql_builder.proofs.fragments.NeutralLemmas.{condition-neutral}
 use Rattle.sql_builder.proofs.fragments.PropertyLemmas.{neutral-raw}
-use Rattle.sql_builder.proofs.reading.LayoutLemmas.{where_bodies, where_body}
 use Rattle.sql_builder.proofs.reading.SectionLemmas.{Neutral, neutral-front, own-top_level}
 use Rattle.sql_builder.proofs.reading.ClauseWordLemmas.{Flagged, fit-balanced, fit-flags, flags, shape-even, are_fit_from, is_fit, are_fit-is}
 use Rattle.sql_builder.proofs.pieces.ShapeLemmas.{pieces_tokens-append, pieces_tokens-brackets}
@@ -33,6 +32,7 @@ use Rattle.sql_parts.specs.Fragments.{Placed, is_clause_word, at_top_level}
 use Rattle.std.proofs.lemmas.List.Folds.{list_all-map}
 use Rattle.sql_builder.proofs.lists.AllFacts.{cut-all}
 use Rattle.sql_builder.proofs.conditions.ConditionLemmas.{begins_raw}
+use Rattle.sql_builder.proofs.pieces.LayoutPropertyLemmas.{where_bodies, where_body}
 
 -- ---- one condition
 
