@@ -75,7 +75,7 @@ relation-between Ge = refl
 relation-between Lt = refl
 relation-between Le = refl
 
-like-between : (negated : Bool) → are_between (not_text negated ++ codes " LIKE ") ≡ true
+pub like-between : (negated : Bool) → are_between (not_text negated ++ codes " LIKE ") ≡ true
 like-between true = refl
 like-between false = refl
 
@@ -83,7 +83,7 @@ between-between : (negated : Bool) → are_between (not_text negated ++ codes " 
 between-between true = refl
 between-between false = refl
 
-module _ (enclosed : Bool) (ok : RawText → Bool) (fine : List ℕ → Bool) (P Q F U : Pieces → Type 0)
+module _ {enclosed : Bool} {ok : RawText → Bool} {fine : List ℕ → Bool} {P Q F U : Pieces → Type 0}
     (preserved : PreservedByCalls enclosed ok fine P Q F U) where
   pub condition-preserved : (condition : ConditionText) → list_all fine (condition_quoted_texts condition) ≡ true
       → list_all ok (condition_raw_texts condition) ≡ true → P (condition_pieces condition)

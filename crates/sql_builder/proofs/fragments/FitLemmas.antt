@@ -218,7 +218,7 @@ conditions-fit enclosed (c ∷ calls) all =
   where
     by : (c : CallText) → list_all is_fit (call_raw_texts enclosed c) ≡ true → has_fit_conditions calls ≡ true → has_fit_conditions (c ∷ calls) ≡ true
     by (Cond family condition) here rest =
-        and_from _ _ (are_fit-is (condition_pieces condition) ∙ (condition-preserved false is_fit whatever Fit Fit Fit Neutral fit-preserved condition
+        and_from _ _ (are_fit-is (condition_pieces condition) ∙ (condition-preserved fit-preserved condition
         (all-whatever (condition_quoted_texts condition)) here).fits 0) rest
     by _ here rest = rest
 
@@ -255,7 +255,7 @@ bare-fit : (start : StartText) (calls : List CallText) (finish : FinishText) →
 bare-fit start calls finish plain all bare =
     let facts = fit_parts start calls finish all in
     layout-fits finish (clauses start calls)
-    (clauses-preserved false is_fit whatever Fit Fit Fit Neutral fit-preserved start calls (calls-whatever calls) facts.0
+    (clauses-preserved fit-preserved start calls (calls-whatever calls) facts.0
     (ap (λ (b : Bool). list_all is_fit (call_raw_texts b (SetFields (start_fields start)))) (sym plain) ∙ first-fields start finish facts.0)
     (ap (λ (b : Bool). list_all (λ (c : CallText). list_all is_fit (call_raw_texts b c)) calls) (sym plain) ∙ facts.1))
     (clauses-inside start calls) bare
@@ -269,7 +269,7 @@ all-fit (DeleteFrom table) calls finish all bare = bare-fit (DeleteFrom table) c
 all-fit (InsertInto table) calls Sql all bare =
     let start = InsertInto table in
     let facts = fit_parts start calls Sql all in
-    let parts = clauses-preserved true is_fit whatever Fit Fit Inner Neutral insert_fit-preserved start calls (calls-whatever calls) facts.0 refl facts.1 in
+    let parts = clauses-preserved insert_fit-preserved start calls (calls-whatever calls) facts.0 refl facts.1 in
     let r = clauses start calls in
     split-fits (plain-split (insert_sections fixed_piece r.query r) (fixed_piece (codes ";")) (insert-laid fit-layout r parts fields-fit r.query parts.query)
     (statement-laid inside-layout kind.InsertInto r (clauses-inside start calls)) ending-semicolon)

@@ -12,10 +12,9 @@ use Rattle.sql_builder.specs.Inserts.{FitTextsMakeFitTargets, is_fit_returning}
 use Rattle.sql_builder.specs.Layout.{insert_target}
 use Rattle.sql_builder.specs.Phrases.{comma_list}
 use Rattle.sql_builder.specs.Pieces.{Pieces, fixed_piece}
-use Rattle.sql_builder.proofs.fragments.FitLemmas.{Fit, Inner, fit-layout, insert_fit-preserved, fields-fit}
-use Rattle.sql_builder.proofs.fragments.PropertyLemmas.{calls-whatever, whatever}
+use Rattle.sql_builder.proofs.fragments.FitLemmas.{Fit, fit-layout, insert_fit-preserved, fields-fit}
+use Rattle.sql_builder.proofs.fragments.PropertyLemmas.{calls-whatever}
 use Rattle.sql_builder.proofs.fragments.PreservationLemmas.{clauses-preserved}
-use Rattle.sql_builder.proofs.reading.SectionLemmas.{Neutral}
 use Rattle.sql_builder.proofs.reading.ClauseWordLemmas.{are_fit-is}
 use Rattle.sql_builder.proofs.pieces.LayoutPropertyLemmas.{target-kept}
 
@@ -88,7 +87,7 @@ fit_targets table calls all =
     let both = and_parts (is_fit (Bare table)) _ all in
     let start = call.InsertInto table in
     let from_start = call.SetFields [] ∷ calls in
-    let parts = clauses-preserved true is_fit whatever Fit Fit Inner Neutral insert_fit-preserved start (map blank calls) (calls-whatever (map blank calls))
+    let parts = clauses-preserved insert_fit-preserved start (map blank calls) (calls-whatever (map blank calls))
     (and_from _ _ both.0 refl) refl
     (all-blank calls both.1) in
     let fits = target-kept fit-layout (clauses start (map blank calls)) parts fields-fit in

@@ -62,11 +62,11 @@ calls-any (c ∷ calls) = and_from _ _ (all-any (call_raw_texts false c)) (calls
 
 module _ {P Q : Pieces → Type 0} (preserved : PreservedByCalls false any whatever P Q P P) where
   condition-any : (condition : ConditionText) → P (condition_pieces condition)
-  condition-any condition = condition-preserved false any whatever P Q P P preserved condition
+  condition-any condition = condition-preserved preserved condition
       (all-whatever (condition_quoted_texts condition)) (all-any (condition_raw_texts condition))
 
   clauses-any : (start : StartText) (calls : List CallText) → PartsAre P P P (clauses start calls)
-  clauses-any start calls = clauses-preserved false any whatever P Q P P preserved start calls (calls-whatever calls) (all-any (start_raw_texts start))
+  clauses-any start calls = clauses-preserved preserved start calls (calls-whatever calls) (all-any (start_raw_texts start))
       (all-any (call_raw_texts false (call.SetFields (start_fields start)))) (calls-any calls)
 
 -- ---- own words
@@ -103,7 +103,7 @@ count-inside x inside = words-first (codes "COUNT(") x (record { is_closed = ref
 pub count_as-inside : (field name : List ℕ) → Inside (count_as fixed_piece (raw_piece field) (raw_piece name))
 count_as-inside field name =
     count-inside (raw_piece field ++ (fixed_piece (codes ") AS ") ++ raw_piece name))
-    (words-between (codes ") AS ") (raw_piece field) (raw_piece name) (record { is_closed = refl; plain = refl; begins = refl; ends = refl })
+    (words-between (codes ") AS ") (raw_piece field) (raw_piece name) (record { is_closed = refl; plain = refl }) refl refl
     (raw-inside field) (raw-inside name))
 
 inside-preserved : PreservedByCalls false any whatever Inside Behind Inside Inside

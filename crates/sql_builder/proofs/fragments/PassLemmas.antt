@@ -105,6 +105,4 @@ module _ (test fine : List ℕ → Bool) where
       → Passes test fine (layout finish (clauses start calls))
   printed-passes enclosed start calls finish quotes first all last =
       layout-passes (clauses start calls)
-      (clauses-preserved enclosed raw_texts_pass fine (Passes test fine) (Passes test fine) (Passes test fine) (Passes test fine) (passes-preserved enclosed) start calls quotes
-      first
-      (first-fields enclosed start first) all) finish last
+      (clauses-preserved (passes-preserved enclosed) start calls quotes first (first-fields enclosed start first) all) finish last

@@ -75,7 +75,7 @@ until-all ok p (x ∷ xs) all = let both = and_parts (ok x) (list_all ok xs) all
     by true here rest = refl
     by false here rest = and_from _ _ here rest
 
-module _ (enclosed : Bool) (ok : RawText → Bool) (fine : List ℕ → Bool) (P Q F U : Pieces → Type 0)
+module _ {enclosed : Bool} {ok : RawText → Bool} {fine : List ℕ → Bool} {P Q F U : Pieces → Type 0}
     (preserved : PreservedByCalls enclosed ok fine P Q F U) where
   -- texts one by one
   fields-all : (fields : List (List ℕ)) → list_all ok (map (field_text enclosed) fields) ≡ true → Each F (map raw_piece fields)
@@ -258,7 +258,7 @@ module _ (enclosed : Bool) (ok : RawText → Bool) (fine : List ℕ → Bool) (P
       conditions (c ∷ cs) all =
           let both = and_parts (one_ok c) (list_all one_ok cs) all in
           let here = and_parts (list_all ok (condition_raw_texts c)) (list_all fine (condition_quoted_texts c)) both.0 in
-          (condition-preserved enclosed ok fine P Q F U preserved c here.1 here.0, conditions cs both.1)
+          (condition-preserved preserved c here.1 here.0, conditions cs both.1)
 
   groups-preserved : (found : List (Group (Family × ConditionText)))
       → list_all (λ (group : Group (Family × ConditionText)). list_all condition_ok (group.0 ∷ group.1)) found ≡ true

@@ -1,9 +1,6 @@
 -- What holds of each element of a list.
-use Rattle.std.proofs.Common.{List, [], ◌∷◌, ◌++◌, Option, None, Some, map, flat_map}
-use Rattle.std.specs.Prelude.{IfSome, filter_map}
-use Rattle.std.specs.List.{AllByRecursion, cons_option, last_or}
-use Rattle.std.proofs.Common.{◌≡◌, refl, Bool, true, false}
-use Rattle.std.specs.List.{list_all}
+use Rattle.std.proofs.Common.{List, [], ◌∷◌, ◌++◌, map, ◌≡◌, refl, Bool, true, false}
+use Rattle.std.specs.List.{AllByRecursion, list_all}
 use Rattle.std.proofs.lemmas.Bool.{and_parts, and_from}
 use Rattle.sql_builder.specs.Filters.{Group, begins, cut, lead_and_groups}
 
@@ -11,23 +8,9 @@ pub append-all : {X : Type 0} (P : X → Type 0) (one other : List X) → AllByR
 append-all P [] other all too = too
 append-all P (x ∷ one) other all too = (all.0, append-all P one other all.1 too)
 
-pub flat-all : {X Y : Type 0} (P : Y → Type 0) (f : X → List Y) → ((x : X) → AllByRecursion P (f x)) → (xs : List X) → AllByRecursion P (flat_map f xs)
-flat-all P f each [] = tt
-flat-all P f each (x ∷ xs) = append-all P (f x) (flat_map f xs) (each x) (flat-all P f each xs)
-
 pub map-all : {X Y : Type 0} (P : Y → Type 0) (f : X → Y) → ((x : X) → P (f x)) → (xs : List X) → AllByRecursion P (map f xs)
 map-all P f each [] = tt
 map-all P f each (x ∷ xs) = (each x, map-all P f each xs)
-
-pub last-some : {X Y : Type 0} (P : Y → Type 0) (f : X → Option Y) → ((x : X) → IfSome (f x) P) → (xs : List X) (before : Option Y) → IfSome before P
-    → IfSome (last_or before (filter_map f xs)) P
-last-some P f each [] before holds = holds
-last-some {Y = Y} P f each (x ∷ xs) before holds = by (f x) (each x) (λ found keeps. last-some P f each xs found keeps)
-  where
-    by : (found : Option Y) → IfSome found P → ((next : Option Y) → IfSome next P → IfSome (last_or next (filter_map f xs)) P)
-        → IfSome (last_or before (cons_option found (filter_map f xs))) P
-    by None keeps rest = rest before holds
-    by (Some y) keeps rest = rest (Some y) keeps
 
 -- a test that another one implies
 pub all-weaker : {X : Type 0} (ok other : X → Bool) → ((x : X) → ok x ≡ true → other x ≡ true) → (xs : List X) → list_all ok xs ≡ true → list_all other xs

@@ -11,8 +11,8 @@ use Rattle.sql_builder.specs.RawFragments.{has_closed_fragments, has_no_semicolo
 use Rattle.sql_builder.specs.Statement.{layout_at, text_at}
 use Rattle.sql_builder.specs.Pieces.{Pieces, fixed_piece, pieces_text, raw_piece}
 use Rattle.sql_builder.specs.declared.clauses.Kind.{Kind}
-use Rattle.sql_builder.proofs.pieces.ShapeLemmas.{Inside, Shaped, brackets-inside, ended-inside, ends_in_semicolon, inside-inside, raw-inside, shape_closed}
-use Rattle.sql_builder.proofs.pieces.ShapeLemmas.{shaped, statement-shaped, words-following, words-ended, closing-last, words-first}
+use Rattle.sql_builder.proofs.pieces.ShapeLemmas.{Inside, Shaped, brackets-inside, ends_in_semicolon, raw-inside, shape_closed, shaped, statement-shaped}
+use Rattle.sql_builder.proofs.pieces.ShapeLemmas.{closing-last, words-first, words-between}
 use Rattle.sql_builder.proofs.statements.RunLemmas.{text_of_layout}
 use Rattle.sql_builder.proofs.fragments.PropertyLemmas.{Behind, inside-joins, words-behind}
 use Rattle.sql_builder.proofs.fragments.NeutralLemmas.{InsideParts, raw-inside-parts}
@@ -54,10 +54,9 @@ layout-shaped Subquery r parts = shaped (subquery fixed_piece r) (brackets-insid
 layout-shaped (SubqueryAs name) r parts =
     let behind = fixed_piece (codes ") AS ") ++ raw_piece name in
     shaped (subquery_as fixed_piece (raw_piece name) r)
-    (ended-inside (fixed_piece (codes "(")) (query fixed_piece r ++ behind) (words-ended (codes "(") (record { is_closed = refl; plain = refl }) refl)
-    (inside-inside (query fixed_piece r) behind (query-inside r parts) (words-following (codes ") AS ") (raw_piece name) refl)
-    (ended-inside (fixed_piece (codes ") AS ")) (raw_piece name) (words-ended (codes ") AS ") (record { is_closed = refl; plain = refl }) refl)
-    (raw-inside name))))
+    (words-first (codes "(") (query fixed_piece r ++ behind) (record { is_closed = refl; plain = refl }) refl
+    (words-between (codes ") AS ") (query fixed_piece r) (raw_piece name) (record { is_closed = refl; plain = refl }) refl refl (query-inside r parts)
+    (raw-inside name)))
 
 -- a statement without further semicolons
 pub sql-semicolon : (r : Clauses Pieces) → InsideParts r → has_closed_fragments (sql fixed_piece r) ≡ true → has_no_semicolons (sql fixed_piece r) ≡ true
