@@ -1,10 +1,10 @@
 -- Texts that are fit, one by one, make fragments that are fit.
 use Rattle.sql_builder.specs.RawTexts.{RawText, Bare, Enclosed}
-use Rattle.sql_builder.specs.TextTests.{all_pass, raw_text}
+use Rattle.sql_builder.specs.TextTests.{all_pass, raw_text, texts_pass}
 use Rattle.sql_builder.proofs.conditions.ConditionLemmas.{condition-preserved}
 use Rattle.sql_builder.specs.Interference.{condition_quoted_texts}
 use Rattle.sql_builder.proofs.fragments.PropertyLemmas.{all-whatever, calls-whatever, whatever, Each, PreservedByCalls, listed, neutral-append}
-use Rattle.sql_builder.proofs.fragments.PropertyLemmas.{neutral-brackets, neutral-none, neutral-raw, Passes, PreservedByWords, by_append}
+use Rattle.sql_builder.proofs.fragments.PropertyLemmas.{neutral-brackets, neutral-none, neutral-raw, PreservedByWords, by_append}
 use Rattle.std.proofs.Common.{◌≡◌, refl, sym, ◌∙◌, ap, subst, ℕ, suc, ℤ, Bool, true, false, not, ◌&&◌, List, [], ◌∷◌, ◌++◌, Option, None, Some, IfOk, map, pos}
 use Rattle.std.proofs.Common.{codes}
 use Rattle.std.specs.Prelude.{IsTrue}
@@ -29,7 +29,7 @@ use Rattle.sql_builder.specs.Statement.{unless_error}
 use Rattle.sql_builder.specs.Pieces as printed
 use Rattle.sql_builder.specs.Pieces.{Piece, Pieces, fixed_piece, quoted_piece, raw_piece}
 use Rattle.sql_builder.proofs.tokens.BalancedFacts.{is_even-append}
-use Rattle.sql_builder.proofs.lists.AllFacts.{all-weaker}
+use Rattle.sql_builder.proofs.lists.AllFacts.{map-all, tested-all}
 use Rattle.sql_builder.proofs.fragments.ClauseFacts.{PartsAre}
 use Rattle.sql_builder.proofs.fragments.PreservationLemmas.{clauses-preserved}
 use Rattle.sql_builder.proofs.reading.ClauseWordLemmas.{are_fit-is, are_fit_from, even-ends, or_so}
@@ -39,11 +39,12 @@ use Rattle.sql_builder.proofs.reading.ClauseWordLemmas as own_words
 use Rattle.sql_builder.proofs.tokens.DepthFacts.{at_end-append}
 use Rattle.sql_builder.proofs.reading.ReadBackLemmas.{layout}
 use Rattle.sql_builder.proofs.tokens.WhereTokenFacts.{has_clause}
-use Rattle.sql_builder.proofs.fragments.PassLemmas.{printed-passes}
+use Rattle.sql_builder.proofs.fragments.PassLemmas.{printed-passes, calls-enclosed, weaker-texts}
 use Rattle.sql_builder.proofs.pieces.LayoutShapeLemmas.{inside-layout}
 use Rattle.sql_builder.specs.declared.clauses.Kind.TheVariants as kind
 use Rattle.sql_builder.proofs.fragments.NeutralLemmas.{InsideParts, clauses-inside}
 use Rattle.sql_builder.proofs.pieces.LayoutPropertyLemmas.{insert-laid, statement-laid}
+use Rattle.std.proofs.lemmas.List.Folds.{list_all-map}
 
 fit-both : (l : ℤ) (x y : Pieces) → are_fit_from l x ≡ true → are_fit_from (at_end l (own x)) y ≡ true → are_fit_from l (x ++ y) ≡ true
 fit-both l [] y one other = other
@@ -91,14 +92,10 @@ inner-text : (text : List ℕ) → balanced text ≡ true → Inner (raw_piece t
 inner-text text h = record { neutral = neutral-raw text; fits = λ n. and_from _ _ (inner-at n text h) refl }
 
 inner-all : (values : List (List ℕ)) → list_all is_fit (map Enclosed values) ≡ true → Each Inner (map raw_piece values)
-inner-all [] all = tt
-inner-all (value ∷ values) all =
-    let both = and_parts (balanced value) (list_all is_fit (map Enclosed values)) all in
-    (inner-text value both.0, inner-all values both.1)
+inner-all values all = tested-all Inner raw_piece balanced inner-text values (sym (list_all-map is_fit Enclosed values) ∙ all)
 
 quoted-all : (values : List (List ℕ)) → Each Inner (map quoted_piece values)
-quoted-all [] = tt
-quoted-all (value ∷ values) = (record { neutral = record { even = refl; no_word = refl }; fits = λ n. refl }, quoted-all values)
+quoted-all values = map-all Inner quoted_piece (λ value. record { neutral = record { even = refl; no_word = refl }; fits = λ n. refl }) values
 
 -- brackets make fit what is fit between brackets
 enclosed : (x : Pieces) → Inner x → Fit (in_brackets fixed_piece x)
@@ -198,14 +195,12 @@ fit-balanced : (raw : RawText) → is_fit raw ≡ true → balanced (raw_text ra
 fit-balanced (Bare text) h = (and_parts (balanced text) (not (has_clause_word text)) h).0
 fit-balanced (Enclosed text) h = h
 
-all-balanced : (raw : List RawText) → list_all is_fit raw ≡ true → all_pass balanced raw ≡ true
-all-balanced raw all = all-weaker is_fit (λ h. balanced (raw_text h)) fit-balanced raw all
-
-calls-balanced : (enclosed : Bool) (calls : List CallText) → list_all (λ c. list_all is_fit (call_raw_texts enclosed c)) calls ≡ true
-    → list_all (λ c. all_pass balanced (call_raw_texts enclosed c)) calls ≡ true
-calls-balanced enclosed calls all =
-    all-weaker (λ (c : CallText). list_all is_fit (call_raw_texts enclosed c)) (λ (c : CallText). all_pass balanced (call_raw_texts enclosed c))
-    (λ c. all-balanced (call_raw_texts enclosed c)) calls all
+pub fit_texts_balanced : (start : StartText) (calls : List CallText) (finish : FinishText)
+    → has_fit_texts start calls finish ≡ true → texts_pass balanced start calls finish ≡ true
+fit_texts_balanced start calls finish all =
+    let enclosed = encloses_fields start finish in
+    ap (λ b. (all_pass balanced (start_raw_texts start) && b) && all_pass balanced (finish_raw_texts finish)) (sym (calls-enclosed balanced enclosed calls))
+    ∙ weaker-texts is_fit (λ raw. balanced (raw_text raw)) fit-balanced enclosed start calls finish all
 
 -- ---- what raw texts make
 
@@ -240,13 +235,6 @@ module _ (start : StartText) (calls : List CallText) (finish : FinishText) (all 
       let both = and_parts (list_all is_fit (start_raw_texts start) && calls_fit) (list_all is_fit (finish_raw_texts finish)) all in
       let first = and_parts (list_all is_fit (start_raw_texts start)) calls_fit both.0 in
       (first.0, first.1, both.1)
-
-  printed-balanced : Passes balanced whatever (layout finish (clauses start calls))
-  printed-balanced =
-      let enclosed = encloses_fields start finish in
-      printed-passes balanced whatever enclosed start calls finish (calls-whatever calls) (all-balanced (start_raw_texts start) fit_parts.0)
-      (calls-balanced enclosed calls fit_parts.1)
-      (all-balanced (finish_raw_texts finish) fit_parts.2)
 
 -- fields that nothing encloses
 bare-fit : (start : StartText) (calls : List CallText) (finish : FinishText) → encloses_fields start finish ≡ false → has_fit_texts start calls finish ≡ true
@@ -290,4 +278,6 @@ pub fit_conditions : FitTextsMakeFitConditions
 fit_conditions start calls finish all = conditions-fit (encloses_fields start finish) calls (fit_parts start calls finish all).1
 
 pub balanced_fragments : FitTextsMakeBalancedFragments
-balanced_fragments start calls finish h = unless _ (layout finish (clauses start calls)) has_balanced_fragments (printed-balanced start calls finish h)
+balanced_fragments start calls finish h =
+    unless _ (layout finish (clauses start calls)) has_balanced_fragments
+    (printed-passes balanced whatever start calls finish (calls-whatever calls) (fit_texts_balanced start calls finish h))

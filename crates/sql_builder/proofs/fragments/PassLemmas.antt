@@ -1,14 +1,15 @@
 -- Each fragment that is printed passes a test that each raw text passes.
-use Rattle.std.proofs.Common.{◌≡◌, refl, ◌∙◌, sym, ℕ, Bool, true, false, List, ◌++◌, map, codes}
+use Rattle.std.proofs.Common.{◌≡◌, refl, ◌∙◌, sym, ℕ, Bool, true, false, List, ◌++◌, map, codes, ◌&&◌, [], ◌∷◌, ap}
 use Rattle.std.specs.List.{list_all}
 use Rattle.std.proofs.lemmas.Bool.{and_parts, and_from}
 use Rattle.std.proofs.lemmas.List.Folds.{list_all-map}
 use Rattle.sql_builder.specs.Calls.{CallText, FinishText, StartText, SelectFrom, SelectValues, InsertInto, UpdateTable, DeleteFrom, Sql, Query, QueryValues}
 use Rattle.sql_builder.specs.Calls.{Subquery, SubqueryAs, SetFields, clauses, start_fields, call_raw_texts, field_text, finish_raw_texts, start_raw_texts}
+use Rattle.sql_builder.specs.Calls as call
 use Rattle.sql_builder.specs.Clauses.{Clauses}
 use Rattle.sql_builder.specs.Condition.{not_text}
-use Rattle.sql_builder.specs.RawTexts.{RawText, Bare, Enclosed}
-use Rattle.sql_builder.specs.TextTests.{all_pass, raw_text}
+use Rattle.sql_builder.specs.RawTexts.{RawText, Enclosed}
+use Rattle.sql_builder.specs.TextTests.{all_pass, raw_text, call_passes, texts_pass}
 use Rattle.sql_builder.specs.Interference.{call_quoted_texts}
 use Rattle.sql_parts.specs.Tokens.{Token}
 use Rattle.sql_builder.specs.Layout.{Section, concat_sections, query, statement_sections}
@@ -20,6 +21,7 @@ use Rattle.sql_builder.proofs.fragments.PreservationLemmas.{clauses-preserved}
 use Rattle.sql_builder.proofs.reading.ReadBackLemmas.{layout}
 use Rattle.sql_builder.proofs.fragments.PropertyLemmas.{Passes, PreservedByCalls, listed, passes-append, passes-joins, quoteds-pass, quoted-passes, raw-passes}
 use Rattle.sql_builder.proofs.fragments.PropertyLemmas.{raws-pass, within}
+use Rattle.sql_builder.proofs.lists.AllFacts.{all-weaker, each-same}
 
 module _ (test fine : List ℕ → Bool) where
   -- ---- what calls make
@@ -34,12 +36,8 @@ module _ (test fine : List ℕ → Bool) where
       (listed (passes-joins test fine) (map raw_piece values)
       (raws-pass test fine values (sym (list_all-map raw_texts_pass Enclosed values) ∙ all)))
 
-  field-passes : (enclosed : Bool) (field : List ℕ) → test (raw_text (field_text enclosed field)) ≡ true → test field ≡ true
-  field-passes true field h = h
-  field-passes false field h = h
-
-  passes-preserved : (enclosed : Bool) → PreservedByCalls enclosed raw_texts_pass fine (Passes test fine) (Passes test fine) (Passes test fine) (Passes test fine)
-  passes-preserved enclosed = record {
+  passes-preserved : PreservedByCalls false raw_texts_pass fine (Passes test fine) (Passes test fine) (Passes test fine) (Passes test fine)
+  passes-preserved = record {
     joins = passes-joins test fine;
     bare = raw-passes test fine;
     quoted = quoted-passes test fine;
@@ -49,9 +47,9 @@ module _ (test fine : List ℕ → Bool) where
         within test fine (not_text negated ++ codes " IN (") (comma_list fixed_piece (map quoted_piece values)) (codes ")")
         (listed (passes-joins test fine) (map quoted_piece values) (quoteds-pass test fine values all));
     in_query = λ negated query h. within test fine (not_text negated ++ codes " IN (") (raw_piece query) (codes ")") (raw-passes test fine query h);
-    field = λ field h. raw-passes test fine field (field-passes enclosed field h);
+    field = raw-passes test fine;
     count = λ field h. within test fine (codes "COUNT(") (raw_piece field) (codes ")") (raw-passes test fine field h);
-    count_as = λ field name h k. and_from _ _ h (and_from _ _ (field-passes enclosed name k) refl);
+    count_as = λ field name h k. and_from _ _ h (and_from _ _ k refl);
     union = raw-passes test fine;
   }
 
@@ -90,19 +88,56 @@ module _ (test fine : List ℕ → Bool) where
   -- ---- what is printed of a list of calls
 
   -- the start's fields, as calls add them
-  first-fields : (enclosed : Bool) (start : StartText) → all_pass test (start_raw_texts start) ≡ true
-      → all_pass test (call_raw_texts enclosed (SetFields (start_fields start))) ≡ true
-  first-fields enclosed (SelectFrom table) all = refl
-  first-fields true (SelectValues values) all = list_all-map raw_texts_pass Enclosed values ∙ sym (list_all-map raw_texts_pass Bare values) ∙ all
-  first-fields false (SelectValues values) all = all
-  first-fields enclosed (InsertInto table) all = refl
-  first-fields enclosed (UpdateTable table) all = refl
-  first-fields enclosed (DeleteFrom table) all = refl
+  first-fields : (start : StartText) → all_pass test (start_raw_texts start) ≡ true → call_passes test (SetFields (start_fields start)) ≡ true
+  first-fields (SelectFrom table) all = refl
+  first-fields (SelectValues values) all = all
+  first-fields (InsertInto table) all = refl
+  first-fields (UpdateTable table) all = refl
+  first-fields (DeleteFrom table) all = refl
 
-  pub printed-passes : (enclosed : Bool) (start : StartText) (calls : List CallText) (finish : FinishText)
-      → list_all (λ c. list_all fine (call_quoted_texts c)) calls ≡ true → all_pass test (start_raw_texts start) ≡ true
-      → list_all (λ c. all_pass test (call_raw_texts enclosed c)) calls ≡ true → all_pass test (finish_raw_texts finish) ≡ true
+  pub printed-passes : (start : StartText) (calls : List CallText) (finish : FinishText)
+      → list_all (λ c. list_all fine (call_quoted_texts c)) calls ≡ true → texts_pass test start calls finish ≡ true
       → Passes test fine (layout finish (clauses start calls))
-  printed-passes enclosed start calls finish quotes first all last =
-      layout-passes (clauses start calls)
-      (clauses-preserved (passes-preserved enclosed) start calls quotes first (first-fields enclosed start first) all) finish last
+  printed-passes start calls finish quotes all =
+      let both = and_parts (all_pass test (start_raw_texts start) && list_all (call_passes test) calls) (all_pass test (finish_raw_texts finish)) all in
+      let first = and_parts (all_pass test (start_raw_texts start)) (list_all (call_passes test) calls) both.0 in
+      layout-passes (clauses start calls) (clauses-preserved passes-preserved start calls quotes first.0 (first-fields start first.0) first.1) finish both.1
+
+-- ---- tests of all texts
+
+-- each raw text passes, where fields are enclosed or not
+abbrev texts_ok : (RawText → Bool) → Bool → StartText → List CallText → FinishText → Bool
+texts_ok ok enclosed start calls finish =
+    list_all ok (start_raw_texts start) && list_all (λ c. list_all ok (call_raw_texts enclosed c)) calls && list_all ok (finish_raw_texts finish)
+
+-- a test that another one implies
+pub weaker-texts : (ok other : RawText → Bool) → ((raw : RawText) → ok raw ≡ true → other raw ≡ true) → (enclosed : Bool) (start : StartText)
+    (calls : List CallText) (finish : FinishText) → texts_ok ok enclosed start calls finish ≡ true → texts_ok other enclosed start calls finish ≡ true
+weaker-texts ok other each enclosed start calls finish all =
+    let weaker = all-weaker ok other each in
+    let both = and_parts (list_all ok (start_raw_texts start) && list_all (λ c. list_all ok (call_raw_texts enclosed c)) calls) _ all in
+    let first = and_parts (list_all ok (start_raw_texts start)) _ both.0 in
+    and_from _ _
+    (and_from _ _ (weaker (start_raw_texts start) first.0)
+    (all-weaker (λ (c : CallText). list_all ok (call_raw_texts enclosed c)) (λ (c : CallText). list_all other (call_raw_texts enclosed c))
+    (λ c. weaker (call_raw_texts enclosed c)) calls first.1))
+    (weaker (finish_raw_texts finish) both.1)
+
+-- whether a field is enclosed makes no difference to a test of texts alone
+module _ (test : List ℕ → Bool) where
+  fields-enclosed : (enclosed : Bool) (fields : List (List ℕ)) → all_pass test (map (field_text enclosed) fields) ≡ all_pass test (map (field_text false) fields)
+  fields-enclosed enclosed [] = refl
+  fields-enclosed true (field ∷ fields) = ap (λ b. test field && b) (fields-enclosed true fields)
+  fields-enclosed false (field ∷ fields) = refl
+
+  call-enclosed : (enclosed : Bool) (c : CallText) → all_pass test (call_raw_texts enclosed c) ≡ call_passes test c
+  call-enclosed enclosed (call.Fields fields) = fields-enclosed enclosed fields
+  call-enclosed enclosed (call.SetFields fields) = fields-enclosed enclosed fields
+  call-enclosed enclosed (call.Field field) = fields-enclosed enclosed (field ∷ [])
+  call-enclosed enclosed (call.SetField field) = fields-enclosed enclosed (field ∷ [])
+  call-enclosed enclosed (call.CountAs field name) = ap (λ b. test field && b) (fields-enclosed enclosed (name ∷ []))
+  call-enclosed enclosed c = refl
+
+  pub calls-enclosed : (enclosed : Bool) (calls : List CallText)
+      → list_all (λ c. all_pass test (call_raw_texts enclosed c)) calls ≡ list_all (call_passes test) calls
+  calls-enclosed enclosed calls = each-same (λ c. all_pass test (call_raw_texts enclosed c)) (call_passes test) (call-enclosed enclosed) calls

@@ -1,6 +1,6 @@
 -- What holds of what each call adds to each clause, for any property of pieces that each step preserves.
 use Rattle.sql_builder.specs.RawTexts.{RawText, Bare, Enclosed}
-use Rattle.std.proofs.Common.{◌≡◌, refl, ℕ, Bool, true, false, ◌&&◌, List, [], ◌∷◌, ◌++◌, Option, None, Some, map, codes, cond, ◌∙◌, flat_map}
+use Rattle.std.proofs.Common.{◌≡◌, refl, ℕ, Bool, true, false, ◌&&◌, List, [], ◌∷◌, ◌++◌, Option, None, Some, map, codes, cond, ◌∙◌, flat_map, sym}
 use Rattle.std.specs.Prelude.{IfSome, filter_map}
 use Rattle.std.specs.List.{AllByRecursion, cons_option, last_or, list_all, list_any}
 use Rattle.std.proofs.lemmas.Bool.{and_parts, and_from}
@@ -16,7 +16,7 @@ use Rattle.sql_builder.specs.Pieces.{Pieces, fixed_piece, quoted_piece, raw_piec
 use Rattle.sql_builder.specs.declared.condition.Family.{Family}
 use Rattle.sql_builder.specs.declared.clauses.JoinOperator.{JoinOperator}
 use Rattle.sql_builder.proofs.fragments.ClauseFacts.{PartsAre}
-use Rattle.sql_builder.proofs.lists.AllFacts.{append-all, cut-all}
+use Rattle.sql_builder.proofs.lists.AllFacts.{append-all, cut-all, tested-all}
 use Rattle.std.proofs.lemmas.List.Folds.{list_all-map}
 use Rattle.sql_builder.proofs.fragments.PropertyLemmas.{PreservedByCalls, are_own, between, one, Each, joined}
 use Rattle.sql_builder.proofs.conditions.ConditionLemmas.{condition-preserved}
@@ -79,10 +79,8 @@ module _ {enclosed : Bool} {ok : RawText → Bool} {fine : List ℕ → Bool} {P
     (preserved : PreservedByCalls enclosed ok fine P Q F U) where
   -- texts one by one
   fields-all : (fields : List (List ℕ)) → list_all ok (map (field_text enclosed) fields) ≡ true → Each F (map raw_piece fields)
-  fields-all [] all = tt
-  fields-all (field ∷ fields) all =
-      let both = and_parts (ok (field_text enclosed field)) (list_all ok (map (field_text enclosed) fields)) all in
-      (preserved.field field both.0, fields-all fields both.1)
+  fields-all fields all = tested-all F raw_piece (λ field. ok (field_text enclosed field)) preserved.field fields
+      (sym (list_all-map ok (field_text enclosed) fields) ∙ all)
 
   one-field : (field : List ℕ) → (ok (field_text enclosed field) && true) ≡ true → F (raw_piece field)
   one-field field all = preserved.field field (and_parts (ok (field_text enclosed field)) true all).0
@@ -249,16 +247,11 @@ module _ {enclosed : Bool} {ok : RawText → Bool} {fine : List ℕ → Bool} {P
 
   group-preserved : (group : Group ConditionText) → list_all one_ok (group.0 ∷ group.1) ≡ true
       → P (group_pieces group)
-  group-preserved group all = joined preserved.joins (codes " OR ") refl (map condition_pieces (group.0 ∷ group.1))
-      (conditions (group.0 ∷ group.1) all)
-    where
-      conditions : (cs : List ConditionText) → list_all one_ok cs ≡ true
-          → Each P (map condition_pieces cs)
-      conditions [] all = tt
-      conditions (c ∷ cs) all =
-          let both = and_parts (one_ok c) (list_all one_ok cs) all in
-          let here = and_parts (list_all ok (condition_raw_texts c)) (list_all fine (condition_quoted_texts c)) both.0 in
-          (condition-preserved preserved c here.1 here.0, conditions cs both.1)
+  group-preserved group all =
+      joined preserved.joins (codes " OR ") refl (map condition_pieces (group.0 ∷ group.1))
+      (tested-all P condition_pieces one_ok
+      (λ c h. let here = and_parts (list_all ok (condition_raw_texts c)) (list_all fine (condition_quoted_texts c)) h in
+      condition-preserved preserved c here.1 here.0) (group.0 ∷ group.1) all)
 
   groups-preserved : (found : List (Group (Family × ConditionText)))
       → list_all (λ (group : Group (Family × ConditionText)). list_all condition_ok (group.0 ∷ group.1)) found ≡ true

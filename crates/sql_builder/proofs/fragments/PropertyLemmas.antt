@@ -22,6 +22,7 @@ use Rattle.sql_builder.proofs.pieces.ShapeLemmas.{words-following, words-inside}
 use Rattle.sql_builder.proofs.reading.ClauseWordLemmas.{own-append}
 use Rattle.sql_builder.proofs.reading.SectionLemmas.{Neutral}
 use Rattle.sql_builder.proofs.tokens.BalancedFacts.{is_even-append, is_even-brackets}
+use Rattle.sql_builder.proofs.lists.AllFacts.{tested-all}
 
 -- words of the builder's own: whole tokens without `;`, brackets that close, and no clause word
 abbrev pub are_own : List ℕ → Bool
@@ -208,19 +209,13 @@ module _ (test fine : List ℕ → Bool) where
   raw-passes text h = and_from _ _ h refl
 
   pub raws-pass : (values : List (List ℕ)) → list_all test values ≡ true → Each Passes (map raw_piece values)
-  raws-pass [] all = tt
-  raws-pass (value ∷ values) all =
-      let both = and_parts (test value) (list_all test values) all in
-      (raw-passes value both.0, raws-pass values both.1)
+  raws-pass values all = tested-all Passes raw_piece test raw-passes values all
 
   pub quoted-passes : (text : List ℕ) → fine text ≡ true → Passes (quoted_piece text)
   quoted-passes text h = and_from _ _ h refl
 
   pub quoteds-pass : (values : List (List ℕ)) → list_all fine values ≡ true → Each Passes (map quoted_piece values)
-  quoteds-pass [] all = tt
-  quoteds-pass (value ∷ values) all =
-      let both = and_parts (fine value) (list_all fine values) all in
-      (quoted-passes value both.0, quoteds-pass values both.1)
+  quoteds-pass values all = tested-all Passes quoted_piece fine quoted-passes values all
 
   -- words, what follows them, and words that end it
   pub within : (words : List ℕ) (x : Pieces) (ending : List ℕ) → Passes x → Passes (fixed_piece words ++ (x ++ fixed_piece ending))

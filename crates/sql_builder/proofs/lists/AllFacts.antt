@@ -1,5 +1,5 @@
 -- What holds of each element of a list.
-use Rattle.std.proofs.Common.{List, [], ◌∷◌, ◌++◌, map, ◌≡◌, refl, Bool, true, false}
+use Rattle.std.proofs.Common.{List, [], ◌∷◌, ◌++◌, map, ◌≡◌, refl, Bool, true, false, ◌&&◌}
 use Rattle.std.specs.List.{AllByRecursion, list_all}
 use Rattle.std.proofs.lemmas.Bool.{and_parts, and_from}
 use Rattle.sql_builder.specs.Filters.{Group, begins, cut, lead_and_groups}
@@ -11,6 +11,19 @@ append-all P (x ∷ one) other all too = (all.0, append-all P one other all.1 to
 pub map-all : {X Y : Type 0} (P : Y → Type 0) (f : X → Y) → ((x : X) → P (f x)) → (xs : List X) → AllByRecursion P (map f xs)
 map-all P f each [] = tt
 map-all P f each (x ∷ xs) = (each x, map-all P f each xs)
+
+-- what is made of those that pass a test
+pub tested-all : {X Y : Type 0} (P : Y → Type 0) (f : X → Y) (test : X → Bool) → ((x : X) → test x ≡ true → P (f x)) → (xs : List X)
+    → list_all test xs ≡ true → AllByRecursion P (map f xs)
+tested-all P f test each [] all = tt
+tested-all P f test each (x ∷ xs) all =
+    let both = and_parts (test x) (list_all test xs) all in
+    (each x both.0, tested-all P f test each xs both.1)
+
+-- tests that agree on each element
+pub each-same : {X : Type 0} (one other : X → Bool) → ((x : X) → one x ≡ other x) → (xs : List X) → list_all one xs ≡ list_all other xs
+each-same one other same [] = refl
+each-same one other same (x ∷ xs) = λ i. same x i && each-same one other same xs i
 
 -- a test that another one implies
 pub all-weaker : {X : Type 0} (ok other : X → Bool) → ((x : X) → ok x ≡ true → other x ≡ true) → (xs : List X) → list_all ok xs ≡ true → list_all other xs

@@ -44,12 +44,13 @@ kind-wheres InsertInto r prints = absurd (false≢true prints)
 kind-wheres UpdateTable r prints = refl
 kind-wheres DeleteFrom r prints = refl
 
-pub sql-bare : (finish : FinishText) (kind : Kind) → prints_where finish kind ≡ true → is_unenclosed finish ≡ true
-sql-bare Sql kind prints = refl
-sql-bare Query kind prints = refl
-sql-bare QueryValues kind prints = refl
-sql-bare Subquery kind prints = absurd (false≢true prints)
-sql-bare (SubqueryAs name) kind prints = absurd (false≢true prints)
+-- a finish that prints a WHERE prints no brackets round it
+pub where_unenclosed : (finish : FinishText) (kind : Kind) → prints_where finish kind ≡ true → is_unenclosed finish ≡ true
+where_unenclosed Sql kind prints = refl
+where_unenclosed Query kind prints = refl
+where_unenclosed QueryValues kind prints = refl
+where_unenclosed Subquery kind prints = prints
+where_unenclosed (SubqueryAs name) kind prints = prints
 
 pub layout-wheres : (finish : FinishText) (r : Clauses Pieces) → NeutralParts r → InsideParts r → prints_where finish r.kind ≡ true
     → clause_bodies (codes "WHERE") (piece_clauses (layout finish r)) ≡ where_bodies r.groups
@@ -69,7 +70,7 @@ module _ (finish : FinishText) (r : Clauses Pieces) (parts : NeutralParts r) (in
   -- its WHERE, parsed back, is that of the groups
   pub text-wheres : prints_where finish r.kind ≡ true → has_fit_fragments (layout finish r) ≡ true → clause_bodies (codes "WHERE") (read (tokens text))
       ≡ where_bodies r.groups
-  text-wheres prints fit = ap (clause_bodies (codes "WHERE")) (text-reads (sql-bare finish r.kind prints) fit)
+  text-wheres prints fit = ap (clause_bodies (codes "WHERE")) (text-reads (where_unenclosed finish r.kind prints) fit)
       ∙ layout-wheres finish r parts inside_parts prints
 
 -- ---- a builder
