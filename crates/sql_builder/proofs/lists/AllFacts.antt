@@ -12,7 +12,13 @@ pub map-all : {X Y : Type 0} (P : Y → Type 0) (f : X → Y) → ((x : X) → P
 map-all P f each [] = tt
 map-all P f each (x ∷ xs) = (each x, map-all P f each xs)
 
--- what is made of those that pass a test
+-- what holds of those that pass a test, and of what is made of them
+pub tested : {X : Type 0} (P : X → Type 0) (test : X → Bool) → ((x : X) → test x ≡ true → P x) → (xs : List X) → list_all test xs ≡ true → AllByRecursion P xs
+tested P test each [] all = tt
+tested P test each (x ∷ xs) all =
+    let both = and_parts (test x) (list_all test xs) all in
+    (each x both.0, tested P test each xs both.1)
+
 pub tested-all : {X Y : Type 0} (P : Y → Type 0) (f : X → Y) (test : X → Bool) → ((x : X) → test x ≡ true → P (f x)) → (xs : List X)
     → list_all test xs ≡ true → AllByRecursion P (map f xs)
 tested-all P f test each [] all = tt

@@ -2,13 +2,13 @@
 use Rattle.std.proofs.Common.{◌≡◌, refl, sym, ◌∙◌, ℕ, ap, zero, suc, Bool, true, false, not, ◌||◌, List, [], ◌∷◌, ◌++◌, pos, ℤ}
 use Rattle.std.proofs.Math.IntN.{suc_ℤ}
 use Rattle.std.proofs.lemmas.Bool.{and_parts, and_from, or_from, false≢true, not-true, not_from_false}
-use Rattle.std.proofs.lemmas.List.Folds.{list_all-append}
+use Rattle.std.proofs.lemmas.List.Folds.{list_all-append, list_any-append}
 use Rattle.std.specs.List.{list_any, list_all}
 use Rattle.sql_parts.specs.Tokens.{Token, is_empty, tokens, closed, is_open, is_semicolon}
 use Rattle.sql_builder.specs.WhereTokens.{group_tokens, in_brackets, joined}
 use Rattle.sql_builder.proofs.tokens.WhereTokenFacts.{is_condition, is_group, has_clause, or_word, right_bracket}
 use Rattle.sql_builder.proofs.tokens.DepthFacts.{closes_from-append, at_end-closes, after-suc}
-use Rattle.sql_builder.proofs.tokens.PartFacts.{none-append, any-append}
+use Rattle.sql_builder.proofs.tokens.PartFacts.{none-append}
 use Rattle.sql_builder.proofs.truth.ConnectiveLemmas.{none-brackets, placed-then}
 use Rattle.sql_parts.proofs.fragments.DepthFacts.{after, closes_from, has_top_level, is_at_least_0, is_balanced, is_even, is_operand, placed, placed_from}
 use Rattle.sql_parts.proofs.fragments.DepthFacts.{is_balanced-is}
@@ -82,7 +82,7 @@ even_closes ts h = (and_parts (list_all is_whole ts) (closes_from (pos 0) ts) h)
 pub has_top_level-append : (test : Token → Bool) (a b : List Token) → is_even a ≡ true
     → has_top_level test (a ++ b) ≡ (has_top_level test a || has_top_level test b)
 has_top_level-append test a b h = ap (list_any (at_top_level test)) (placed-then a b (at_end-closes (pos 0) a (even_closes a h)))
-    ∙ any-append test (placed a) (placed b)
+    ∙ list_any-append (at_top_level test) (placed a) (placed b)
 
 -- a condition, and more that is no clause
 pub is_condition-append : (a b : List Token) → is_condition a ≡ true → is_even b ≡ true → has_clause b ≡ false → is_condition (a ++ b) ≡ true

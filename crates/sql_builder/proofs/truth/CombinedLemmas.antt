@@ -43,6 +43,8 @@ use Rattle.sql_builder.proofs.pieces.LayoutMapLemmas.{joined_in_form}
 use Rattle.std.proofs.lemmas.List.{map-append}
 use Rattle.sql_builder.proofs.fragments.NeutralLemmas.{condition-inside}
 use Rattle.sql_builder.proofs.fragments.PropertyLemmas.{Passes, are_between, between, inside-joins, passes-joins, whatever, within}
+use Rattle.sql_builder.proofs.lists.AllFacts.{all-weaker, map-all, tested-all}
+use Rattle.std.proofs.lemmas.List.Folds.{list_all-map}
 
 -- a text is a fragment where its tokens are a condition
 fragment-is : (text : List ℕ) → is_fragment text ≡ is_condition (tokens text)
@@ -138,14 +140,11 @@ joined-text words texts =
 
 bracketed-inside : (texts : List (List ℕ)) → AllByRecursion Inside (map bracketed texts)
 unfolding bracketed
-bracketed-inside [] = tt
-bracketed-inside (t ∷ texts) = (brackets-inside (raw_piece t) (raw-inside t), bracketed-inside texts)
+bracketed-inside texts = map-all Inside bracketed (λ t. brackets-inside (raw_piece t) (raw-inside t)) texts
 
 bracketed-closed : (texts : List (List ℕ)) → list_all is_fragment texts ≡ true → AllByRecursion (Passes closed whatever) (map bracketed texts)
 unfolding bracketed
-bracketed-closed [] all = tt
-bracketed-closed (t ∷ texts) all =
-    let both = and_parts (is_fragment t) (list_all is_fragment texts) all in (fragment_closed t both.0, bracketed-closed texts both.1)
+bracketed-closed texts all = tested-all (Passes closed whatever) bracketed is_fragment fragment_closed texts all
 
 joined-closed : (words : List ℕ) → are_between words ≡ true → (texts : List (List ℕ)) → list_all is_fragment texts ≡ true
     → has_closed_fragments (joined-pieces words texts) ≡ true
@@ -168,10 +167,9 @@ brackets-condition ts is =
     and_from _ _ (is_balanced-brackets ts even) (not_from_false _ (no_clause-brackets ts even))
 
 each-condition : (texts : List (List ℕ)) → list_all is_fragment texts ≡ true → list_all is_condition (in_each texts) ≡ true
-each-condition [] all = refl
-each-condition (t ∷ texts) all =
-    let both = and_parts (is_fragment t) (list_all is_fragment texts) all in
-    and_from _ _ (brackets-condition (tokens t) (condition-of t both.0)) (each-condition texts both.1)
+each-condition texts all =
+    list_all-map is_condition (λ text. in_brackets (tokens text)) texts
+    ∙ all-weaker is_fragment (λ text. is_condition (in_brackets (tokens text))) (λ t is. brackets-condition (tokens t) (condition-of t is)) texts all
 
 -- a word that joins conditions
 record Joins (words : List ℕ) (w : Token) : Type 0 where
@@ -248,9 +246,8 @@ groups-are [] = refl
 groups-are (t ∷ texts) = ap (λ more. in_brackets (tokens t) ∷ more) (groups-are texts)
 
 groups-fit : (texts : List (List ℕ)) → list_all is_fragment texts ≡ true → list_all is_group (map alone texts) ≡ true
-groups-fit [] all = refl
-groups-fit (t ∷ texts) all =
-    let both = and_parts (is_fragment t) (list_all is_fragment texts) all in and_from _ _ (and_from _ _ (condition-of t both.0) refl) (groups-fit texts both.1)
+groups-fit texts all =
+    list_all-map is_group alone texts ∙ all-weaker is_fragment (λ text. is_group (alone text)) (λ t is. and_from _ _ (condition-of t is) refl) texts all
 
 truths-alone : (facts : Valuation) (texts : List (List ℕ)) → map (λ group. or_all (map (truth facts) group)) (map alone texts)
     ≡ map (λ text. truth facts (tokens text)) texts
