@@ -28,7 +28,7 @@ use Rattle.sql_builder.proofs.pieces.ShapeLemmas.{Shaped}
 use Rattle.sql_builder.proofs.pieces.LayoutMapLemmas.{layout_in_form}
 use Rattle.sql_builder.proofs.statements.StatementLawLemmas.{builders_print_statements}
 use Rattle.std.proofs.lemmas.Bool.{and_from, and_parts}
-use Rattle.std.proofs.lemmas.List.Folds.{list_all-append}
+use Rattle.std.proofs.lemmas.List.Folds.{list_all-append, list_all-map}
 use Rattle.sql_builder.specs.Calls as call
 use Rattle.sql_builder.specs.Condition as condition
 use Rattle.sql_builder.specs.Condition.{mask_text}
@@ -39,6 +39,7 @@ use Rattle.sql_builder.proofs.fragments.FitLemmas.{unless}
 use Rattle.sql_builder.proofs.fragments.NeutralLemmas.{all-any, calls-any}
 use Rattle.sql_builder.proofs.fragments.PassLemmas.{printed-passes}
 use Rattle.sql_builder.proofs.fragments.PropertyLemmas.{piece_passes, whatever}
+use Rattle.sql_builder.proofs.lists.AllFacts.{all-weaker}
 
 -- ---- parts of pieces
 
@@ -172,10 +173,10 @@ blank-plain plain (call.Cond family (condition.InQuoted negated field values)) a
 blank-plain plain _ all = refl
 
 blanks-plain : (plain : ℕ → Bool) (calls : List CallText) → quotes_plain_texts plain calls ≡ true → quotes_plain_texts plain (map blank_call calls) ≡ true
-blanks-plain plain [] all = refl
-blanks-plain plain (c ∷ calls) all =
-    let both = and_parts (list_all (list_all plain) (call_quoted_texts c)) (quotes_plain_texts plain calls) all in
-    and_from _ _ (blank-plain plain c both.0) (blanks-plain plain calls both.1)
+blanks-plain plain calls all =
+    list_all-map (λ c. list_all (list_all plain) (call_quoted_texts c)) blank_call calls
+    ∙ all-weaker (λ c. list_all (list_all plain) (call_quoted_texts c)) (λ c. list_all (list_all plain) (call_quoted_texts (blank_call c))) (blank-plain plain)
+    calls all
 
 blank_call-twice : (c : CallText) → blank_call (blank_call c) ≡ blank_call c
 blank_call-twice (call.Cond family (condition.InQuoted negated field values)) =

@@ -1,7 +1,7 @@
 -- What holds of each element of a list.
 use Rattle.std.proofs.Common.{List, [], ◌∷◌, ◌++◌, map, ◌≡◌, refl, Bool, true, false, ◌&&◌}
-use Rattle.std.specs.List.{AllByRecursion, list_all}
-use Rattle.std.proofs.lemmas.Bool.{and_parts, and_from}
+use Rattle.std.specs.List.{AllByRecursion, list_all, list_any}
+use Rattle.std.proofs.lemmas.Bool.{and_parts, and_from, or_from, or_parts}
 use Rattle.sql_builder.specs.Filters.{Group, begins, cut, lead_and_groups}
 
 pub append-all : {X : Type 0} (P : X → Type 0) (one other : List X) → AllByRecursion P one → AllByRecursion P other → AllByRecursion P (one ++ other)
@@ -38,6 +38,14 @@ all-weaker ok other each [] all = refl
 all-weaker ok other each (x ∷ xs) all =
     let both = and_parts (ok x) (list_all ok xs) all in
     and_from _ _ (each x both.0) (all-weaker ok other each xs both.1)
+
+-- a test that is passed where another one is
+pub none-weaker : {X : Type 0} (test wider : X → Bool) → ((x : X) → wider x ≡ false → test x ≡ false) → (xs : List X) → list_any wider xs ≡ false
+    → list_any test xs ≡ false
+none-weaker test wider each [] none = refl
+none-weaker test wider each (x ∷ xs) none =
+    let both = or_parts (wider x) (list_any wider xs) none in
+    or_from _ _ (each x both.0) (none-weaker test wider each xs both.1)
 
 -- what holds of all elements holds of those of each group that they are cut into
 module _ {X : Type 0} (ok opens : X → Bool) where

@@ -17,9 +17,8 @@ use Rattle.sql_builder.specs.StatementLaws.{BuildersFollowCalls, BuildersPrintSt
 use Rattle.sql_builder.specs.StatementLaws.{StatementsNest, made_by}
 use Rattle.sql_builder.specs.Pieces.{Pieces, pieces_text}
 use Rattle.sql_builder.specs.Truths.{truth}
-use Rattle.sql_builder.proofs.fragments.NeutralLemmas.{clauses-neutral}
+use Rattle.sql_builder.proofs.fragments.NeutralLemmas.{clauses-neutral, clauses-inside}
 use Rattle.sql_builder.proofs.pieces.ClauseShapeLemmas.{printed-shaped}
-use Rattle.sql_builder.proofs.fragments.NeutralLemmas.{clauses-inside}
 use Rattle.sql_builder.proofs.reading.NestingLemmas.{nests}
 use Rattle.sql_builder.proofs.reading.ReadBackLemmas.{layout, layout-reads, text-wheres}
 use Rattle.sql_builder.proofs.statements.RunLemmas.{clauses-push, text_of_layout}

@@ -11,6 +11,7 @@ use Rattle.sql_builder.proofs.tokens.WhereTokenFacts.{semicolon}
 use Rattle.sql_builder.specs.Reading.{is_union, without_semicolon}
 use Rattle.std.proofs.lemmas.List.{append-nil, map-append}
 use Rattle.std.proofs.lemmas.List.Folds.{list_any-append}
+use Rattle.sql_builder.proofs.lists.AllFacts.{none-weaker}
 
 pub none-append : (test : Token → Bool) (a b : List Placed) → list_any (at_top_level test) a ≡ false → list_any (at_top_level test) b ≡ false
     → list_any (at_top_level test) (a ++ b) ≡ false
@@ -102,11 +103,11 @@ without_owned-append owned (TopLevel t ∷ a) b = ap (λ ms. cond (owned && is_a
 -- a test that implies another
 pub none_narrower : (test wider : Token → Bool) → ((t : Token) → wider t ≡ false → test t ≡ false) → (a : List Placed) → list_any (at_top_level wider) a ≡ false
     → list_any (at_top_level test) a ≡ false
-none_narrower test wider narrow [] h = refl
-none_narrower test wider narrow (Nested t ∷ a) h = none_narrower test wider narrow a h
-none_narrower test wider narrow (TopLevel t ∷ a) h =
-    let both = or_parts (wider t) (list_any (at_top_level wider) a) h in
-    or_from _ _ (narrow t both.0) (none_narrower test wider narrow a both.1)
+none_narrower test wider narrow a h = none-weaker (at_top_level test) (at_top_level wider) by a h
+  where
+    by : (m : Placed) → at_top_level wider m ≡ false → at_top_level test m ≡ false
+    by (TopLevel t) none = narrow t none
+    by (Nested t) none = refl
 
 -- ---- the last token
 
