@@ -11,7 +11,7 @@ use Rattle.sql_builder.specs.Calls.{unions_in, call_raw_texts, field_text, start
 use Rattle.sql_builder.specs.Condition.{ConditionText, condition_pieces, condition_raw_texts}
 use Rattle.sql_builder.specs.Interference.{call_quoted_texts, condition_quoted_texts}
 use Rattle.sql_builder.specs.Filters.{Group, cut, in_place, last_given, since, until}
-use Rattle.sql_builder.specs.Phrases.{equation, join_words, order, count, count_as}
+use Rattle.sql_builder.specs.Phrases.{equation, join_words, order}
 use Rattle.sql_builder.specs.Pieces.{Pieces, fixed_piece, quoted_piece, raw_piece}
 use Rattle.sql_builder.specs.declared.condition.Family.{Family}
 use Rattle.sql_builder.specs.declared.clauses.JoinOperator.{JoinOperator}
