@@ -34,7 +34,7 @@ use Rattle.sql_builder.proofs.pieces.LayoutShapeLemmas.{inside-layout}
 abbrev clauses_of : List (Section Piece) → List Clause
 clauses_of sections = flat_map (λ s. clauses_in (section_pieces s)) sections
 
--- sections that are so opened, and the bodies of those of WHERE
+-- sections that clause words of their own open, and the bodies of those of WHERE
 pub record Laid (P : Pieces → Type 0) (sections : List (Section Piece)) (bodies : List (List Token)) : Type 0 where
   pub opens : AllOpen P sections
   pub wheres : clause_bodies (codes "WHERE") (clauses_of sections) ≡ bodies

@@ -1,7 +1,7 @@
 -- The parts of a form are shorter than the whole, so that more steps change no truth.
 use Prim.Native.Char.{code}
-use Rattle.std.proofs.Common.{not, ◌&&◌, ◌≡◌, refl, sym, ◌∙◌, ap, subst, ℕ, zero, suc, ◌+◌, ◌<◌, ◌≤◌, Bool, true, false, cond, List, [], ◌∷◌, map, length}
-use Rattle.std.proofs.Common.{drop, ◌⊎◌, inl, inr, arith, pos, ℤ}
+use Rattle.std.proofs.Common.{not, ◌&&◌, ◌≡◌, refl, sym, ◌∙◌, ap, subst, ℕ, zero, suc, ◌+◌, ◌<◌, ◌≤◌, Bool, true, false, cond, List, [], ◌∷◌, map, length, drop}
+use Rattle.std.proofs.Common.{◌⊎◌, inl, inr, arith, pos, ℤ}
 use Rattle.std.proofs.lemmas.Bool.{or_cases, false≢true}
 use Rattle.std.specs.List.{list_any, AllByRecursion}
 use Rattle.sql_parts.specs.Tokens.{Token, begins_with, ends_with}
