@@ -22,7 +22,7 @@ use Rattle.sql_builder.specs.Statement.{error_at, statement, text_at, unless_err
 use Rattle.sql_builder.specs.StatementLaws.{made_by}
 use Rattle.sql_builder.specs.StatementReaders.{parts_at}
 use Rattle.sql_builder.proofs.for_callers.ChainLemmas.{made_statement}
-use Rattle.sql_builder.proofs.fragments.FitLemmas.{balanced_fragments, fit_conditions, fit_fragments}
+use Rattle.sql_builder.proofs.fragments.FitLemmas.{balanced_fragments, fit_conditions, fit_fragments, fit_texts_balanced}
 use Rattle.sql_builder.proofs.fragments.TextTestLemmas.{fit_texts_are_closed}
 use Rattle.sql_builder.proofs.interference.OutlineLemmas.{fragments-apart}
 use Rattle.sql_builder.proofs.interference.StatementReaderLemmas.{fragments-alike}
@@ -31,7 +31,8 @@ use Rattle.sql_builder.proofs.statements.StatementLawLemmas.{builders_print_stat
 use Rattle.sql_builder.proofs.statements.StatementLawLemmas.{statements_nest, statements_read_back}
 use Rattle.sql_typed.specs.Fits.{IsFitBy, Made}
 use Rattle.sql_typed.specs.Printed.{FailsAs, FailsWith, IsPrinted, PrintsBehind}
-use Rattle.sql_builder.proofs.fragments.FitListLemmas.{ends_in_one, where_unenclosed}
+use Rattle.sql_builder.proofs.fragments.UnfitLemmas.{ends_in_semicolon}
+use Rattle.sql_builder.proofs.reading.ReadBackLemmas.{where_unenclosed}
 use Rattle.sql_typed.proofs.FitLemmas.{texts_fit}
 
 -- clauses that are borrowed are those of the statement
@@ -61,8 +62,8 @@ module _ (made : Made) (finish : FinishText) (r : ClauseTexts) (fit : IsFitBy ma
     has_tokens = held (λ t. shape made.start made.calls finish ≡ Ok (tokens t)) is (statements_keep_tokens made.start made.calls finish (fit_texts_are_closed made.start made.calls finish texts));
     is_closed = held (λ t. IsTrue (closed t)) is (statements_are_closed made.start made.calls finish (fit_texts_are_closed made.start made.calls finish texts));
     ends_in_one = λ last.
-        held (λ t. EndsInOneSemicolon (tokens t)) (ap (statement made.start made.calls) (sym last) ∙ is)
-        (ends_in_one made.start made.calls (ap (has_fit_texts made.start made.calls) (sym last) ∙ texts) fit.start_fits fit.calls_fit);
+        held (λ t. EndsInOneSemicolon (tokens t)) is
+        (ends_in_semicolon made.start made.calls finish last (fit_texts_balanced made.start made.calls finish texts));
     reads_back = λ bare.
         held (λ t. clause_list made.start made.calls finish ≡ Ok (read (tokens t))) is
         (statements_read_back made.start made.calls finish bare (fit_fragments made.start made.calls finish bare texts));

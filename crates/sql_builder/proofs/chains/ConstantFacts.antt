@@ -29,98 +29,47 @@ family-and = variant family.the_type family_laws.the_laws family_case.And 0 tt t
 abbrev pub family-or : Variant family.the_type
 family-or = variant family.the_type family_laws.the_laws family_case.Or 1 tt tt tt refl
 
+abbrev of_relation : Variant relation.the_type → Choice
+of_relation chosen = record { type = relation.the_type; plain = relation_laws.the_plain; variant = chosen }
+
 abbrev pub relation-eq : Choice
-relation-eq = record {
-  type = relation.the_type;
-  plain = relation_laws.the_plain;
-  variant =
-      variant relation.the_type relation_laws.the_laws relation_case.Eq 0 tt tt tt refl;
-}
+relation-eq = of_relation (variant relation.the_type relation_laws.the_laws relation_case.Eq 0 tt tt tt refl)
 
 abbrev pub relation-ne : Choice
-relation-ne = record {
-  type = relation.the_type;
-  plain = relation_laws.the_plain;
-  variant =
-      variant relation.the_type relation_laws.the_laws relation_case.Ne 1 tt tt tt refl;
-}
+relation-ne = of_relation (variant relation.the_type relation_laws.the_laws relation_case.Ne 1 tt tt tt refl)
 
 abbrev pub relation-gt : Choice
-relation-gt = record {
-  type = relation.the_type;
-  plain = relation_laws.the_plain;
-  variant =
-      variant relation.the_type relation_laws.the_laws relation_case.Gt 2 tt tt tt refl;
-}
+relation-gt = of_relation (variant relation.the_type relation_laws.the_laws relation_case.Gt 2 tt tt tt refl)
 
 abbrev pub relation-ge : Choice
-relation-ge = record {
-  type = relation.the_type;
-  plain = relation_laws.the_plain;
-  variant =
-      variant relation.the_type relation_laws.the_laws relation_case.Ge 3 tt tt tt refl;
-}
+relation-ge = of_relation (variant relation.the_type relation_laws.the_laws relation_case.Ge 3 tt tt tt refl)
 
 abbrev pub relation-lt : Choice
-relation-lt = record {
-  type = relation.the_type;
-  plain = relation_laws.the_plain;
-  variant =
-      variant relation.the_type relation_laws.the_laws relation_case.Lt 4 tt tt tt refl;
-}
+relation-lt = of_relation (variant relation.the_type relation_laws.the_laws relation_case.Lt 4 tt tt tt refl)
 
 abbrev pub relation-le : Choice
-relation-le = record {
-  type = relation.the_type;
-  plain = relation_laws.the_plain;
-  variant =
-      variant relation.the_type relation_laws.the_laws relation_case.Le 5 tt tt tt refl;
-}
+relation-le = of_relation (variant relation.the_type relation_laws.the_laws relation_case.Le 5 tt tt tt refl)
+
+abbrev of_percent : Variant percent.the_type → Choice
+of_percent chosen = record { type = percent.the_type; plain = percent_laws.the_plain; variant = chosen }
 
 abbrev pub percent-plain : Choice
-percent-plain = record {
-  type = percent.the_type;
-  plain = percent_laws.the_plain;
-  variant =
-      variant percent.the_type percent_laws.the_laws percent_case.Plain 0 tt tt tt refl;
-}
+percent-plain = of_percent (variant percent.the_type percent_laws.the_laws percent_case.Plain 0 tt tt tt refl)
 
 abbrev pub percent-right : Choice
-percent-right = record {
-  type = percent.the_type;
-  plain = percent_laws.the_plain;
-  variant =
-      variant percent.the_type percent_laws.the_laws percent_case.Right 1 tt tt tt refl;
-}
+percent-right = of_percent (variant percent.the_type percent_laws.the_laws percent_case.Right 1 tt tt tt refl)
 
 abbrev pub percent-left : Choice
-percent-left = record {
-  type = percent.the_type;
-  plain = percent_laws.the_plain;
-  variant =
-      variant percent.the_type percent_laws.the_laws percent_case.Left 2 tt tt tt refl;
-}
+percent-left = of_percent (variant percent.the_type percent_laws.the_laws percent_case.Left 2 tt tt tt refl)
 
 abbrev pub percent-any : Choice
-percent-any = record {
-  type = percent.the_type;
-  plain = percent_laws.the_plain;
-  variant =
-      variant percent.the_type percent_laws.the_laws percent_case.Any 3 tt tt tt refl;
-}
+percent-any = of_percent (variant percent.the_type percent_laws.the_laws percent_case.Any 3 tt tt tt refl)
+
+abbrev of_sense : Variant sense.the_type → Choice
+of_sense chosen = record { type = sense.the_type; plain = sense_laws.the_plain; variant = chosen }
 
 abbrev pub sense-plain : Choice
-sense-plain = record {
-  type = sense.the_type;
-  plain = sense_laws.the_plain;
-  variant =
-      variant sense.the_type sense_laws.the_laws sense_case.Plain 0 tt tt tt refl;
-}
+sense-plain = of_sense (variant sense.the_type sense_laws.the_laws sense_case.Plain 0 tt tt tt refl)
 
 abbrev pub sense-negated : Choice
-sense-negated = record {
-  type = sense.the_type;
-  plain = sense_laws.the_plain;
-  variant =
-      variant sense.the_type sense_laws.the_laws sense_case.Negated 1 tt tt tt refl;
-}
+sense-negated = of_sense (variant sense.the_type sense_laws.the_laws sense_case.Negated 1 tt tt tt refl)

@@ -1,5 +1,4 @@
--- What a condition is: what it prints, that it keeps its tokens, what holds of it as of its texts, and that it is an atom where
--- they are operands.
+-- What a condition is: what it prints, what holds of it as of its texts, and that it is an atom where they are operands.
 use Rattle.std.proofs.Common.{◌≡◌, refl, ap, subst, sym, ◌∙◌, ℕ, Bool, true, false, ◌&&◌, List, [], ◌∷◌, ◌++◌, map, codes}
 use Rattle.std.specs.List.{list_all}
 use Rattle.std.proofs.lemmas.Bool.{and_from, and_parts, false≢true}
@@ -8,7 +7,6 @@ use Rattle.sql_parts.specs.Fragments.{balanced, is_joining, operand}
 use Rattle.sql_parts.specs.Quoting.{quoted}
 use Rattle.sql_parts.specs.Tokens.{Symbol, tokens}
 use Rattle.sql_parts.proofs.fragments.DepthFacts.{has_top_level, is_even, is_operand, is_operand-is}
-use Rattle.sql_parts.proofs.tokens.JoinFacts.{Edged}
 use Rattle.sql_builder.specs.Condition.{ConditionText, Raw, Compare, Like, IsNull, IsNotNull, InList, InQuoted, InQuery, Between, condition_bytes}
 use Rattle.sql_builder.specs.Condition.{condition_raw_texts, condition_pieces, has_operands, mask_text, not_text, relation_text}
 use Rattle.sql_builder.specs.RawFragments.{has_balanced_fragments}
@@ -23,13 +21,11 @@ use Rattle.sql_builder.specs.Truths.{IsAtom}
 use Rattle.sql_builder.specs.declared.condition.Relation.{Relation}
 use Rattle.sql_builder.specs.declared.condition.Relation.TheVariants.{Eq, Ne, Gt, Ge, Lt, Le}
 use Rattle.sql_builder.specs.Interference.{condition_quoted_texts}
-use Rattle.sql_builder.proofs.fragments.PropertyLemmas.{all-whatever, whatever}
-use Rattle.sql_builder.proofs.fragments.PropertyLemmas.{Each, Passes, PreservedByCalls, between, listed, neutral-list, neutral-quoted, neutral-raw, one}
-use Rattle.sql_builder.proofs.fragments.PropertyLemmas.{passes-joins, quoteds-pass, raws-pass, within}
+use Rattle.sql_builder.proofs.fragments.PropertyLemmas.{all-whatever, whatever, Each, Passes, PreservedByCalls, are_between, between, listed, neutral-list}
+use Rattle.sql_builder.proofs.fragments.PropertyLemmas.{neutral-quoted, neutral-raw, one, passes-joins, quoteds-pass, raws-pass, within}
 use Rattle.sql_builder.proofs.lists.AllFacts.{map-all}
 use Rattle.sql_builder.proofs.pieces.LayoutMapLemmas.{joined_in_form}
-use Rattle.sql_builder.proofs.pieces.ShapeLemmas.{AllInside, Inside, closing-last, items-inside, pieces_tokens-brackets, quoted-inside, raw-all, raw-inside}
-use Rattle.sql_builder.proofs.pieces.ShapeLemmas.{text-append, texts_of_raw, words-following, words-between, words-last}
+use Rattle.sql_builder.proofs.pieces.ShapeLemmas.{pieces_tokens-brackets, text-append, texts_of_raw}
 use Rattle.sql_builder.proofs.reading.ClauseWordLemmas.{shape-even}
 use Rattle.sql_builder.proofs.reading.SectionLemmas.{Neutral}
 use Rattle.sql_builder.proofs.tokens.WhereTokenFacts.{and_word, between_word, in_word, not_word}
@@ -69,90 +65,41 @@ condition_printed (InQuoted negated field values) =
     ∙ ap (λ (vs : List (List ℕ)). field ++ (words ++ (comma_list byte_units vs ++ codes ")"))) (texts_of_quoted values)
 condition_printed c = simp append-nil
 
--- ---- tokens
-
-not-edged : (negated : Bool) (words : List ℕ) → Edged words → Edged (codes " NOT" ++ words) → Edged (not_text negated ++ words)
-not-edged true words bare with_not = with_not
-not-edged false words bare with_not = bare
-
-relation-edged : (relation : Relation) → Edged (relation_text relation)
-relation-edged Eq = record { is_closed = refl; plain = refl; begins = refl; ends = refl }
-relation-edged Ne = record { is_closed = refl; plain = refl; begins = refl; ends = refl }
-relation-edged Gt = record { is_closed = refl; plain = refl; begins = refl; ends = refl }
-relation-edged Ge = record { is_closed = refl; plain = refl; begins = refl; ends = refl }
-relation-edged Lt = record { is_closed = refl; plain = refl; begins = refl; ends = refl }
-relation-edged Le = record { is_closed = refl; plain = refl; begins = refl; ends = refl }
-
-in-edged : (negated : Bool) → Edged (not_text negated ++ codes " IN (")
-in-edged negated = not-edged negated (codes " IN (") (record { is_closed = refl; plain = refl; begins = refl; ends = refl })
-    (record { is_closed = refl; plain = refl; begins = refl; ends = refl })
-
-list-inside : (negated : Bool) (field : List ℕ) (items : List Pieces) → AllInside items
-    → Inside (raw_piece field ++ (fixed_piece (not_text negated ++ codes " IN (") ++ (comma_list fixed_piece items ++ fixed_piece (codes ")"))))
-list-inside negated field items all =
-    words-between (not_text negated ++ codes " IN (") (raw_piece field) (comma_list fixed_piece items ++ fixed_piece (codes ")")) (in-edged negated)
-    (raw-inside field)
-    (closing-last (comma_list fixed_piece items) (items-inside items all))
-
-pub condition-inside : (condition : ConditionText) → Inside (condition_pieces condition)
-condition-inside (Raw condition) = raw-inside condition
-condition-inside (Compare relation field value) =
-    words-between (relation_text relation) (raw_piece field) (raw_piece value) (relation-edged relation) (raw-inside field) (raw-inside value)
-condition-inside (Like negated percent field mask) =
-    words-between (not_text negated ++ codes " LIKE ") (raw_piece field) (quoted_piece (mask_text percent mask))
-    (not-edged negated (codes " LIKE ") (record { is_closed = refl; plain = refl; begins = refl; ends = refl })
-    (record { is_closed = refl; plain = refl; begins = refl; ends = refl })) (raw-inside field) (quoted-inside (mask_text percent mask))
-condition-inside (IsNull field) = words-last (codes " IS NULL") (raw_piece field) (record { is_closed = refl; plain = refl })
-    (words-following (codes " IS NULL") [] refl) (raw-inside field)
-condition-inside (IsNotNull field) = words-last (codes " IS NOT NULL") (raw_piece field) (record { is_closed = refl; plain = refl })
-    (words-following (codes " IS NOT NULL") [] refl) (raw-inside field)
-condition-inside (InList negated field values) = list-inside negated field (map raw_piece values) (raw-all values)
-condition-inside (InQuoted negated field values) = list-inside negated field (map quoted_piece values) (map-all Inside quoted_piece quoted-inside values)
-condition-inside (InQuery negated field query) =
-    words-between (not_text negated ++ codes " IN (") (raw_piece field) (raw_piece query ++ fixed_piece (codes ")")) (in-edged negated) (raw-inside field)
-    (closing-last (raw_piece query) (raw-inside query))
-condition-inside (Between negated field least greatest) =
-    words-between (not_text negated ++ codes " BETWEEN ") (raw_piece field) (raw_piece least ++ (fixed_piece (codes " AND ") ++ raw_piece greatest))
-    (not-edged negated (codes " BETWEEN ") (record { is_closed = refl; plain = refl; begins = refl; ends = refl })
-    (record { is_closed = refl; plain = refl; begins = refl; ends = refl })) (raw-inside field)
-    (words-between (codes " AND ") (raw_piece least) (raw_piece greatest) (record { is_closed = refl; plain = refl; begins = refl; ends = refl })
-    (raw-inside least) (raw-inside greatest))
-
 -- ---- what holds of conditions as of their texts
 
-relation-neutral : (relation : Relation) → Neutral (fixed_piece (relation_text relation))
-relation-neutral Eq = record { even = refl; no_word = refl }
-relation-neutral Ne = record { even = refl; no_word = refl }
-relation-neutral Gt = record { even = refl; no_word = refl }
-relation-neutral Ge = record { even = refl; no_word = refl }
-relation-neutral Lt = record { even = refl; no_word = refl }
-relation-neutral Le = record { even = refl; no_word = refl }
+relation-between : (relation : Relation) → are_between (relation_text relation) ≡ true
+relation-between Eq = refl
+relation-between Ne = refl
+relation-between Gt = refl
+relation-between Ge = refl
+relation-between Lt = refl
+relation-between Le = refl
 
-like-neutral : (negated : Bool) → Neutral (fixed_piece (not_text negated ++ codes " LIKE "))
-like-neutral true = record { even = refl; no_word = refl }
-like-neutral false = record { even = refl; no_word = refl }
+pub like-between : (negated : Bool) → are_between (not_text negated ++ codes " LIKE ") ≡ true
+like-between true = refl
+like-between false = refl
 
-between-neutral : (negated : Bool) → Neutral (fixed_piece (not_text negated ++ codes " BETWEEN "))
-between-neutral true = record { even = refl; no_word = refl }
-between-neutral false = record { even = refl; no_word = refl }
+between-between : (negated : Bool) → are_between (not_text negated ++ codes " BETWEEN ") ≡ true
+between-between true = refl
+between-between false = refl
 
-module _ (enclosed : Bool) (ok : RawText → Bool) (fine : List ℕ → Bool) (P F U : Pieces → Type 0)
-    (preserved : PreservedByCalls enclosed ok fine P F U) where
+module _ {enclosed : Bool} {ok : RawText → Bool} {fine : List ℕ → Bool} {P Q F U : Pieces → Type 0}
+    (preserved : PreservedByCalls enclosed ok fine P Q F U) where
   pub condition-preserved : (condition : ConditionText) → list_all fine (condition_quoted_texts condition) ≡ true
       → list_all ok (condition_raw_texts condition) ≡ true → P (condition_pieces condition)
   condition-preserved (Raw condition) quotes all = one preserved condition all
   condition-preserved (Compare relation field value) quotes all =
       let both = and_parts (ok (Bare field)) (ok (Bare value) && true) all in
-      between preserved (relation_text relation) (raw_piece field) (raw_piece value) (relation-neutral relation) (preserved.bare field both.0)
+      between preserved.joins (relation_text relation) (raw_piece field) (raw_piece value) (relation-between relation) (preserved.bare field both.0)
       (one preserved value both.1)
   condition-preserved (Like negated percent field mask) quotes all =
-      between preserved (not_text negated ++ codes " LIKE ") (raw_piece field) (quoted_piece (mask_text percent mask)) (like-neutral negated)
+      between preserved.joins (not_text negated ++ codes " LIKE ") (raw_piece field) (quoted_piece (mask_text percent mask)) (like-between negated)
       (one preserved field all) (preserved.quoted (mask_text percent mask) (and_parts (fine (mask_text percent mask)) true quotes).0)
   condition-preserved (IsNull field) quotes all = preserved.joins.append (raw_piece field) (fixed_piece (codes " IS NULL")) (one preserved field all)
-      (preserved.joins.words (codes " IS NULL") (record { even = refl; no_word = refl }))
+      (preserved.joins.ending (codes " IS NULL") refl refl)
   condition-preserved (IsNotNull field) quotes all =
       preserved.joins.append (raw_piece field) (fixed_piece (codes " IS NOT NULL")) (one preserved field all)
-      (preserved.joins.words (codes " IS NOT NULL") (record { even = refl; no_word = refl }))
+      (preserved.joins.ending (codes " IS NOT NULL") refl refl)
   condition-preserved (InList negated field values) quotes all =
       let both = and_parts (ok (Bare field)) (list_all ok (map Enclosed values)) all in
       preserved.joins.append (raw_piece field) _ (preserved.bare field both.0) (preserved.in_list negated values both.1)
@@ -165,9 +112,9 @@ module _ (enclosed : Bool) (ok : RawText → Bool) (fine : List ℕ → Bool) (P
   condition-preserved (Between negated field least greatest) quotes all =
       let both = and_parts (ok (Bare field)) (ok (Bare least) && (ok (Bare greatest) && true)) all in
       let ends = and_parts (ok (Bare least)) (ok (Bare greatest) && true) both.1 in
-      between preserved (not_text negated ++ codes " BETWEEN ") (raw_piece field) (raw_piece least ++ (fixed_piece (codes " AND ") ++ raw_piece greatest))
-      (between-neutral negated) (preserved.bare field both.0)
-      (between preserved (codes " AND ") (raw_piece least) (raw_piece greatest) (record { even = refl; no_word = refl }) (preserved.bare least ends.0)
+      between preserved.joins (not_text negated ++ codes " BETWEEN ") (raw_piece field) (raw_piece least ++ (fixed_piece (codes " AND ") ++ raw_piece greatest))
+      (between-between negated) (preserved.bare field both.0)
+      (between preserved.joins (codes " AND ") (raw_piece least) (raw_piece greatest) refl (preserved.bare least ends.0)
       (one preserved greatest ends.1))
 
 -- each condition begins with a fragment
@@ -207,7 +154,7 @@ in-atom false f inner h even = subst (λ ts. IsAtom (tokens f ++ in_word ∷ ts)
     (atom_in (tokens f) (pieces_tokens inner) (operand_tokens f h) even)
 
 list-even : (items : List Pieces) → Each Neutral items → Each (Passes balanced whatever) items → is_even (pieces_tokens (comma_list fixed_piece items)) ≡ true
-list-even items neutral all = shape-even (comma_list fixed_piece items) (listed (Passes balanced whatever) (passes-joins balanced whatever) items all)
+list-even items neutral all = shape-even (comma_list fixed_piece items) (listed (passes-joins balanced whatever) items all)
     (neutral-list items neutral).even
 
 between-atom : (negated : Bool) (f a b : List ℕ) → operand f ≡ true → operand a ≡ true → operand b ≡ true → IsAtom (cond_tokens (Between negated f a b))
@@ -254,11 +201,11 @@ operands_balanced (InList negated field values) h =
     let both = and_parts (operand field) (list_all balanced values) h in
     and_from _ _ (operand_balanced field both.0)
     (within balanced whatever (not_text negated ++ codes " IN (") (comma_list fixed_piece (map raw_piece values)) (codes ")")
-    (listed (Passes balanced whatever) (passes-joins balanced whatever) (map raw_piece values) (raws-pass balanced whatever values both.1)))
+    (listed (passes-joins balanced whatever) (map raw_piece values) (raws-pass balanced whatever values both.1)))
 operands_balanced (InQuoted negated field values) h =
     and_from _ _ (operand_balanced field h)
     (within balanced whatever (not_text negated ++ codes " IN (") (comma_list fixed_piece (map quoted_piece values)) (codes ")")
-    (listed (Passes balanced whatever) (passes-joins balanced whatever) (map quoted_piece values)
+    (listed (passes-joins balanced whatever) (map quoted_piece values)
     (quoteds-pass balanced whatever values (all-whatever values))))
 operands_balanced (InQuery negated field query) h =
     let both = and_parts (operand field) (balanced query) h in

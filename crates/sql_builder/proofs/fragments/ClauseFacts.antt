@@ -1,5 +1,5 @@
 -- What holds of the pieces of each clause.
-use Rattle.std.proofs.Common.{ℕ, Bool, List, Option, None, Some, map}
+use Rattle.std.proofs.Common.{ℕ, Bool, List, Option, None, Some, map, []}
 use Rattle.std.specs.Prelude.{IfSome, option_map}
 use Rattle.std.specs.List.{AllByRecursion}
 use Rattle.sql_builder.specs.Clauses.{Clauses, map_clauses}
@@ -22,6 +22,27 @@ pub record PartsAre (P F U : Pieces → Type 0) (r : Clauses Pieces) : Type 0 wh
   pub order_fields : AllByRecursion P r.order_fields
   pub limit : IfSome r.limit P
   pub offset : IfSome r.offset P
+
+-- without unions, and with these clauses behind
+pub without_unions : {P F U V : Pieces → Type 0} {r : Clauses Pieces} → PartsAre P F U r → (order_fields : List Pieces) (limit offset : Option Pieces)
+    → AllByRecursion P order_fields → IfSome limit P → IfSome offset P
+    → PartsAre P F V (record r { unions = []; order_fields = order_fields; limit = limit; offset = offset })
+without_unions parts order_fields limit offset ordered limited from = record {
+  table = parts.table;
+  joins = parts.joins;
+  fields = parts.fields;
+  sets = parts.sets;
+  rows = parts.rows;
+  query = parts.query;
+  returning = parts.returning;
+  group_fields = parts.group_fields;
+  having = parts.having;
+  groups = parts.groups;
+  unions = tt;
+  order_fields = ordered;
+  limit = limited;
+  offset = from;
+}
 
 module _ (P : Pieces → Type 0) (raw : (text : List ℕ) → P (raw_piece text)) where
   raw-all : (texts : List (List ℕ)) → AllByRecursion P (map raw_piece texts)

@@ -1,11 +1,10 @@
 -- Texts that are fit, one by one, make fragments that are fit.
 use Rattle.sql_builder.specs.RawTexts.{RawText, Bare, Enclosed}
-use Rattle.sql_builder.specs.TextTests.{all_pass, raw_text}
+use Rattle.sql_builder.specs.TextTests.{all_pass, raw_text, texts_pass}
 use Rattle.sql_builder.proofs.conditions.ConditionLemmas.{condition-preserved}
 use Rattle.sql_builder.specs.Interference.{condition_quoted_texts}
-use Rattle.sql_builder.proofs.fragments.PropertyLemmas.{all-whatever, calls-whatever, whatever}
-use Rattle.sql_builder.proofs.fragments.PropertyLemmas.{Each, PreservedByAppend, PreservedByCalls, listed, neutral-append, neutral-brackets, neutral-none}
-use Rattle.sql_builder.proofs.fragments.PropertyLemmas.{neutral-raw, Passes}
+use Rattle.sql_builder.proofs.fragments.PropertyLemmas.{all-whatever, calls-whatever, whatever, Each, PreservedByCalls, listed, neutral-append}
+use Rattle.sql_builder.proofs.fragments.PropertyLemmas.{neutral-brackets, neutral-none, neutral-raw, PreservedByWords, by_append}
 use Rattle.std.proofs.Common.{◌≡◌, refl, sym, ◌∙◌, ap, subst, ℕ, suc, ℤ, Bool, true, false, not, ◌&&◌, List, [], ◌∷◌, ◌++◌, Option, None, Some, IfOk, map, pos}
 use Rattle.std.proofs.Common.{codes}
 use Rattle.std.specs.Prelude.{IsTrue}
@@ -20,28 +19,32 @@ use Rattle.sql_builder.specs.Calls.{Subquery, SubqueryAs, Cond, SetFields, claus
 use Rattle.sql_builder.specs.Clauses.{Clauses}
 use Rattle.sql_builder.specs.Condition.{not_text, condition_pieces}
 use Rattle.sql_builder.specs.Filters.{until}
-use Rattle.sql_builder.specs.RawFragments.{are_fit, has_fit_fragments, begins_union, encloses_fields, has_balanced_fragments, has_fit_conditions, has_fit_texts}
-use Rattle.sql_builder.specs.RawFragments.{own, own_tokens, is_fit}
+use Rattle.sql_builder.specs.RawFragments.{are_fit, has_fit_fragments, begins_union, encloses_fields, has_balanced_fragments, has_fit_conditions}
+use Rattle.sql_builder.specs.RawFragments.{has_fit_texts, own, own_tokens, is_fit}
 use Rattle.sql_builder.specs.BuilderLaws.{FitTextsMakeBalancedFragments, FitTextsMakeFitConditions, FitTextsMakeFitFragments}
-use Rattle.sql_builder.specs.Layout.{Section, concat_sections}
+use Rattle.sql_builder.specs.Layout.{Section, concat_sections, insert_sections}
 use Rattle.sql_builder.specs.Meaning.{is_unenclosed}
 use Rattle.sql_builder.specs.Phrases.{comma_list, in_brackets}
 use Rattle.sql_builder.specs.Statement.{unless_error}
 use Rattle.sql_builder.specs.Pieces as printed
 use Rattle.sql_builder.specs.Pieces.{Piece, Pieces, fixed_piece, quoted_piece, raw_piece}
 use Rattle.sql_builder.proofs.tokens.BalancedFacts.{is_even-append}
-use Rattle.sql_builder.proofs.lists.AllFacts.{all-weaker}
+use Rattle.sql_builder.proofs.lists.AllFacts.{map-all, tested-all}
 use Rattle.sql_builder.proofs.fragments.ClauseFacts.{PartsAre}
-use Rattle.sql_builder.proofs.fragments.PreservationLemmas.{clauses-preserved, clauses-parts}
+use Rattle.sql_builder.proofs.fragments.PreservationLemmas.{clauses-preserved}
 use Rattle.sql_builder.proofs.reading.ClauseWordLemmas.{are_fit-is, are_fit_from, even-ends, or_so}
-use Rattle.sql_builder.proofs.reading.LayoutLemmas.{PreservedByLayout, Split, bare_query-split, bare_values-split, sql-split, insert-split}
+use Rattle.sql_builder.proofs.reading.LayoutLemmas.{Split, bare_query-split, bare_values-split, sql-split, PreservedByReading, laid-layout, plain-split}
 use Rattle.sql_builder.proofs.reading.SectionLemmas.{AllOpen, Neutral, Opens, section_pieces, sections-front, until-after, ending-semicolon}
 use Rattle.sql_builder.proofs.reading.ClauseWordLemmas as own_words
 use Rattle.sql_builder.proofs.tokens.DepthFacts.{at_end-append}
 use Rattle.sql_builder.proofs.reading.ReadBackLemmas.{layout}
 use Rattle.sql_builder.proofs.tokens.WhereTokenFacts.{has_clause}
-use Rattle.sql_builder.proofs.fragments.PassLemmas.{printed-passes}
-use Rattle.sql_builder.proofs.pieces.LayoutShapeLemmas as layouts
+use Rattle.sql_builder.proofs.fragments.PassLemmas.{printed-passes, calls-enclosed, weaker-texts}
+use Rattle.sql_builder.proofs.pieces.LayoutShapeLemmas.{inside-layout}
+use Rattle.sql_builder.specs.declared.clauses.Kind.TheVariants as kind
+use Rattle.sql_builder.proofs.fragments.NeutralLemmas.{InsideParts, clauses-inside}
+use Rattle.sql_builder.proofs.pieces.LayoutPropertyLemmas.{insert-laid, statement-laid}
+use Rattle.std.proofs.lemmas.List.Folds.{list_all-map}
 
 fit-both : (l : ℤ) (x y : Pieces) → are_fit_from l x ≡ true → are_fit_from (at_end l (own x)) y ≡ true → are_fit_from l (x ++ y) ≡ true
 fit-both l [] y one other = other
@@ -62,15 +65,14 @@ Fit ps = FitAt (λ n. n) ps
 abbrev pub Inner : Pieces → Type 0
 Inner ps = FitAt suc ps
 
-pub fit-joins : (at : ℕ → ℕ) → PreservedByAppend (FitAt at)
-fit-joins at = record {
-  none = record { neutral = neutral-none; fits = λ n. refl };
-  append = λ x y one other. record {
-    neutral = neutral-append x y one.neutral other.neutral;
-    fits = λ n. fit-both (pos (at n)) x y (one.fits n) (subst (λ l. are_fit_from l y ≡ true) (sym (even-ends (at n) (own x) one.neutral.even)) (other.fits n));
-  };
-  words = λ words neutral. record { neutral = neutral; fits = λ n. refl };
-}
+pub fit-joins : (at : ℕ → ℕ) → PreservedByWords (FitAt at) (FitAt at)
+fit-joins at =
+    by_append (record { neutral = neutral-none; fits = λ n. refl })
+    (λ x y one other. record {
+      neutral = neutral-append x y one.neutral other.neutral;
+      fits = λ n. fit-both (pos (at n)) x y (one.fits n) (subst (λ l. are_fit_from l y ≡ true) (sym (even-ends (at n) (own x) one.neutral.even)) (other.fits n));
+    })
+    (λ words neutral. record { neutral = neutral; fits = λ n. refl })
 
 balanced_tokens : (text : List ℕ) → balanced text ≡ true → is_balanced (tokens text) ≡ true
 balanced_tokens text h = sym (is_balanced-is (tokens text)) ∙ h
@@ -90,14 +92,10 @@ inner-text : (text : List ℕ) → balanced text ≡ true → Inner (raw_piece t
 inner-text text h = record { neutral = neutral-raw text; fits = λ n. and_from _ _ (inner-at n text h) refl }
 
 inner-all : (values : List (List ℕ)) → list_all is_fit (map Enclosed values) ≡ true → Each Inner (map raw_piece values)
-inner-all [] all = tt
-inner-all (value ∷ values) all =
-    let both = and_parts (balanced value) (list_all is_fit (map Enclosed values)) all in
-    (inner-text value both.0, inner-all values both.1)
+inner-all values all = tested-all Inner raw_piece balanced inner-text values (sym (list_all-map is_fit Enclosed values) ∙ all)
 
 quoted-all : (values : List (List ℕ)) → Each Inner (map quoted_piece values)
-quoted-all [] = tt
-quoted-all (value ∷ values) = (record { neutral = record { even = refl; no_word = refl }; fits = λ n. refl }, quoted-all values)
+quoted-all values = map-all Inner quoted_piece (λ value. record { neutral = record { even = refl; no_word = refl }; fits = λ n. refl }) values
 
 -- brackets make fit what is fit between brackets
 enclosed : (x : Pieces) → Inner x → Fit (in_brackets fixed_piece x)
@@ -109,16 +107,16 @@ in-enclosed true x inner = let made = enclosed x inner in
 in-enclosed false x inner = let made = enclosed x inner in
     record { neutral = record { even = made.neutral.even; no_word = made.neutral.no_word }; fits = made.fits }
 
-fit-preserved : PreservedByCalls false is_fit whatever Fit Fit Neutral
+fit-preserved : PreservedByCalls false is_fit whatever Fit Fit Fit Neutral
 fit-preserved = record {
   joins = fit-joins (λ n. n);
   bare = λ text h. record { neutral = neutral-raw text; fits = λ n. and_from _ _ (bare-at n text h) refl };
   quoted = λ text h. record { neutral = record { even = refl; no_word = refl }; fits = λ n. refl };
-  row = λ values all. enclosed (comma_list fixed_piece (map raw_piece values)) (listed Inner (fit-joins suc) (map raw_piece values) (inner-all values all));
+  row = λ values all. enclosed (comma_list fixed_piece (map raw_piece values)) (listed (fit-joins suc) (map raw_piece values) (inner-all values all));
   in_list = λ negated values all. in-enclosed negated (comma_list fixed_piece (map raw_piece values))
-      (listed Inner (fit-joins suc) (map raw_piece values) (inner-all values all));
+      (listed (fit-joins suc) (map raw_piece values) (inner-all values all));
   in_quoted = λ negated values h. in-enclosed negated (comma_list fixed_piece (map quoted_piece values))
-      (listed Inner (fit-joins suc) (map quoted_piece values) (quoted-all values));
+      (listed (fit-joins suc) (map quoted_piece values) (quoted-all values));
   in_query = λ negated query h. in-enclosed negated (raw_piece query) (inner-text query h);
   field = λ field h. record { neutral = neutral-raw field; fits = λ n. and_from _ _ (bare-at n field h) refl };
   count = λ field h. record { neutral = record { even = refl; no_word = refl }; fits = λ n. and_from _ _ (inner-at n field h) refl };
@@ -131,7 +129,7 @@ fit-preserved = record {
 }
 
 -- the same, of an INSERT
-pub insert_fit-preserved : PreservedByCalls true is_fit whatever Fit Inner Neutral
+pub insert_fit-preserved : PreservedByCalls true is_fit whatever Fit Fit Inner Neutral
 insert_fit-preserved = record {
   joins = fit-preserved.joins;
   bare = fit-preserved.bare;
@@ -153,17 +151,14 @@ insert_fit-preserved = record {
 inner-of : (x : Pieces) → Fit x → Inner x
 inner-of x fit = record { neutral = fit.neutral; fits = λ n. fit.fits (suc n) }
 
-pub target : (x : Pieces) → Inner x → Fit (fixed_piece (codes " (") ++ (x ++ fixed_piece (codes ")")))
+target : (x : Pieces) → Inner x → Fit (fixed_piece (codes " (") ++ (x ++ fixed_piece (codes ")")))
 target x inner = let made = enclosed x inner in record { neutral = record { even = made.neutral.even; no_word = made.neutral.no_word }; fits = made.fits }
 
-pub fit-layout : PreservedByLayout Fit
-fit-layout = record {
-  joins = fit-joins (λ n. n);
-  brackets = λ x fit. enclosed x (inner-of x fit);
-  target = λ x fit. target x (inner-of x fit);
-  neutral =
-      λ x fit. fit.neutral;
-}
+pub fit-layout : PreservedByReading Fit
+fit-layout = laid-layout (fit-joins (λ n. n)) (λ x fit. enclosed x (inner-of x fit)) (λ x fit. target x (inner-of x fit)) (λ x fit. fit.neutral)
+
+pub fields-fit : (fields : List Pieces) → Each Inner fields → Fit (fixed_piece (codes " (") ++ (comma_list fixed_piece fields ++ fixed_piece (codes ")")))
+fields-fit fields all = target (comma_list fixed_piece fields) (listed (fit-joins suc) fields all)
 
 -- ---- what is printed up to the first UNION
 
@@ -186,11 +181,11 @@ split-fits split =
     ∙ are_fit-is (front ++ until begins_union split.rest)
     ∙ fit-both (pos 0) front (until begins_union split.rest) (sections-fit split.front split.laid.opens) (split.ending.until_fits (at_end (pos 0) (own front)))
 
-layout-fits : (finish : FinishText) (r : Clauses Pieces) → PartsAre Fit Fit Neutral r → layouts.InsideParts r → is_unenclosed finish ≡ true
+layout-fits : (finish : FinishText) (r : Clauses Pieces) → PartsAre Fit Fit Neutral r → InsideParts r → is_unenclosed finish ≡ true
     → has_fit_fragments (layout finish r) ≡ true
-layout-fits Sql r parts inside_parts bare = split-fits (sql-split Fit fit-layout r parts inside_parts)
-layout-fits Query r parts inside_parts bare = split-fits (bare_query-split Fit fit-layout r parts inside_parts)
-layout-fits QueryValues r parts inside_parts bare = split-fits (bare_values-split Fit fit-layout r parts inside_parts)
+layout-fits Sql r parts inside_parts bare = split-fits (sql-split fit-layout r parts inside_parts)
+layout-fits Query r parts inside_parts bare = split-fits (bare_query-split fit-layout r parts inside_parts)
+layout-fits QueryValues r parts inside_parts bare = split-fits (bare_values-split fit-layout r parts inside_parts)
 layout-fits Subquery r parts inside_parts bare = absurd (false≢true bare)
 layout-fits (SubqueryAs name) r parts inside_parts bare = absurd (false≢true bare)
 
@@ -200,14 +195,12 @@ fit-balanced : (raw : RawText) → is_fit raw ≡ true → balanced (raw_text ra
 fit-balanced (Bare text) h = (and_parts (balanced text) (not (has_clause_word text)) h).0
 fit-balanced (Enclosed text) h = h
 
-all-balanced : (raw : List RawText) → list_all is_fit raw ≡ true → all_pass balanced raw ≡ true
-all-balanced raw all = all-weaker is_fit (λ h. balanced (raw_text h)) fit-balanced raw all
-
-calls-balanced : (enclosed : Bool) (calls : List CallText) → list_all (λ c. list_all is_fit (call_raw_texts enclosed c)) calls ≡ true
-    → list_all (λ c. all_pass balanced (call_raw_texts enclosed c)) calls ≡ true
-calls-balanced enclosed calls all =
-    all-weaker (λ (c : CallText). list_all is_fit (call_raw_texts enclosed c)) (λ (c : CallText). all_pass balanced (call_raw_texts enclosed c))
-    (λ c. all-balanced (call_raw_texts enclosed c)) calls all
+pub fit_texts_balanced : (start : StartText) (calls : List CallText) (finish : FinishText)
+    → has_fit_texts start calls finish ≡ true → texts_pass balanced start calls finish ≡ true
+fit_texts_balanced start calls finish all =
+    let enclosed = encloses_fields start finish in
+    ap (λ b. (all_pass balanced (start_raw_texts start) && b) && all_pass balanced (finish_raw_texts finish)) (sym (calls-enclosed balanced enclosed calls))
+    ∙ weaker-texts is_fit (λ raw. balanced (raw_text raw)) fit-balanced enclosed start calls finish all
 
 -- ---- what raw texts make
 
@@ -220,7 +213,7 @@ conditions-fit enclosed (c ∷ calls) all =
   where
     by : (c : CallText) → list_all is_fit (call_raw_texts enclosed c) ≡ true → has_fit_conditions calls ≡ true → has_fit_conditions (c ∷ calls) ≡ true
     by (Cond family condition) here rest =
-        and_from _ _ (are_fit-is (condition_pieces condition) ∙ (condition-preserved false is_fit whatever Fit Fit Neutral fit-preserved condition
+        and_from _ _ (are_fit-is (condition_pieces condition) ∙ (condition-preserved fit-preserved condition
         (all-whatever (condition_quoted_texts condition)) here).fits 0) rest
     by _ here rest = rest
 
@@ -243,13 +236,6 @@ module _ (start : StartText) (calls : List CallText) (finish : FinishText) (all 
       let first = and_parts (list_all is_fit (start_raw_texts start)) calls_fit both.0 in
       (first.0, first.1, both.1)
 
-  printed-balanced : Passes balanced whatever (layout finish (clauses start calls))
-  printed-balanced =
-      let enclosed = encloses_fields start finish in
-      printed-passes balanced whatever enclosed start calls finish (calls-whatever calls) (all-balanced (start_raw_texts start) fit_parts.0)
-      (calls-balanced enclosed calls fit_parts.1)
-      (all-balanced (finish_raw_texts finish) fit_parts.2)
-
 -- fields that nothing encloses
 bare-fit : (start : StartText) (calls : List CallText) (finish : FinishText) → encloses_fields start finish ≡ false → has_fit_texts start calls finish ≡ true
     → is_unenclosed finish ≡ true
@@ -257,10 +243,10 @@ bare-fit : (start : StartText) (calls : List CallText) (finish : FinishText) →
 bare-fit start calls finish plain all bare =
     let facts = fit_parts start calls finish all in
     layout-fits finish (clauses start calls)
-    (clauses-preserved false is_fit whatever Fit Fit Neutral fit-preserved start calls (calls-whatever calls) facts.0
+    (clauses-preserved fit-preserved start calls (calls-whatever calls) facts.0
     (ap (λ (b : Bool). list_all is_fit (call_raw_texts b (SetFields (start_fields start)))) (sym plain) ∙ first-fields start finish facts.0)
     (ap (λ (b : Bool). list_all (λ (c : CallText). list_all is_fit (call_raw_texts b c)) calls) (sym plain) ∙ facts.1))
-    (clauses-parts start calls) bare
+    (clauses-inside start calls) bare
 
 all-fit : (start : StartText) (calls : List CallText) (finish : FinishText) → has_fit_texts start calls finish ≡ true → is_unenclosed finish ≡ true
     → has_fit_fragments (layout finish (clauses start calls)) ≡ true
@@ -271,10 +257,10 @@ all-fit (DeleteFrom table) calls finish all bare = bare-fit (DeleteFrom table) c
 all-fit (InsertInto table) calls Sql all bare =
     let start = InsertInto table in
     let facts = fit_parts start calls Sql all in
-    let parts = clauses-preserved true is_fit whatever Fit Inner Neutral insert_fit-preserved start calls (calls-whatever calls) facts.0 refl facts.1 in
-    let inside_parts = clauses-parts start calls in
-    split-fits (insert-split Fit Inner fit-layout (fit-joins suc) target (fixed_piece (codes ";")) (clauses start calls).query (clauses start calls) parts
-    parts.query inside_parts inside_parts.query ending-semicolon)
+    let parts = clauses-preserved insert_fit-preserved start calls (calls-whatever calls) facts.0 refl facts.1 in
+    let r = clauses start calls in
+    split-fits (plain-split (insert_sections fixed_piece r.query r) (fixed_piece (codes ";")) (insert-laid fit-layout r parts fields-fit r.query parts.query)
+    (statement-laid inside-layout kind.InsertInto r (clauses-inside start calls)) ending-semicolon)
 all-fit (InsertInto table) calls Query all bare = bare-fit (InsertInto table) calls Query refl all bare
 all-fit (InsertInto table) calls QueryValues all bare = bare-fit (InsertInto table) calls QueryValues refl all bare
 all-fit (InsertInto table) calls Subquery all bare = absurd (false≢true bare)
@@ -292,4 +278,6 @@ pub fit_conditions : FitTextsMakeFitConditions
 fit_conditions start calls finish all = conditions-fit (encloses_fields start finish) calls (fit_parts start calls finish all).1
 
 pub balanced_fragments : FitTextsMakeBalancedFragments
-balanced_fragments start calls finish h = unless _ (layout finish (clauses start calls)) has_balanced_fragments (printed-balanced start calls finish h)
+balanced_fragments start calls finish h =
+    unless _ (layout finish (clauses start calls)) has_balanced_fragments
+    (printed-passes balanced whatever start calls finish (calls-whatever calls) (fit_texts_balanced start calls finish h))

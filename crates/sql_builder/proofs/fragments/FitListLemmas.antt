@@ -1,37 +1,22 @@
 -- Lists of calls whose texts all fit, call by call, and their only `;`.
-use Rattle.std.proofs.Common.{◌≡◌, refl, sym, ◌∙◌, ap, subst, ℕ, Bool, true, false, not, ◌&&◌, List, [], ◌∷◌, ◌++◌, map, IfOk}
-use Rattle.std.specs.Prelude.{IsTrue}
-use Rattle.std.specs.List.{list_all, list_any}
-use Rattle.std.proofs.lemmas.Bool.{and_from, and_parts, not-true, not_from_false, or_from}
-use Rattle.sql_parts.specs.Fragments.{balanced, brackets_match, has_clause_word, is_whole}
+use Rattle.std.proofs.Common.{◌≡◌, refl, ◌∙◌, ap, ℕ, Bool, true, false, not, List, [], ◌∷◌, ◌++◌, map}
+use Rattle.std.specs.List.{list_all}
+use Rattle.std.proofs.lemmas.Bool.{and_from, and_parts}
+use Rattle.sql_parts.specs.Fragments.{balanced, has_clause_word}
 use Rattle.sql_parts.specs.Operands.{is_fragment}
-use Rattle.sql_parts.specs.Tokens.{Token, is_empty, is_open, is_semicolon, tokens}
-use Rattle.sql_builder.specs.Builder.{ClauseTexts, started, with_call}
 use Rattle.sql_builder.specs.Calls as call
-use Rattle.sql_builder.specs.Calls.{CallText, FinishText, StartText, Sql, Query, QueryValues, Subquery, SubqueryAs, call_raw_texts, binary_call, clauses, field_text, finish_raw_texts, start_on, start_raw_texts, unary_call}
-use Rattle.sql_builder.specs.Meaning.{is_unenclosed, prints_where}
-use Rattle.sql_builder.specs.declared.clauses.Kind.{Kind}
-use Rattle.sql_builder.specs.RawFragments.{encloses_fields, has_closed_fragments, has_fit_texts, is_fit}
+use Rattle.sql_builder.specs.Calls.{CallText, call_raw_texts, binary_call, field_text, start_on, start_raw_texts, unary_call}
+use Rattle.sql_builder.specs.RawFragments.{is_fit}
 use Rattle.sql_builder.specs.FitCalls.{call_fits}
-use Rattle.sql_builder.specs.RawTexts.{RawText, Bare, Enclosed}
-use Rattle.sql_builder.specs.Shape.{EndsInOneSemicolon}
-use Rattle.sql_builder.specs.Statement.{statement}
-use Rattle.sql_builder.specs.StatementLaws.{made_by}
-use Rattle.sql_builder.specs.TextTests.{all_pass, is_plain, raw_text}
-use Rattle.sql_builder.proofs.fragments.PassLemmas.{printed-passes}
-use Rattle.sql_builder.proofs.fragments.PropertyLemmas.{calls-whatever, whatever}
-use Rattle.sql_builder.proofs.fragments.PreservationLemmas.{clauses-parts}
-use Rattle.sql_builder.proofs.fragments.TextTestLemmas.{fit_texts_are_closed}
+use Rattle.sql_builder.specs.RawTexts.{Bare, Enclosed}
 use Rattle.sql_builder.proofs.lists.AllFacts.{all-weaker}
-use Rattle.sql_builder.proofs.pieces.LayoutShapeLemmas.{sql-semicolon}
-use Rattle.sql_builder.proofs.statements.RunLemmas.{clauses-push, clauses_start}
-use Rattle.sql_builder.proofs.statements.StatementLawLemmas.{of_pieces}
 use Rattle.sql_builder.specs.declared.steps.BinaryClause.{BinaryClause}
 use Rattle.sql_builder.specs.declared.steps.BinaryClause.TheVariants as binary
 use Rattle.sql_builder.specs.declared.steps.UnaryClause.{UnaryClause}
 use Rattle.sql_builder.specs.declared.steps.UnaryClause.TheVariants as unary
 use Rattle.sql_builder.specs.declared.calls.TableStart.{TableStart}
 use Rattle.sql_builder.specs.declared.calls.TableStart.TheVariants as on
+use Rattle.std.proofs.lemmas.List.Folds.{list_all-map}
 
 -- ---- calls
 
@@ -82,8 +67,7 @@ binary_fits binary.SetStr one other fits also = and_from _ _ fits refl
 
 -- a row
 pub row_fits : (values : List (List ℕ)) → list_all balanced values ≡ true → call_fits (call.Values values) ≡ true
-row_fits [] all = refl
-row_fits (value ∷ values) all = let both = and_parts (balanced value) (list_all balanced values) all in and_from _ _ both.0 (row_fits values both.1)
+row_fits values all = list_all-map is_fit Enclosed values ∙ all
 
 -- ---- texts
 
@@ -110,43 +94,3 @@ pub calls-fit : (enclosed : Bool) (calls : List CallText) → list_all call_fits
     → list_all (λ c. list_all is_fit (call_raw_texts enclosed c)) calls ≡ true
 calls-fit false calls all = all
 calls-fit true calls all = all-weaker call_fits (λ (c : CallText). list_all is_fit (call_raw_texts true c)) enclosed-fits calls all
-
--- ---- one `;`
-
-whole-plain : (ts : List Token) → list_all is_whole ts ≡ true → list_any is_semicolon ts ≡ false
-whole-plain [] all = refl
-whole-plain (t ∷ ts) all =
-    let both = and_parts (is_whole t) (list_all is_whole ts) all in
-    or_from _ _ (not-true _ (and_parts (not (is_open t)) (not (is_semicolon t)) both.0).1) (whole-plain ts both.1)
-
-balanced-plain : (text : List ℕ) → balanced text ≡ true → is_plain text ≡ true
-balanced-plain text is =
-    let ts = tokens text in
-    let front = and_parts (not (is_empty ts) && list_all is_whole ts) (brackets_match ts) is in
-    not_from_false _ (whole-plain ts (and_parts (not (is_empty ts)) (list_all is_whole ts) front.0).1)
-
-fit-plain : (raw : RawText) → is_fit raw ≡ true → is_plain (raw_text raw) ≡ true
-fit-plain (Bare text) fits = balanced-plain text (and_parts (balanced text) (not (has_clause_word text)) fits).0
-fit-plain (Enclosed text) fits = balanced-plain text fits
-
-all-plain : (raws : List RawText) → list_all is_fit raws ≡ true → all_pass is_plain raws ≡ true
-all-plain raws all = all-weaker is_fit (λ h. is_plain (raw_text h)) fit-plain raws all
-
--- what `sql` prints of fit texts ends in its only `;`
-pub ends_in_one : (start : StartText) (calls : List CallText) → has_fit_texts start calls Sql ≡ true → list_all is_fit (start_raw_texts start) ≡ true
-    → list_all call_fits calls ≡ true → IfOk (statement start calls Sql) (λ text. EndsInOneSemicolon (tokens text))
-ends_in_one start calls texts start_fits calls_fit =
-    of_pieces start calls Sql (λ printed. IsTrue (has_closed_fragments printed)) (λ printed text. EndsInOneSemicolon (tokens text))
-    (λ is. sql-semicolon (clauses start calls) (clauses-parts start calls) is
-    (printed-passes is_plain whatever false start calls Sql (calls-whatever calls) (all-plain (start_raw_texts start) start_fits)
-    (all-weaker call_fits (λ (c : CallText). all_pass is_plain (call_raw_texts false c)) (λ (c : CallText). all-plain (call_raw_texts false c)) calls calls_fit)
-    refl))
-    (fit_texts_are_closed start calls Sql texts)
-
--- a finish that prints a WHERE prints no brackets round it
-pub where_unenclosed : (finish : FinishText) (kind : Kind) → IsTrue (prints_where finish kind) → IsTrue (is_unenclosed finish)
-where_unenclosed Sql kind prints = refl
-where_unenclosed Query kind prints = refl
-where_unenclosed QueryValues kind prints = refl
-where_unenclosed Subquery kind prints = prints
-where_unenclosed (SubqueryAs name) kind prints = prints

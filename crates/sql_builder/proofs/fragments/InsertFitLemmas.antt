@@ -1,5 +1,5 @@
 -- Texts of an INSERT of a query that are fit make its fragments fit, whatever the query is.
-use Rattle.std.proofs.Common.{◌≡◌, refl, sym, ◌∙◌, ap, suc, Bool, true, false, ◌||◌, List, [], ◌∷◌, ◌++◌, Option, None, Some, map, codes}
+use Rattle.std.proofs.Common.{◌≡◌, refl, sym, ◌∙◌, ap, Bool, true, false, ◌||◌, List, [], ◌∷◌, ◌++◌, Option, None, Some, map, codes}
 use Rattle.std.specs.Prelude.{IfSome, filter_map, flat_map, if◌then◌else◌}
 use Rattle.std.specs.List.{cons_option, last_or, list_all, list_any}
 use Rattle.std.proofs.lemmas.Bool.{and_from, and_parts}
@@ -12,12 +12,13 @@ use Rattle.sql_builder.specs.Inserts.{FitTextsMakeFitTargets, is_fit_returning}
 use Rattle.sql_builder.specs.Layout.{insert_target}
 use Rattle.sql_builder.specs.Phrases.{comma_list}
 use Rattle.sql_builder.specs.Pieces.{Pieces, fixed_piece}
-use Rattle.sql_builder.proofs.fragments.FitLemmas.{Fit, Inner, fit-joins, fit-layout, insert_fit-preserved, target}
-use Rattle.sql_builder.proofs.fragments.PropertyLemmas.{calls-whatever, whatever}
+use Rattle.sql_builder.proofs.fragments.FitLemmas.{Fit, fit-layout, insert_fit-preserved, fields-fit}
+use Rattle.sql_builder.proofs.fragments.PropertyLemmas.{calls-whatever}
 use Rattle.sql_builder.proofs.fragments.PreservationLemmas.{clauses-preserved}
-use Rattle.sql_builder.proofs.reading.LayoutLemmas.{target-preserved}
-use Rattle.sql_builder.proofs.reading.SectionLemmas.{Neutral}
 use Rattle.sql_builder.proofs.reading.ClauseWordLemmas.{are_fit-is}
+use Rattle.sql_builder.proofs.pieces.LayoutPropertyLemmas.{target-kept}
+use Rattle.sql_builder.proofs.lists.AllFacts.{all-weaker}
+use Rattle.std.proofs.lemmas.List.Folds.{list_all-map}
 
 -- a call without its query
 abbrev blank : CallText → CallText
@@ -30,27 +31,15 @@ raw_texts-blank _ h = h
 
 all-blank : (calls : List CallText) → list_all (λ c. is_select c || list_all is_fit (call_raw_texts true c)) calls ≡ true
     → list_all (λ c. list_all is_fit (call_raw_texts true c)) (map blank calls) ≡ true
-all-blank [] all = refl
-all-blank (c ∷ calls) all =
-    let both = and_parts (is_select c || list_all is_fit (call_raw_texts true c)) _ all in
-    and_from _ _ (raw_texts-blank c both.0) (all-blank calls both.1)
+all-blank calls all =
+    list_all-map (λ c. list_all is_fit (call_raw_texts true c)) blank calls
+    ∙ all-weaker (λ c. is_select c || list_all is_fit (call_raw_texts true c)) (λ c. list_all is_fit (call_raw_texts true (blank c))) raw_texts-blank calls all
 
 -- it says the same of the table, of the fields and of what is returned
-table-blank : (c : CallText) → table_in (blank c) ≡ table_in c
-table-blank (call.Select query) = refl
-table-blank _ = refl
-
-fields-blank : (c : CallText) → fields_in (blank c) ≡ fields_in c
-fields-blank (call.Select query) = refl
-fields-blank _ = refl
-
-drops-blank : (c : CallText) → drops_fields (blank c) ≡ drops_fields c
-drops-blank (call.Select query) = refl
-drops-blank _ = refl
-
-returning-blank : (c : CallText) → returning_in (blank c) ≡ returning_in c
-returning-blank (call.Select query) = refl
-returning-blank _ = refl
+blank-says : (c : CallText) → (table_in (blank c) ≡ table_in c) × (fields_in (blank c) ≡ fields_in c) × (drops_fields (blank c) ≡ drops_fields c)
+    × (returning_in (blank c) ≡ returning_in c)
+blank-says (call.Select query) = (refl, refl, refl, refl)
+blank-says _ = (refl, refl, refl, refl)
 
 -- and so do the calls
 flat-blank : {A : Type 0} (f : CallText → List A) → ((c : CallText) → f (blank c) ≡ f c) → (calls : List CallText)
@@ -88,17 +77,17 @@ fit_targets table calls all =
     let both = and_parts (is_fit (Bare table)) _ all in
     let start = call.InsertInto table in
     let from_start = call.SetFields [] ∷ calls in
-    let parts = clauses-preserved true is_fit whatever Fit Inner Neutral insert_fit-preserved start (map blank calls) (calls-whatever (map blank calls))
+    let parts = clauses-preserved insert_fit-preserved start (map blank calls) (calls-whatever (map blank calls))
     (and_from _ _ both.0 refl) refl
     (all-blank calls both.1) in
-    let fits = target-preserved Fit Inner fit-layout (fit-joins (λ n. suc n)) target (clauses start (map blank calls)) parts in
+    let fits = target-kept fit-layout (clauses start (map blank calls)) parts fields-fit in
     let fields : fields_of start (map blank calls) ≡ fields_of start calls =
-    ap (flat_map fields_in) (since-blank drops_fields drops-blank from_start) ∙ flat-blank fields_in fields-blank (since drops_fields from_start) in
+    ap (flat_map fields_in) (since-blank drops_fields (λ c. (blank-says c).2) from_start) ∙ flat-blank fields_in (λ c. (blank-says c).1) (since drops_fields from_start) in
     let target_is : insert_target fixed_piece (clauses start (map blank calls)) ≡ insert_target fixed_piece (clauses start calls) =
-    λ i. (call.start_table start ++ flat-blank table_in table-blank calls i)
+    λ i. (call.start_table start ++ flat-blank table_in (λ c. (blank-says c).0) calls i)
     ++ (fixed_piece (codes " (") ++ (comma_list fixed_piece (fields i) ++ fixed_piece (codes ")"))) in
     let returned : last_given returning_in (map blank calls) ≡ last_given returning_in calls =
-    ap (last_or None) (last_given-blank returning_in returning-blank calls) in
+    ap (last_or None) (last_given-blank returning_in (λ c. (blank-says c).3) calls) in
     and_from _ _
     (ap are_fit (sym target_is) ∙ are_fit-is (insert_target fixed_piece (clauses start (map blank calls))) ∙ fits.fits 0)
     (ap is_fit_returning (sym returned) ∙ returning-fits (last_given returning_in (map blank calls)) parts.returning)

@@ -1,6 +1,6 @@
--- What each call adds to each clause: that it keeps its tokens, and what holds of it for any property of pieces that each step preserves.
+-- What holds of what each call adds to each clause, for any property of pieces that each step preserves.
 use Rattle.sql_builder.specs.RawTexts.{RawText, Bare, Enclosed}
-use Rattle.std.proofs.Common.{◌≡◌, refl, ℕ, Bool, true, false, ◌&&◌, List, [], ◌∷◌, ◌++◌, Option, None, Some, map, codes, cond, ◌∙◌, flat_map}
+use Rattle.std.proofs.Common.{◌≡◌, refl, ℕ, Bool, true, false, ◌&&◌, List, [], ◌∷◌, ◌++◌, Option, None, Some, map, codes, cond, ◌∙◌, flat_map, sym}
 use Rattle.std.specs.Prelude.{IfSome, filter_map}
 use Rattle.std.specs.List.{AllByRecursion, cons_option, last_or, list_all, list_any}
 use Rattle.std.proofs.lemmas.Bool.{and_parts, and_from}
@@ -11,190 +11,36 @@ use Rattle.sql_builder.specs.Calls.{unions_in, call_raw_texts, field_text, start
 use Rattle.sql_builder.specs.Condition.{ConditionText, condition_pieces, condition_raw_texts}
 use Rattle.sql_builder.specs.Interference.{call_quoted_texts, condition_quoted_texts}
 use Rattle.sql_builder.specs.Filters.{Group, cut, in_place, last_given, since, until}
-use Rattle.sql_builder.specs.Phrases.{equation, join_words, order, comma_list, count, count_as}
+use Rattle.sql_builder.specs.Phrases.{equation, join_words, order}
 use Rattle.sql_builder.specs.Pieces.{Pieces, fixed_piece, quoted_piece, raw_piece}
 use Rattle.sql_builder.specs.declared.condition.Family.{Family}
 use Rattle.sql_builder.specs.declared.clauses.JoinOperator.{JoinOperator}
 use Rattle.sql_builder.proofs.fragments.ClauseFacts.{PartsAre}
-use Rattle.sql_builder.proofs.lists.AllFacts.{append-all, cut-all, flat-all, last-some, map-all}
+use Rattle.sql_builder.proofs.lists.AllFacts.{append-all, cut-all, tested-all}
 use Rattle.std.proofs.lemmas.List.Folds.{list_all-map}
-use Rattle.sql_builder.proofs.reading.SectionLemmas.{Neutral}
-use Rattle.sql_builder.proofs.fragments.PropertyLemmas.{PreservedByCalls, between, one, Each, joined}
-use Rattle.sql_builder.proofs.conditions.ConditionLemmas.{condition-preserved, condition-inside}
+use Rattle.sql_builder.proofs.fragments.PropertyLemmas.{PreservedByCalls, are_own, between, one, Each, joined}
+use Rattle.sql_builder.proofs.conditions.ConditionLemmas.{condition-preserved}
 use Rattle.sql_parts.specs.Tokens.{ends_with, is_edge}
-use Rattle.sql_builder.proofs.pieces.LayoutShapeLemmas.{InsideParts}
-use Rattle.sql_builder.proofs.pieces.ShapeLemmas.{AllInside, Following, Inside, Whole, all-flat, brackets-inside, inside-inside, joined-inside, none-following}
-use Rattle.sql_builder.proofs.pieces.ShapeLemmas.{none-inside, quoted-inside, raw-inside, words-following, words-inside, items-inside, raw-all, closing-last}
-use Rattle.sql_builder.proofs.pieces.ShapeLemmas.{words-between, words-first, words-last}
 use Rattle.sql_builder.specs.Calls as call
 use Rattle.sql_builder.specs.declared.clauses.JoinOperator.TheVariants as operator
 
--- ---- pieces that keep their tokens
-
-last_given-inside : (f : CallText → Option Pieces) → ((c : CallText) → IfSome (f c) Inside) → (calls : List CallText) → IfSome (last_given f calls) Inside
-last_given-inside f each calls = last-some Inside f each calls None tt
-
-pub equation-inside : (left right : Pieces) → Inside left → Inside right → Inside (equation fixed_piece left right)
-equation-inside left right one other = words-between (codes " = ") left right (record { is_closed = refl; plain = refl; begins = refl; ends = refl }) one other
-
-order-inside : (descending : Bool) (field : Pieces) → Inside field → Inside (order fixed_piece descending field)
-order-inside true field inside = words-last (codes " DESC") field (record { is_closed = refl; plain = refl }) (words-following (codes " DESC") [] refl) inside
-order-inside false field inside = inside
-
-group-inside : (group : Group ConditionText) → Inside (group_pieces group)
-group-inside group =
-    joined-inside (codes " OR ") (record { is_closed = refl; plain = refl; begins = refl; ends = refl }) (map condition_pieces (group.0 ∷ group.1))
-    (map-all Inside condition_pieces condition-inside (group.0 ∷ group.1))
-
--- tables and joins
-start_table-inside : (start : StartText) → Inside (start_table start)
-start_table-inside (call.SelectFrom table) = raw-inside table
-start_table-inside (call.SelectValues values) = none-inside
-start_table-inside (call.InsertInto table) = raw-inside table
-start_table-inside (call.UpdateTable table) = raw-inside table
-start_table-inside (call.DeleteFrom table) = raw-inside table
-
-table_in-inside : (c : CallText) → Inside (table_in c)
-table_in-inside (call.AndTable table) = words-first (codes ", ") (raw_piece table) (record { is_closed = refl; plain = refl }) refl (raw-inside table)
-table_in-inside _ = none-inside
-
-table_in-following : (c : CallText) → Following (table_in c)
-table_in-following (call.AndTable table) = words-following (codes ", ") (raw_piece table) refl
-table_in-following _ = none-following
-
-constraint_in-inside : (c : CallText) → Inside (constraint_in c)
-constraint_in-inside (call.On text) = words-first (codes " ON ") (raw_piece text) (record { is_closed = refl; plain = refl }) refl (raw-inside text)
-constraint_in-inside (call.OnEq left right) =
-    words-first (codes " ON ") (equation fixed_piece (raw_piece left) (raw_piece right)) (record { is_closed = refl; plain = refl }) refl
-    (equation-inside (raw_piece left) (raw_piece right) (raw-inside left) (raw-inside right))
-constraint_in-inside _ = none-inside
-
-constraint_in-following : (c : CallText) → Following (constraint_in c)
-constraint_in-following (call.On text) = words-following (codes " ON ") (raw_piece text) refl
-constraint_in-following (call.OnEq left right) = words-following (codes " ON ") (equation fixed_piece (raw_piece left) (raw_piece right)) refl
-constraint_in-following _ = none-following
-
--- the words of a join are whole, end at an edge, and are neutral
+-- the words of a join, and that they end at an edge
 join-words : (natural : Bool) (chosen : Option JoinOperator)
-    → (Whole (join_words natural chosen) × (ends_with is_edge (join_words natural chosen) ≡ true)) × Neutral (fixed_piece (join_words natural chosen))
-join-words true None = ((record { is_closed = refl; plain = refl }, refl), record { even = refl; no_word = refl })
-join-words true (Some operator.Left) = ((record { is_closed = refl; plain = refl }, refl), record { even = refl; no_word = refl })
-join-words true (Some operator.LeftOuter) = ((record { is_closed = refl; plain = refl }, refl), record { even = refl; no_word = refl })
-join-words true (Some operator.Right) = ((record { is_closed = refl; plain = refl }, refl), record { even = refl; no_word = refl })
-join-words true (Some operator.RightOuter) = ((record { is_closed = refl; plain = refl }, refl), record { even = refl; no_word = refl })
-join-words true (Some operator.Inner) = ((record { is_closed = refl; plain = refl }, refl), record { even = refl; no_word = refl })
-join-words true (Some operator.Cross) = ((record { is_closed = refl; plain = refl }, refl), record { even = refl; no_word = refl })
-join-words false None = ((record { is_closed = refl; plain = refl }, refl), record { even = refl; no_word = refl })
-join-words false (Some operator.Left) = ((record { is_closed = refl; plain = refl }, refl), record { even = refl; no_word = refl })
-join-words false (Some operator.LeftOuter) = ((record { is_closed = refl; plain = refl }, refl), record { even = refl; no_word = refl })
-join-words false (Some operator.Right) = ((record { is_closed = refl; plain = refl }, refl), record { even = refl; no_word = refl })
-join-words false (Some operator.RightOuter) = ((record { is_closed = refl; plain = refl }, refl), record { even = refl; no_word = refl })
-join-words false (Some operator.Inner) = ((record { is_closed = refl; plain = refl }, refl), record { even = refl; no_word = refl })
-join-words false (Some operator.Cross) = ((record { is_closed = refl; plain = refl }, refl), record { even = refl; no_word = refl })
-
-join_after-inside : (before : List CallText) (table : List ℕ) → Inside (join_after before table)
-join_after-inside before table =
-    let words = (join-words (natural_of before) (operator_of before)).0 in
-    words-first (join_words (natural_of before) (operator_of before)) (raw_piece table) words.0 words.1 (raw-inside table)
-
-join_in-all : (before : List CallText) (c : CallText) (after : List CallText) → AllInside (join_in before c after)
-join_in-all before (call.Join table) after =
-    let constraints = all-flat constraint_in constraint_in-inside constraint_in-following (until is_join after) in
-    (inside-inside (join_after before table) (flat_map constraint_in (until is_join after)) (join_after-inside before table) constraints.1 constraints.0, tt)
-join_in-all before _ after = tt
-
-joins-all : (before calls : List CallText) → AllInside (in_place join_in before calls)
-joins-all before [] = tt
-joins-all before (c ∷ calls) = append-all Inside (join_in before c calls) (in_place join_in (before ++ c ∷ []) calls) (join_in-all before c calls)
-    (joins-all (before ++ c ∷ []) calls)
-
--- lists of items
-count-inside : (field : List ℕ) → Inside (count fixed_piece (raw_piece field))
-count-inside field = words-first (codes "COUNT(") (raw_piece field ++ fixed_piece (codes ")")) (record { is_closed = refl; plain = refl }) refl
-    (closing-last (raw_piece field) (raw-inside field))
-
-pub count_as-inside : (field name : List ℕ) → Inside (count_as fixed_piece (raw_piece field) (raw_piece name))
-count_as-inside field name =
-    words-first (codes "COUNT(") (raw_piece field ++ (fixed_piece (codes ") AS ") ++ raw_piece name)) (record { is_closed = refl; plain = refl }) refl
-    (words-between (codes ") AS ") (raw_piece field) (raw_piece name) (record { is_closed = refl; plain = refl; begins = refl; ends = refl })
-    (raw-inside field) (raw-inside name))
-
-fields_in-all : (c : CallText) → AllInside (fields_in c)
-fields_in-all (call.Fields fields) = raw-all fields
-fields_in-all (call.SetFields fields) = raw-all fields
-fields_in-all (call.Field field) = (raw-inside field, tt)
-fields_in-all (call.SetField field) = (raw-inside field, tt)
-fields_in-all (call.Count field) = (count-inside field, tt)
-fields_in-all (call.CountAs field name) = (count_as-inside field name, tt)
-fields_in-all _ = tt
-
-sets_in-all : (c : CallText) → AllInside (sets_in c)
-sets_in-all (call.SetTo field value) = (equation-inside (raw_piece field) (raw_piece value) (raw-inside field) (raw-inside value), tt)
-sets_in-all (call.SetStr field value) = (equation-inside (raw_piece field) (quoted_piece value) (raw-inside field) (quoted-inside value), tt)
-sets_in-all _ = tt
-
-rows_in-all : (c : CallText) → AllInside (rows_in c)
-rows_in-all (call.Values values) = (brackets-inside (comma_list fixed_piece (map raw_piece values)) (items-inside (map raw_piece values) (raw-all values)), tt)
-rows_in-all _ = tt
-
-group_fields_in-all : (c : CallText) → AllInside (group_fields_in c)
-group_fields_in-all (call.GroupBy field) = (raw-inside field, tt)
-group_fields_in-all _ = tt
-
-order_fields_in-all : (c : CallText) → AllInside (order_fields_in c)
-order_fields_in-all (call.OrderBy field descending) = (order-inside descending (raw_piece field) (raw-inside field), tt)
-order_fields_in-all (call.OrderAsc field) = (raw-inside field, tt)
-order_fields_in-all (call.OrderDesc field) = (order-inside true (raw_piece field) (raw-inside field), tt)
-order_fields_in-all _ = tt
-
-unions_in-all : (c : CallText) → AllByRecursion (λ (union : Bool × Pieces). Inside union.1) (unions_in c)
-unions_in-all (call.Union query) = (raw-inside query, tt)
-unions_in-all (call.UnionAll query) = (raw-inside query, tt)
-unions_in-all _ = tt
-
--- what is given last
-query_in-some : (c : CallText) → IfSome (query_in c) Inside
-query_in-some (call.Select query) = raw-inside query
-query_in-some _ = tt
-
-returning_in-some : (c : CallText) → IfSome (returning_in c) Inside
-returning_in-some (call.Returning fields) = raw-inside fields
-returning_in-some call.ReturningId = words-inside (codes "id") (record { is_closed = refl; plain = refl })
-returning_in-some _ = tt
-
-having_in-some : (c : CallText) → IfSome (having_in c) Inside
-having_in-some (call.Having condition) = raw-inside condition
-having_in-some _ = tt
-
-limit_in-some : (c : CallText) → IfSome (limit_in c) Inside
-limit_in-some (call.Limit limit) = raw-inside limit
-limit_in-some _ = tt
-
-offset_in-some : (c : CallText) → IfSome (offset_in c) Inside
-offset_in-some (call.Offset offset) = raw-inside offset
-offset_in-some _ = tt
-
-pub clauses-parts : (start : StartText) (calls : List CallText) → InsideParts (clauses start calls)
-clauses-parts start calls =
-    let tables = all-flat table_in table_in-inside table_in-following calls in
-    record {
-      table = inside-inside (start_table start) (flat_map table_in calls) (start_table-inside start) tables.1 tables.0;
-      joins = joins-all [] calls;
-      fields = flat-all Inside fields_in fields_in-all (since drops_fields (call.SetFields (start_fields start) ∷ calls));
-      sets = flat-all Inside sets_in sets_in-all calls;
-      rows = flat-all Inside rows_in rows_in-all (since is_select calls);
-      query = last_given-inside query_in query_in-some (since is_values calls);
-      returning = last_given-inside returning_in returning_in-some calls;
-      group_fields = flat-all Inside group_fields_in group_fields_in-all calls;
-      having = last_given-inside having_in having_in-some calls;
-      groups = map-all Inside group_pieces group-inside (groups calls);
-      unions = flat-all (λ (union : Bool × Pieces). Inside union.1) unions_in unions_in-all calls;
-      order_fields = flat-all Inside order_fields_in order_fields_in-all calls;
-      limit = last_given-inside limit_in limit_in-some calls;
-      offset = last_given-inside offset_in offset_in-some calls;
-    }
-
--- ---- any property that each step preserves
+    → (are_own (join_words natural chosen) ≡ true) × (ends_with is_edge (join_words natural chosen) ≡ true)
+join-words true None = (refl, refl)
+join-words true (Some operator.Left) = (refl, refl)
+join-words true (Some operator.LeftOuter) = (refl, refl)
+join-words true (Some operator.Right) = (refl, refl)
+join-words true (Some operator.RightOuter) = (refl, refl)
+join-words true (Some operator.Inner) = (refl, refl)
+join-words true (Some operator.Cross) = (refl, refl)
+join-words false None = (refl, refl)
+join-words false (Some operator.Left) = (refl, refl)
+join-words false (Some operator.LeftOuter) = (refl, refl)
+join-words false (Some operator.Right) = (refl, refl)
+join-words false (Some operator.RightOuter) = (refl, refl)
+join-words false (Some operator.Inner) = (refl, refl)
+join-words false (Some operator.Cross) = (refl, refl)
 
 -- lists of calls that are all fit
 abbrev call_ok : Bool → (RawText → Bool) → CallText → Bool
@@ -229,14 +75,12 @@ until-all ok p (x ∷ xs) all = let both = and_parts (ok x) (list_all ok xs) all
     by true here rest = refl
     by false here rest = and_from _ _ here rest
 
-module _ (enclosed : Bool) (ok : RawText → Bool) (fine : List ℕ → Bool) (P F U : Pieces → Type 0)
-    (preserved : PreservedByCalls enclosed ok fine P F U) where
+module _ {enclosed : Bool} {ok : RawText → Bool} {fine : List ℕ → Bool} {P Q F U : Pieces → Type 0}
+    (preserved : PreservedByCalls enclosed ok fine P Q F U) where
   -- texts one by one
   fields-all : (fields : List (List ℕ)) → list_all ok (map (field_text enclosed) fields) ≡ true → Each F (map raw_piece fields)
-  fields-all [] all = tt
-  fields-all (field ∷ fields) all =
-      let both = and_parts (ok (field_text enclosed field)) (list_all ok (map (field_text enclosed) fields)) all in
-      (preserved.field field both.0, fields-all fields both.1)
+  fields-all fields all = tested-all F raw_piece (λ field. ok (field_text enclosed field)) preserved.field fields
+      (sym (list_all-map ok (field_text enclosed) fields) ∙ all)
 
   one-field : (field : List ℕ) → (ok (field_text enclosed field) && true) ≡ true → F (raw_piece field)
   one-field field all = preserved.field field (and_parts (ok (field_text enclosed field)) true all).0
@@ -245,7 +89,7 @@ module _ (enclosed : Bool) (ok : RawText → Bool) (fine : List ℕ → Bool) (P
       → P (equation fixed_piece (raw_piece left) (raw_piece right))
   equation-preserved left right all =
       let both = and_parts (ok (Bare left)) (ok (Bare right) && true) all in
-      between preserved (codes " = ") (raw_piece left) (raw_piece right) (record { even = refl; no_word = refl }) (preserved.bare left both.0)
+      between preserved.joins (codes " = ") (raw_piece left) (raw_piece right) refl (preserved.bare left both.0)
       (one preserved right both.1)
 
   -- what each call adds to each clause
@@ -256,20 +100,14 @@ module _ (enclosed : Bool) (ok : RawText → Bool) (fine : List ℕ → Bool) (P
   start_table-preserved (call.UpdateTable table) all = one preserved table all
   start_table-preserved (call.DeleteFrom table) all = one preserved table all
 
-  table_in-preserved : (c : CallText) → call_ok enclosed ok c ≡ true → P (table_in c)
-  table_in-preserved (call.AndTable table) all =
-      preserved.joins.append (fixed_piece (codes ", ")) (raw_piece table) (preserved.joins.words (codes ", ") (record { even = refl; no_word = refl }))
-      (one preserved table all)
-  table_in-preserved _ all = preserved.joins.none
+  table_in-preserved : (c : CallText) → call_ok enclosed ok c ≡ true → Q (table_in c)
+  table_in-preserved (call.AndTable table) all = preserved.joins.behind (codes ", ") (raw_piece table) refl (one preserved table all)
+  table_in-preserved _ all = preserved.joins.nothing
 
-  constraint_in-preserved : (c : CallText) → call_ok enclosed ok c ≡ true → P (constraint_in c)
-  constraint_in-preserved (call.On text) all =
-      preserved.joins.append (fixed_piece (codes " ON ")) (raw_piece text) (preserved.joins.words (codes " ON ") (record { even = refl; no_word = refl }))
-      (one preserved text all)
-  constraint_in-preserved (call.OnEq left right) all =
-      preserved.joins.append (fixed_piece (codes " ON ")) _ (preserved.joins.words (codes " ON ") (record { even = refl; no_word = refl }))
-      (equation-preserved left right all)
-  constraint_in-preserved _ all = preserved.joins.none
+  constraint_in-preserved : (c : CallText) → call_ok enclosed ok c ≡ true → Q (constraint_in c)
+  constraint_in-preserved (call.On text) all = preserved.joins.behind (codes " ON ") (raw_piece text) refl (one preserved text all)
+  constraint_in-preserved (call.OnEq left right) all = preserved.joins.behind (codes " ON ") _ refl (equation-preserved left right all)
+  constraint_in-preserved _ all = preserved.joins.nothing
 
   fields_in-preserved : (c : CallText) → call_ok enclosed ok c ≡ true → Each F (fields_in c)
   fields_in-preserved (call.Fields fields) all = fields-all fields all
@@ -287,7 +125,7 @@ module _ (enclosed : Bool) (ok : RawText → Bool) (fine : List ℕ → Bool) (P
       (equation-preserved field value (and_parts (call_ok enclosed ok (call.SetTo field value)) true all).0, tt)
   sets_in-preserved (call.SetStr field value) all =
       let both = and_parts (ok (Bare field) && true) (fine value && true) all in (
-        between preserved (codes " = ") (raw_piece field) (quoted_piece value) (record { even = refl; no_word = refl }) (one preserved field both.0)
+        between preserved.joins (codes " = ") (raw_piece field) (quoted_piece value) refl (one preserved field both.0)
             (preserved.quoted value (and_parts (fine value) true both.1).0),
         tt,
       )
@@ -303,7 +141,7 @@ module _ (enclosed : Bool) (ok : RawText → Bool) (fine : List ℕ → Bool) (P
 
   order-preserved : (descending : Bool) (field : List ℕ) → (ok (Bare field) && true) ≡ true → P (order fixed_piece descending (raw_piece field))
   order-preserved true field all = preserved.joins.append (raw_piece field) (fixed_piece (codes " DESC")) (one preserved field all)
-      (preserved.joins.words (codes " DESC") (record { even = refl; no_word = refl }))
+      (preserved.joins.ending (codes " DESC") refl refl)
   order-preserved false field all = one preserved field all
 
   order_fields_in-preserved : (c : CallText) → call_ok enclosed ok c ≡ true → Each P (order_fields_in c)
@@ -323,7 +161,7 @@ module _ (enclosed : Bool) (ok : RawText → Bool) (fine : List ℕ → Bool) (P
 
   returning_in-preserved : (c : CallText) → call_ok enclosed ok c ≡ true → IfSome (returning_in c) P
   returning_in-preserved (call.Returning fields) all = one preserved fields all
-  returning_in-preserved call.ReturningId all = preserved.joins.words (codes "id") (record { even = refl; no_word = refl })
+  returning_in-preserved call.ReturningId all = preserved.joins.words (codes "id") refl
   returning_in-preserved _ all = tt
 
   having_in-preserved : (c : CallText) → call_ok enclosed ok c ≡ true → IfSome (having_in c) P
@@ -347,12 +185,12 @@ module _ (enclosed : Bool) (ok : RawText → Bool) (fine : List ℕ → Bool) (P
       let both = and_parts (test c) (list_all test calls) all in
       append-all R (f c) (flat_map f calls) (each c both.0) (each-preserved R test f each calls both.1)
 
-  flat-preserved : (f : CallText → Pieces) → ((c : CallText) → call_ok enclosed ok c ≡ true → P (f c)) → (calls : List CallText)
-      → list_all (call_ok enclosed ok) calls ≡ true → P (flat_map f calls)
-  flat-preserved f each [] all = preserved.joins.none
+  flat-preserved : (f : CallText → Pieces) → ((c : CallText) → call_ok enclosed ok c ≡ true → Q (f c)) → (calls : List CallText)
+      → list_all (call_ok enclosed ok) calls ≡ true → Q (flat_map f calls)
+  flat-preserved f each [] all = preserved.joins.nothing
   flat-preserved f each (c ∷ calls) all =
       let both = and_parts (call_ok enclosed ok c) (list_all (call_ok enclosed ok) calls) all in
-      preserved.joins.append (f c) (flat_map f calls) (each c both.0) (flat-preserved f each calls both.1)
+      preserved.joins.further (f c) (flat_map f calls) (each c both.0) (flat-preserved f each calls both.1)
 
   last-preserved : (f : CallText → Option Pieces) → ((c : CallText) → call_ok enclosed ok c ≡ true → IfSome (f c) P) → (calls : List CallText)
       → list_all (call_ok enclosed ok) calls ≡ true
@@ -375,9 +213,8 @@ module _ (enclosed : Bool) (ok : RawText → Bool) (fine : List ℕ → Bool) (P
       ≡ true → Each P (join_in before c after)
   join_in-preserved before (call.Join table) after here all = (
     preserved.joins.append (join_after before table) (flat_map constraint_in (until is_join after))
-        (preserved.joins.append (fixed_piece (join_words (natural_of before) (operator_of before))) (raw_piece table)
-        (preserved.joins.words (join_words (natural_of before) (operator_of before)) (join-words (natural_of before) (operator_of before)).1)
-        (one preserved table here))
+        (let words = join-words (natural_of before) (operator_of before) in
+        preserved.joins.before (join_words (natural_of before) (operator_of before)) (raw_piece table) words.0 words.1 (one preserved table here))
         (flat-preserved constraint_in constraint_in-preserved (until is_join after) (until-all (call_ok enclosed ok) is_join after all)),
     tt,
   )
@@ -410,16 +247,11 @@ module _ (enclosed : Bool) (ok : RawText → Bool) (fine : List ℕ → Bool) (P
 
   group-preserved : (group : Group ConditionText) → list_all one_ok (group.0 ∷ group.1) ≡ true
       → P (group_pieces group)
-  group-preserved group all = joined P preserved.joins (codes " OR ") (record { even = refl; no_word = refl }) (map condition_pieces (group.0 ∷ group.1))
-      (conditions (group.0 ∷ group.1) all)
-    where
-      conditions : (cs : List ConditionText) → list_all one_ok cs ≡ true
-          → Each P (map condition_pieces cs)
-      conditions [] all = tt
-      conditions (c ∷ cs) all =
-          let both = and_parts (one_ok c) (list_all one_ok cs) all in
-          let here = and_parts (list_all ok (condition_raw_texts c)) (list_all fine (condition_quoted_texts c)) both.0 in
-          (condition-preserved enclosed ok fine P F U preserved c here.1 here.0, conditions cs both.1)
+  group-preserved group all =
+      joined preserved.joins (codes " OR ") refl (map condition_pieces (group.0 ∷ group.1))
+      (tested-all P condition_pieces one_ok
+      (λ c h. let here = and_parts (list_all ok (condition_raw_texts c)) (list_all fine (condition_quoted_texts c)) h in
+      condition-preserved preserved c here.1 here.0) (group.0 ∷ group.1) all)
 
   groups-preserved : (found : List (Group (Family × ConditionText)))
       → list_all (λ (group : Group (Family × ConditionText)). list_all condition_ok (group.0 ∷ group.1)) found ≡ true

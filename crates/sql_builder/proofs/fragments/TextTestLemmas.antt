@@ -3,7 +3,7 @@ use Rattle.std.proofs.Common.{◌≡◌, refl, ◌∙◌, ap, ℕ, Bool, true, f
 use Rattle.std.proofs.Common.{option_map}
 use Rattle.std.specs.Prelude.{IsTrue, filter_map, flat_map, is_some}
 use Rattle.std.specs.List.{cons_option, last_or, list_all, list_any}
-use Rattle.std.proofs.lemmas.Bool.{and_parts, false≢true}
+use Rattle.std.proofs.lemmas.Bool.{false≢true}
 use Rattle.std.proofs.lemmas.List.Folds.{list_all-append}
 use Rattle.std.proofs.lemmas.Result.{IfOk-weaker}
 use Rattle.sql_parts.specs.Tokens.{closed, is_empty, tokens}
@@ -13,19 +13,18 @@ use Rattle.sql_builder.specs.Calls.{start_raw_texts}
 use Rattle.sql_builder.specs.Filters.{last_given}
 use Rattle.sql_builder.specs.RawFragments.{encloses_fields, has_balanced_fragments, has_closed_fragments, has_no_semicolons, is_fit}
 use Rattle.sql_builder.specs.TextTests.{ClosedTextsMakeClosedFragments, FitTextsMakeClosedFragments, PlainTextsEndInOneSemicolon, PlainTextsMakePlainFragments}
-use Rattle.sql_builder.specs.TextTests.{SelectsNeedGroupBy, TextsAreFitCallByCall, TextsPassCallByCall, all_pass, call_passes, is_group_by, is_having, is_plain}
-use Rattle.sql_builder.specs.TextTests.{texts_pass}
+use Rattle.sql_builder.specs.TextTests.{SelectsNeedGroupBy, TextsAreFitCallByCall, TextsPassCallByCall, all_pass, call_passes, is_group_by, is_having}
+use Rattle.sql_builder.specs.TextTests.{is_plain, texts_pass}
 use Rattle.sql_builder.specs.Layout.{no_group_by_error}
 use Rattle.sql_builder.specs.Shape.{EndsInOneSemicolon}
 use Rattle.sql_builder.specs.Statement.{pieces}
 use Rattle.sql_builder.specs.Pieces.{Pieces, pieces_text}
-use Rattle.sql_builder.proofs.fragments.PreservationLemmas.{clauses-parts}
+use Rattle.sql_builder.proofs.fragments.NeutralLemmas.{clauses-inside}
 use Rattle.sql_builder.proofs.fragments.FitLemmas.{balanced_fragments, unless}
 use Rattle.sql_builder.proofs.pieces.LayoutShapeLemmas.{sql-semicolon}
 use Rattle.sql_builder.proofs.reading.ClauseWordLemmas.{fragments_closed}
-use Rattle.sql_builder.proofs.fragments.PropertyLemmas.{calls-whatever, whatever}
+use Rattle.sql_builder.proofs.fragments.PropertyLemmas.{calls-whatever, whatever, Passes}
 use Rattle.sql_builder.proofs.fragments.PassLemmas.{printed-passes}
-use Rattle.sql_builder.proofs.fragments.PropertyLemmas.{Passes}
 use Rattle.sql_builder.proofs.reading.ReadBackLemmas.{layout}
 use Rattle.sql_builder.proofs.statements.StatementLawLemmas.{of_pieces}
 
@@ -55,12 +54,9 @@ texts_are_fit_call_by_call start calls more finish =
 
 -- ---- fragments
 
-module _ (test : List ℕ → Bool) (start : StartText) (calls : List CallText) (finish : FinishText) where
-  fragments-pass : texts_pass test start calls finish ≡ true → Passes test whatever (layout finish (clauses start calls))
-  fragments-pass all =
-      let both = and_parts (all_pass test (start_raw_texts start) && list_all (call_passes test) calls) (all_pass test (finish_raw_texts finish)) all in
-      let first = and_parts (all_pass test (start_raw_texts start)) (list_all (call_passes test) calls) both.0 in
-      printed-passes test whatever false start calls finish (calls-whatever calls) first.0 first.1 both.1
+fragments-pass : (test : List ℕ → Bool) (start : StartText) (calls : List CallText) (finish : FinishText) → texts_pass test start calls finish ≡ true
+    → Passes test whatever (layout finish (clauses start calls))
+fragments-pass test start calls finish all = printed-passes test whatever start calls finish (calls-whatever calls) all
 
 pub closed_texts : ClosedTextsMakeClosedFragments
 closed_texts start calls finish all = unless _ (layout finish (clauses start calls)) has_closed_fragments (fragments-pass closed start calls finish all)
@@ -77,7 +73,7 @@ plain_texts start calls finish all = unless _ (layout finish (clauses start call
 pub plain_texts_end : PlainTextsEndInOneSemicolon
 plain_texts_end start calls all plain =
     of_pieces start calls Sql (λ printed. IsTrue (has_closed_fragments printed)) (λ printed text. EndsInOneSemicolon (tokens text))
-    (λ is. sql-semicolon (clauses start calls) (clauses-parts start calls) is (fragments-pass is_plain start calls Sql plain)) all
+    (λ is. sql-semicolon (clauses start calls) (clauses-inside start calls) is (fragments-pass is_plain start calls Sql plain)) all
 
 -- ---- the error of a SELECT
 

@@ -1,13 +1,11 @@
 -- The raw texts of a list of calls are fit, or balanced, exactly where its tests pass; and what a list whose texts are balanced prints.
-use Rattle.std.proofs.Common.{◌≡◌, refl, sym, ◌∙◌, ap, subst, ℕ, ◌+◌, Bool, true, false, not, map, ◌&&◌, List, [], ◌∷◌, Option, None, Some, IfOk, Result, Ok}
-use Rattle.std.proofs.Common.{Err}
+use Rattle.std.proofs.Common.{◌≡◌, refl, sym, ◌∙◌, ap, subst, ℕ, ◌+◌, Bool, true, false, map, ◌&&◌, List, [], ◌∷◌, Option, None, Some, IfOk, Result, Ok, Err}
 use Rattle.std.specs.Prelude.{IsTrue, is_none, is_ok}
 use Rattle.std.specs.List.{list_all}
 use Rattle.std.specs.Result.{result_and}
 use Rattle.std.proofs.Math.Bool.{and_assoc}
-use Rattle.std.proofs.lemmas.Bool.{and_from, and_parts}
 use Rattle.std.proofs.lemmas.Result.{IfOk-weaker}
-use Rattle.sql_parts.specs.Fragments.{balanced, has_clause_word}
+use Rattle.sql_parts.specs.Fragments.{balanced}
 use Rattle.sql_parts.specs.Misfits.{meets, misfit}
 use Rattle.sql_parts.specs.Tokens.{tokens}
 use Rattle.sql_parts.specs.declared.misfits.Demand.{Demand}
@@ -15,28 +13,26 @@ use Rattle.sql_parts.specs.declared.misfits.Demand.TheVariants as demand
 use Rattle.sql_parts.specs.declared.misfits.Misfit.{Misfit}
 use Rattle.sql_parts.proofs.fragments.MisfitLemmas.{balanced_whole, met}
 use Rattle.sql_builder.specs.Calls as call
-use Rattle.sql_builder.specs.Calls.{CallText, FinishText, StartText, Sql, Query, QueryValues, Subquery, SubqueryAs, call_raw_texts, clauses, field_text}
-use Rattle.sql_builder.specs.Calls.{finish_raw_texts, start_raw_texts}
+use Rattle.sql_builder.specs.Calls.{CallText, FinishText, StartText, Sql, call_raw_texts, clauses, finish_raw_texts, start_raw_texts}
 use Rattle.sql_builder.specs.Condition.{ConditionText, Raw, Compare, Like, IsNull, IsNotNull, InList, InQuoted, InQuery, Between, blank_condition}
 use Rattle.sql_builder.specs.Condition.{condition_raw_texts}
 use Rattle.sql_builder.specs.Interference.{blank_call}
-use Rattle.sql_builder.specs.Meaning.{HasBalancedFragments, is_unenclosed, prints_where}
-use Rattle.sql_builder.specs.RawFragments.{encloses_fields, has_balanced_fragments, has_closed_fragments, has_fit_texts, is_fit}
+use Rattle.sql_builder.specs.Meaning.{HasBalancedFragments}
+use Rattle.sql_builder.specs.RawFragments.{encloses_fields, has_balanced_fragments, has_closed_fragments, is_fit}
 use Rattle.sql_builder.specs.RawTexts.{RawText, Bare, Enclosed}
 use Rattle.sql_builder.specs.Shape.{EndsInOneSemicolon, HasClosedFragments}
 use Rattle.sql_builder.specs.Statement.{pieces, statement}
-use Rattle.sql_builder.specs.TextTests.{all_pass, call_passes, is_plain, raw_text, texts_pass}
+use Rattle.sql_builder.specs.TextTests.{all_pass, is_plain, raw_text, texts_pass}
 use Rattle.sql_builder.specs.Unfits.{QuotedTextsDecideNoTest, TestsPassBalancedTexts, TestsPassFitTexts, calls_test, list_test, raw_test, texts_test}
 use Rattle.sql_builder.specs.Unfits.{unless_misfit}
 use Rattle.sql_builder.specs.declared.checks.Place.{Place}
 use Rattle.sql_builder.specs.declared.checks.Place.TheVariants as place
 use Rattle.sql_builder.specs.declared.checks.Unfit.{Unfit}
-use Rattle.sql_builder.specs.declared.clauses.Kind.{Kind}
 use Rattle.sql_builder.proofs.fragments.FitLemmas.{unless}
-use Rattle.sql_builder.proofs.fragments.PassLemmas.{printed-passes}
+use Rattle.sql_builder.proofs.fragments.PassLemmas.{printed-passes, calls-enclosed, weaker-texts}
 use Rattle.sql_builder.proofs.fragments.PropertyLemmas.{calls-whatever, whatever}
 use Rattle.sql_builder.proofs.fragments.TextTestLemmas.{plain_texts_end}
-use Rattle.sql_builder.proofs.lists.AllFacts.{all-weaker}
+use Rattle.sql_builder.proofs.lists.AllFacts.{each-same}
 use Rattle.sql_builder.proofs.reading.ClauseWordLemmas.{fragments_closed}
 use Rattle.sql_builder.proofs.reading.ReadBackLemmas.{layout}
 
@@ -91,11 +87,6 @@ list_passes bare start calls finish =
     && (calls_fit bare 0 (encloses_fields start finish) calls i && texts_fit bare place.Finish 0 (finish_raw_texts finish) i))
     ∙ sym (and_assoc (list_all (fits bare) (start_raw_texts start)) _ _)
 
--- tests that agree on each element
-each_same : {X : Type 0} (one other : X → Bool) → ((x : X) → one x ≡ other x) → (xs : List X) → list_all one xs ≡ list_all other xs
-each_same one other same [] = refl
-each_same one other same (x ∷ xs) = λ i. same x i && each_same one other same xs i
-
 fits_fit : (raw : RawText) → fits demand.Fragment raw ≡ is_fit raw
 fits_fit (Bare text) = refl
 fits_fit (Enclosed text) = refl
@@ -106,37 +97,22 @@ fits_balanced (Enclosed text) = refl
 
 pub list_is_fit : TestsPassFitTexts
 list_is_fit start calls finish =
-    let all = each_same (fits demand.Fragment) is_fit fits_fit in
+    let all = each-same (fits demand.Fragment) is_fit fits_fit in
     let enclosed = encloses_fields start finish in
     list_passes demand.Fragment start calls finish
     ∙ (λ i. all (start_raw_texts start) i
-    && each_same (λ c. list_all (fits demand.Fragment) (call_raw_texts enclosed c)) (λ c. list_all is_fit (call_raw_texts enclosed c))
+    && each-same (λ c. list_all (fits demand.Fragment) (call_raw_texts enclosed c)) (λ c. list_all is_fit (call_raw_texts enclosed c))
     (λ c. all (call_raw_texts enclosed c)) calls i
     && all (finish_raw_texts finish) i)
 
--- whether a field is enclosed makes no difference to what is balanced
-fields_balanced : (enclosed : Bool) (fields : List (List ℕ))
-    → all_pass balanced (map (field_text enclosed) fields) ≡ all_pass balanced (map (field_text false) fields)
-fields_balanced enclosed [] = refl
-fields_balanced true (field ∷ fields) = ap (λ b. balanced field && b) (fields_balanced true fields)
-fields_balanced false (field ∷ fields) = refl
-
-call_balanced : (enclosed : Bool) (c : CallText) → all_pass balanced (call_raw_texts enclosed c) ≡ all_pass balanced (call_raw_texts false c)
-call_balanced enclosed (call.Fields fields) = fields_balanced enclosed fields
-call_balanced enclosed (call.SetFields fields) = fields_balanced enclosed fields
-call_balanced enclosed (call.Field field) = fields_balanced enclosed (field ∷ [])
-call_balanced enclosed (call.SetField field) = fields_balanced enclosed (field ∷ [])
-call_balanced enclosed (call.CountAs field name) = ap (λ b. balanced field && b) (fields_balanced enclosed (name ∷ []))
-call_balanced enclosed c = refl
-
 pub list_is_balanced : TestsPassBalancedTexts
 list_is_balanced start calls finish =
-    let all = each_same (fits demand.Balanced) (λ raw. balanced (raw_text raw)) fits_balanced in
+    let all = each-same (fits demand.Balanced) (λ raw. balanced (raw_text raw)) fits_balanced in
     let enclosed = encloses_fields start finish in
     list_passes demand.Balanced start calls finish
     ∙ (λ i. all (start_raw_texts start) i
-    && each_same (λ c. list_all (fits demand.Balanced) (call_raw_texts enclosed c)) (call_passes balanced)
-    (λ c. all (call_raw_texts enclosed c) ∙ call_balanced enclosed c) calls i
+    && (each-same (λ c. list_all (fits demand.Balanced) (call_raw_texts enclosed c)) (λ c. all_pass balanced (call_raw_texts enclosed c))
+    (λ c. all (call_raw_texts enclosed c)) calls ∙ calls-enclosed balanced enclosed calls) i
     && all (finish_raw_texts finish) i)
 
 -- what a call quotes is no raw text
@@ -170,48 +146,16 @@ quoted_texts_decide_none bare start one other finish same =
     λ i. result_and (texts_test bare place.Start 0 (start_raw_texts start))
     (result_and (calls i) (texts_test bare place.Finish 0 (finish_raw_texts finish)))
 
--- fit texts are balanced
-fit_balanced : (raw : RawText) → is_fit raw ≡ true → balanced (raw_text raw) ≡ true
-fit_balanced (Bare text) fit = (and_parts (balanced text) (not (has_clause_word text)) fit).0
-fit_balanced (Enclosed text) fit = fit
-
-texts_balanced : (raws : List RawText) → list_all is_fit raws ≡ true → all_pass balanced raws ≡ true
-texts_balanced raws all = all-weaker is_fit (λ raw. balanced (raw_text raw)) fit_balanced raws all
-
-pub fit_texts_balanced : (start : StartText) (calls : List CallText) (finish : FinishText)
-    → has_fit_texts start calls finish ≡ true → texts_pass balanced start calls finish ≡ true
-fit_texts_balanced start calls finish all =
-    let enclosed = encloses_fields start finish in
-    let both = and_parts (list_all is_fit (start_raw_texts start) && list_all (λ c. list_all is_fit (call_raw_texts enclosed c)) calls)
-    (list_all is_fit (finish_raw_texts finish)) all in
-    let first = and_parts (list_all is_fit (start_raw_texts start)) (list_all (λ c. list_all is_fit (call_raw_texts enclosed c)) calls) both.0 in
-    and_from _ _
-    (and_from _ _ (texts_balanced (start_raw_texts start) first.0)
-    (all-weaker (λ (c : CallText). list_all is_fit (call_raw_texts enclosed c)) (call_passes balanced)
-    (λ c fit. sym (call_balanced enclosed c) ∙ texts_balanced (call_raw_texts enclosed c) fit) calls first.1))
-    (texts_balanced (finish_raw_texts finish) both.1)
-
 -- ---- what a list of calls prints whose raw texts are balanced
 
 raw_plain : (raw : RawText) → balanced (raw_text raw) ≡ true → is_plain (raw_text raw) ≡ true
 raw_plain raw is = (balanced_whole (raw_text raw) is).1
 
-plain_if_balanced : (raws : List RawText) → all_pass balanced raws ≡ true → all_pass is_plain raws ≡ true
-plain_if_balanced raws all = all-weaker (λ raw. balanced (raw_text raw)) (λ raw. is_plain (raw_text raw)) raw_plain raws all
-
 module _ (start : StartText) (calls : List CallText) (finish : FinishText) (all : texts_pass balanced start calls finish ≡ true) where
-  balanced_parts : (all_pass balanced (start_raw_texts start) ≡ true) × (list_all (call_passes balanced) calls ≡ true)
-      × (all_pass balanced (finish_raw_texts finish) ≡ true)
-  balanced_parts =
-      let both = and_parts (all_pass balanced (start_raw_texts start) && list_all (call_passes balanced) calls)
-      (all_pass balanced (finish_raw_texts finish)) all in
-      let first = and_parts (all_pass balanced (start_raw_texts start)) (list_all (call_passes balanced) calls) both.0 in
-      (first.0, first.1, both.1)
-
   pub balanced_fragments : HasBalancedFragments start calls finish
   balanced_fragments =
       unless _ (layout finish (clauses start calls)) has_balanced_fragments
-      (printed-passes balanced whatever false start calls finish (calls-whatever calls) balanced_parts.0 balanced_parts.1 balanced_parts.2)
+      (printed-passes balanced whatever start calls finish (calls-whatever calls) all)
 
   pub closed_fragments : HasClosedFragments start calls finish
   closed_fragments =
@@ -219,11 +163,7 @@ module _ (start : StartText) (calls : List CallText) (finish : FinishText) (all 
       fragments_closed balanced_fragments
 
   plain_texts : texts_pass is_plain start calls finish ≡ true
-  plain_texts =
-      and_from _ _
-      (and_from _ _ (plain_if_balanced (start_raw_texts start) balanced_parts.0)
-      (all-weaker (call_passes balanced) (call_passes is_plain) (λ (c : CallText). plain_if_balanced (call_raw_texts false c)) calls balanced_parts.1))
-      (plain_if_balanced (finish_raw_texts finish) balanced_parts.2)
+  plain_texts = weaker-texts (λ raw. balanced (raw_text raw)) (λ raw. is_plain (raw_text raw)) raw_plain false start calls finish all
 
 -- what `sql` prints of them ends in its only `;`
 pub ends_in_semicolon : (start : StartText) (calls : List CallText) (finish : FinishText) → finish ≡ Sql → texts_pass balanced start calls finish ≡ true
@@ -232,11 +172,3 @@ ends_in_semicolon start calls finish is all =
     let here : texts_pass balanced start calls Sql ≡ true = ap (texts_pass balanced start calls) (sym is) ∙ all in
     subst (λ (last : FinishText). IfOk (statement start calls last) (λ text. EndsInOneSemicolon (tokens text))) (sym is)
     (plain_texts_end start calls (closed_fragments start calls Sql here) (plain_texts start calls Sql here))
-
--- a finish that prints a WHERE prints no brackets round it
-pub where_unenclosed : (finish : FinishText) (kind : Kind) → IsTrue (prints_where finish kind) → IsTrue (is_unenclosed finish)
-where_unenclosed Sql kind prints = refl
-where_unenclosed Query kind prints = refl
-where_unenclosed QueryValues kind prints = refl
-where_unenclosed Subquery kind prints = prints
-where_unenclosed (SubqueryAs name) kind prints = prints

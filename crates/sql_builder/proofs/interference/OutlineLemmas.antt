@@ -24,11 +24,12 @@ use Rattle.sql_builder.specs.Statement.{layout_at, error_at, text_at, text_unles
 use Rattle.sql_builder.specs.Pieces as text
 use Rattle.sql_builder.specs.Pieces.{Pieces, fixed_piece, pieces_text, quoted_piece, raw_piece}
 use Rattle.sql_builder.proofs.pieces.ClauseShapeLemmas.{printed-shaped, quoted_equation_keeps}
-use Rattle.sql_builder.proofs.conditions.ConditionLemmas.{condition-inside, condition_printed}
+use Rattle.sql_builder.proofs.conditions.ConditionLemmas.{condition_printed}
 use Rattle.sql_builder.proofs.pieces.LayoutMapLemmas.{layout_in_form}
 use Rattle.sql_builder.proofs.pieces.LayoutShapeLemmas.{builder-shape}
 use Rattle.sql_builder.proofs.interference.QuotedTextLemmas.{blanks, condition-blank, same_tokens}
 use Rattle.sql_builder.proofs.pieces.ShapeLemmas.{Shaped, pieces_tokens-append, shaped}
+use Rattle.sql_builder.proofs.fragments.NeutralLemmas.{condition-inside}
 
 -- ---- clauses in one form after another
 

@@ -1,6 +1,6 @@
 -- Readers go through the same states outside of the texts that calls quote.
-use Rattle.std.proofs.Common.{◌≡◌, refl, sym, ◌∙◌, ap, subst, ℕ, Bool, true, false, List, [], ◌∷◌, ◌++◌, Option, None, Some, Result, Ok, Err, map, length}
-use Rattle.std.specs.Prelude.{IfOk, IsTrue}
+use Rattle.std.proofs.Common.{◌≡◌, refl, sym, ◌∙◌, ap, subst, ℕ, Bool, true, List, [], ◌∷◌, ◌++◌, Option, None, Some, Result, Ok, Err, map, length}
+use Rattle.std.specs.Prelude.{IfOk, IsTrue, ◌&&◌}
 use Rattle.std.specs.List.{list_all}
 use Rattle.std.specs.Result.{result_map_both}
 use Rattle.std.proofs.lemmas.List.{append-nil, map-append}
@@ -10,38 +10,36 @@ use Rattle.sql_parts.specs.Readers.{part_bytes, parts_bytes}
 use Rattle.sql_parts.specs.declared.error.SqlBuilderError.{SqlBuilderError}
 use Rattle.sql_parts.proofs.tokens.ReaderLemmas.{marks-length, readers-alike}
 use Rattle.sql_parts.specs.TokenReader.{token_reader}
-use Rattle.sql_builder.specs.Calls.{FinishText, clauses}
+use Rattle.sql_builder.specs.Calls.{FinishText, clauses, CallText, finish_raw_texts, start_raw_texts}
 use Rattle.sql_builder.specs.Clauses.{Clauses, map_clauses}
 use Rattle.sql_builder.specs.Layout.{byte_units}
 use Rattle.sql_builder.specs.Pieces as text
-use Rattle.sql_builder.specs.Pieces.{Pieces, fixed_piece, pieces_text, raw_piece}
+use Rattle.sql_builder.specs.Pieces.{Pieces, fixed_piece, raw_piece}
 use Rattle.sql_builder.specs.RawFragments.{has_closed_fragments}
 use Rattle.sql_builder.specs.Statement.{error_at, layout_at, pieces, statement, text_unless_error, unless_error}
 use Rattle.sql_builder.specs.StatementLaws.{made_by}
 use Rattle.sql_builder.specs.StatementReaders.{ClosedFragmentsOpenStrings, QuotedBytesAreBytes, ReadersIgnoreQuotedFragments, ReadersIgnoreQuotedTexts}
-use Rattle.sql_builder.specs.StatementReaders.{bytes_unless_error, constant_part, every_byte, parts_at, parts_in, printed_by, text_of_parts}
-use Rattle.sql_builder.proofs.interference.QuotedTextLemmas.{blanks, failed, laid, same_errors, same_layouts}
+use Rattle.sql_builder.specs.StatementReaders.{bytes_unless_error, constant_part, every_byte, parts_at, parts_in, printed_by, text_of_parts, NoTextsDecide}
+use Rattle.sql_builder.specs.StatementReaders.{PlainTextsArePrinted, quotes_plain_texts}
+use Rattle.sql_builder.proofs.interference.QuotedTextLemmas.{blanks, failed, laid, same_errors, same_layouts, map-twice}
 use Rattle.sql_builder.proofs.pieces.PartLemmas.{parts_in-bytes}
 use Rattle.sql_builder.proofs.pieces.ClauseShapeLemmas.{printed-shaped}
 use Rattle.sql_builder.proofs.pieces.ShapeLemmas.{Shaped}
 use Rattle.sql_builder.proofs.pieces.LayoutMapLemmas.{layout_in_form}
 use Rattle.sql_builder.proofs.statements.StatementLawLemmas.{builders_print_statements}
-use Rattle.std.specs.Prelude.{◌&&◌}
 use Rattle.std.proofs.lemmas.Bool.{and_from, and_parts}
-use Rattle.std.proofs.lemmas.List.Folds.{list_all-append}
+use Rattle.std.proofs.lemmas.List.Folds.{list_all-append, list_all-map}
 use Rattle.sql_builder.specs.Calls as call
 use Rattle.sql_builder.specs.Condition as condition
 use Rattle.sql_builder.specs.Condition.{mask_text}
 use Rattle.sql_builder.specs.Interference.{blank_call, call_quoted_texts}
-use Rattle.sql_builder.specs.Calls.{CallText, StartText, finish_raw_texts, start_raw_texts}
-use Rattle.sql_builder.specs.StatementReaders.{NoTextsDecide, PlainTextsArePrinted, quotes_plain_texts}
 use Rattle.sql_builder.specs.declared.condition.Percent.{Percent}
 use Rattle.sql_builder.specs.declared.condition.Percent.TheVariants as sign
 use Rattle.sql_builder.proofs.fragments.FitLemmas.{unless}
 use Rattle.sql_builder.proofs.fragments.NeutralLemmas.{all-any, calls-any}
 use Rattle.sql_builder.proofs.fragments.PassLemmas.{printed-passes}
 use Rattle.sql_builder.proofs.fragments.PropertyLemmas.{piece_passes, whatever}
-use Rattle.sql_builder.proofs.interference.QuotedTextLemmas.{map-twice}
+use Rattle.sql_builder.proofs.lists.AllFacts.{all-weaker}
 
 -- ---- parts of pieces
 
@@ -150,8 +148,8 @@ plain-printed plain start calls finish all =
     let laid = layout_at fixed_piece raw_piece finish (clauses start calls) in
     unless (error_at finish (made_by start calls)) laid (λ printed. list_all (has_plain_text plain) (parts_in printed))
     (parts-plain plain laid
-    ∙ printed-passes whatever (list_all plain) false start calls finish all (all-any (start_raw_texts start)) (calls-any calls)
-    (all-any (finish_raw_texts finish)))
+    ∙ printed-passes whatever (list_all plain) start calls finish all
+    (and_from _ _ (and_from _ _ (all-any (start_raw_texts start)) (calls-any calls)) (all-any (finish_raw_texts finish))))
 
 -- a call without texts quotes plain ones where the call does: the percent signs of a mask
 percent-plain : (plain : ℕ → Bool) (percent : Percent) (mask : List ℕ) → list_all plain (mask_text percent mask) ≡ true
@@ -175,10 +173,10 @@ blank-plain plain (call.Cond family (condition.InQuoted negated field values)) a
 blank-plain plain _ all = refl
 
 blanks-plain : (plain : ℕ → Bool) (calls : List CallText) → quotes_plain_texts plain calls ≡ true → quotes_plain_texts plain (map blank_call calls) ≡ true
-blanks-plain plain [] all = refl
-blanks-plain plain (c ∷ calls) all =
-    let both = and_parts (list_all (list_all plain) (call_quoted_texts c)) (quotes_plain_texts plain calls) all in
-    and_from _ _ (blank-plain plain c both.0) (blanks-plain plain calls both.1)
+blanks-plain plain calls all =
+    list_all-map (λ c. list_all (list_all plain) (call_quoted_texts c)) blank_call calls
+    ∙ all-weaker (λ c. list_all (list_all plain) (call_quoted_texts c)) (λ c. list_all (list_all plain) (call_quoted_texts (blank_call c))) (blank-plain plain)
+    calls all
 
 blank_call-twice : (c : CallText) → blank_call (blank_call c) ≡ blank_call c
 blank_call-twice (call.Cond family (condition.InQuoted negated field values)) =

@@ -1,33 +1,35 @@
 -- What holds of each element of a list.
-use Rattle.std.proofs.Common.{List, [], ◌∷◌, ◌++◌, Option, None, Some, map, flat_map}
-use Rattle.std.specs.Prelude.{IfSome, filter_map}
-use Rattle.std.specs.List.{AllByRecursion, cons_option, last_or}
-use Rattle.std.proofs.Common.{◌≡◌, refl, Bool, true, false}
-use Rattle.std.specs.List.{list_all}
-use Rattle.std.proofs.lemmas.Bool.{and_parts, and_from}
+use Rattle.std.proofs.Common.{List, [], ◌∷◌, ◌++◌, map, ◌≡◌, refl, Bool, true, false, ◌&&◌}
+use Rattle.std.specs.List.{AllByRecursion, list_all, list_any}
+use Rattle.std.proofs.lemmas.Bool.{and_parts, and_from, or_from, or_parts}
 use Rattle.sql_builder.specs.Filters.{Group, begins, cut, lead_and_groups}
 
 pub append-all : {X : Type 0} (P : X → Type 0) (one other : List X) → AllByRecursion P one → AllByRecursion P other → AllByRecursion P (one ++ other)
 append-all P [] other all too = too
 append-all P (x ∷ one) other all too = (all.0, append-all P one other all.1 too)
 
-pub flat-all : {X Y : Type 0} (P : Y → Type 0) (f : X → List Y) → ((x : X) → AllByRecursion P (f x)) → (xs : List X) → AllByRecursion P (flat_map f xs)
-flat-all P f each [] = tt
-flat-all P f each (x ∷ xs) = append-all P (f x) (flat_map f xs) (each x) (flat-all P f each xs)
-
 pub map-all : {X Y : Type 0} (P : Y → Type 0) (f : X → Y) → ((x : X) → P (f x)) → (xs : List X) → AllByRecursion P (map f xs)
 map-all P f each [] = tt
 map-all P f each (x ∷ xs) = (each x, map-all P f each xs)
 
-pub last-some : {X Y : Type 0} (P : Y → Type 0) (f : X → Option Y) → ((x : X) → IfSome (f x) P) → (xs : List X) (before : Option Y) → IfSome before P
-    → IfSome (last_or before (filter_map f xs)) P
-last-some P f each [] before holds = holds
-last-some {Y = Y} P f each (x ∷ xs) before holds = by (f x) (each x) (λ found keeps. last-some P f each xs found keeps)
-  where
-    by : (found : Option Y) → IfSome found P → ((next : Option Y) → IfSome next P → IfSome (last_or next (filter_map f xs)) P)
-        → IfSome (last_or before (cons_option found (filter_map f xs))) P
-    by None keeps rest = rest before holds
-    by (Some y) keeps rest = rest (Some y) keeps
+-- what holds of those that pass a test, and of what is made of them
+pub tested : {X : Type 0} (P : X → Type 0) (test : X → Bool) → ((x : X) → test x ≡ true → P x) → (xs : List X) → list_all test xs ≡ true → AllByRecursion P xs
+tested P test each [] all = tt
+tested P test each (x ∷ xs) all =
+    let both = and_parts (test x) (list_all test xs) all in
+    (each x both.0, tested P test each xs both.1)
+
+pub tested-all : {X Y : Type 0} (P : Y → Type 0) (f : X → Y) (test : X → Bool) → ((x : X) → test x ≡ true → P (f x)) → (xs : List X)
+    → list_all test xs ≡ true → AllByRecursion P (map f xs)
+tested-all P f test each [] all = tt
+tested-all P f test each (x ∷ xs) all =
+    let both = and_parts (test x) (list_all test xs) all in
+    (each x both.0, tested-all P f test each xs both.1)
+
+-- tests that agree on each element
+pub each-same : {X : Type 0} (one other : X → Bool) → ((x : X) → one x ≡ other x) → (xs : List X) → list_all one xs ≡ list_all other xs
+each-same one other same [] = refl
+each-same one other same (x ∷ xs) = λ i. same x i && each-same one other same xs i
 
 -- a test that another one implies
 pub all-weaker : {X : Type 0} (ok other : X → Bool) → ((x : X) → ok x ≡ true → other x ≡ true) → (xs : List X) → list_all ok xs ≡ true → list_all other xs
@@ -36,6 +38,14 @@ all-weaker ok other each [] all = refl
 all-weaker ok other each (x ∷ xs) all =
     let both = and_parts (ok x) (list_all ok xs) all in
     and_from _ _ (each x both.0) (all-weaker ok other each xs both.1)
+
+-- a test that is passed where another one is
+pub none-weaker : {X : Type 0} (test wider : X → Bool) → ((x : X) → wider x ≡ false → test x ≡ false) → (xs : List X) → list_any wider xs ≡ false
+    → list_any test xs ≡ false
+none-weaker test wider each [] none = refl
+none-weaker test wider each (x ∷ xs) none =
+    let both = or_parts (wider x) (list_any wider xs) none in
+    or_from _ _ (each x both.0) (none-weaker test wider each xs both.1)
 
 -- what holds of all elements holds of those of each group that they are cut into
 module _ {X : Type 0} (ok opens : X → Bool) where

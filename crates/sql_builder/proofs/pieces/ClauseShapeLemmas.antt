@@ -1,5 +1,5 @@
 -- What a list of calls prints, and what a condition and a call with two texts print, keep their tokens.
-use Rattle.std.proofs.Common.{◌≡◌, ℕ, List, [], ◌∷◌, Option, None, Some, subst, IfOk, ap, sym, ◌∙◌}
+use Rattle.std.proofs.Common.{◌≡◌, ℕ, List, [], ◌∷◌, Option, None, Some, subst, IfOk, ap, sym, ◌∙◌, codes, refl}
 use Rattle.std.specs.Prelude.{IsTrue}
 use Rattle.sql_builder.specs.Builder.{ClauseTexts, with_binary, with_condition, with_condition_bytes, with_fields, with_on, with_set}
 use Rattle.sql_parts.specs.Tokens.{closed, tokens}
@@ -23,14 +23,15 @@ use Rattle.sql_builder.proofs.reading.ClauseWordLemmas.{fragments_closed}
 use Rattle.sql_builder.specs.declared.steps.BinaryClause.{BinaryClause}
 use Rattle.sql_builder.specs.declared.steps.BinaryClause.TheVariants as binary
 use Rattle.std.proofs.lemmas.List.{append-nil}
-use Rattle.sql_builder.proofs.fragments.PreservationLemmas.{clauses-parts, count_as-inside, equation-inside}
-use Rattle.sql_builder.proofs.pieces.LayoutShapeLemmas.{sql-semicolon, fragments-printed, layout-shaped, raw-inside-parts}
+use Rattle.sql_builder.proofs.pieces.LayoutShapeLemmas.{sql-semicolon, fragments-printed, layout-shaped}
 use Rattle.sql_builder.proofs.pieces.ShapeLemmas.{Inside, Shaped, quoted-inside, raw-inside, shape_closed, shaped}
-use Rattle.sql_builder.proofs.conditions.ConditionLemmas.{condition-inside, condition_atom, condition_printed, operands_balanced}
+use Rattle.sql_builder.proofs.conditions.ConditionLemmas.{condition_atom, condition_printed, operands_balanced}
+use Rattle.sql_builder.proofs.fragments.NeutralLemmas.{clauses-inside, condition-inside, count_as-inside, raw-inside-parts}
+use Rattle.sql_builder.proofs.fragments.PropertyLemmas.{between, inside-joins}
 
 -- what a list of calls prints
 pub printed-shaped : (start : StartText) (calls : List CallText) (finish : FinishText) → Shaped (layout_at fixed_piece raw_piece finish (clauses start calls))
-printed-shaped start calls finish = layout-shaped finish (clauses start calls) (clauses-parts start calls)
+printed-shaped start calls finish = layout-shaped finish (clauses start calls) (clauses-inside start calls)
 
 -- what a condition and a call with two texts print
 keeps : (printed : Pieces) (text : List ℕ) → Inside printed → pieces_text printed ≡ text → KeepsTokens printed text
@@ -39,6 +40,9 @@ keeps printed text inside is =
 
 pub condition_keeps : (condition : ConditionText) → KeepsTokens (condition_pieces condition) (condition_bytes condition)
 condition_keeps condition = keeps (condition_pieces condition) (condition_bytes condition) (condition-inside condition) (condition_printed condition)
+
+equation-inside : (left right : Pieces) → Inside left → Inside right → Inside (equation fixed_piece left right)
+equation-inside left right one other = between inside-joins (codes " = ") left right refl one other
 
 pub equation_keeps : (left right : List ℕ) → KeepsTokens (equation fixed_piece (raw_piece left) (raw_piece right)) (equation byte_units left right)
 equation_keeps left right = keeps (equation fixed_piece (raw_piece left) (raw_piece right)) (equation byte_units left right)
@@ -102,7 +106,7 @@ builder_semicolon r is plain =
 module _ (start : StartText) (calls : List CallText) where
   by-error : (error : Option SqlBuilderError) → IfOk (unless_error error (sql fixed_piece (clauses start calls)))
       (λ printed. IsTrue (has_closed_fragments printed) → IsTrue (has_no_semicolons printed) → EndsInOneSemicolon (tokens (pieces_text printed)))
-  by-error None = sql-semicolon (clauses start calls) (clauses-parts start calls)
+  by-error None = sql-semicolon (clauses start calls) (clauses-inside start calls)
   by-error (Some error) = tt
 
   pub last_semicolon : IfOk (pieces start calls call.Sql)

@@ -6,9 +6,9 @@ use Rattle.sql_parts.specs.Quoting.{doubled}
 use Rattle.sql_parts.specs.Readers.{IsInsideAtEach, after, parts_bytes}
 use Rattle.sql_parts.specs.TokenReader.{token_reader}
 use Rattle.sql_parts.specs.Tokens.{begins_with, is_edge}
-use Rattle.sql_parts.proofs.tokens.ReaderLemmas.{after-append, inside-append}
+use Rattle.sql_parts.proofs.tokens.ReaderLemmas.{inside-append}
 use Rattle.sql_parts.proofs.tokens.TokenReaderLemmas.{IsShut, edge-alike}
-use Rattle.sql_builder.specs.Pieces.{Pieces, Fixed, Quoted, Raw, piece_text, pieces_text}
+use Rattle.sql_builder.specs.Pieces.{Pieces, Fixed, Quoted, Raw, pieces_text}
 use Rattle.sql_builder.specs.StatementReaders.{every_byte, parts_in, piece_parts}
 
 -- the parts of pieces have their bytes
@@ -25,11 +25,6 @@ state_behind state ps = after token_reader state (pieces_text ps)
 
 abbrev pub Opens : ℕ → Pieces → Type 0
 Opens state ps = IsInsideAtEach token_reader every_byte state (parts_in ps)
-
--- pieces side by side
-pub behind-append : (state : ℕ) (x y : Pieces) → state_behind state (x ++ y) ≡ state_behind (state_behind state x) y
-behind-append state x y =
-    ap (after token_reader state) (flat_map-append piece_text x y) ∙ after-append token_reader state (pieces_text x) (pieces_text y)
 
 pub opens-append : (state : ℕ) (x y : Pieces) → Opens state x → Opens (state_behind state x) y → Opens state (x ++ y)
 opens-append state x y one other =

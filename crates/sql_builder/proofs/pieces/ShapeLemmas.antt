@@ -4,22 +4,19 @@ use Rattle.std.proofs.lemmas.List.{append-nil}
 use Rattle.std.proofs.lemmas.Grind.{flat_map-append}
 use Rattle.std.proofs.lemmas.Bool.{and_parts, not-true, or_from, or_left, or_right}
 use Rattle.std.proofs.lemmas.List.Folds.{list_all-append, list_any-append}
-use Rattle.std.specs.Prelude.{flat_map}
-use Rattle.std.specs.List.{AllByRecursion, list_all, list_any}
+use Rattle.std.specs.List.{list_all, list_any}
 use Rattle.sql_parts.specs.Quoting.{quoted}
 use Rattle.sql_parts.specs.Readers.{after}
-use Rattle.sql_parts.specs.Text.{join_with}
 use Rattle.sql_parts.specs.TokenReader.{token_reader}
 use Rattle.sql_parts.specs.Tokens.{Symbol, Token, begins_with, clean, closed, ends_with, has_semicolon, is_edge, is_empty, is_open, is_semicolon, tokens}
 use Rattle.sql_parts.specs.declared.delimiters.Quotes.TheVariants.{Single}
-use Rattle.sql_parts.proofs.tokens.JoinFacts.{Edged, begins-append, clean-behind}
+use Rattle.sql_parts.proofs.tokens.JoinFacts.{begins-append, clean-behind}
 use Rattle.sql_parts.proofs.tokens.TokenFacts.{between-tokens, between_closed, closed-shut, seam}
-use Rattle.sql_parts.proofs.tokens.TokenReaderLemmas.{IsShut, edge-begins, edge-ends, opens-every, shut-behind}
-use Rattle.sql_builder.proofs.pieces.PartLemmas.{Opens, behind-append, opens-append, opens-shut, state_behind}
-use Rattle.sql_builder.specs.Phrases.{in_brackets, comma_list}
-use Rattle.sql_builder.specs.Shape.{EndsInOneSemicolon, piece_tokens}
+use Rattle.sql_parts.proofs.tokens.TokenReaderLemmas.{IsShut, edge-ends, opens-every, shut-behind}
+use Rattle.sql_builder.proofs.pieces.PartLemmas.{Opens, opens-append, opens-shut, state_behind}
+use Rattle.sql_builder.specs.Phrases.{in_brackets}
+use Rattle.sql_builder.specs.Shape.{EndsInOneSemicolon, piece_tokens, pieces_tokens}
 use Rattle.sql_builder.specs.RawFragments.{has_closed_fragments, has_no_semicolons, is_closed_piece, is_without_semicolon}
-use Rattle.sql_builder.specs.Shape.{pieces_tokens}
 use Rattle.sql_builder.specs.Pieces.{Piece, Pieces, Fixed, Quoted, Raw, fixed_piece, piece_text, pieces_text, quoted_piece, raw_piece}
 use Rattle.sql_builder.specs.WhereTokens as where_tokens
 
@@ -46,14 +43,6 @@ pub record Inside (ps : Pieces) : Type 0 where
   pub no_open : NoOpen ps
   pub plain : Plain ps
   pub opens : has_closed_fragments ps ≡ true → Opens 0 ps
-
--- pieces whose tokens are theirs before any text
-pub record Ended (ps : Pieces) : Type 0 where
-  pub reads : has_closed_fragments ps ≡ true → (text : List ℕ) → tokens (pieces_text ps ++ text) ≡ pieces_tokens ps ++ tokens text
-  pub no_open : NoOpen ps
-  pub plain : Plain ps
-  pub opens : has_closed_fragments ps ≡ true → Opens 0 ps
-  pub ends : has_closed_fragments ps ≡ true → state_behind 0 ps ≡ 0
 
 -- pieces that may follow a fragment
 pub record Following (ps : Pieces) : Type 0 where
@@ -87,27 +76,6 @@ reads-both x y text one other =
     ∙ one ∙ ap (λ ts. pieces_tokens x ++ ts) other ∙ sym (append_assoc (pieces_tokens x) (pieces_tokens y) (tokens text))
     ∙ ap (λ ts. ts ++ tokens text) (sym (pieces_tokens-append x y))
 
--- and their strings
-opens-behind : (x y : Pieces) → Ended x → has_closed_fragments x ≡ true → Opens 0 y → Opens 0 (x ++ y)
-opens-behind x y one is opens = opens-append 0 x y (one.opens is) (subst (λ s. Opens s y) (sym (one.ends is)) opens)
-
-pub ended-inside : (x y : Pieces) → Ended x → Inside y → Inside (x ++ y)
-ended-inside x y one other = record {
-  reads = λ is text follows. let both = both-closed x y is in reads-both x y text (one.reads both.0 (pieces_text y ++ text)) (other.reads both.1 text follows);
-  no_open = both-free x y one.no_open other.no_open;
-  plain = both-free x y one.plain other.plain;
-  opens = λ is. let both = both-closed x y is in opens-behind x y one both.0 (other.opens both.1);
-}
-
-pub ended-ended : (x y : Pieces) → Ended x → Ended y → Ended (x ++ y)
-ended-ended x y one other = record {
-  reads = λ is text. let both = both-closed x y is in reads-both x y text (one.reads both.0 (pieces_text y ++ text)) (other.reads both.1 text);
-  no_open = both-free x y one.no_open other.no_open;
-  plain = both-free x y one.plain other.plain;
-  opens = λ is. let both = both-closed x y is in opens-behind x y one both.0 (other.opens both.1);
-  ends = λ is. let both = both-closed x y is in behind-append 0 x y ∙ ap (λ s. state_behind s y) (one.ends both.0) ∙ other.ends both.1;
-}
-
 pub inside-shape : (ps : Pieces) → Inside ps → has_closed_fragments ps ≡ true → tokens (pieces_text ps) ≡ pieces_tokens ps
 inside-shape ps inside is = ap tokens (sym (append-nil (pieces_text ps))) ∙ inside.reads is [] (inl refl) ∙ append-nil (pieces_tokens ps)
 
@@ -131,9 +99,6 @@ pub record Whole (words : List ℕ) : Type 0 where
   pub is_closed : closed words ≡ true
   pub plain : has_semicolon words ≡ false
 
-pub whole : {words : List ℕ} → Edged words → Whole words
-whole edged = record { is_closed = edged.is_closed; plain = edged.plain }
-
 word-free : {passes : Piece → Bool} {kind : Token → Bool} (words : List ℕ) → list_any kind (tokens words) ≡ false → Free passes kind (fixed_piece words)
 word-free {kind = kind} words none = record { none = λ is. ap (list_any kind) (append-nil (tokens words)) ∙ none }
 
@@ -145,15 +110,6 @@ follows-clean : (one text : List ℕ) → Follows text → clean one text ≡ tr
 follows-clean one text (inl none) = subst (λ t. clean one t ≡ true) (sym none) (or_left _ _ (or_left _ _ (or_right (is_empty one) true refl)))
 follows-clean one text (inr begins) = or_right _ _ begins
 
-pub words-ended : (words : List ℕ) → Whole words → ends_with is_edge words ≡ true → Ended (fixed_piece words)
-words-ended words is ends = record {
-  reads = λ all text. alone (Fixed words) text (seam words text is.is_closed (clean-behind words text ends));
-  no_open = word-free words (closed-shut words is.is_closed);
-  plain = word-free words is.plain;
-  opens = λ all. (tt, tt);
-  ends = λ all. ap (after token_reader 0) (append-nil words) ∙ edge-ends words is.is_closed ends;
-}
-
 pub words-inside : (words : List ℕ) → Whole words → Inside (fixed_piece words)
 words-inside words is = record {
   reads = λ all text follows. alone (Fixed words) text (seam words text is.is_closed (follows-clean words text follows));
@@ -161,6 +117,19 @@ words-inside words is = record {
   plain = word-free words is.plain;
   opens = λ all. (tt, tt);
 }
+
+pub words-first : (words : List ℕ) (one : Pieces) → Whole words → ends_with is_edge words ≡ true → Inside one → Inside (fixed_piece words ++ one)
+words-first words one is ends inside =
+    let first = words-inside words is in
+    record {
+      reads = λ all text follows. let rest = pieces_text one ++ text in
+          reads-both (fixed_piece words) one text (alone (Fixed words) rest (seam words rest is.is_closed (clean-behind words rest ends)))
+          (inside.reads all text follows);
+      no_open = both-free (fixed_piece words) one first.no_open inside.no_open;
+      plain = both-free (fixed_piece words) one first.plain inside.plain;
+      opens = λ all. opens-append 0 (fixed_piece words) one (tt, tt)
+          (subst (λ s. Opens s one) (sym (ap (after token_reader 0) (append-nil words) ∙ edge-ends words is.is_closed ends)) (inside.opens all));
+    }
 
 pub words-following : (words : List ℕ) (ps : Pieces) → begins_with is_edge words ≡ true → Following (fixed_piece words ++ ps)
 words-following words ps begins = record {
@@ -200,81 +169,11 @@ none-inside = record {
 pub none-following : Following []
 none-following = record { follows = λ text follows. follows }
 
-pub ended-is_inside : (x : Pieces) → Ended x → Inside x
-ended-is_inside x one =
-    record { reads = λ is text follows. one.reads is text; no_open = one.no_open; plain = one.plain; opens = one.opens }
-
-pub inside-words : (x : Pieces) (words : List ℕ) → Inside x → Edged words → Ended (x ++ fixed_piece words)
-inside-words x words one edged =
-    let end = words-ended words (whole edged) edged.ends in
-    record {
-      reads = λ is text. let both = both-closed x (fixed_piece words) is in
-          reads-both x (fixed_piece words) text
-          (one.reads both.0 (pieces_text (fixed_piece words) ++ text)
-          (inr (begins-append is_edge (pieces_text (fixed_piece words)) text (begins-append is_edge words [] edged.begins))))
-          (end.reads both.1 text);
-      no_open = both-free x (fixed_piece words) one.no_open end.no_open;
-      plain = both-free x (fixed_piece words) one.plain end.plain;
-      opens = λ is. opens-append 0 x (fixed_piece words) (one.opens (both-closed x (fixed_piece words) is).0) (tt, tt);
-      ends = λ is.
-          behind-append 0 x (fixed_piece words) ∙ ap (after token_reader (state_behind 0 x)) (append-nil words)
-          ∙ edge-begins (state_behind 0 x) words (inside-shut x one (both-closed x (fixed_piece words) is).0) edged.begins
-          ∙ edge-ends words edged.is_closed edged.ends;
-    }
-
 pub following-append : (x y : Pieces) → Following x → Following y → Following (x ++ y)
 following-append x y one other = record {
   follows = λ text follows. subst Follows (sym (ap (λ t. t ++ text) (text-append x y) ∙ append_assoc (pieces_text x) (pieces_text y) text))
       (one.follows (pieces_text y ++ text) (other.follows text follows));
 }
-
--- each of many
-pub all-flat : {X : Type 0} (f : X → Pieces) → ((x : X) → Inside (f x)) → ((x : X) → Following (f x)) → (xs : List X) → Inside (flat_map f xs)
-    × Following (flat_map f xs)
-all-flat f inside behind [] = (none-inside, none-following)
-all-flat f inside behind (x ∷ xs) =
-    let rest = all-flat f inside behind xs in
-    (inside-inside (f x) (flat_map f xs) (inside x) rest.1 rest.0, following-append (f x) (flat_map f xs) (behind x) rest.1)
-
-abbrev pub AllInside : List Pieces → Type 0
-AllInside items = AllByRecursion Inside items
-
--- words before an item
-pub words-item : (words : List ℕ) (item : Pieces) → Edged words → Inside item → Inside (fixed_piece words ++ item)
-words-item words item edged inside = ended-inside (fixed_piece words) item (words-ended words (whole edged) edged.ends) inside
-
--- items with words before each
-pub before-each : (words : List ℕ) → Edged words → (items : List Pieces) → AllInside items
-    → Inside (flat_map (λ item. fixed_piece words ++ item) items) × Following (flat_map (λ item. fixed_piece words ++ item) items)
-before-each words edged [] all = (none-inside, none-following)
-before-each words edged (item ∷ items) all =
-    let here = words-item words item edged all.0 in
-    let more = flat_map (λ (i : Pieces). fixed_piece words ++ i) items in
-    let rest = before-each words edged items all.1 in (
-      inside-inside (fixed_piece words ++ item) more here rest.1 rest.0,
-      following-append (fixed_piece words ++ item) more
-          (words-following words item edged.begins) rest.1,
-    )
-
-pub joined-inside : (words : List ℕ) → Edged words → (items : List Pieces) → AllInside items → Inside (join_with (fixed_piece words) items)
-joined-inside words edged [] all = none-inside
-joined-inside words edged (item ∷ items) all = let rest = before-each words edged items all.1 in inside-inside item _ all.0 rest.1 rest.0
-
-opening : Edged (codes "(")
-opening = record { is_closed = refl; plain = refl; begins = refl; ends = refl }
-
-closing : Edged (codes ")")
-closing = record { is_closed = refl; plain = refl; begins = refl; ends = refl }
-
-pub comma : Edged (codes ", ")
-comma = record { is_closed = refl; plain = refl; begins = refl; ends = refl }
-
-pub brackets-ended : (x : Pieces) → Inside x → Ended (in_brackets fixed_piece x)
-brackets-ended x one = ended-ended (fixed_piece (codes "(")) (x ++ fixed_piece (codes ")")) (words-ended (codes "(") (whole opening) refl)
-    (inside-words x (codes ")") one closing)
-
-pub brackets-inside : (x : Pieces) → Inside x → Inside (in_brackets fixed_piece x)
-brackets-inside x one = ended-is_inside (in_brackets fixed_piece x) (brackets-ended x one)
 
 -- what holds of pieces by themselves
 pub record Shaped (ps : Pieces) : Type 0 where
@@ -316,26 +215,19 @@ ends_in_semicolon ps inside is plain =
 
 -- ---- phrases
 
-pub words-between : (words : List ℕ) (one other : Pieces) → Edged words → Inside one → Inside other → Inside (one ++ (fixed_piece words ++ other))
-words-between words one other edged first last =
-    inside-inside one (fixed_piece words ++ other) first (words-following words other edged.begins)
-    (ended-inside (fixed_piece words) other (words-ended words (whole edged) edged.ends) last)
+pub words-between : (words : List ℕ) (one other : Pieces) → Whole words → begins_with is_edge words ≡ true → ends_with is_edge words ≡ true → Inside one
+    → Inside other → Inside (one ++ (fixed_piece words ++ other))
+words-between words one other is begins ends first last =
+    inside-inside one (fixed_piece words ++ other) first (words-following words other begins) (words-first words other is ends last)
 
-pub words-last : (words : List ℕ) (one : Pieces) → Whole words → Following (fixed_piece words ++ []) → Inside one → Inside (one ++ fixed_piece words)
-words-last words one is behind first = inside-inside one (fixed_piece words) first behind (words-inside words is)
+pub words-last : (words : List ℕ) (one : Pieces) → Whole words → begins_with is_edge words ≡ true → Inside one → Inside (one ++ fixed_piece words)
+words-last words one is begins first = inside-inside one (fixed_piece words) first (words-following words [] begins) (words-inside words is)
 
 pub closing-last : (one : Pieces) → Inside one → Inside (one ++ fixed_piece (codes ")"))
-closing-last one first = words-last (codes ")") one (record { is_closed = refl; plain = refl }) (words-following (codes ")") [] refl) first
+closing-last one first = words-last (codes ")") one (record { is_closed = refl; plain = refl }) refl first
 
-pub words-first : (words : List ℕ) (one : Pieces) → Whole words → ends_with is_edge words ≡ true → Inside one → Inside (fixed_piece words ++ one)
-words-first words one is ends last = ended-inside (fixed_piece words) one (words-ended words is ends) last
-
-pub items-inside : (items : List Pieces) → AllInside items → Inside (comma_list fixed_piece items)
-items-inside items all = joined-inside (codes ", ") comma items all
-
-pub raw-all : (texts : List (List ℕ)) → AllInside (map raw_piece texts)
-raw-all [] = tt
-raw-all (text ∷ texts) = (raw-inside text, raw-all texts)
+pub brackets-inside : (x : Pieces) → Inside x → Inside (in_brackets fixed_piece x)
+brackets-inside x one = words-first (codes "(") (x ++ fixed_piece (codes ")")) (record { is_closed = refl; plain = refl }) refl (closing-last x one)
 
 -- the texts of fragments
 pub texts_of_raw : (ts : List (List ℕ)) → map pieces_text (map raw_piece ts) ≡ ts

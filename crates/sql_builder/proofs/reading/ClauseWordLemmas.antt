@@ -6,21 +6,22 @@ use Rattle.std.specs.List.{list_all, list_any}
 use Rattle.std.proofs.lemmas.Bool.{and_parts, and_from, or_parts, false≢true, not-true, not_from_false}
 use Rattle.std.proofs.lemmas.Grind.{flat_map-append}
 use Rattle.std.proofs.lemmas.List.Folds.{list_all-append}
-use Rattle.std.proofs.Math.IntN.{suc_ℤ}
 use Rattle.sql_parts.specs.Tokens.{Token, Str, tokens}
 use Rattle.sql_builder.specs.Shape.{pieces_tokens}
-use Rattle.sql_builder.specs.RawFragments.{has_closed_fragments}
+use Rattle.sql_builder.specs.RawFragments.{has_closed_fragments, is_balanced_piece, own_tokens, are_fit, are_fit_after, is_fit_after, own}
+use Rattle.sql_builder.specs.RawFragments.{has_balanced_fragments}
 use Rattle.sql_builder.specs.Pieces.{Pieces, Fixed, Quoted, Raw, Piece}
-use Rattle.sql_builder.proofs.tokens.DepthFacts.{after-suc, at_end-append, at_end-closes, at_end-suc, placed_from-append}
+use Rattle.sql_builder.proofs.tokens.DepthFacts.{at_end-append, at_end-closes, placed_from-append, stays_from, stays-both, stays-parts, stays-closes}
+use Rattle.sql_builder.proofs.tokens.DepthFacts.{closes-stays, stays-high, stays-up, ends-up, placed-above}
 use Rattle.sql_builder.proofs.tokens.PartFacts.{tokens-placed_from}
-use Rattle.sql_builder.proofs.tokens.BalancedFacts.{high, balanced_even, even_text, balanced_closed}
+use Rattle.sql_builder.proofs.tokens.BalancedFacts.{balanced_even, even_text, balanced_closed}
 use Rattle.sql_builder.proofs.tokens.WhereTokenFacts.{has_clause}
-use Rattle.sql_builder.specs.RawFragments.{is_balanced_piece, own_tokens, are_fit, are_fit_after, is_fit_after, own, has_balanced_fragments}
 use Rattle.sql_builder.specs.TokenParts.{Parts, parts_at, with_front}
 use Rattle.sql_builder.specs.Reading.{own_placed}
 use Rattle.sql_parts.proofs.fragments.DepthFacts.{after, at_end, closes_from, is_at_least_0, is_balanced, is_even, is_zero, placed, placed_from, end-is}
 use Rattle.sql_parts.proofs.fragments.DepthFacts.{has_top_level-is, is_balanced-is}
 use Rattle.sql_parts.specs.Fragments.{as_placed, Nested, TopLevel, Placed, is_clause_word, at_top_level, is_whole, token_of, balanced}
+use Rattle.std.proofs.lemmas.List.{map-append}
 
 pub own-append : (x y : Pieces) → own (x ++ y) ≡ own x ++ own y
 own-append x y = flat_map-append own_tokens x y
@@ -53,60 +54,6 @@ fit-after before (piece ∷ pieces) =
 -- brackets counted behind all pieces before, and along the pieces
 pub are_fit-is : (pieces : Pieces) → are_fit pieces ≡ are_fit_from (pos 0) pieces
 are_fit-is pieces = fit-after [] pieces
-
--- the depth is at least 0 after each token
-abbrev pub stays_from : ℤ → List Token → Bool
-stays_from l [] = true
-stays_from l (t ∷ ts) = is_at_least_0 (after l t) && stays_from (after l t) ts
-
-pub stays-both : (l : ℤ) (a b : List Token) → stays_from l a ≡ true → stays_from (at_end l a) b ≡ true → stays_from l (a ++ b) ≡ true
-stays-both l [] b h k = k
-stays-both l (t ∷ a) b h k = let both = and_parts _ _ h in and_from _ _ both.0 (stays-both (after l t) a b both.1 k)
-
-pub stays-parts : (l : ℤ) (a b : List Token) → stays_from l (a ++ b) ≡ true → (stays_from l a ≡ true) × (stays_from (at_end l a) b ≡ true)
-stays-parts l [] b h = (refl, h)
-stays-parts l (t ∷ a) b h =
-    let both = and_parts _ _ h in
-    let more = stays-parts (after l t) a b both.1 in
-    (and_from _ _ both.0 more.0, more.1)
-
-pub stays-closes : (l : ℤ) (a : List Token) → closes_from l a ≡ true → stays_from l a ≡ true
-stays-closes l [] h = refl
-stays-closes l (t ∷ a) h = let both = and_parts _ _ h in and_from _ _ both.0 (stays-closes (after l t) a both.1)
-
-pub closes-stays : (l : ℤ) (a : List Token) → stays_from l a ≡ true → at_end l a ≡ pos 0 → closes_from l a ≡ true
-closes-stays l [] h ends = ap is_zero ends
-closes-stays l (t ∷ a) h ends = let both = and_parts _ _ h in and_from _ _ both.0 (closes-stays (after l t) a both.1 ends)
-
-pub stays-high : (l : ℤ) (a : List Token) → is_at_least_0 l ≡ true → stays_from l a ≡ true → is_at_least_0 (at_end l a) ≡ true
-stays-high l [] h stays = h
-stays-high l (t ∷ a) h stays = let both = and_parts _ _ stays in stays-high (after l t) a both.0 both.1
-
--- one deeper, and any number
-stays-suc : (l : ℤ) (a : List Token) → stays_from l a ≡ true → stays_from (suc_ℤ l) a ≡ true
-stays-suc l [] h = refl
-stays-suc l (t ∷ a) h =
-    let both = and_parts (is_at_least_0 (after l t)) (stays_from (after l t) a) h in
-    rw (after-suc l t, high (after l t) both.0) (stays-suc (after l t) a both.1)
-
-pub stays-up : (n : ℕ) (a : List Token) → stays_from (pos 0) a ≡ true → stays_from (pos n) a ≡ true
-stays-up zero a h = h
-stays-up (suc n) a h = stays-suc (pos n) a (stays-up n a h)
-
-pub ends-up : (n : ℕ) (a : List Token) → at_end (pos 0) a ≡ pos 0 → at_end (pos n) a ≡ pos n
-ends-up zero a h = h
-ends-up (suc n) a h = at_end-suc (pos n) a ∙ ap suc_ℤ (ends-up n a h)
-
-zero-suc : (l : ℤ) → is_at_least_0 l ≡ true → is_zero (suc_ℤ l) ≡ false
-zero-suc (pos n) h = refl
-zero-suc (negsuc n) h = absurd (false≢true h)
-
--- above depth 0 no token is top-level
-pub placed-above : (l : ℤ) (a : List Token) → is_at_least_0 l ≡ true → stays_from l a ≡ true → placed_from (suc_ℤ l) a ≡ map Nested a
-placed-above l [] h stays = refl
-placed-above l (t ∷ a) h stays =
-    let both = and_parts (is_at_least_0 (after l t)) (stays_from (after l t) a) stays in
-    rw (zero-suc l h, after-suc l t) (ap (λ ms. Nested t ∷ ms) (placed-above (after l t) a both.0 both.1))
 
 -- the depth stays at least 0, and each clause word is at depth 0
 abbrev pub laid_from : ℤ → List Token → Bool
@@ -153,10 +100,6 @@ flag m = (at_top_level is_clause_word m, token_of m)
 
 abbrev pub flags : List Placed → List Flagged
 flags ms = map flag ms
-
-pub flags-append : (a b : List Placed) → flags (a ++ b) ≡ flags a ++ flags b
-flags-append [] b = refl
-flags-append (m ∷ a) b = ap (λ ms. flag m ∷ ms) (flags-append a b)
 
 abbrev parts_of : List Flagged → Parts
 parts_of [] = record { lead = []; rest = [] }
@@ -215,10 +158,10 @@ fit-flags l [] h fit laid = refl
 fit-flags l (Fixed text ∷ ps) h fit laid =
     let a = tokens text in
     let parts = laid-parts l a (own ps) laid in
-    ap flags (placed_from-append l a (pieces_tokens ps)) ∙ flags-append (placed_from l a) (placed_from (at_end l a) (pieces_tokens ps))
+    ap flags (placed_from-append l a (pieces_tokens ps)) ∙ map-append flag (placed_from l a) (placed_from (at_end l a) (pieces_tokens ps))
     ∙ ap (λ ms. ms ++ flags (placed_from (at_end l a) (pieces_tokens ps))) (flags-own l a parts.0)
     ∙ ap (λ ms. flags (map TopLevel a) ++ ms) (fit-flags (at_end l a) ps (stays-high l a h (laid-stays l a parts.0)) fit parts.1)
-    ∙ sym (flags-append (map TopLevel a) (flat_map own_placed ps))
+    ∙ sym (map-append flag (map TopLevel a) (flat_map own_placed ps))
 fit-flags l (Quoted text ∷ ps) h fit laid =
     let first = flag-str (is_zero l) text in
     let rest = fit-flags l ps h fit laid in
@@ -228,11 +171,11 @@ fit-flags (pos n) (Raw text ∷ ps) h fit laid =
     let both = and_parts (is_fit (pos n) (Raw text)) (are_fit_from (pos n) ps) fit in
     let here = and_parts (is_balanced a) _ both.0 in
     let even = balanced_even a here.0 in
-    ap flags (placed_from-append (pos n) a (pieces_tokens ps)) ∙ flags-append (placed_from (pos n) a) (placed_from (at_end (pos n) a) (pieces_tokens ps))
+    ap flags (placed_from-append (pos n) a (pieces_tokens ps)) ∙ map-append flag (placed_from (pos n) a) (placed_from (at_end (pos n) a) (pieces_tokens ps))
     ∙ ap (λ ms. ms ++ flags (placed_from (at_end (pos n) a) (pieces_tokens ps))) (flags-raw n a even here.1)
     ∙ ap (λ l. flags (map Nested a) ++ flags (placed_from l (pieces_tokens ps))) (even-ends n a even)
     ∙ ap (λ ms. flags (map Nested a) ++ ms) (fit-flags (pos n) ps h both.1 laid)
-    ∙ sym (flags-append (map Nested a) (flat_map own_placed ps))
+    ∙ sym (map-append flag (map Nested a) (flat_map own_placed ps))
 fit-flags (negsuc n) (Raw text ∷ ps) h fit laid = absurd (false≢true h)
 
 -- ---- depth alone: each fragment is balanced

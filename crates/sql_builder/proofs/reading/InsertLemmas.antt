@@ -18,29 +18,29 @@ use Rattle.sql_builder.specs.Inserts.{returning_clauses, BuildersOfQueriesAreOne
 use Rattle.sql_builder.specs.Layout.{byte_units, insert_sections, concat_sections, insert_target, optional_section, returning_sections, section, sql}
 use Rattle.sql_builder.specs.Layout.{statement_sections, query, query_sections}
 use Rattle.sql_builder.specs.TokenParts.{Parts, parts_at, before_top_level, with_front}
-use Rattle.sql_builder.specs.Phrases.{comma_list}
 use Rattle.sql_builder.specs.Reading.{Clause, is_union, own_placed, read, without_semicolon}
 use Rattle.sql_builder.specs.Shape.{HasShape, as_fragments, pieces_tokens}
 use Rattle.sql_builder.specs.Statement.{error_at, text_unless_error, unless_error}
 use Rattle.sql_builder.specs.StatementLaws.{made_by}
 use Rattle.sql_builder.specs.Pieces.{Pieces, fixed_piece, pieces_text, raw_piece}
 use Rattle.sql_builder.proofs.tokens.BalancedFacts.{even_closes, even_text, has_top_level-append, is_even-append}
-use Rattle.sql_builder.proofs.fragments.NeutralLemmas.{NeutralParts, neutral-target, clauses-neutral, raw-neutral}
-use Rattle.sql_builder.proofs.fragments.PropertyLemmas.{neutral-append, neutral-list, passes-append, whatever}
+use Rattle.sql_builder.proofs.fragments.NeutralLemmas.{NeutralParts, clauses-neutral, raw-neutral}
+use Rattle.sql_builder.proofs.fragments.PropertyLemmas.{passes-append, whatever}
 use Rattle.sql_builder.proofs.pieces.ClauseShapeLemmas.{printed-shaped}
 use Rattle.sql_builder.proofs.truth.ConnectiveLemmas.{placed-then}
 use Rattle.sql_builder.proofs.pieces.LayoutShapeLemmas.{sql_shape, query_shape}
 use Rattle.sql_builder.specs.Filters.{until}
 use Rattle.sql_builder.proofs.reading.NestingLemmas.{query-balanced}
-use Rattle.sql_builder.proofs.reading.LayoutLemmas.{query-opens}
-use Rattle.sql_builder.proofs.reading.SectionLemmas.{Neutral, Front, any_union, before-append, neutral-front, front-append, lead_on, opening_clauses}
-use Rattle.sql_builder.proofs.reading.SectionLemmas.{joined, own-top_level, parts-joined}
-use Rattle.sql_builder.proofs.reading.SectionLemmas.{section-clauses, starts-lead, union-flags, with_last, sections-front, until-after, union-flag}
+use Rattle.sql_builder.proofs.reading.LayoutLemmas.{query-opens, neutral-layout}
+use Rattle.sql_builder.proofs.reading.SectionLemmas.{Neutral, Front, any_union, before-append, neutral-front, front-append, lead_on, opening_clauses, joined}
+use Rattle.sql_builder.proofs.reading.SectionLemmas.{own-top_level, parts-joined, section-clauses, starts-lead, union-flags, with_last, sections-front}
+use Rattle.sql_builder.proofs.reading.SectionLemmas.{until-after, union-flag, with_last-nil}
 use Rattle.sql_builder.proofs.reading.ClauseWordLemmas.{are_fit-is, are_fit_from, fit-balanced, fit-flags, fragments_closed, flags, same-parts, shape-even}
 use Rattle.sql_builder.proofs.tokens.DepthFacts.{at_end-closes}
 use Rattle.sql_builder.proofs.tokens.PartFacts.{semicolon-none, semicolon-one}
 use Rattle.sql_builder.proofs.pieces.ShapeLemmas.{pieces_tokens-append}
 use Rattle.sql_builder.proofs.statements.StatementLawLemmas.{of_pieces}
+use Rattle.sql_builder.proofs.pieces.LayoutPropertyLemmas.{fields-enclosed, target-kept}
 
 -- ---- tokens that have no top-level UNION
 
@@ -170,18 +170,13 @@ joined-tail ts us found one tail =
     ∙ (λ i. joined (parts ts) (record { lead = tail.lead i; rest = tail.rest i }))
     ∙ unchanged (parts ts).lead (parts ts).rest
   where
-    last : (rest : List Clause) → with_last [] rest ≡ rest
-    last [] = refl
-    last (c ∷ []) = λ i. (c.0, append-nil c.1 i) ∷ []
-    last (c ∷ d ∷ cs) = ap (λ (more : List Clause). c ∷ more) (last (d ∷ cs))
-
     on : (lead : List Token) (rest : List Clause) → lead_on [] lead rest ≡ lead
     on lead [] = append-nil lead
     on lead (c ∷ cs) = refl
 
     unchanged : (lead : List Token) (rest : List Clause)
         → joined (record { lead = lead; rest = rest }) (record { lead = []; rest = found }) ≡ record { lead = lead; rest = rest ++ found }
-    unchanged lead rest = λ i. record { lead = on lead rest i; rest = last rest i ++ found }
+    unchanged lead rest = λ i. record { lead = on lead rest i; rest = with_last-nil rest i ++ found }
 
 returned-balanced : (given : Option Pieces) → is_fit_returning given ≡ true
     → has_balanced_fragments (concat_sections fixed_piece (optional_section (codes " RETURNING ") given)) ≡ true
@@ -193,9 +188,7 @@ insert-front = record { laid = refl; even = refl; no_union = refl }
 
 module _ (r : Clauses Pieces) (query : List ℕ) (neutral : NeutralParts r) (is : balanced query ≡ true) (fit : has_fit_target r ≡ true) where
   target-neutral : Neutral (insert_target fixed_piece r)
-  target-neutral =
-      neutral-append r.table (fixed_piece (codes " (") ++ (comma_list fixed_piece r.fields ++ fixed_piece (codes ")"))) neutral.table
-      (neutral-target (comma_list fixed_piece r.fields) (neutral-list r.fields neutral.fields))
+  target-neutral = target-kept neutral-layout r neutral (fields-enclosed neutral-layout)
 
   target-fit : are_fit (insert_target fixed_piece r) ≡ true
   target-fit = (and_parts (are_fit (insert_target fixed_piece r)) (is_fit_returning r.returning) fit).0

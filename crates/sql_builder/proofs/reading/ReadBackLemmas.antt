@@ -10,10 +10,9 @@ use Rattle.sql_builder.specs.Statement.{layout_at, text_at}
 use Rattle.sql_builder.specs.Pieces.{Pieces, fixed_piece, pieces_text, raw_piece}
 use Rattle.sql_builder.specs.declared.clauses.Kind.{Kind}
 use Rattle.sql_builder.specs.declared.clauses.Kind.TheVariants.{SelectFrom, SelectValues, InsertInto, UpdateTable, DeleteFrom}
-use Rattle.sql_builder.proofs.pieces.LayoutShapeLemmas.{query_shape, subquery_as_shape, subquery_shape, fragments-printed, raw-inside-parts}
-use Rattle.sql_builder.proofs.fragments.NeutralLemmas.{raw-neutral, NeutralParts}
-use Rattle.sql_builder.proofs.reading.LayoutLemmas.{neutral-layout, bare_query-split, bare_values-split, kind_bodies, split-reads, split-wheres, sql-split}
-use Rattle.sql_builder.proofs.reading.LayoutLemmas.{where_bodies}
+use Rattle.sql_builder.proofs.pieces.LayoutShapeLemmas.{query_shape, subquery_as_shape, subquery_shape, fragments-printed}
+use Rattle.sql_builder.proofs.fragments.NeutralLemmas.{raw-neutral, NeutralParts, InsideParts, raw-inside-parts}
+use Rattle.sql_builder.proofs.reading.LayoutLemmas.{neutral-layout, bare_query-split, bare_values-split, split-reads, split-wheres, sql-split}
 use Rattle.sql_builder.proofs.truth.ConditionGroupLemmas.{texts-true}
 use Rattle.sql_builder.specs.RawFragments.{has_fit_fragments}
 use Rattle.sql_builder.specs.Meaning.{HasTruthOfGroups, is_unenclosed, prints_where, Nests, ReadsBack}
@@ -21,20 +20,19 @@ use Rattle.sql_builder.specs.Reading.{piece_clauses, read, clause_bodies}
 use Rattle.sql_builder.specs.Truths.{truth}
 use Rattle.sql_builder.proofs.reading.NestingLemmas.{nests}
 use Rattle.sql_parts.specs.Tokens.{tokens}
-use Rattle.sql_builder.proofs.reading.SectionLemmas.{Neutral}
-use Rattle.sql_builder.proofs.pieces.LayoutShapeLemmas as layouts
+use Rattle.sql_builder.proofs.pieces.LayoutPropertyLemmas.{kind_bodies, where_bodies}
 
 -- the pieces that a finish prints
 abbrev pub layout : FinishText → Clauses Pieces → Pieces
 layout finish r = layout_at fixed_piece raw_piece finish r
 
 -- they parse back as their clauses
-pub layout-reads : (finish : FinishText) (r : Clauses Pieces) → NeutralParts r → layouts.InsideParts r → is_unenclosed finish ≡ true
+pub layout-reads : (finish : FinishText) (r : Clauses Pieces) → NeutralParts r → InsideParts r → is_unenclosed finish ≡ true
     → has_fit_fragments (layout finish r) ≡ true
     → read (tokens (pieces_text (layout finish r))) ≡ piece_clauses (layout finish r)
-layout-reads Sql r parts inside_parts bare fit = split-reads (sql-split Neutral neutral-layout r parts inside_parts) fit
-layout-reads Query r parts inside_parts bare fit = split-reads (bare_query-split Neutral neutral-layout r parts inside_parts) fit
-layout-reads QueryValues r parts inside_parts bare fit = split-reads (bare_values-split Neutral neutral-layout r parts inside_parts) fit
+layout-reads Sql r parts inside_parts bare fit = split-reads (sql-split neutral-layout r parts inside_parts) fit
+layout-reads Query r parts inside_parts bare fit = split-reads (bare_query-split neutral-layout r parts inside_parts) fit
+layout-reads QueryValues r parts inside_parts bare fit = split-reads (bare_values-split neutral-layout r parts inside_parts) fit
 layout-reads Subquery r parts inside_parts bare fit = absurd (false≢true bare)
 layout-reads (SubqueryAs name) r parts inside_parts bare fit = absurd (false≢true bare)
 
@@ -46,24 +44,25 @@ kind-wheres InsertInto r prints = absurd (false≢true prints)
 kind-wheres UpdateTable r prints = refl
 kind-wheres DeleteFrom r prints = refl
 
-pub sql-bare : (finish : FinishText) (kind : Kind) → prints_where finish kind ≡ true → is_unenclosed finish ≡ true
-sql-bare Sql kind prints = refl
-sql-bare Query kind prints = refl
-sql-bare QueryValues kind prints = refl
-sql-bare Subquery kind prints = absurd (false≢true prints)
-sql-bare (SubqueryAs name) kind prints = absurd (false≢true prints)
+-- a finish that prints a WHERE prints no brackets round it
+pub where_unenclosed : (finish : FinishText) (kind : Kind) → prints_where finish kind ≡ true → is_unenclosed finish ≡ true
+where_unenclosed Sql kind prints = refl
+where_unenclosed Query kind prints = refl
+where_unenclosed QueryValues kind prints = refl
+where_unenclosed Subquery kind prints = prints
+where_unenclosed (SubqueryAs name) kind prints = prints
 
-pub layout-wheres : (finish : FinishText) (r : Clauses Pieces) → NeutralParts r → layouts.InsideParts r → prints_where finish r.kind ≡ true
+pub layout-wheres : (finish : FinishText) (r : Clauses Pieces) → NeutralParts r → InsideParts r → prints_where finish r.kind ≡ true
     → clause_bodies (codes "WHERE") (piece_clauses (layout finish r)) ≡ where_bodies r.groups
-layout-wheres Sql r parts inside_parts prints = split-wheres (sql-split Neutral neutral-layout r parts inside_parts) ∙ kind-wheres r.kind r prints
-layout-wheres Query r parts inside_parts prints = split-wheres (bare_query-split Neutral neutral-layout r parts inside_parts)
+layout-wheres Sql r parts inside_parts prints = split-wheres (sql-split neutral-layout r parts inside_parts) ∙ kind-wheres r.kind r prints
+layout-wheres Query r parts inside_parts prints = split-wheres (bare_query-split neutral-layout r parts inside_parts)
 layout-wheres QueryValues r parts inside_parts prints = absurd (false≢true prints)
 layout-wheres Subquery r parts inside_parts prints = absurd (false≢true prints)
 layout-wheres (SubqueryAs name) r parts inside_parts prints = absurd (false≢true prints)
 
 -- ---- a text of the pieces
 
-module _ (finish : FinishText) (r : Clauses Pieces) (parts : NeutralParts r) (inside_parts : layouts.InsideParts r) (text : List ℕ)
+module _ (finish : FinishText) (r : Clauses Pieces) (parts : NeutralParts r) (inside_parts : InsideParts r) (text : List ℕ)
     (is : text ≡ pieces_text (layout finish r)) where
   text-reads : is_unenclosed finish ≡ true → ReadsBack (layout finish r) text
   text-reads bare fit = ap read (ap tokens is) ∙ layout-reads finish r parts inside_parts bare fit
@@ -71,7 +70,7 @@ module _ (finish : FinishText) (r : Clauses Pieces) (parts : NeutralParts r) (in
   -- its WHERE, parsed back, is that of the groups
   pub text-wheres : prints_where finish r.kind ≡ true → has_fit_fragments (layout finish r) ≡ true → clause_bodies (codes "WHERE") (read (tokens text))
       ≡ where_bodies r.groups
-  text-wheres prints fit = ap (clause_bodies (codes "WHERE")) (text-reads (sql-bare finish r.kind prints) fit)
+  text-wheres prints fit = ap (clause_bodies (codes "WHERE")) (text-reads (where_unenclosed finish r.kind prints) fit)
       ∙ layout-wheres finish r parts inside_parts prints
 
 -- ---- a builder

@@ -15,8 +15,8 @@ use Rattle.sql_builder.proofs.tokens.BalancedFacts.{even_closes, is_even-append}
 use Rattle.sql_builder.proofs.truth.ConnectiveLemmas.{placed-then}
 use Rattle.sql_builder.specs.RawFragments.{own, begins_union, has_fit_fragments, own_tokens}
 use Rattle.sql_builder.proofs.reading.ClauseWordLemmas.{fit-balanced, fit-flags, laid-both, laid-plain, laid_from, Flagged, flags, own-append, same-parts}
-use Rattle.sql_builder.proofs.reading.ClauseWordLemmas.{shape-even, stays-closes, are_fit_from, is_fit, are_fit-is, fragments_closed}
-use Rattle.sql_builder.proofs.tokens.DepthFacts.{at_end-closes}
+use Rattle.sql_builder.proofs.reading.ClauseWordLemmas.{shape-even, are_fit_from, is_fit, are_fit-is, fragments_closed}
+use Rattle.sql_builder.proofs.tokens.DepthFacts.{at_end-closes, stays-closes}
 use Rattle.sql_builder.proofs.tokens.PartFacts.{not_union, semicolon-later, semicolon-none, semicolon-one, none-inner, parts-none}
 use Rattle.sql_builder.proofs.pieces.ShapeLemmas.{Follows, Inside, text-append}
 use Rattle.sql_builder.specs.TokenParts.{Parts, before_top_level, parts_at, with_front}
@@ -24,6 +24,8 @@ use Rattle.sql_builder.specs.Reading.{Clause, piece_clauses, ends_clauses, is_un
 use Rattle.sql_parts.proofs.fragments.DepthFacts.{at_end, closes_from, has_top_level, is_even, placed, placed-is}
 use Rattle.sql_parts.specs.Fragments.{Nested, TopLevel, Placed, is_clause_word, at_top_level, is_whole, token_of}
 use Rattle.sql_parts.specs.Fragments as fragments
+use Rattle.std.proofs.lemmas.List.{map-append}
+use Rattle.sql_builder.proofs.lists.AllFacts.{none-weaker}
 
 -- the product's own words before the first UNION
 pub record Front (ts : List Token) : Type 0 where
@@ -43,17 +45,11 @@ front-append a b one other = record {
   no_union = list_any-append is_union a b ∙ or_from _ _ one.no_union other.no_union;
 }
 
-none_narrow : (ts : List Token) → list_any is_clause_word ts ≡ false → list_any is_union ts ≡ false
-none_narrow [] none = refl
-none_narrow (t ∷ ts) none =
-    let both = or_parts (is_clause_word t) (list_any is_clause_word ts) none in
-    or_from _ _ (not_union t both.0) (none_narrow ts both.1)
-
 pub neutral-front : (ps : Pieces) → Neutral ps → Front (own ps)
 neutral-front ps neutral = record {
   laid = laid-plain (pos 0) (own ps) (stays-closes (pos 0) (own ps) (even_closes (own ps) neutral.even)) neutral.no_word;
   even = neutral.even;
-  no_union = none_narrow (own ps) neutral.no_word;
+  no_union = none-weaker is_union is_clause_word not_union (own ps) neutral.no_word;
 }
 
 -- ---- top-level tokens of the product's own
@@ -83,16 +79,12 @@ back-nested : (ts : List Token) → map token_of (map Nested ts) ≡ ts
 back-nested [] = refl
 back-nested (t ∷ ts) = ap (λ us. t ∷ us) (back-nested ts)
 
-map-both : (a b : List Placed) → map token_of (a ++ b) ≡ map token_of a ++ map token_of b
-map-both [] b = refl
-map-both (m ∷ a) b = ap (λ us. token_of m ∷ us) (map-both a b)
-
 -- and all tokens
 pub own-shape : (ps : Pieces) → map token_of (flat_map own_placed ps) ≡ pieces_tokens ps
 own-shape [] = refl
-own-shape (Fixed text ∷ ps) = map-both (map TopLevel (tokens text)) (flat_map own_placed ps) ∙ cc (back-top_level (tokens text), own-shape ps)
+own-shape (Fixed text ∷ ps) = map-append token_of (map TopLevel (tokens text)) (flat_map own_placed ps) ∙ cc (back-top_level (tokens text), own-shape ps)
 own-shape (Quoted text ∷ ps) = ap (λ us. Token.Str text ∷ us) (own-shape ps)
-own-shape (Raw text ∷ ps) = map-both (map Nested (tokens text)) (flat_map own_placed ps) ∙ cc (back-nested (tokens text), own-shape ps)
+own-shape (Raw text ∷ ps) = map-append token_of (map Nested (tokens text)) (flat_map own_placed ps) ∙ cc (back-nested (tokens text), own-shape ps)
 
 -- ---- UNION
 
@@ -254,7 +246,7 @@ with_last ts [] = []
 with_last ts (c ∷ []) = (c.0, c.1 ++ ts) ∷ []
 with_last ts (c ∷ d ∷ cs) = c ∷ with_last ts (d ∷ cs)
 
-with_last-nil : (cs : List Clause) → with_last [] cs ≡ cs
+pub with_last-nil : (cs : List Clause) → with_last [] cs ≡ cs
 with_last-nil [] = refl
 with_last-nil (c ∷ []) = ap (λ (ts : List Token). (c.0, ts) ∷ []) (append-nil c.1)
 with_last-nil (c ∷ d ∷ cs) = ap (◌∷◌ c) (with_last-nil (d ∷ cs))

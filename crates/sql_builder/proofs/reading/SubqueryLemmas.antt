@@ -1,6 +1,5 @@
 -- A query between brackets serves as a table, with a name behind it too.
-use Rattle.std.proofs.Common.{◌≡◌, sym, ◌∙◌, ap, false, true, not, List, [], ◌∷◌, ◌++◌, ℕ}
-use Rattle.std.proofs.Common.{codes, append-nil, append_assoc}
+use Rattle.std.proofs.Common.{◌≡◌, sym, ◌∙◌, ap, false, true, not, List, [], ◌∷◌, ◌++◌, ℕ, codes, append-nil, append_assoc}
 use Rattle.std.specs.Prelude.{IsTrue}
 use Rattle.std.proofs.lemmas.Bool.{and_parts, and_from, false≢true, not-true, not_from_false, or_from}
 use Rattle.sql_parts.specs.Fragments.{balanced, has_clause_word, is_clause_word}

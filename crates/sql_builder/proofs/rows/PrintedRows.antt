@@ -1,10 +1,8 @@
 -- Worked rows, what the definitions give by computing; tests run the others (`tests/rows`, `tests/conditions.md`, `tests/every_call.md`).
 use Rattle.std.specs.Prelude.{◌≡◌, [], ◌∷◌, ◌++◌, Ok, Err, codes, refl, true, false}
 use Rattle.sql_parts.specs.declared.error.SqlBuilderError.TheVariants.{NoTableName, NoGroupBy}
-use Rattle.sql_builder.specs.Calls.{SelectFrom, UpdateTable, Left, LeftOuter, Right, RightOuter, Inner, Cross}
-use Rattle.sql_builder.specs.Calls.{AndTable, Join, On, Fields, Field, CountAs, SetTo, SetStr}
-use Rattle.sql_builder.specs.Calls.{Returning, ReturningId, GroupBy, Having, Union, OrderAsc, OrderDesc, Limit, Cond, Sql, Query}
-use Rattle.sql_builder.specs.Calls.{clauses}
+use Rattle.sql_builder.specs.Calls.{SelectFrom, UpdateTable, Left, LeftOuter, Right, RightOuter, Inner, Cross, AndTable, Join, On, Fields, Field, CountAs}
+use Rattle.sql_builder.specs.Calls.{SetTo, SetStr, Returning, ReturningId, GroupBy, Having, Union, OrderAsc, OrderDesc, Limit, Cond, Sql, Query, clauses}
 use Rattle.sql_builder.specs.Condition.{Raw, Like}
 use Rattle.sql_builder.specs.Statement.{pieces, statement}
 use Rattle.sql_builder.specs.declared.condition.Family.TheVariants.{And}

@@ -17,9 +17,8 @@ use Rattle.sql_builder.specs.StatementLaws.{BuildersFollowCalls, BuildersPrintSt
 use Rattle.sql_builder.specs.StatementLaws.{StatementsNest, made_by}
 use Rattle.sql_builder.specs.Pieces.{Pieces, pieces_text}
 use Rattle.sql_builder.specs.Truths.{truth}
-use Rattle.sql_builder.proofs.fragments.NeutralLemmas.{clauses-neutral}
+use Rattle.sql_builder.proofs.fragments.NeutralLemmas.{clauses-neutral, clauses-inside}
 use Rattle.sql_builder.proofs.pieces.ClauseShapeLemmas.{printed-shaped}
-use Rattle.sql_builder.proofs.fragments.PreservationLemmas.{clauses-parts}
 use Rattle.sql_builder.proofs.reading.NestingLemmas.{nests}
 use Rattle.sql_builder.proofs.reading.ReadBackLemmas.{layout, layout-reads, text-wheres}
 use Rattle.sql_builder.proofs.statements.RunLemmas.{clauses-push, text_of_layout}
@@ -56,14 +55,14 @@ pub statements_read_back : StatementsReadBack
 statements_read_back start calls finish bare =
     of_pieces start calls finish (λ printed. IsTrue (has_fit_fragments printed))
     (λ printed text. result_map_both piece_clauses (λ e. e) printed ≡ Ok (read (tokens text)))
-    (λ fit. ap Ok (sym (layout-reads finish (clauses start calls) (clauses-neutral start calls) (clauses-parts start calls) bare fit)))
+    (λ fit. ap Ok (sym (layout-reads finish (clauses start calls) (clauses-neutral start calls) (clauses-inside start calls) bare fit)))
 
 pub statements_have_truth : StatementsHaveTruth
 statements_have_truth start calls finish prints fit fit_conditions =
     let its_clauses = clauses start calls in
     of_pieces start calls finish (λ printed. IsTrue (has_fit_fragments printed)) (λ printed text. HasTruthOf (condition_groups calls) text)
     (λ fit facts.
-    ap (map (truth facts)) (text-wheres finish its_clauses (clauses-neutral start calls) (clauses-parts start calls) (pieces_text (layout finish its_clauses))
+    ap (map (truth facts)) (text-wheres finish its_clauses (clauses-neutral start calls) (clauses-inside start calls) (pieces_text (layout finish its_clauses))
     refl prints fit)
     ∙ calls-true facts calls fit_conditions) fit
 

@@ -2,17 +2,18 @@
 use Rattle.std.proofs.Common.{◌≡◌, refl, sym, ◌∙◌, ℕ, ap, zero, suc, Bool, true, false, not, ◌||◌, List, [], ◌∷◌, ◌++◌, pos, ℤ}
 use Rattle.std.proofs.Math.IntN.{suc_ℤ}
 use Rattle.std.proofs.lemmas.Bool.{and_parts, and_from, or_from, false≢true, not-true, not_from_false}
-use Rattle.std.proofs.lemmas.List.Folds.{list_all-append}
+use Rattle.std.proofs.lemmas.List.Folds.{list_all-append, list_any-append}
 use Rattle.std.specs.List.{list_any, list_all}
-use Rattle.sql_parts.specs.Tokens.{Token, is_empty, tokens, closed, is_open, is_semicolon}
+use Rattle.sql_parts.specs.Tokens.{Token, is_empty, tokens, closed}
 use Rattle.sql_builder.specs.WhereTokens.{group_tokens, in_brackets, joined}
 use Rattle.sql_builder.proofs.tokens.WhereTokenFacts.{is_condition, is_group, has_clause, or_word, right_bracket}
-use Rattle.sql_builder.proofs.tokens.DepthFacts.{closes_from-append, at_end-closes, after-suc}
-use Rattle.sql_builder.proofs.tokens.PartFacts.{none-append, any-append}
+use Rattle.sql_builder.proofs.tokens.DepthFacts.{closes_from-append, at_end-closes, after-suc, high}
+use Rattle.sql_builder.proofs.tokens.PartFacts.{none-append}
 use Rattle.sql_builder.proofs.truth.ConnectiveLemmas.{none-brackets, placed-then}
 use Rattle.sql_parts.proofs.fragments.DepthFacts.{after, closes_from, has_top_level, is_at_least_0, is_balanced, is_even, is_operand, placed, placed_from}
 use Rattle.sql_parts.proofs.fragments.DepthFacts.{is_balanced-is}
 use Rattle.sql_parts.specs.Fragments.{is_clause_word, is_joining, at_top_level, is_whole, balanced}
+use Rattle.sql_parts.proofs.fragments.MisfitLemmas.{balanced_whole}
 
 whole-append : (a b : List Token) → list_all is_whole a ≡ true → list_all is_whole b ≡ true → list_all is_whole (a ++ b) ≡ true
 whole-append a b h k = list_all-append is_whole a b ∙ and_from _ _ h k
@@ -32,13 +33,6 @@ pub none-joined : (test : Token → Bool) (a b : List Token) → closes_from (po
     → has_top_level test (a ++ b) ≡ false
 none-joined test a b closes h k = ap (list_any (at_top_level test)) (placed-then a b (at_end-closes (pos 0) a closes))
     ∙ none-append test (placed a) (placed b) h k
-
-pub high : (l : ℤ) → is_at_least_0 l ≡ true → is_at_least_0 (suc_ℤ l) ≡ true
-high l h = up l h
-  where
-    up : (l : ℤ) → is_at_least_0 l ≡ true → is_at_least_0 (suc_ℤ l) ≡ true
-    up (ℤ.pos n) h = refl
-    up (ℤ.negsuc n) h = absurd (false≢true h)
 
 -- one deeper, and a `)` after it
 closes-suc : (l : ℤ) (ts : List Token) → closes_from l ts ≡ true → closes_from (suc_ℤ l) (ts ++ right_bracket ∷ []) ≡ true
@@ -82,7 +76,7 @@ even_closes ts h = (and_parts (list_all is_whole ts) (closes_from (pos 0) ts) h)
 pub has_top_level-append : (test : Token → Bool) (a b : List Token) → is_even a ≡ true
     → has_top_level test (a ++ b) ≡ (has_top_level test a || has_top_level test b)
 has_top_level-append test a b h = ap (list_any (at_top_level test)) (placed-then a b (at_end-closes (pos 0) a (even_closes a h)))
-    ∙ any-append test (placed a) (placed b)
+    ∙ list_any-append (at_top_level test) (placed a) (placed b)
 
 -- a condition, and more that is no clause
 pub is_condition-append : (a b : List Token) → is_condition a ≡ true → is_even b ≡ true → has_clause b ≡ false → is_condition (a ++ b) ≡ true
@@ -97,14 +91,8 @@ pub even_text : (text : List ℕ) → balanced text ≡ true → is_even (tokens
 even_text text h = balanced_even (tokens text) (sym (is_balanced-is (tokens text)) ∙ h)
 
 -- what is balanced is closed
-whole-no_open : (ts : List Token) → list_all is_whole ts ≡ true → list_any is_open ts ≡ false
-whole-no_open [] whole = refl
-whole-no_open (t ∷ ts) whole =
-    let both = and_parts (is_whole t) (list_all is_whole ts) whole in
-    or_from _ _ (not-true _ (and_parts (not (is_open t)) (not (is_semicolon t)) both.0).0) (whole-no_open ts both.1)
-
 pub balanced_closed : (text : List ℕ) → balanced text ≡ true → closed text ≡ true
-balanced_closed text h = not_from_false _ (whole-no_open (tokens text) (and_parts (list_all is_whole (tokens text)) _ (even_text text h)).0)
+balanced_closed text h = (balanced_whole text h).0
 
 -- ---- conditions that are joined
 

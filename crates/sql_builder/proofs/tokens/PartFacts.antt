@@ -6,25 +6,16 @@ use Rattle.sql_parts.specs.Tokens.{Token, ends_with, is_semicolon}
 use Rattle.sql_builder.specs.TokenParts.{Parts, but_last, parts_at, parts_between, all_parts, with_front}
 use Rattle.sql_builder.specs.Truths.{is_and, is_between, is_between_last, is_or, owns_next, without_owned}
 use Rattle.sql_parts.proofs.fragments.DepthFacts.{after, is_zero, placed_from}
-use Rattle.sql_parts.specs.Fragments.{as_placed, Nested, TopLevel, Placed, is_joining, at_top_level, token_of, clause_words, is_clause_word, is_whole}
-use Rattle.sql_parts.specs.Fragments.{is_word}
+use Rattle.sql_parts.specs.Fragments.{as_placed, Nested, TopLevel, Placed, is_joining, at_top_level, token_of, clause_words, is_clause_word, is_whole, is_word}
 use Rattle.sql_builder.proofs.tokens.WhereTokenFacts.{semicolon}
 use Rattle.sql_builder.specs.Reading.{is_union, without_semicolon}
-
-pub any-append : (test : Token → Bool) (a b : List Placed)
-    → list_any (at_top_level test) (a ++ b) ≡ (list_any (at_top_level test) a || list_any (at_top_level test) b)
-any-append test [] b = refl
-any-append test (m ∷ a) b = shift (at_top_level test m) (list_any (at_top_level test) a) (list_any (at_top_level test) b)
-    (list_any (at_top_level test) (a ++ b))
-    (any-append test a b)
-  where
-    shift : (x y z w : Bool) → w ≡ (y || z) → (x || w) ≡ ((x || y) || z)
-    shift true y z w e = refl
-    shift false y z w e = e
+use Rattle.std.proofs.lemmas.List.{append-nil, map-append}
+use Rattle.std.proofs.lemmas.List.Folds.{list_any-append}
+use Rattle.sql_builder.proofs.lists.AllFacts.{none-weaker}
 
 pub none-append : (test : Token → Bool) (a b : List Placed) → list_any (at_top_level test) a ≡ false → list_any (at_top_level test) b ≡ false
     → list_any (at_top_level test) (a ++ b) ≡ false
-none-append test a b h k = any-append test a b ∙ or_from _ _ h k
+none-append test a b h k = list_any-append (at_top_level test) a b ∙ or_from _ _ h k
 
 pub none-inner : (test : Token → Bool) (a : List Token) → list_any (at_top_level test) (map Nested a) ≡ false
 none-inner test [] = refl
@@ -46,18 +37,13 @@ parts-separator test [] t b h = rw h
 parts-separator test (m ∷ a) t b h = rw (parts-separator test a t b h)
     (with_front-then (at_top_level test m) (token_of m) (parts_at test a) t (parts_at test b))
 
-map-append : (xs ys : List (Token × List Token)) → map (λ (part : Token × List Token). part.1) (xs ++ ys) ≡ map (λ (part : Token × List Token). part.1) xs
-    ++ map (λ (part : Token × List Token). part.1) ys
-map-append [] ys = refl
-map-append (x ∷ xs) ys = ap (λ zs. x.1 ∷ zs) (map-append xs ys)
-
 pub parts_between-separator : (test : Token → Bool) (a : List Placed) (t : Token) (b : List Placed) → test t ≡ true → parts_between test (a ++ TopLevel t ∷ b)
     ≡ parts_between test a ++ parts_between test b
 unfolding parts_then
 parts_between-separator test a t b h =
     let parted = parts_at test a in
     let more = parts_at test b in
-    ap all_parts (parts-separator test a t b h) ∙ ap (λ zs. parted.lead ∷ zs) (map-append parted.rest ((t, more.lead) ∷ more.rest))
+    ap all_parts (parts-separator test a t b h) ∙ ap (λ zs. parted.lead ∷ zs) (map-append (λ (part : Token × List Token). part.1) parted.rest ((t, more.lead) ∷ more.rest))
 
 pub parts-none : (test : Token → Bool) (a : List Placed) → list_any (at_top_level test) a ≡ false
     → parts_at test a ≡ record { lead = map token_of a; rest = [] }
@@ -117,11 +103,11 @@ without_owned-append owned (TopLevel t ∷ a) b = ap (λ ms. cond (owned && is_a
 -- a test that implies another
 pub none_narrower : (test wider : Token → Bool) → ((t : Token) → wider t ≡ false → test t ≡ false) → (a : List Placed) → list_any (at_top_level wider) a ≡ false
     → list_any (at_top_level test) a ≡ false
-none_narrower test wider narrow [] h = refl
-none_narrower test wider narrow (Nested t ∷ a) h = none_narrower test wider narrow a h
-none_narrower test wider narrow (TopLevel t ∷ a) h =
-    let both = or_parts (wider t) (list_any (at_top_level wider) a) h in
-    or_from _ _ (narrow t both.0) (none_narrower test wider narrow a both.1)
+none_narrower test wider narrow a h = none-weaker (at_top_level test) (at_top_level wider) by a h
+  where
+    by : (m : Placed) → at_top_level wider m ≡ false → at_top_level test m ≡ false
+    by (TopLevel t) none = narrow t none
+    by (Nested t) none = refl
 
 -- ---- the last token
 
@@ -131,21 +117,17 @@ but_last-append (u ∷ []) t q = refl
 but_last-append (u ∷ w ∷ f) t q = ap (λ ts. u ∷ ts) (but_last-append (w ∷ f) t q)
 
 pub but_last-push : (ts : List Token) (t : Token) → but_last (ts ++ t ∷ []) ≡ ts
-but_last-push [] t = refl
-but_last-push (u ∷ []) t = refl
-but_last-push (u ∷ w ∷ ts) t = ap (λ us. u ∷ us) (but_last-push (w ∷ ts) t)
-
-pub ends_with-push : (test : Token → Bool) (ts : List Token) (t : Token) → ends_with test (ts ++ t ∷ []) ≡ test t
-ends_with-push test [] t = refl
-ends_with-push test (u ∷ []) t = refl
-ends_with-push test (u ∷ w ∷ ts) t = ends_with-push test (w ∷ ts) t
-
--- ---- the `;` at the end
+but_last-push ts t = but_last-append ts t [] ∙ append-nil ts
 
 ends_with-append : (test : Token → Bool) (a : List Token) (t : Token) (q : List Token) → ends_with test (a ++ t ∷ q) ≡ ends_with test (t ∷ q)
 ends_with-append test [] t q = refl
 ends_with-append test (u ∷ []) t q = refl
 ends_with-append test (u ∷ w ∷ a) t q = ends_with-append test (w ∷ a) t q
+
+pub ends_with-push : (test : Token → Bool) (ts : List Token) (t : Token) → ends_with test (ts ++ t ∷ []) ≡ test t
+ends_with-push test ts t = ends_with-append test ts t []
+
+-- ---- the `;` at the end
 
 pub no_semicolon : (ts : List Token) → list_all is_whole ts ≡ true → ends_with (is_semicolon) ts ≡ false
 no_semicolon [] h = refl

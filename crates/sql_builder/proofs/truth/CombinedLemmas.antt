@@ -1,35 +1,32 @@
 -- The texts of conditions are fragments, and what is true of those that are made of others.
-use Rattle.std.proofs.Common.{◌≡◌, refl, sym, ◌∙◌, ap, subst, ℕ, Bool, true, false, not, ◌&&◌, List, [], ◌∷◌, ◌++◌, map, pos, codes, append-nil, append_assoc, length, ◌≤◌, arith}
-use Rattle.std.specs.Prelude.{flat_map}
+use Rattle.std.proofs.Common.{◌≡◌, refl, sym, ◌∙◌, ap, ℕ, Bool, true, false, not, ◌&&◌, List, [], ◌∷◌, ◌++◌, map, pos, codes, append-nil, append_assoc}
 use Rattle.std.specs.List.{AllByRecursion, list_all}
 use Rattle.std.proofs.lemmas.Bool.{and_from, and_parts, not_from_false}
-use Rattle.std.proofs.lemmas.List.Folds.{list_all-append}
 use Rattle.sql_parts.specs.Fragments.{balanced, is_clause_word, is_joining}
 use Rattle.sql_parts.specs.Operands.{ServesAsOperand, is_fragment}
 use Rattle.sql_parts.specs.Quoting.{quoted}
 use Rattle.sql_parts.specs.Text.{join_with}
-use Rattle.sql_parts.specs.Tokens.{Token, Str, Word, tokens}
-use Rattle.sql_parts.proofs.tokens.JoinFacts.{Edged}
-use Rattle.sql_parts.proofs.fragments.DepthFacts.{closes_from, has_top_level, has_top_level-is, is_balanced, is_balanced-is, is_even}
+use Rattle.sql_parts.specs.Tokens.{Token, Str, Word, tokens, closed}
+use Rattle.sql_parts.proofs.fragments.DepthFacts.{has_top_level-is, is_balanced, is_balanced-is}
 use Rattle.sql_builder.specs.Calls.{Cond, SelectFrom, Sql}
 use Rattle.sql_builder.specs.Condition.{ConditionText, Like, condition_bytes, condition_pieces, condition_raw_texts, mask_text, not_text}
 use Rattle.sql_builder.specs.Layout.{byte_units}
 use Rattle.sql_builder.specs.Phrases as phrase
-use Rattle.sql_builder.specs.Pieces.{Pieces, Fixed, Quoted, Raw, fixed_piece, pieces_text, quoted_piece, raw_piece}
-use Rattle.sql_builder.specs.RawFragments.{are_fit, has_closed_fragments, is_closed_piece, is_fit}
-use Rattle.sql_builder.specs.RawTexts.{Bare, Enclosed}
-use Rattle.sql_builder.specs.Shape.{cond_tokens, pieces_tokens}
+use Rattle.sql_builder.specs.Pieces.{Pieces, fixed_piece, pieces_text, quoted_piece, raw_piece}
+use Rattle.sql_builder.specs.RawFragments.{are_fit, has_closed_fragments, is_fit}
+use Rattle.sql_builder.specs.RawTexts.{Enclosed}
+use Rattle.sql_builder.specs.Shape.{pieces_tokens}
 use Rattle.sql_builder.specs.Truths.{Valuation, and_all, not3, or_all, truth}
 use Rattle.sql_builder.specs.WhereTokens.{in_brackets, joined}
 use Rattle.sql_builder.specs.declared.condition.Family.TheVariants.{And}
 use Rattle.sql_builder.specs.declared.condition.Percent.{Percent}
 use Rattle.sql_builder.proofs.fragments.FitLemmas.{fit_conditions}
 use Rattle.sql_builder.proofs.pieces.ClauseShapeLemmas.{condition_keeps}
-use Rattle.sql_builder.proofs.pieces.ShapeLemmas.{Inside, brackets-inside, joined-inside, pieces_tokens-brackets, quoted-inside, raw-inside, shaped, text-append}
-use Rattle.sql_builder.proofs.pieces.ShapeLemmas.{closing-last, words-between, words-first, words-following, words-last}
+use Rattle.sql_builder.proofs.pieces.ShapeLemmas.{Inside, brackets-inside, pieces_tokens-brackets, quoted-inside, raw-inside, shaped, text-append}
+use Rattle.sql_builder.proofs.pieces.ShapeLemmas.{closing-last, words-first}
 use Rattle.sql_builder.proofs.reading.ClauseWordLemmas.{are_fit-is, fit-balanced, fragments_closed}
-use Rattle.sql_builder.proofs.tokens.BalancedFacts.{IsPlain, balanced_closed, balanced_even, even_closes, is_balanced-brackets, is_condition-append}
-use Rattle.sql_builder.proofs.tokens.BalancedFacts.{is_condition-joined, is_even-brackets, no_clause-brackets}
+use Rattle.sql_builder.proofs.tokens.BalancedFacts.{IsPlain, balanced_closed, balanced_even, is_balanced-brackets, is_condition-append, is_condition-joined}
+use Rattle.sql_builder.proofs.tokens.BalancedFacts.{is_even-brackets, no_clause-brackets}
 use Rattle.sql_builder.proofs.tokens.WhereTokenFacts.{and_word, is_condition, is_group, not_word, or_word}
 use Rattle.sql_builder.proofs.truth.ConditionGroupLemmas.{condition-fit, pieces_tokens-joined}
 use Rattle.sql_builder.proofs.truth.ConnectiveLemmas.{none-brackets, or3-False, truth_brackets}
@@ -39,10 +36,15 @@ use Rattle.sql_parts.specs.StringTexts.{blank, outline}
 use Rattle.sql_builder.specs.Combined.{CombinedFollowTheirParts, ConditionsFollowTheirPieces, IsCombined, MasksFollowTheirField, NegationsFollowTheirPart}
 use Rattle.sql_builder.specs.Combined.{combined_text, joined_text, like_text, negation_text}
 use Rattle.sql_builder.specs.Interference.{piece_outline}
-use Rattle.sql_builder.proofs.conditions.ConditionLemmas.{condition-inside, condition_printed}
+use Rattle.sql_builder.proofs.conditions.ConditionLemmas.{condition_printed, like-between}
 use Rattle.sql_builder.proofs.interference.OutlineLemmas.{pieces-outline}
+use Rattle.sql_builder.proofs.fragments.PropertyLemmas as pieces
 use Rattle.sql_builder.proofs.pieces.LayoutMapLemmas.{joined_in_form}
 use Rattle.std.proofs.lemmas.List.{map-append}
+use Rattle.sql_builder.proofs.fragments.NeutralLemmas.{condition-inside}
+use Rattle.sql_builder.proofs.fragments.PropertyLemmas.{Passes, are_between, between, inside-joins, passes-joins, whatever, within}
+use Rattle.sql_builder.proofs.lists.AllFacts.{all-weaker, map-all, tested-all}
+use Rattle.std.proofs.lemmas.List.Folds.{list_all-map}
 
 -- a text is a fragment where its tokens are a condition
 fragment-is : (text : List ℕ) → is_fragment text ≡ is_condition (tokens text)
@@ -89,14 +91,10 @@ like-pieces negated field mask = raw_piece field ++ (fixed_piece (not_text negat
 
 like-inside : (negated : Bool) (field mask : List ℕ) → Inside (like-pieces negated field mask)
 unfolding like-pieces
-like-inside true field mask =
-    words-between (codes " NOT LIKE ") (raw_piece field) (quoted_piece mask ++ fixed_piece (codes " ESCAPE '!'"))
-    (record { is_closed = refl; plain = refl; begins = refl; ends = refl }) (raw-inside field)
-    (words-last (codes " ESCAPE '!'") (quoted_piece mask) (record { is_closed = refl; plain = refl }) (words-following (codes " ESCAPE '!'") [] refl) (quoted-inside mask))
-like-inside false field mask =
-    words-between (codes " LIKE ") (raw_piece field) (quoted_piece mask ++ fixed_piece (codes " ESCAPE '!'"))
-    (record { is_closed = refl; plain = refl; begins = refl; ends = refl }) (raw-inside field)
-    (words-last (codes " ESCAPE '!'") (quoted_piece mask) (record { is_closed = refl; plain = refl }) (words-following (codes " ESCAPE '!'") [] refl) (quoted-inside mask))
+like-inside negated field mask =
+    between inside-joins (not_text negated ++ codes " LIKE ") (raw_piece field) (quoted_piece mask ++ fixed_piece (codes " ESCAPE '!'")) (like-between negated)
+    (raw-inside field)
+    (inside-joins.append (quoted_piece mask) (fixed_piece (codes " ESCAPE '!'")) (quoted-inside mask) (inside-joins.ending (codes " ESCAPE '!'") refl refl))
 
 like-condition : (negated : Bool) (field mask : List ℕ) → is_condition (tokens field) ≡ true → is_condition (pieces_tokens (like-pieces negated field mask)) ≡ true
 unfolding like-pieces
@@ -127,50 +125,33 @@ joined-pieces words texts = phrase.in_brackets fixed_piece (join_with (fixed_pie
 abbrev brackets : List ℕ → List ℕ
 brackets text = phrase.in_brackets byte_units text
 
-further-text : (words : List ℕ) (texts : List (List ℕ)) → pieces_text (flat_map (λ item. fixed_piece words ++ item) (map bracketed texts))
-    ≡ flat_map (λ item. words ++ item) (map brackets texts)
+bracketed-texts : (texts : List (List ℕ)) → map pieces_text (map bracketed texts) ≡ map brackets texts
 unfolding bracketed
-further-text words [] = refl
-further-text words (t ∷ texts) =
-    text-append (fixed_piece words ++ bracketed t) (flat_map (λ item. fixed_piece words ++ item) (map bracketed texts))
-    ∙ ap (λ rest. (words ++ brackets t) ++ rest) (further-text words texts)
-
-join-text : (words : List ℕ) (texts : List (List ℕ)) → pieces_text (join_with (fixed_piece words) (map bracketed texts)) ≡ join_with words (map brackets texts)
-unfolding bracketed
-join-text words [] = refl
-join-text words (t ∷ texts) =
-    text-append (bracketed t) (flat_map (λ item. fixed_piece words ++ item) (map bracketed texts)) ∙ ap (λ rest. brackets t ++ rest) (further-text words texts)
+bracketed-texts [] = refl
+bracketed-texts (t ∷ texts) = ap (λ more. brackets t ∷ more) (bracketed-texts texts)
 
 joined-text : (words : List ℕ) (texts : List (List ℕ)) → pieces_text (joined-pieces words texts) ≡ joined_text words texts
 unfolding joined-pieces
 joined-text words texts =
-    let items = join_with (fixed_piece words) (map bracketed texts) in
-    ap (λ text. codes "(" ++ text) (text-append items (fixed_piece (codes ")")) ∙ ap (λ text. text ++ codes ")") (join-text words texts))
+    let items = map bracketed texts in
+    ap (λ text. codes "(" ++ text) (text-append (join_with (fixed_piece words) items) (fixed_piece (codes ")"))
+    ∙ ap (λ text. text ++ codes ")")
+    (joined_in_form fixed_piece byte_units pieces_text refl text-append append-nil words items ∙ ap (join_with words) (bracketed-texts texts)))
 
 bracketed-inside : (texts : List (List ℕ)) → AllByRecursion Inside (map bracketed texts)
 unfolding bracketed
-bracketed-inside [] = tt
-bracketed-inside (t ∷ texts) = (brackets-inside (raw_piece t) (raw-inside t), bracketed-inside texts)
+bracketed-inside texts = map-all Inside bracketed (λ t. brackets-inside (raw_piece t) (raw-inside t)) texts
 
-closed-both : (x y : Pieces) → has_closed_fragments x ≡ true → has_closed_fragments y ≡ true → has_closed_fragments (x ++ y) ≡ true
-closed-both x y one other = list_all-append is_closed_piece x y ∙ and_from _ _ one other
-
-further-closed : (words : List ℕ) (texts : List (List ℕ)) → list_all is_fragment texts ≡ true
-    → has_closed_fragments (flat_map (λ item. fixed_piece words ++ item) (map bracketed texts)) ≡ true
+bracketed-closed : (texts : List (List ℕ)) → list_all is_fragment texts ≡ true → AllByRecursion (Passes closed whatever) (map bracketed texts)
 unfolding bracketed
-further-closed words [] all = refl
-further-closed words (t ∷ texts) all =
-    let both = and_parts (is_fragment t) (list_all is_fragment texts) all in
-    closed-both (fixed_piece words ++ bracketed t) (flat_map (λ item. fixed_piece words ++ item) (map bracketed texts)) (fragment_closed t both.0)
-    (further-closed words texts both.1)
+bracketed-closed texts all = tested-all (Passes closed whatever) bracketed is_fragment fragment_closed texts all
 
-joined-closed : (words t : List ℕ) (texts : List (List ℕ)) → list_all is_fragment (t ∷ texts) ≡ true → has_closed_fragments (joined-pieces words (t ∷ texts)) ≡ true
-unfolding bracketed joined-pieces
-joined-closed words t texts all =
-    let both = and_parts (is_fragment t) (list_all is_fragment texts) all in
-    let further = flat_map (λ item. fixed_piece words ++ item) (map bracketed texts) in
-    closed-both (bracketed t ++ further) (fixed_piece (codes ")"))
-    (closed-both (bracketed t) further (fragment_closed t both.0) (further-closed words texts both.1)) refl
+joined-closed : (words : List ℕ) → are_between words ≡ true → (texts : List (List ℕ)) → list_all is_fragment texts ≡ true
+    → has_closed_fragments (joined-pieces words texts) ≡ true
+unfolding joined-pieces
+joined-closed words is texts all =
+    within closed whatever (codes "(") (join_with (fixed_piece words) (map bracketed texts)) (codes ")")
+    (pieces.joined (passes-joins closed whatever) words is (map bracketed texts) (bracketed-closed texts all))
 
 abbrev in_each : List (List ℕ) → List (List Token)
 in_each texts = map (λ text. in_brackets (tokens text)) texts
@@ -186,27 +167,26 @@ brackets-condition ts is =
     and_from _ _ (is_balanced-brackets ts even) (not_from_false _ (no_clause-brackets ts even))
 
 each-condition : (texts : List (List ℕ)) → list_all is_fragment texts ≡ true → list_all is_condition (in_each texts) ≡ true
-each-condition [] all = refl
-each-condition (t ∷ texts) all =
-    let both = and_parts (is_fragment t) (list_all is_fragment texts) all in
-    and_from _ _ (brackets-condition (tokens t) (condition-of t both.0)) (each-condition texts both.1)
+each-condition texts all =
+    list_all-map is_condition (λ text. in_brackets (tokens text)) texts
+    ∙ all-weaker is_fragment (λ text. is_condition (in_brackets (tokens text))) (λ t is. brackets-condition (tokens t) (condition-of t is)) texts all
 
 -- a word that joins conditions
 record Joins (words : List ℕ) (w : Token) : Type 0 where
-  edged : Edged words
+  between : are_between words ≡ true
   is : tokens words ≡ w ∷ []
   plain : IsPlain w
 
 or_joins : Joins (codes " OR ") or_word
 or_joins = record {
-  edged = record { is_closed = refl; plain = refl; begins = refl; ends = refl };
+  between = refl;
   is = refl;
   plain = record { flat = refl; whole = refl; no_clause = refl };
 }
 
 and_joins : Joins (codes " AND ") and_word
 and_joins = record {
-  edged = record { is_closed = refl; plain = refl; begins = refl; ends = refl };
+  between = refl;
   is = refl;
   plain = record { flat = refl; whole = refl; no_clause = refl };
 }
@@ -214,7 +194,7 @@ and_joins = record {
 joined_inside : {words : List ℕ} {w : Token} → Joins words w → (texts : List (List ℕ)) → Inside (joined-pieces words texts)
 unfolding joined-pieces
 joined_inside {words} joins texts =
-    brackets-inside (join_with (fixed_piece words) (map bracketed texts)) (joined-inside words joins.edged (map bracketed texts) (bracketed-inside texts))
+    brackets-inside (join_with (fixed_piece words) (map bracketed texts)) (pieces.joined inside-joins words joins.between (map bracketed texts) (bracketed-inside texts))
 
 module _ {words : List ℕ} {w : Token} (joins : Joins words w) (t : List ℕ) (texts : List (List ℕ)) (all : list_all is_fragment (t ∷ texts) ≡ true) where
   pieces-are : pieces_tokens (joined-pieces words (t ∷ texts)) ≡ in_brackets (joined w (in_each (t ∷ texts)))
@@ -232,13 +212,13 @@ module _ {words : List ℕ} {w : Token} (joins : Joins words w) (t : List ℕ) (
   joined-fragment : is_fragment (joined_text words (t ∷ texts)) ≡ true
   joined-fragment =
       ap is_fragment (sym (joined-text words (t ∷ texts)))
-      ∙ from-pieces (joined-pieces words (t ∷ texts)) inside-all (joined-closed words t texts all)
+      ∙ from-pieces (joined-pieces words (t ∷ texts)) inside-all (joined-closed words joins.between (t ∷ texts) all)
       (ap is_condition pieces-are ∙ brackets-condition (joined w (in_each (t ∷ texts))) joined-condition)
 
   joined-tokens : tokens (joined_text words (t ∷ texts)) ≡ in_brackets (joined w (in_each (t ∷ texts)))
   joined-tokens =
       ap tokens (sym (joined-text words (t ∷ texts)))
-      ∙ (shaped (joined-pieces words (t ∷ texts)) inside-all).shape_is (joined-closed words t texts all) ∙ pieces-are
+      ∙ (shaped (joined-pieces words (t ∷ texts)) inside-all).shape_is (joined-closed words joins.between (t ∷ texts) all) ∙ pieces-are
 
 pub combined_fragment : (conjunction : Bool) (texts : List (List ℕ)) → list_all is_fragment texts ≡ true → is_fragment (combined_text conjunction texts) ≡ true
 combined_fragment true [] all = refl
@@ -266,9 +246,8 @@ groups-are [] = refl
 groups-are (t ∷ texts) = ap (λ more. in_brackets (tokens t) ∷ more) (groups-are texts)
 
 groups-fit : (texts : List (List ℕ)) → list_all is_fragment texts ≡ true → list_all is_group (map alone texts) ≡ true
-groups-fit [] all = refl
-groups-fit (t ∷ texts) all =
-    let both = and_parts (is_fragment t) (list_all is_fragment texts) all in and_from _ _ (and_from _ _ (condition-of t both.0) refl) (groups-fit texts both.1)
+groups-fit texts all =
+    list_all-map is_group alone texts ∙ all-weaker is_fragment (λ text. is_group (alone text)) (λ t is. and_from _ _ (condition-of t is) refl) texts all
 
 truths-alone : (facts : Valuation) (texts : List (List ℕ)) → map (λ group. or_all (map (truth facts) group)) (map alone texts)
     ≡ map (λ text. truth facts (tokens text)) texts
@@ -379,7 +358,7 @@ joined-alike {words} joins t ts other same all =
     ∙ ap (λ items. outlines (fixed_piece (codes "(")) ++ (join_with (outlines (fixed_piece words)) items ++ outlines (fixed_piece (codes ")"))))
     (bracketed-outlines (t ∷ ts) other same)
     ∙ sym (joined-outlines words other))
-    (joined_inside joins (t ∷ ts)) (joined_inside joins other) (joined-closed words t ts all)
+    (joined_inside joins (t ∷ ts)) (joined_inside joins other) (joined-closed words joins.between (t ∷ ts) all)
     ∙ ap outline (joined-text words other)
 
 pub combined_outline : CombinedFollowTheirParts

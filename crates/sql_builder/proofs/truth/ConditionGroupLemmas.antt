@@ -1,7 +1,7 @@
 -- A WHERE is true as its conditions make it.
 use Rattle.std.proofs.Common.{◌≡◌, refl, sym, ◌∙◌, ap, subst, ℕ, Bool, true, false, not, ◌||◌, List, [], ◌∷◌, ◌++◌, map, pos, codes, append-nil}
 use Rattle.std.specs.Prelude.{filter_map, flat_map}
-use Rattle.std.specs.List.{list_all, list_any}
+use Rattle.std.specs.List.{list_all, list_any, AllByRecursion}
 use Rattle.std.proofs.lemmas.Bool.{and_parts, and_from, false≢true, not_from_false}
 use Rattle.sql_parts.specs.Text.{join_with}
 use Rattle.sql_parts.specs.Tokens.{Token, tokens, is_empty}
@@ -16,7 +16,6 @@ use Rattle.sql_builder.specs.Pieces.{Pieces, Fixed, fixed_piece, raw_piece}
 use Rattle.sql_builder.specs.declared.condition.Family.{Family}
 use Rattle.sql_builder.proofs.fragments.NeutralLemmas.{condition-neutral}
 use Rattle.sql_builder.proofs.fragments.PropertyLemmas.{neutral-raw}
-use Rattle.sql_builder.proofs.reading.LayoutLemmas.{where_bodies, where_body}
 use Rattle.sql_builder.proofs.reading.SectionLemmas.{Neutral, neutral-front, own-top_level}
 use Rattle.sql_builder.proofs.reading.ClauseWordLemmas.{Flagged, fit-balanced, fit-flags, flags, shape-even, are_fit_from, is_fit, are_fit-is}
 use Rattle.sql_builder.proofs.pieces.ShapeLemmas.{pieces_tokens-append, pieces_tokens-brackets}
@@ -31,8 +30,9 @@ use Rattle.sql_builder.specs.Truths.{truth, Valuation}
 use Rattle.sql_parts.proofs.fragments.DepthFacts.{is_balanced, placed}
 use Rattle.sql_parts.specs.Fragments.{Placed, is_clause_word, at_top_level}
 use Rattle.std.proofs.lemmas.List.Folds.{list_all-map}
-use Rattle.sql_builder.proofs.lists.AllFacts.{cut-all}
+use Rattle.sql_builder.proofs.lists.AllFacts.{cut-all, all-weaker, tested}
 use Rattle.sql_builder.proofs.conditions.ConditionLemmas.{begins_raw}
+use Rattle.sql_builder.proofs.pieces.LayoutPropertyLemmas.{where_bodies, where_body}
 
 -- ---- one condition
 
@@ -86,45 +86,35 @@ record Grouped (group : Pieces) (conditions : List (List Token)) : Type 0 where
   is : pieces_tokens group ≡ group_tokens conditions
   is_group_of : is_group conditions ≡ true
 
-abbrev AllGrouped : List Pieces → List (List (List Token)) → Type 0
-AllGrouped [] [] = Unit {0}
-AllGrouped [] (cs ∷ css) = ⊥
-AllGrouped (g ∷ gs) [] = ⊥
-AllGrouped (g ∷ gs) (cs ∷ css) = Grouped g cs × AllGrouped gs css
+-- items, the pieces that each makes, and the tokens of its conditions
+module _ {X : Type 0} (made : X → Pieces) (conditions : X → List (List Token)) where
+  abbrev AllGrouped : List X → Type 0
+  AllGrouped xs = AllByRecursion (λ x. Grouped (made x) (conditions x)) xs
 
-brackets-are : (gs : List Pieces) (css : List (List (List Token))) → AllGrouped gs css → map pieces_tokens (map (in_brackets fixed_piece) gs)
-    ≡ map (λ (cs : List (List Token)). where_tokens.in_brackets (group_tokens cs)) css
-brackets-are [] [] all = refl
-brackets-are [] (cs ∷ css) all = absurd all
-brackets-are (g ∷ gs) [] all = absurd all
-brackets-are (g ∷ gs) (cs ∷ css) all = cc (pieces_tokens-brackets g, all.0.is, brackets-are gs css all.1)
+  brackets-are : (xs : List X) → AllGrouped xs → map pieces_tokens (map (in_brackets fixed_piece) (map made xs))
+      ≡ map (λ (cs : List (List Token)). where_tokens.in_brackets (group_tokens cs)) (map conditions xs)
+  brackets-are [] all = refl
+  brackets-are (x ∷ xs) all = cc (pieces_tokens-brackets (made x), all.0.is, brackets-are xs all.1)
 
-are-groups : (gs : List Pieces) (css : List (List (List Token))) → AllGrouped gs css → list_all is_group css ≡ true
-are-groups [] [] all = refl
-are-groups [] (cs ∷ css) all = absurd all
-are-groups (g ∷ gs) [] all = absurd all
-are-groups (g ∷ gs) (cs ∷ css) all = and_from _ _ all.0.is_group_of (are-groups gs css all.1)
+  are-groups : (xs : List X) → AllGrouped xs → list_all is_group (map conditions xs) ≡ true
+  are-groups [] all = refl
+  are-groups (x ∷ xs) all = and_from _ _ all.0.is_group_of (are-groups xs all.1)
 
-body-is : (g : Pieces) (gs : List Pieces) (cs : List (List Token)) (css : List (List (List Token))) → AllGrouped (g ∷ gs) (cs ∷ css)
-    → pieces_tokens (where_body g gs) ≡ where_tokens.where_tokens (cs ∷ css)
-unfolding where_tokens.where_tokens
-body-is g [] cs [] all = all.0.is
-body-is g [] cs (ds ∷ css) all = absurd all.1
-body-is g (h ∷ gs) cs [] all = absurd all.1
-body-is g (h ∷ gs) cs (ds ∷ css) all =
-    pieces_tokens-joined (codes " AND ") and_word refl (map (in_brackets fixed_piece) (g ∷ h ∷ gs))
-    ∙ ap (joined and_word) (brackets-are (g ∷ h ∷ gs) (cs ∷ ds ∷ css) all)
+  body-is : (x : X) (xs : List X) → AllGrouped (x ∷ xs)
+      → pieces_tokens (where_body (made x) (map made xs)) ≡ where_tokens.where_tokens (conditions x ∷ map conditions xs)
+  unfolding where_tokens.where_tokens
+  body-is x [] all = all.0.is
+  body-is x (y ∷ xs) all =
+      pieces_tokens-joined (codes " AND ") and_word refl (map (in_brackets fixed_piece) (map made (x ∷ y ∷ xs)))
+      ∙ ap (joined and_word) (brackets-are (x ∷ y ∷ xs) all)
 
--- the bodies of WHERE, over pieces
-bodies-true : (facts : Valuation) (gs : List Pieces) (css : List (List (List Token))) → AllGrouped gs css → map (truth facts) (where_bodies gs)
-    ≡ where_truths facts css
-unfolding are_groups
-bodies-true facts [] [] all = refl
-bodies-true facts [] (cs ∷ css) all = absurd all
-bodies-true facts (g ∷ gs) [] all = absurd all
-bodies-true facts (g ∷ gs) (cs ∷ css) all =
-    ap (λ ts. truth facts ts ∷ []) (body-is g gs cs css all)
-    ∙ ap (λ t. t ∷ []) (truth_where facts (cs ∷ css) (are-groups (g ∷ gs) (cs ∷ css) all))
+  -- the bodies of WHERE
+  bodies-true : (facts : Valuation) (xs : List X) → AllGrouped xs → map (truth facts) (where_bodies (map made xs)) ≡ where_truths facts (map conditions xs)
+  unfolding are_groups
+  bodies-true facts [] all = refl
+  bodies-true facts (x ∷ xs) all =
+      ap (λ ts. truth facts ts ∷ []) (body-is x xs all)
+      ∙ ap (λ t. t ∷ []) (truth_where facts (map conditions (x ∷ xs)) (are-groups (x ∷ xs) all))
 
 -- ---- the groups of calls
 
@@ -137,41 +127,37 @@ fits condition = are_fit (condition_pieces condition)
 abbrev condition_fits : InFamily → Bool
 condition_fits c = fits c.1
 
-abbrev all_fit : Group InFamily → Bool
-all_fit group = list_all condition_fits (group.0 ∷ group.1)
+abbrev all_fit : Group ConditionText → Bool
+all_fit group = list_all fits (group.0 ∷ group.1)
 
 are-conditions : (cs : List ConditionText) → list_all fits cs ≡ true → list_all is_condition (map cond_tokens cs) ≡ true
-are-conditions [] all = refl
-are-conditions (c ∷ cs) all =
-    let both = and_parts (fits c) (list_all fits cs) all in
-    and_from _ _ (condition-fit c both.0) (are-conditions cs both.1)
+are-conditions cs all =
+    list_all-map is_condition cond_tokens cs ∙ all-weaker fits (λ condition. is_condition (cond_tokens condition)) condition-fit cs all
 
 tokens-of : (cs : List ConditionText) → map pieces_tokens (map condition_pieces cs) ≡ map cond_tokens cs
 tokens-of [] = refl
 tokens-of (c ∷ cs) = ap (λ ts. cond_tokens c ∷ ts) (tokens-of cs)
 
-group-is : (group : Group ConditionText) → list_all fits (group.0 ∷ group.1) ≡ true → Grouped (group_pieces group) (map cond_tokens (group.0 ∷ group.1))
+group-is : (group : Group ConditionText) → all_fit group ≡ true → Grouped (group_pieces group) (map cond_tokens (group.0 ∷ group.1))
 group-is group all = record {
   is = pieces_tokens-joined (codes " OR ") or_word refl (map condition_pieces (group.0 ∷ group.1)) ∙ ap (joined or_word) (tokens-of (group.0 ∷ group.1));
   is_group_of = are-conditions (group.0 ∷ group.1) all;
 }
 
-without-families : (cs : List InFamily) → list_all condition_fits cs ≡ true → list_all fits (map (λ (c : InFamily). c.1) cs) ≡ true
-without-families cs all = list_all-map fits (λ (c : InFamily). c.1) cs ∙ all
-
-groups-are : (found : List (Group InFamily)) → list_all all_fit found ≡ true
-    → AllGrouped (map group_pieces (map conditions_of found))
-    (map (λ (group : Group ConditionText). map cond_tokens (group.0 ∷ group.1)) (map conditions_of found))
-groups-are [] all = tt
-groups-are (group ∷ found) all =
-    let both = and_parts (all_fit group) (list_all all_fit found) all in
-    (group-is (conditions_of group) (without-families (group.0 ∷ group.1) both.0), groups-are found both.1)
+groups-fit : (found : List (Group InFamily)) → list_all (λ group. list_all condition_fits (group.0 ∷ group.1)) found ≡ true
+    → list_all all_fit (map conditions_of found) ≡ true
+groups-fit found all =
+    list_all-map all_fit conditions_of found
+    ∙ all-weaker (λ (group : Group InFamily). list_all condition_fits (group.0 ∷ group.1)) (λ (group : Group InFamily). all_fit (conditions_of group))
+    (λ group fit. list_all-map fits (λ (c : InFamily). c.1) (group.0 ∷ group.1) ∙ fit) found all
 
 pub calls-true : (facts : Valuation) (calls : List CallText) → has_fit_conditions calls ≡ true
     → map (truth facts) (where_bodies (map group_pieces (groups calls))) ≡ where_truths facts (condition_groups calls)
 calls-true facts calls fit =
-    bodies-true facts (map group_pieces (groups calls)) (condition_groups calls)
-    (groups-are (cut opens_group (filter_map condition_in calls)) (cut-all condition_fits opens_group (filter_map condition_in calls) fit))
+    let tokens_in = λ (group : Group ConditionText). map cond_tokens (group.0 ∷ group.1) in
+    bodies-true group_pieces tokens_in facts (groups calls)
+    (tested (λ group. Grouped (group_pieces group) (tokens_in group)) all_fit group-is (groups calls)
+    (groups-fit (cut opens_group (filter_map condition_in calls)) (cut-all condition_fits opens_group (filter_map condition_in calls) fit)))
 
 -- ---- the groups of a builder
 
@@ -181,13 +167,8 @@ text-is group fit = record {
   is_group_of = and_from _ _ (subst (λ ts. is_condition ts ≡ true) (append-nil (tokens group)) (fit-condition group [] (neutral-raw group) fit)) refl;
 }
 
-texts-are : (groups : List (List ℕ)) → list_all (λ (group : List ℕ). are_fit (raw_piece group)) groups ≡ true
-    → AllGrouped (map raw_piece groups) (map (λ (group : List ℕ). tokens group ∷ []) groups)
-texts-are [] all = tt
-texts-are (group ∷ groups) all =
-    let both = and_parts (are_fit (raw_piece group)) (list_all (λ (g : List ℕ). are_fit (raw_piece g)) groups) all in
-    (text-is group both.0, texts-are groups both.1)
-
 pub texts-true : (facts : Valuation) (r : ClauseTexts) → has_fit_groups r ≡ true → map (truth facts) (where_bodies (map raw_piece r.groups))
     ≡ where_truths facts (text_groups r)
-texts-true facts r fit = bodies-true facts (map raw_piece r.groups) (text_groups r) (texts-are r.groups fit)
+texts-true facts r fit =
+    bodies-true raw_piece (λ group. tokens group ∷ []) facts r.groups
+    (tested (λ group. Grouped (raw_piece group) (tokens group ∷ [])) (λ group. are_fit (raw_piece group)) text-is r.groups fit)

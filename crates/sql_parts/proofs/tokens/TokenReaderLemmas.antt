@@ -2,17 +2,16 @@
 use Prim.Native.Char.{code}
 use Rattle.std.proofs.Common.{◌≡◌, ℕ, true, false, not, List, [], ◌∷◌, refl, sym, ap, subst, ◌∙◌, ◌||◌, inl, inr, ne_eqb}
 use Rattle.std.specs.Prelude.{◌==◌, ◌+◌, codes}
-use Rattle.std.proofs.lemmas.Bool.{cases_Bool, eqb-true, false≢true, not-true, or_from, or_parts}
+use Rattle.std.proofs.lemmas.Bool.{cases_Bool, eqb-true, not-true, or_from, or_parts}
 use Rattle.std.proofs.lemmas.List.Folds.{list_any-append}
 use Rattle.sql_parts.specs.Quoting.{closing}
 use Rattle.sql_parts.specs.Readers.{OpensLiteral, after}
 use Rattle.sql_parts.specs.TokenReader.{HasNoBackslash, OpensEveryLiteral, OpensWithoutBackslashes, ReadsClosed, in_block, is_open_state, token_reader}
-use Rattle.sql_parts.specs.Tokens.{begins_with, closed, ends_with, is_edge, is_one_of, is_open, is_word_byte}
+use Rattle.sql_parts.specs.Tokens.{closed, ends_with, is_edge, is_one_of, is_open, is_word_byte}
 use Rattle.sql_parts.specs.declared.delimiters.Quotes.TheVariants.{Single, Back, Square, Double}
 use Rattle.sql_parts.specs.declared.delimiters.Quotes.{Quotes}
 use Rattle.sql_parts.proofs.tokens.AutomatonFacts as mode
-use Rattle.sql_parts.proofs.tokens.AutomatonFacts.{Mode, Between, InWord, InQuotes, AtDelimiter, AtDash, AtSlash, InLine, InBlock, AtStar}
-use Rattle.sql_parts.proofs.tokens.AutomatonFacts.{finish, step, whole}
+use Rattle.sql_parts.proofs.tokens.AutomatonFacts.{Mode, Between, InWord, InQuotes, AtDelimiter, AtDash, AtSlash, InLine, InBlock, AtStar, finish, step, whole}
 use Rattle.sql_parts.proofs.tokens.AutomatonLemmas.{flipped, tokens-read}
 use Rattle.sql_parts.proofs.tokens.SeamLemmas.{after-edge, has_open, one_of, read-finish, shut-end, step-edge}
 use Rattle.sql_parts.proofs.tokens.TokenFacts.{closed-shut}
@@ -167,10 +166,6 @@ pub edge-alike : (state byte : ℕ) → IsShut state → is_edge byte ≡ true �
 edge-alike state byte behind edge =
     ap (λ s. token_reader s byte) (sym behind.number_is) ∙ (steps behind.mode byte).0 ∙ ap number (step-edge behind.mode byte edge (inl behind.shut))
     ∙ sym ((steps Between byte).0 ∙ ap number (step-edge Between byte edge (inl refl)))
-
-pub edge-begins : (state : ℕ) (text : List ℕ) → IsShut state → begins_with is_edge text ≡ true → after token_reader state text ≡ after token_reader 0 text
-edge-begins state [] behind edge = absurd (false≢true edge)
-edge-begins state (byte ∷ text) behind edge = ap (λ s. after token_reader s text) (edge-alike state byte behind edge)
 
 -- and behind one the reader is between two tokens
 pub edge-ends : (text : List ℕ) → closed text ≡ true → ends_with is_edge text ≡ true → after token_reader 0 text ≡ 0
