@@ -189,20 +189,23 @@ module _ {M : Type 1} (𝓤 : Ura M) (𝓛 : Logic 𝓤) (𝓜 : Model 𝓤 𝓛
   -- The calls that add a condition, by their family. `condition` makes the condition of the texts, and `step` is the step's
   -- code, which meets its contract.
 
+  abbrev in_family : Variant family.the_type → Constant 𝓛
+  in_family X = constant 𝓛 family.the_type family_laws.the_plain X
+
+  abbrev chosen : Choice → Constant 𝓛
+  chosen Y = constant 𝓛 Y.type Y.plain Y.variant
+
   -- a condition with one text
   module _ (X : Variant family.the_type) (condition : List ℕ → ConditionText) (fn : Fn) (name step : Args → Callee) (S : RattleType) (LS : Laws S)
       (s : Ghosts S.Denot) (d d' : Dict) where
     abbrev pub types-adds_unary : Args
     types-adds_unary = bounded (a_type ∷ []) (S, tt) (dcons d (dcons d' dnil))
 
-    abbrev F-unary : Constant 𝓛
-    F-unary = constant 𝓛 family.the_type family_laws.the_plain X
-
     abbrev A-unary : Argument 𝓛 2
     A-unary = generic 𝓛 2 0 S LS
 
     abbrev Args-unary : Lfts 2 → Type 0
-    Args-unary κs = MutBor ClauseTexts × Denots (types_at {n = 2} (also 𝓛 (F-unary ∷ []) (plain A-unary.row ∷ [])) κs)
+    Args-unary κs = MutBor ClauseTexts × Denots (types_at {n = 2} (also 𝓛 (in_family X ∷ []) (plain A-unary.row ∷ [])) κs)
 
     abbrev step_effect-adds_unary : (κs : Lfts 2) → Args-unary κs → Effect ClauseTexts
     step_effect-adds_unary κs a = record { leaves = AddsConditionOpaque a.1.0 (condition (s.text a.1.1.0)) a.0.now; fails = IsMemory }
@@ -211,16 +214,16 @@ module _ {M : Type 1} (𝓤 : Ura M) (𝓛 : Logic 𝓤) (𝓜 : Model 𝓤 𝓛
     effect-adds_unary κs a = record { leaves = AddsCondition a.1.0 (condition (s.text a.1.1.0)) a.0.now; fails = IsMemory }
 
     pub adds_unary : (asked : (κs : Lfts 2) → Args-unary κs → SProp 𝓤)
-        → calls.StepMeets builder 𝓛 𝓜 𝓡 1 [] (F-unary ∷ []) (plain A-unary.row ∷ []) (A-unary.kept, tt) asked step_effect-adds_unary (step types-adds_unary)
-        → calls.Code-unary builder 𝓛 𝓜 𝓡 1 [] F-unary A-unary asked effect-adds_unary (inst_fn types-adds_unary fn) (step types-adds_unary) release
+        → calls.StepMeets builder 𝓛 𝓜 𝓡 1 [] (in_family X ∷ []) (plain A-unary.row ∷ []) (A-unary.kept, tt) asked step_effect-adds_unary (step types-adds_unary)
+        → calls.Code-unary builder 𝓛 𝓜 𝓡 1 [] (in_family X) A-unary asked effect-adds_unary (inst_fn types-adds_unary fn) (step types-adds_unary) release
         (name types-adds_unary)
-        → calls.Coded-unary builder 𝓛 𝓜 𝓡 1 [] F-unary A-unary asked effect-adds_unary (inst_fn types-adds_unary fn) (step types-adds_unary) release
+        → calls.Coded-unary builder 𝓛 𝓜 𝓡 1 [] (in_family X) A-unary asked effect-adds_unary (inst_fn types-adds_unary fn) (step types-adds_unary) release
         (name types-adds_unary)
         → Wired 𝓡.env release_code.code
-        → calls.Method-unary builder 𝓛 𝓜 𝓡 1 [] F-unary A-unary asked effect-adds_unary (inst_fn types-adds_unary fn) (step types-adds_unary) release
+        → calls.Method-unary builder 𝓛 𝓜 𝓡 1 [] (in_family X) A-unary asked effect-adds_unary (inst_fn types-adds_unary fn) (step types-adds_unary) release
         (name types-adds_unary)
     unfolding AddsConditionOpaque
-    adds_unary asked met code closed w = calls.by-unary builder 𝓛 𝓜 𝓡 1 [] F-unary A-unary asked effect-adds_unary (inst_fn types-adds_unary fn)
+    adds_unary asked met code closed w = calls.by-unary builder 𝓛 𝓜 𝓡 1 [] (in_family X) A-unary asked effect-adds_unary (inst_fn types-adds_unary fn)
         (step types-adds_unary) release (name types-adds_unary)
         code closed met (releases w)
 
@@ -231,12 +234,6 @@ module _ {M : Type 1} (𝓤 : Ura M) (𝓛 : Logic 𝓤) (𝓜 : Model 𝓤 𝓛
     abbrev pub types-adds_chosen_binary : Args
     types-adds_chosen_binary = bounded (a_type ∷ a_type ∷ []) (S, (T, tt)) (dcons d (dcons e (dcons d' (dcons e' dnil))))
 
-    abbrev F-binary : Constant 𝓛
-    F-binary = constant 𝓛 family.the_type family_laws.the_plain X
-
-    abbrev C-binary : Constant 𝓛
-    C-binary = constant 𝓛 Y.type Y.plain Y.variant
-
     abbrev A-binary : Argument 𝓛 3
     A-binary = generic 𝓛 3 0 S LS
 
@@ -244,7 +241,7 @@ module _ {M : Type 1} (𝓤 : Ura M) (𝓛 : Logic 𝓤) (𝓜 : Model 𝓤 𝓛
     B-binary = generic 𝓛 3 1 T LT
 
     abbrev Args-binary : Lfts 3 → Type 0
-    Args-binary κs = MutBor ClauseTexts × Denots (types_at {n = 3} (also 𝓛 (F-binary ∷ C-binary ∷ []) (plain A-binary.row ∷ plain B-binary.row ∷ [])) κs)
+    Args-binary κs = MutBor ClauseTexts × Denots (types_at {n = 3} (also 𝓛 (in_family X ∷ chosen Y ∷ []) (plain A-binary.row ∷ plain B-binary.row ∷ [])) κs)
 
     abbrev step_effect-adds_chosen_binary : (κs : Lfts 3) → Args-binary κs → Effect ClauseTexts
     step_effect-adds_chosen_binary κs a = record
@@ -258,18 +255,18 @@ module _ {M : Type 1} (𝓤 : Ura M) (𝓛 : Logic 𝓤) (𝓜 : Model 𝓤 𝓛
     }
 
     pub adds_chosen_binary : (asked : (κs : Lfts 3) → Args-binary κs → SProp 𝓤)
-        → calls.StepMeets builder 𝓛 𝓜 𝓡 2 [] (F-binary ∷ C-binary ∷ []) (plain A-binary.row ∷ plain B-binary.row ∷ []) (A-binary.kept, (B-binary.kept, tt))
+        → calls.StepMeets builder 𝓛 𝓜 𝓡 2 [] (in_family X ∷ chosen Y ∷ []) (plain A-binary.row ∷ plain B-binary.row ∷ []) (A-binary.kept, (B-binary.kept, tt))
         asked step_effect-adds_chosen_binary (step types-adds_chosen_binary)
-        → calls.Code-chosen-binary builder 𝓛 𝓜 𝓡 2 [] F-binary C-binary A-binary B-binary asked effect-adds_chosen_binary
+        → calls.Code-chosen-binary builder 𝓛 𝓜 𝓡 2 [] (in_family X) (chosen Y) A-binary B-binary asked effect-adds_chosen_binary
         (inst_fn types-adds_chosen_binary fn) (step types-adds_chosen_binary) release (name types-adds_chosen_binary)
-        → calls.Coded-chosen-binary builder 𝓛 𝓜 𝓡 2 [] F-binary C-binary A-binary B-binary asked effect-adds_chosen_binary
+        → calls.Coded-chosen-binary builder 𝓛 𝓜 𝓡 2 [] (in_family X) (chosen Y) A-binary B-binary asked effect-adds_chosen_binary
         (inst_fn types-adds_chosen_binary fn) (step types-adds_chosen_binary) release (name types-adds_chosen_binary)
         → Wired 𝓡.env release_code.code
-        → calls.Method-chosen-binary builder 𝓛 𝓜 𝓡 2 [] F-binary C-binary A-binary B-binary asked effect-adds_chosen_binary
+        → calls.Method-chosen-binary builder 𝓛 𝓜 𝓡 2 [] (in_family X) (chosen Y) A-binary B-binary asked effect-adds_chosen_binary
         (inst_fn types-adds_chosen_binary fn) (step types-adds_chosen_binary) release (name types-adds_chosen_binary)
     unfolding AddsConditionOpaque
     adds_chosen_binary asked met code closed w =
-        calls.by-chosen-binary builder 𝓛 𝓜 𝓡 2 [] F-binary C-binary A-binary B-binary asked effect-adds_chosen_binary (inst_fn types-adds_chosen_binary fn)
+        calls.by-chosen-binary builder 𝓛 𝓜 𝓡 2 [] (in_family X) (chosen Y) A-binary B-binary asked effect-adds_chosen_binary (inst_fn types-adds_chosen_binary fn)
         (step types-adds_chosen_binary) release (name types-adds_chosen_binary)
         code closed met (releases w)
 
@@ -280,12 +277,6 @@ module _ {M : Type 1} (𝓤 : Ura M) (𝓛 : Logic 𝓤) (𝓜 : Model 𝓤 𝓛
     abbrev pub types-adds_chosen_listed : Args
     types-adds_chosen_listed = bounded (a_type ∷ a_type ∷ []) (S, (T, tt)) (dcons d (dcons e (dcons d' (dcons e' dnil))))
 
-    abbrev F-listed : Constant 𝓛
-    F-listed = constant 𝓛 family.the_type family_laws.the_plain X
-
-    abbrev C-listed : Constant 𝓛
-    C-listed = constant 𝓛 Y.type Y.plain Y.variant
-
     abbrev A-listed : Argument 𝓛 4
     A-listed = generic 𝓛 4 0 S LS
 
@@ -293,7 +284,7 @@ module _ {M : Type 1} (𝓤 : Ura M) (𝓛 : Logic 𝓤) (𝓜 : Model 𝓤 𝓛
     B-listed = slice 𝓛 4 1 tt 1 T
 
     abbrev Args-listed : Lfts 4 → Type 0
-    Args-listed κs = MutBor ClauseTexts × Denots (types_at {n = 4} (also 𝓛 (F-listed ∷ C-listed ∷ []) (plain A-listed.row ∷ plain B-listed.row ∷ [])) κs)
+    Args-listed κs = MutBor ClauseTexts × Denots (types_at {n = 4} (also 𝓛 (in_family X ∷ chosen Y ∷ []) (plain A-listed.row ∷ plain B-listed.row ∷ [])) κs)
 
     abbrev step_effect-adds_chosen_listed : (κs : Lfts 4) → Args-listed κs → Effect ClauseTexts
     step_effect-adds_chosen_listed κs a = record
@@ -307,18 +298,18 @@ module _ {M : Type 1} (𝓤 : Ura M) (𝓛 : Logic 𝓤) (𝓜 : Model 𝓤 𝓛
     }
 
     pub adds_chosen_listed : (asked : (κs : Lfts 4) → Args-listed κs → SProp 𝓤)
-        → calls.StepMeets builder 𝓛 𝓜 𝓡 3 os (F-listed ∷ C-listed ∷ []) (plain A-listed.row ∷ plain B-listed.row ∷ []) (A-listed.kept, (B-listed.kept, tt))
+        → calls.StepMeets builder 𝓛 𝓜 𝓡 3 os (in_family X ∷ chosen Y ∷ []) (plain A-listed.row ∷ plain B-listed.row ∷ []) (A-listed.kept, (B-listed.kept, tt))
         asked step_effect-adds_chosen_listed (step types-adds_chosen_listed)
-        → calls.Code-chosen-listed builder 𝓛 𝓜 𝓡 3 os F-listed C-listed A-listed B-listed asked effect-adds_chosen_listed
+        → calls.Code-chosen-listed builder 𝓛 𝓜 𝓡 3 os (in_family X) (chosen Y) A-listed B-listed asked effect-adds_chosen_listed
         (inst_fn types-adds_chosen_listed fn) (step types-adds_chosen_listed) release (name types-adds_chosen_listed)
-        → calls.Coded-chosen-listed builder 𝓛 𝓜 𝓡 3 os F-listed C-listed A-listed B-listed asked effect-adds_chosen_listed
+        → calls.Coded-chosen-listed builder 𝓛 𝓜 𝓡 3 os (in_family X) (chosen Y) A-listed B-listed asked effect-adds_chosen_listed
         (inst_fn types-adds_chosen_listed fn) (step types-adds_chosen_listed) release (name types-adds_chosen_listed)
         → Wired 𝓡.env release_code.code
-        → calls.Method-chosen-listed builder 𝓛 𝓜 𝓡 3 os F-listed C-listed A-listed B-listed asked effect-adds_chosen_listed
+        → calls.Method-chosen-listed builder 𝓛 𝓜 𝓡 3 os (in_family X) (chosen Y) A-listed B-listed asked effect-adds_chosen_listed
         (inst_fn types-adds_chosen_listed fn) (step types-adds_chosen_listed) release (name types-adds_chosen_listed)
     unfolding AddsConditionOpaque
     adds_chosen_listed asked met code closed w =
-        calls.by-chosen-listed builder 𝓛 𝓜 𝓡 3 os F-listed C-listed A-listed B-listed asked effect-adds_chosen_listed (inst_fn types-adds_chosen_listed fn)
+        calls.by-chosen-listed builder 𝓛 𝓜 𝓡 3 os (in_family X) (chosen Y) A-listed B-listed asked effect-adds_chosen_listed (inst_fn types-adds_chosen_listed fn)
         (step types-adds_chosen_listed) release (name types-adds_chosen_listed)
         code closed met (releases w)
 
@@ -328,12 +319,6 @@ module _ {M : Type 1} (𝓤 : Ura M) (𝓛 : Logic 𝓤) (𝓜 : Model 𝓤 𝓛
       (s : Ghosts S.Denot) (t : Ghosts T.Denot) (u : Ghosts U.Denot) (d e f d' e' f' : Dict) where
     abbrev pub types-adds_chosen_ternary : Args
     types-adds_chosen_ternary = bounded (a_type ∷ a_type ∷ a_type ∷ []) (S, (T, (U, tt))) (dcons d (dcons e (dcons f (dcons d' (dcons e' (dcons f' dnil))))))
-
-    abbrev F-ternary : Constant 𝓛
-    F-ternary = constant 𝓛 family.the_type family_laws.the_plain X
-
-    abbrev C-ternary : Constant 𝓛
-    C-ternary = constant 𝓛 Y.type Y.plain Y.variant
 
     abbrev A-ternary : Argument 𝓛 4
     A-ternary = generic 𝓛 4 0 S LS
@@ -346,7 +331,7 @@ module _ {M : Type 1} (𝓤 : Ura M) (𝓛 : Logic 𝓤) (𝓜 : Model 𝓤 𝓛
 
     abbrev Args-ternary : Lfts 4 → Type 0
     Args-ternary κs = MutBor ClauseTexts × Denots
-        (types_at {n = 4} (also 𝓛 (F-ternary ∷ C-ternary ∷ []) (plain A-ternary.row ∷ plain B-ternary.row ∷ plain D-ternary.row ∷ [])) κs)
+        (types_at {n = 4} (also 𝓛 (in_family X ∷ chosen Y ∷ []) (plain A-ternary.row ∷ plain B-ternary.row ∷ plain D-ternary.row ∷ [])) κs)
 
     abbrev step_effect-adds_chosen_ternary : (κs : Lfts 4) → Args-ternary κs → Effect ClauseTexts
     step_effect-adds_chosen_ternary κs a = record
@@ -360,17 +345,17 @@ module _ {M : Type 1} (𝓤 : Ura M) (𝓛 : Logic 𝓤) (𝓜 : Model 𝓤 𝓛
     }
 
     pub adds_chosen_ternary : (asked : (κs : Lfts 4) → Args-ternary κs → SProp 𝓤)
-        → calls.StepMeets builder 𝓛 𝓜 𝓡 3 [] (F-ternary ∷ C-ternary ∷ []) (plain A-ternary.row ∷ plain B-ternary.row ∷ plain D-ternary.row ∷ [])
+        → calls.StepMeets builder 𝓛 𝓜 𝓡 3 [] (in_family X ∷ chosen Y ∷ []) (plain A-ternary.row ∷ plain B-ternary.row ∷ plain D-ternary.row ∷ [])
         (A-ternary.kept, (B-ternary.kept, (D-ternary.kept, tt))) asked step_effect-adds_chosen_ternary (step types-adds_chosen_ternary)
-        → calls.Code-chosen-ternary builder 𝓛 𝓜 𝓡 3 [] F-ternary C-ternary A-ternary B-ternary D-ternary asked effect-adds_chosen_ternary
+        → calls.Code-chosen-ternary builder 𝓛 𝓜 𝓡 3 [] (in_family X) (chosen Y) A-ternary B-ternary D-ternary asked effect-adds_chosen_ternary
         (inst_fn types-adds_chosen_ternary fn) (step types-adds_chosen_ternary) release (name types-adds_chosen_ternary)
-        → calls.Coded-chosen-ternary builder 𝓛 𝓜 𝓡 3 [] F-ternary C-ternary A-ternary B-ternary D-ternary asked effect-adds_chosen_ternary
+        → calls.Coded-chosen-ternary builder 𝓛 𝓜 𝓡 3 [] (in_family X) (chosen Y) A-ternary B-ternary D-ternary asked effect-adds_chosen_ternary
         (inst_fn types-adds_chosen_ternary fn) (step types-adds_chosen_ternary) release (name types-adds_chosen_ternary)
         → Wired 𝓡.env release_code.code
-        → calls.Method-chosen-ternary builder 𝓛 𝓜 𝓡 3 [] F-ternary C-ternary A-ternary B-ternary D-ternary asked effect-adds_chosen_ternary
+        → calls.Method-chosen-ternary builder 𝓛 𝓜 𝓡 3 [] (in_family X) (chosen Y) A-ternary B-ternary D-ternary asked effect-adds_chosen_ternary
         (inst_fn types-adds_chosen_ternary fn) (step types-adds_chosen_ternary) release (name types-adds_chosen_ternary)
     unfolding AddsConditionOpaque
     adds_chosen_ternary asked met code closed w =
-        calls.by-chosen-ternary builder 𝓛 𝓜 𝓡 3 [] F-ternary C-ternary A-ternary B-ternary D-ternary asked effect-adds_chosen_ternary
+        calls.by-chosen-ternary builder 𝓛 𝓜 𝓡 3 [] (in_family X) (chosen Y) A-ternary B-ternary D-ternary asked effect-adds_chosen_ternary
         (inst_fn types-adds_chosen_ternary fn) (step types-adds_chosen_ternary) release (name types-adds_chosen_ternary)
         code closed met (releases w)
