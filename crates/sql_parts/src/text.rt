@@ -38,7 +38,8 @@ pub trait ToText: Drop {
     }
 }
 
-/// Texts that are taken one after another, so that a list of them need not be made.
+/// Texts that are taken one after another, so that a list of them need not be made. For the crates
+/// here alone.
 pub trait Texts<'a>: Drop {
     /// The texts that are left.
     ghost left: { Self → List (List ℕ) };
@@ -53,7 +54,7 @@ pub trait Texts<'a>: Drop {
         ensures memory { FailsOnlyByMemory result };
 }
 
-/// The texts of a slice.
+/// The texts of a slice. For the crates here alone.
 #[derive(Drop)]
 pub struct Items<'a, S> {
     /// What is left of the slice.
@@ -75,7 +76,7 @@ impl<'a, S: ToText> Texts<'a> for Items<'a, S> {
     }
 }
 
-/// The text of each item. It fails only if memory runs out.
+/// The text of each item. It fails only if memory runs out. For the crates here alone.
 /// `copies(alloc, &[1, 2])?` → `[1, 2]`
 pub fn copies<S: ToText>(alloc: Global, items: &[S]) -> Result<Vec<String>, SqlBuilderError>
     ensures copied { IfOk result (λ copied. texts copied.items ≡ map S.text items.now) }
@@ -88,7 +89,7 @@ pub fn copies<S: ToText>(alloc: Global, items: &[S]) -> Result<Vec<String>, SqlB
     Ok(copied)
 }
 
-/// A copy of the text, if there is one. It fails only if memory runs out.
+/// A copy of the text, if there is one. It fails only if memory runs out. For the crates here alone.
 /// `copy(alloc, &Some(String::from_str(alloc, "a")?))?` → `Some(a)`
 pub fn copy(alloc: Global, text: &Option<String>) -> Result<Option<String>, SqlBuilderError>
     ensures copied { IfOk result (λ copied. optional_text copied ≡ optional_text text.now) }
