@@ -1,5 +1,5 @@
 //! Whole numbers in decimal.
-ghost use Rattle.std.specs.Prelude.{◌≡◌, ◌+◌, ◌/◌, ◌%◌, ◌<◌, ◌≤◌, ◌∷◌, ◌++◌, IfOk, drop, length, string_bytes};
+ghost use Rattle.std.specs.Prelude.{◌≡◌, ◌+◌, ◌/◌, ◌%◌, ◌^◌, ◌<◌, ◌≤◌, ◌∷◌, ◌++◌, IfOk, drop, length, string_bytes};
 ghost use Rattle.std.specs.Fmt.{decimal, signed_decimal};
 ghost use Rattle.std.specs.Str.{IsAscii};
 ghost use Rattle.sql_parts.specs.Decimal.{last_digits};
@@ -61,19 +61,30 @@ fn write_digits(number: u64, text: &mut [u8], end: usize) -> usize
     write_first(left, text, at)
 }
 
+// Writes four digits.
+#[inline(always)]
+fn write_four(four: u64, text: &mut [u8], at: usize)
+    requires { (four < 10000) × (at + 4 ≤ length text.old) }
+    ensures { drop at text.new ≡ last_digits 4 four ++ drop (at + 4) text.old }
+{
+    write_pair(four % 100, text, at + 2);
+    write_pair(four / 100, text, at);
+}
+
 // Writes the last nineteen digits, which end there, and says where they begin.
 #[inline(always)]
 fn write_last(number: u64, text: &mut [u8], end: usize) -> usize
-    requires { (19 ≤ end) × (end ≤ length text.old) }
+    requires { (number < 10 ^ 19) × (19 ≤ end) × (end ≤ length text.old) }
     ensures start { result + 19 ≡ end }
     ensures written { drop result text.new ≡ last_digits 19 number ++ drop end text.old }
 {
     let mut left = number;
-    for pairs in 0..9 {
-        write_pair(left % 100, text, end - 2 * pairs - 2);
-        left /= 100;
+    for fours in 0..4 {
+        write_four(left % 10_000, text, end - 4 * fours - 4);
+        left /= 10_000;
     }
-    text[end - 19] = b'0' + (left % 10) as u8;
+    write_pair(left % 100, text, end - 18);
+    text[end - 19] = b'0' + (left / 100) as u8;
     end - 19
 }
 

@@ -51,13 +51,15 @@ decimal-pair n lo hi =
 pub length-pair : (n : ℕ) → 100 ≤ n → n < 2 ^ 64 → length (decimal n) ≡ length (decimal (n / 100)) + 2
 length-pair n lo hi = ap length (decimal-pair n lo hi) ∙ length-append _ _
 
--- two more of the last digits
-pub last-pair : (count n : ℕ) → last_digits (suc (suc count)) n ≡ last_digits count (n / 100) ++ pair (n % 100)
-last-pair count n =
-    let a : n / 10 / 10 ≡ n / 100 = omega arith in
-    let b : n / 10 % 10 ≡ n % 100 / 10 = omega arith in
-    let c : n % 10 ≡ n % 100 % 10 = omega arith in
-    rw (append_assoc, a, b, ← c)
+-- four more of the last digits
+pub last-four : (count n : ℕ) → last_digits (suc (suc (suc (suc count)))) n ≡ last_digits count (n / 10000) ++ last_digits 4 (n % 10000)
+last-four count n =
+    let a : n / 10 / 10 / 10 / 10 ≡ n / 10000 = omega arith in
+    let b : n / 10 / 10 / 10 % 10 ≡ n % 10000 / 10 / 10 / 10 % 10 = omega arith in
+    let c : n / 10 / 10 % 10 ≡ n % 10000 / 10 / 10 % 10 = omega arith in
+    let d : n / 10 % 10 ≡ n % 10000 / 10 % 10 = omega arith in
+    let e : n % 10 ≡ n % 10000 % 10 = omega arith in
+    rw (append_assoc, append_assoc, append_assoc, a, b, c, d, ← e)
 
 length-last : (count n : ℕ) → length (last_digits count n) ≡ count
 length-last zero n = refl

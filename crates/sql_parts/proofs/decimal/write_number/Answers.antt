@@ -17,7 +17,7 @@ pub write_last-end-requires : goal.write_last-end-requires
 write_last-end-requires c =
     let l = c.loop-left in
     let long = length-base l.left (l.left / 10000000000000000000) refl (omega arith) l.auto.left-fits.fits in
-    let most = longest c.args.number c.ranges.number.fits in (omega arith, omega arith)
+    let most = longest c.args.number c.ranges.number.fits in (omega arith, omega arith, omega arith)
 
 pub loop-left-preserved : goal.loop-left-preserved
 loop-left-preserved c =
