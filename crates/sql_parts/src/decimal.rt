@@ -131,6 +131,7 @@ fn copy(alloc: Global, text: &[u8; LONGEST], start: usize) -> Result<String, All
 }
 
 /// The text of a number. It takes the number by value, so that its range is known.
+#[inline(always)]
 pub(crate) fn unsigned_text(alloc: Global, number: u128) -> Result<String, AllocError>
     ensures { IfOk result (λ s. string_bytes s ≡ decimal_text number) }
 {
@@ -140,6 +141,7 @@ pub(crate) fn unsigned_text(alloc: Global, number: u128) -> Result<String, Alloc
 }
 
 /// The text of a number, with a minus before a negative one.
+#[inline(always)]
 pub(crate) fn signed_text(alloc: Global, number: i128) -> Result<String, AllocError>
     ensures { IfOk result (λ s. string_bytes s ≡ number_text number) }
 {
