@@ -261,6 +261,10 @@ CALLS = [
     Calls("`sql_arg` of a bool", "arg_bool", 200_000, 1.0),
     *(Calls(f"IN of 1,000 {of}", f"in_{of}", 500, 1.0, repeated("x" * 1_000)) for of in ("u8", "u32", "i64", "i128")),
     Calls("`clone` of a SELECT of 6,000 items", "clone", 500, 0.9, repeated("x" * 1_000)),
+    *(
+        Calls(f"`clone` of a SELECT of {count:,} conditions", "clone_conditions", turns, 1.0, repeated("x" * count))
+        for count, turns in ((1, 100_000), (10, 50_000), (10_000, 100))
+    ),
 ]
 
 TYPED = [

@@ -6,6 +6,7 @@ ghost use Rattle.sql_builder.specs.Calls.{SelectFrom, SelectValues, InsertInto, 
 ghost use Rattle.sql_builder.specs.Clauses.{new_clauses};
 
 use crate::clauses::{GroupedCondition, JoinOperator, Kind, copy_conditions};
+use crate::concat::copied;
 use crate::ghost_list::Bytes;
 use crate::optional_text::OptionalText;
 use crate::printed_list::PrintedList;
@@ -250,7 +251,7 @@ impl SqlBuilder {
         ensures memory { FailsOnlyByMemory result }
     {
         Ok((
-            self.table.to_text(self.alloc)?,
+            copied(self.alloc, self.table.as_str())?,
             self.joins.copy(self.alloc)?,
         ))
     }

@@ -46,7 +46,7 @@ pub enum Start {
     DeleteFrom(String),
 }
 
-/// How a statement on a table begins.
+/// How a statement on a table begins, for `restart_on`.
 #[derive(Clone, Copy)]
 pub enum TableStart {
     /// `select_from`.
@@ -185,7 +185,7 @@ pub fn restart(builder: &mut SqlBuilder, start: &Start) -> Result<(), SqlBuilder
 }
 
 /// Makes a builder that of a statement on this table, and keeps its buffers. It fails only if memory
-/// runs out, and then leaves the builder as it was.
+/// runs out, and then leaves the builder as it was. For `sqlb`: as `restart`, with its text borrowed.
 /// ```
 /// let mut b = SqlBuilder::select_from(alloc, "t")?;
 /// restart_on(&mut b, TableStart::DeleteFrom, "u")?;
@@ -213,7 +213,8 @@ pub fn restart_on(
 }
 
 /// Makes a builder that of a SELECT of values that are taken one after another, without a table, and
-/// keeps its buffers. It fails only if memory runs out, and then leaves the builder as it was.
+/// keeps its buffers. It fails only if memory runs out, and then leaves the builder as it was. For
+/// `sqlb`: as `restart`, with its texts borrowed.
 /// ```
 /// let mut b = SqlBuilder::select_from(alloc, "t")?;
 /// restart_values(&mut b, Items { items: &[1, 2] })?;

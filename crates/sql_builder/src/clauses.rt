@@ -86,7 +86,7 @@ pub(crate) fn copy_conditions(
 {
     let mut copied = Vec::with_capacity(alloc, conditions.len())?;
     for condition in conditions {
-        copied.push(condition.copy(alloc)?)?;
+        copied.push_reserved(condition.copy(alloc)?);
     }
     Ok(copied)
 }

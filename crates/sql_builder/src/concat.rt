@@ -54,6 +54,17 @@ pub(crate) fn concat(alloc: Global, parts: &[Part<'_>]) -> Result<String, AllocE
     Ok(text)
 }
 
+/// A copy of a text. Where that is empty, it takes no call.
+#[inline(always)]
+pub(crate) fn copied(alloc: Global, text: &str) -> Result<String, AllocError>
+    ensures { IfOk result (λ copy. string_bytes copy ≡ text.now) }
+{
+    if text.is_empty() {
+        return Ok(String::new(alloc));
+    }
+    String::from_str(alloc, text)
+}
+
 /// Puts one text in the place of another, after one allocation at most. Where that fails, the text is
 /// as it was.
 pub(crate) fn replace(text: &mut String, with: &str) -> Result<(), AllocError>

@@ -72,8 +72,8 @@ pub enum Condition {
     Between(bool, String, String, String),
 }
 
-/// A condition whose texts are borrowed, and whose lists are taken text by text. A truth value says
-/// whether it is the NOT form.
+/// A condition whose texts are borrowed, and whose lists are taken text by text, for `sqlb` and
+/// `sql_typed`. A truth value says whether it is the NOT form.
 #[derive(Drop)]
 pub enum BorrowedCondition<'a, T> {
     /// A raw condition, which is printed unchanged.

@@ -1,7 +1,7 @@
 //! Texts that may be missing, whose buffers are reused.
 ghost use Rattle.std.specs.Prelude.{◌≡◌, IfOk, MatchOption, None, OnErr, OnOk, Some, is_some};
 
-use crate::concat::replace;
+use crate::concat::{copied, replace};
 use std::alloc::{AllocError, Global};
 use std::marker::Model;
 
@@ -70,7 +70,7 @@ impl OptionalText {
         ensures { IfOk result (λ copy. copy ≡ self.now) }
     {
         Ok(OptionalText {
-            text: String::from_str(alloc, self.get().unwrap_or(""))?,
+            text: copied(alloc, self.get().unwrap_or(""))?,
             is_some: self.is_some,
         })
     }

@@ -4,7 +4,7 @@ ghost use Rattle.sql_builder.specs.Concat.{concat_bytes};
 ghost use Rattle.sql_builder.specs.PrintedLists.{HasByte, union_has_byte};
 ghost use Rattle.sql_builder.specs.Layout.{union_opening};
 
-use crate::concat::{Part, append};
+use crate::concat::{Part, append, copied};
 use crate::ghost_list::{Bytes, GhostList};
 use std::alloc::{AllocError, Global};
 use std::marker::Model;
@@ -102,7 +102,7 @@ impl<T: Printed> PrintedList<T> {
         ensures { IfOk result (λ copy. copy ≡ self.now) }
     {
         Ok(PrintedList {
-            text: String::from_str(alloc, self.text.as_str())?,
+            text: copied(alloc, self.text.as_str())?,
             items: GhostList::of(&self.items),
         })
     }

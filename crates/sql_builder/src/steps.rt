@@ -276,8 +276,8 @@ impl SqlBuilder {
     }
 }
 
-/// Makes a call without a text. `returning_id` fails only if memory runs out, and then leaves the
-/// builder as it was; the others can't fail.
+/// Makes a call without a text, for `make`. `returning_id` fails only if memory runs out, and then
+/// leaves the builder as it was; the others can't fail.
 /// ```
 /// let mut b = SqlBuilder::select_from(alloc, "t")?;
 /// make_nullary(&mut b, NullaryClause::Distinct)?;
@@ -303,7 +303,7 @@ pub fn make_nullary(builder: &mut SqlBuilder, clause: NullaryClause) -> Result<(
 }
 
 /// Makes a call with one text. It fails only if memory runs out, and then leaves the builder as it
-/// was; `on` without a join can't fail.
+/// was; `on` without a join can't fail. For `sqlb` and `sql_typed`: its text is borrowed.
 /// ```
 /// let mut b = SqlBuilder::select_from(alloc, "t")?;
 /// make_unary(&mut b, UnaryClause::Field, "a")?;
@@ -339,7 +339,7 @@ pub fn make_unary(
 }
 
 /// Makes a call with two texts. It fails only if memory runs out, and then leaves the builder as it
-/// was; `on_eq` without a join can't fail.
+/// was; `on_eq` without a join can't fail. For `sqlb` and `sql_typed`: its texts are borrowed.
 /// ```
 /// let mut b = SqlBuilder::update_table(alloc, "t")?;
 /// make_binary(&mut b, BinaryClause::SetTo, "a", "1")?;
@@ -370,7 +370,7 @@ pub fn make_binary<'a>(
 }
 
 /// Makes a call with a list of texts. It fails only if memory runs out, and then leaves the builder
-/// as it was.
+/// as it was. For `sqlb` and `sql_typed`: its texts are taken one after another.
 /// ```
 /// let mut b = SqlBuilder::select_from(alloc, "t")?;
 /// make_variadic(&mut b, VariadicClause::Fields, Items { items: &["a", "b"] })?;
@@ -405,6 +405,7 @@ pub fn make_variadic<'a, T: Texts<'a>>(
 }
 
 /// Makes a call of ORDER BY. It fails only if memory runs out, and then leaves the builder as it was.
+/// For `sqlb`: its text is borrowed.
 /// ```
 /// let mut b = SqlBuilder::select_from(alloc, "t")?;
 /// make_order(&mut b, "a", true)?;
@@ -424,7 +425,7 @@ pub fn make_order(
 }
 
 /// Makes the call of this family that adds this condition. It fails only if memory runs out, and then
-/// leaves the builder as it was.
+/// leaves the builder as it was. For `sqlb`: its texts are borrowed.
 /// ```
 /// let mut b = SqlBuilder::select_from(alloc, "t")?;
 /// make_condition(&mut b, Family::And, BorrowedCondition::InList(false, "a", Items { items: &["1", "2"] }))?;
@@ -444,7 +445,8 @@ pub fn make_condition<'a, T: Texts<'a>>(
     builder.push_condition(family, text)
 }
 
-/// The text of a condition, for a condition that it is a part of. It fails only if memory runs out.
+/// The text of a condition, for a condition of `sql_typed` that it is a part of. It fails only if
+/// memory runs out.
 /// `condition_text(alloc, BorrowedCondition::InList(false, "a", Items { items: &["1", "2"] }))?` →
 /// `a IN (1, 2)`
 pub fn condition_text<'a, T: Texts<'a>>(
@@ -458,8 +460,8 @@ pub fn condition_text<'a, T: Texts<'a>>(
     condition.text(alloc)
 }
 
-/// Makes the call of this family that adds the condition of this text, which isn't copied. It fails
-/// only if memory runs out, and then leaves the builder as it was.
+/// Makes the call of this family that adds the condition of this text, which isn't copied, for
+/// `sql_typed`. It fails only if memory runs out, and then leaves the builder as it was.
 /// ```
 /// let mut b = SqlBuilder::select_from(alloc, "t")?;
 /// add_condition(&mut b, Family::And, String::from_str(alloc, "a IN (1, 2)")?)?;

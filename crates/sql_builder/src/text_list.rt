@@ -6,7 +6,7 @@ ghost use Rattle.sql_builder.specs.Concat.{HasRoom, Writes, concat_bytes};
 ghost use Rattle.sql_builder.specs.Layout.{byte_units};
 ghost use Rattle.sql_builder.specs.Phrases.{row};
 
-use crate::concat::{Part, push_all, push_text, total_len};
+use crate::concat::{Part, copied, push_all, push_text, total_len};
 use crate::ghost_list::{Bytes, GhostList};
 use crate::phrases::push_row;
 use sql_parts::SqlBuilderError;
@@ -185,7 +185,7 @@ impl TextList {
         ensures { IfOk result (λ copy. copy ≡ self.now) }
     {
         Ok(TextList {
-            text: String::from_str(alloc, self.text.as_str())?,
+            text: copied(alloc, self.text.as_str())?,
             has_items: self.has_items,
             items: GhostList::of(&self.items),
         })

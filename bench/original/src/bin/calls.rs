@@ -105,6 +105,15 @@ fn large_builder(items: usize) -> SqlBuilder {
     builder
 }
 
+/// A builder with so many conditions.
+fn filtered_builder(conditions: usize) -> SqlBuilder {
+    let mut builder = SqlBuilder::select_from("books");
+    for condition in 0..conditions {
+        builder.and_where_eq("price", condition);
+    }
+    builder
+}
+
 /// A value to be bound, as its number tells.
 fn value(number: usize) -> Box<dyn SqlArg> {
     match number % 3 {
@@ -167,17 +176,21 @@ fn repeat_in<T: ToString>(turns: u64, numbers: impl Iterator<Item = T>) -> (usiz
     })
 }
 
-fn repeat_clone(items: usize, turns: u64) -> (usize, String) {
-    let mut last = large_builder(items);
+/// How many bytes the last of a builder's copies prints, and what it prints.
+fn repeat_clone(builder: SqlBuilder, turns: u64) -> (usize, String) {
+    let mut last = builder;
     for _turn in 0..turns {
         last = last.clone();
     }
-    (items, last.sql().expect("a statement"))
+    let text = last.sql().expect("a statement");
+    (text.len(), text)
 }
 
 fn work(name: &str, text: &str, turns: u64) -> (usize, String) {
-    if name == "clone" {
-        return repeat_clone(text.len(), turns);
+    match name {
+        "clone" => return repeat_clone(large_builder(text.len()), turns),
+        "clone_conditions" => return repeat_clone(filtered_builder(text.len()), turns),
+        _ => {}
     }
     let count = text.len() as u64;
     match name {
