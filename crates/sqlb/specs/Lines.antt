@@ -3,12 +3,14 @@ use Rattle.std.specs.Prelude.{ℕ, ◌==◌, List, [], ◌∷◌, Bool, true, fa
 use Rattle.std.specs.List.{slice_split}
 use Rattle.std.specs.Str.{is_utf8}
 use Rattle.sql_builder.specs.Calls as call
-use Rattle.sql_builder.specs.Calls.{CallText, FinishText, StartText, binary_call, finish_view, nullary_call, start_on, unary_call, variadic_call}
+use Rattle.sql_builder.specs.Calls.{CallText, FinishText, StartText, binary_call, nullary_call, start_on, unary_call, variadic_call}
 use Rattle.sqlb.specs.Names.{condition_of, meaning_of}
 use Rattle.sqlb.specs.declared.fault.Reason.{Reason}
 use Rattle.sqlb.specs.declared.fault.Reason.TheVariants.{NotUtf8, UnknownCall, WrongArguments}
 use Rattle.sqlb.specs.declared.names.Meaning.{Meaning}
 use Rattle.sqlb.specs.declared.names.Meaning.TheVariants as means
+use Rattle.sqlb.specs.declared.names.Printing.{Printing}
+use Rattle.sqlb.specs.declared.names.Printing.TheVariants as printing
 
 -- an empty part after the last line feed is no line
 abbrev pub without_empty_last : List (List ℕ) → List (List ℕ)
@@ -35,6 +37,13 @@ pub data CommandText : Type 0 where
 abbrev pub CommandResult : Type 0
 CommandResult = Result CommandText Reason
 
+-- how a printing call ends the statement
+abbrev pub finish_of : Printing → FinishText
+finish_of printing.Sql = call.Sql
+finish_of printing.Query = call.Query
+finish_of printing.QueryValues = call.QueryValues
+finish_of printing.Subquery = call.Subquery
+
 -- the truth value that a text names
 abbrev pub flag_in : List ℕ → Option Bool
 flag_in text =
@@ -44,7 +53,7 @@ flag_in text =
 -- what a name says of its arguments, if they fit
 abbrev pub command : Meaning → List (List ℕ) → Option CommandText
 command (means.Nullary clause) [] = Some (Calls (nullary_call clause))
-command (means.Finish finish) [] = Some (Finishes (finish_view finish))
+command (means.Prints print) [] = Some (Finishes (finish_of print))
 command (means.Start start) (table ∷ []) = Some (Starts (start_on start table))
 command means.SelectValues values = Some (Starts (call.SelectValues values))
 command (means.Unary clause) (text ∷ []) = Some (Calls (unary_call clause text))

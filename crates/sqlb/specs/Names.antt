@@ -8,7 +8,6 @@ use Rattle.sql_builder.specs.declared.condition.Family.{Family}
 use Rattle.sql_builder.specs.declared.condition.Family.TheVariants.{And, Or}
 use Rattle.sql_builder.specs.declared.condition.Percent.TheVariants as percent
 use Rattle.sql_builder.specs.declared.condition.Relation.TheVariants as relation
-use Rattle.sql_builder.specs.declared.calls.Finish.TheVariants as finish
 use Rattle.sql_builder.specs.declared.steps.BinaryClause.TheVariants as binary
 use Rattle.sql_builder.specs.declared.steps.NullaryClause.TheVariants as nullary
 use Rattle.sql_builder.specs.declared.steps.UnaryClause.TheVariants as unary
@@ -17,6 +16,7 @@ use Rattle.sqlb.specs.declared.names.Ending.{Ending}
 use Rattle.sqlb.specs.declared.names.Ending.TheVariants.{Raw, IsNull, IsNotNull, Compare, Like, InList, InQuoted, InQuery, Between}
 use Rattle.sqlb.specs.declared.names.Meaning.{Meaning}
 use Rattle.sqlb.specs.declared.names.Meaning.TheVariants as means
+use Rattle.sqlb.specs.declared.names.Printing.TheVariants as printing
 
 -- what is beside a name in a table, if the table has it
 abbrev pub found_in : {M : Type 0} → List (List ℕ × M) → List ℕ → Option M
@@ -34,10 +34,10 @@ nullaries =
     (codes "cross", means.Nullary nullary.Cross) ∷
     (codes "distinct", means.Nullary nullary.Distinct) ∷
     (codes "returning_id", means.Nullary nullary.ReturningId) ∷
-    (codes "sql", means.Finish finish.Sql) ∷
-    (codes "query", means.Finish finish.Query) ∷
-    (codes "query_values", means.Finish finish.QueryValues) ∷
-    (codes "subquery", means.Finish finish.Subquery) ∷
+    (codes "sql", means.Prints printing.Sql) ∷
+    (codes "query", means.Prints printing.Query) ∷
+    (codes "query_values", means.Prints printing.QueryValues) ∷
+    (codes "subquery", means.Prints printing.Subquery) ∷
     []
 
 -- those that open a statement, and those of tables and joins

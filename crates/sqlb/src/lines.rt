@@ -1,14 +1,15 @@
 //! What each line makes of the open statement.
-ghost use Rattle.std.specs.Prelude.{◌≡◌, OnErr, OnOk, ok_or, string_bytes};
+ghost use Rattle.std.specs.Prelude.{◌≡◌, Ok, OnErr, OnOk, ok_or, string_bytes};
 ghost use Rattle.sqlb.specs.Arguments.{IsTaken};
-ghost use Rattle.sqlb.specs.Lines.{command, command_in_parts, flag_in};
+ghost use Rattle.sqlb.specs.Lines.{Finishes, command, command_in_parts, finish_of, flag_in};
 ghost use Rattle.sqlb.specs.Script.{Answers, Checks, Runs, printed_if, given_after, given_answer};
 ghost use Rattle.sqlb.specs.declared.fault.Reason.TheVariants.{WrongArguments};
 
 use crate::arguments::Arguments;
 use crate::fault::{LineError, Reason};
-use crate::names::Meaning;
+use crate::names::{Meaning, Printing};
 use crate::script::Script;
+use sql_builder::calls::Finish;
 
 fn read_flag(text: &str) -> Result<bool, Reason>
     ensures { Checks (λ flag. flag) result (ok_or (flag_in text.now) WrongArguments) }
@@ -55,9 +56,9 @@ impl Script {
                 arguments.none()?;
                 self.add_nullary(clause)
             }
-            Meaning::Finish(finish) => {
+            Meaning::Prints(printing) => {
                 arguments.none()?;
-                self.finish(&finish, statement)
+                self.print(printing, statement)
             }
             Meaning::Start(start) => self.start_on(start, arguments.one()?),
             Meaning::SelectValues => self.start_values(arguments.others()),
@@ -75,6 +76,18 @@ impl Script {
                 self.add_condition(family, ending.condition(arguments)?)
             }
             Meaning::SubqueryAs => self.finish_as(arguments.one()?, statement),
+        }
+    }
+
+    fn print(&mut self, printing: Printing, statement: &mut String) -> Result<bool, LineError>
+        ensures { Runs result self.old self.new (string_bytes statement.new)
+            (Ok (Finishes (finish_of printing))) }
+    {
+        match printing {
+            Printing::Sql => self.finish(&Finish::Sql, statement),
+            Printing::Query => self.finish(&Finish::Query, statement),
+            Printing::QueryValues => self.finish(&Finish::QueryValues, statement),
+            Printing::Subquery => self.finish(&Finish::Subquery, statement),
         }
     }
 }

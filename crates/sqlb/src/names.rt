@@ -10,17 +10,17 @@ ghost use Rattle.sqlb.specs.declared.fault.Reason.TheVariants.{WrongArguments};
 use crate::arguments::Arguments;
 use crate::fault::Reason;
 use sql_builder::calls::{
-    BinaryClause, BorrowedCondition, Family, Finish, NullaryClause, Percent, Relation, TableStart,
+    BinaryClause, BorrowedCondition, Family, NullaryClause, Percent, Relation, TableStart,
     UnaryClause, VariadicClause,
 };
 
 /// What a name means, by how many arguments it takes.
-#[derive(Drop)]
+#[derive(Clone, Copy)]
 pub(crate) enum Meaning {
     /// It takes none.
     Nullary(NullaryClause),
     /// It prints the statement, and takes none.
-    Finish(Finish),
+    Prints(Printing),
     /// It opens a statement on one table.
     Start(TableStart),
     /// It opens a statement of any number of values.
@@ -37,6 +37,15 @@ pub(crate) enum Meaning {
     Where(Family, Ending),
     /// It prints a subquery of one name.
     SubqueryAs,
+}
+
+/// A printing call without an argument. `Finish`, which may hold a text, is slower to pass on.
+#[derive(Clone, Copy)]
+pub(crate) enum Printing {
+    Sql,
+    Query,
+    QueryValues,
+    Subquery,
 }
 
 /// A condition, but for its texts. A truth value says whether it is the NOT form.
@@ -186,10 +195,10 @@ fn nullary_call(name: &str) -> Option<Meaning>
         "cross" => Meaning::Nullary(NullaryClause::Cross),
         "distinct" => Meaning::Nullary(NullaryClause::Distinct),
         "returning_id" => Meaning::Nullary(NullaryClause::ReturningId),
-        "sql" => Meaning::Finish(Finish::Sql),
-        "query" => Meaning::Finish(Finish::Query),
-        "query_values" => Meaning::Finish(Finish::QueryValues),
-        "subquery" => Meaning::Finish(Finish::Subquery),
+        "sql" => Meaning::Prints(Printing::Sql),
+        "query" => Meaning::Prints(Printing::Query),
+        "query_values" => Meaning::Prints(Printing::QueryValues),
+        "subquery" => Meaning::Prints(Printing::Subquery),
         _ => return None,
     })
 }

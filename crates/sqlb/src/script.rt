@@ -120,6 +120,7 @@ impl Script {
     }
 
     /// Makes a call of the open statement with one text.
+    #[inline(never)]
     pub(crate) fn add_unary(&mut self, clause: UnaryClause, text: &str) -> Result<bool, LineError>
         ensures given { Does result self.old self.new (Calls (unary_call clause text.now)) }
         ensures memory { IsErrOf result out.Memory
@@ -131,6 +132,7 @@ impl Script {
     }
 
     /// Makes a call of the open statement with two texts.
+    #[inline(never)]
     pub(crate) fn add_binary<'a>(
         &mut self,
         clause: BinaryClause,
@@ -148,6 +150,7 @@ impl Script {
     }
 
     /// Orders the open statement by a field.
+    #[inline(never)]
     pub(crate) fn add_order(&mut self, field: &str, descending: bool) -> Result<bool, LineError>
         ensures { Does result self.old self.new (Calls (OrderBy field.now descending)) }
     {
@@ -170,6 +173,7 @@ impl Script {
     }
 
     /// Adds a condition to the open statement.
+    #[inline(never)]
     pub(crate) fn add_condition<'a>(
         &mut self,
         family: Family,
