@@ -39,7 +39,7 @@ pub(crate) enum Meaning {
     SubqueryAs,
 }
 
-/// A printing call without an argument. `Finish`, which may hold a text, is slower to pass on.
+/// A printing call without an argument. `Finish`, which may hold a text, is slower to return.
 #[derive(Clone, Copy)]
 pub(crate) enum Printing {
     Sql,

@@ -119,7 +119,8 @@ impl Script {
         Ok(false)
     }
 
-    /// Makes a call of the open statement with one text.
+    /// Makes a call of the open statement with one text. A function of its own, as the next, so that
+    /// `take` stays a part of the loop over lines.
     #[inline(never)]
     pub(crate) fn add_unary(&mut self, clause: UnaryClause, text: &str) -> Result<bool, LineError>
         ensures given { Does result self.old self.new (Calls (unary_call clause text.now)) }
@@ -150,7 +151,6 @@ impl Script {
     }
 
     /// Orders the open statement by a field.
-    #[inline(never)]
     pub(crate) fn add_order(&mut self, field: &str, descending: bool) -> Result<bool, LineError>
         ensures { Does result self.old self.new (Calls (OrderBy field.now descending)) }
     {
@@ -173,7 +173,6 @@ impl Script {
     }
 
     /// Adds a condition to the open statement.
-    #[inline(never)]
     pub(crate) fn add_condition<'a>(
         &mut self,
         family: Family,
