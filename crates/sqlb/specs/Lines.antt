@@ -3,14 +3,14 @@ use Rattle.std.specs.Prelude.{ℕ, ◌==◌, List, [], ◌∷◌, Bool, true, fa
 use Rattle.std.specs.List.{slice_split}
 use Rattle.std.specs.Str.{is_utf8}
 use Rattle.sql_builder.specs.Calls as call
-use Rattle.sql_builder.specs.Calls.{CallText, FinishText, StartText, binary_call, start_on, unary_call, variadic_call}
+use Rattle.sql_builder.specs.Calls.{CallText, FinishText, StartText, binary_call, nullary_call, start_on, unary_call, variadic_call}
 use Rattle.sqlb.specs.Names.{condition_of, meaning_of}
 use Rattle.sqlb.specs.declared.fault.Reason.{Reason}
 use Rattle.sqlb.specs.declared.fault.Reason.TheVariants.{NotUtf8, UnknownCall, WrongArguments}
 use Rattle.sqlb.specs.declared.names.Meaning.{Meaning}
 use Rattle.sqlb.specs.declared.names.Meaning.TheVariants as means
-use Rattle.sqlb.specs.declared.names.Nullary.{Nullary}
-use Rattle.sqlb.specs.declared.names.Nullary.TheVariants as nullary
+use Rattle.sqlb.specs.declared.names.Printing.{Printing}
+use Rattle.sqlb.specs.declared.names.Printing.TheVariants as printing
 
 -- an empty part after the last line feed is no line
 abbrev pub without_empty_last : List (List ℕ) → List (List ℕ)
@@ -37,21 +37,12 @@ pub data CommandText : Type 0 where
 abbrev pub CommandResult : Type 0
 CommandResult = Result CommandText Reason
 
--- what a name says without an argument
-abbrev pub nullary_command : Nullary → CommandText
-nullary_command nullary.Natural = Calls call.Natural
-nullary_command nullary.Left = Calls call.Left
-nullary_command nullary.LeftOuter = Calls call.LeftOuter
-nullary_command nullary.Right = Calls call.Right
-nullary_command nullary.RightOuter = Calls call.RightOuter
-nullary_command nullary.Inner = Calls call.Inner
-nullary_command nullary.Cross = Calls call.Cross
-nullary_command nullary.Distinct = Calls call.Distinct
-nullary_command nullary.ReturningId = Calls call.ReturningId
-nullary_command nullary.Sql = Finishes call.Sql
-nullary_command nullary.Query = Finishes call.Query
-nullary_command nullary.QueryValues = Finishes call.QueryValues
-nullary_command nullary.Subquery = Finishes call.Subquery
+-- how a printing call ends the statement
+abbrev pub finish_of : Printing → FinishText
+finish_of printing.Sql = call.Sql
+finish_of printing.Query = call.Query
+finish_of printing.QueryValues = call.QueryValues
+finish_of printing.Subquery = call.Subquery
 
 -- the truth value that a text names
 abbrev pub flag_in : List ℕ → Option Bool
@@ -61,7 +52,8 @@ flag_in text =
 
 -- what a name says of its arguments, if they fit
 abbrev pub command : Meaning → List (List ℕ) → Option CommandText
-command (means.Nullary meaning) [] = Some (nullary_command meaning)
+command (means.Nullary clause) [] = Some (Calls (nullary_call clause))
+command (means.Prints print) [] = Some (Finishes (finish_of print))
 command (means.Start start) (table ∷ []) = Some (Starts (start_on start table))
 command means.SelectValues values = Some (Starts (call.SelectValues values))
 command (means.Unary clause) (text ∷ []) = Some (Calls (unary_call clause text))

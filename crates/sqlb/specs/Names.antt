@@ -9,13 +9,14 @@ use Rattle.sql_builder.specs.declared.condition.Family.TheVariants.{And, Or}
 use Rattle.sql_builder.specs.declared.condition.Percent.TheVariants as percent
 use Rattle.sql_builder.specs.declared.condition.Relation.TheVariants as relation
 use Rattle.sql_builder.specs.declared.steps.BinaryClause.TheVariants as binary
+use Rattle.sql_builder.specs.declared.steps.NullaryClause.TheVariants as nullary
 use Rattle.sql_builder.specs.declared.steps.UnaryClause.TheVariants as unary
 use Rattle.sql_builder.specs.declared.steps.VariadicClause.TheVariants as variadic
 use Rattle.sqlb.specs.declared.names.Ending.{Ending}
 use Rattle.sqlb.specs.declared.names.Ending.TheVariants.{Raw, IsNull, IsNotNull, Compare, Like, InList, InQuoted, InQuery, Between}
 use Rattle.sqlb.specs.declared.names.Meaning.{Meaning}
 use Rattle.sqlb.specs.declared.names.Meaning.TheVariants as means
-use Rattle.sqlb.specs.declared.names.Nullary.TheVariants as nullary
+use Rattle.sqlb.specs.declared.names.Printing.TheVariants as printing
 
 -- what is beside a name in a table, if the table has it
 abbrev pub found_in : {M : Type 0} → List (List ℕ × M) → List ℕ → Option M
@@ -33,10 +34,10 @@ nullaries =
     (codes "cross", means.Nullary nullary.Cross) ∷
     (codes "distinct", means.Nullary nullary.Distinct) ∷
     (codes "returning_id", means.Nullary nullary.ReturningId) ∷
-    (codes "sql", means.Nullary nullary.Sql) ∷
-    (codes "query", means.Nullary nullary.Query) ∷
-    (codes "query_values", means.Nullary nullary.QueryValues) ∷
-    (codes "subquery", means.Nullary nullary.Subquery) ∷
+    (codes "sql", means.Prints printing.Sql) ∷
+    (codes "query", means.Prints printing.Query) ∷
+    (codes "query_values", means.Prints printing.QueryValues) ∷
+    (codes "subquery", means.Prints printing.Subquery) ∷
     []
 
 -- those that open a statement, and those of tables and joins

@@ -1,15 +1,15 @@
 //! What each line makes of the open statement.
 ghost use Rattle.std.specs.Prelude.{◌≡◌, Ok, OnErr, OnOk, ok_or, string_bytes};
 ghost use Rattle.sqlb.specs.Arguments.{IsTaken};
-ghost use Rattle.sqlb.specs.Lines.{command, command_in_parts, flag_in, nullary_command};
+ghost use Rattle.sqlb.specs.Lines.{Finishes, command, command_in_parts, finish_of, flag_in};
 ghost use Rattle.sqlb.specs.Script.{Answers, Checks, Runs, printed_if, given_after, given_answer};
 ghost use Rattle.sqlb.specs.declared.fault.Reason.TheVariants.{WrongArguments};
 
 use crate::arguments::Arguments;
 use crate::fault::{LineError, Reason};
-use crate::names::{Meaning, Nullary};
+use crate::names::{Meaning, Printing};
 use crate::script::Script;
-use sql_builder::calls::{Call, Finish};
+use sql_builder::calls::Finish;
 
 fn read_flag(text: &str) -> Result<bool, Reason>
     ensures { Checks (λ flag. flag) result (ok_or (flag_in text.now) WrongArguments) }
@@ -52,9 +52,13 @@ impl Script {
         ensures taken { OnOk result (IsTaken arguments.old arguments.new) }
     {
         match meaning {
-            Meaning::Nullary(meaning) => {
+            Meaning::Nullary(clause) => {
                 arguments.none()?;
-                self.take_nullary(meaning, statement)
+                self.add_nullary(clause)
+            }
+            Meaning::Prints(printing) => {
+                arguments.none()?;
+                self.print(printing, statement)
             }
             Meaning::Start(start) => self.start_on(start, arguments.one()?),
             Meaning::SelectValues => self.start_values(arguments.others()),
@@ -75,24 +79,15 @@ impl Script {
         }
     }
 
-    fn take_nullary(&mut self, meaning: Nullary, statement: &mut String) -> Result<bool, LineError>
+    fn print(&mut self, printing: Printing, statement: &mut String) -> Result<bool, LineError>
         ensures { Runs result self.old self.new (string_bytes statement.new)
-            (Ok (nullary_command meaning)) }
+            (Ok (Finishes (finish_of printing))) }
     {
-        match meaning {
-            Nullary::Natural => self.add_call(&Call::Natural),
-            Nullary::Left => self.add_call(&Call::Left),
-            Nullary::LeftOuter => self.add_call(&Call::LeftOuter),
-            Nullary::Right => self.add_call(&Call::Right),
-            Nullary::RightOuter => self.add_call(&Call::RightOuter),
-            Nullary::Inner => self.add_call(&Call::Inner),
-            Nullary::Cross => self.add_call(&Call::Cross),
-            Nullary::Distinct => self.add_call(&Call::Distinct),
-            Nullary::ReturningId => self.add_call(&Call::ReturningId),
-            Nullary::Sql => self.finish(&Finish::Sql, statement),
-            Nullary::Query => self.finish(&Finish::Query, statement),
-            Nullary::QueryValues => self.finish(&Finish::QueryValues, statement),
-            Nullary::Subquery => self.finish(&Finish::Subquery, statement),
+        match printing {
+            Printing::Sql => self.finish(&Finish::Sql, statement),
+            Printing::Query => self.finish(&Finish::Query, statement),
+            Printing::QueryValues => self.finish(&Finish::QueryValues, statement),
+            Printing::Subquery => self.finish(&Finish::Subquery, statement),
         }
     }
 }

@@ -10,15 +10,17 @@ ghost use Rattle.sqlb.specs.declared.fault.Reason.TheVariants.{WrongArguments};
 use crate::arguments::Arguments;
 use crate::fault::Reason;
 use sql_builder::calls::{
-    BinaryClause, BorrowedCondition, Family, Percent, Relation, TableStart, UnaryClause,
-    VariadicClause,
+    BinaryClause, BorrowedCondition, Family, NullaryClause, Percent, Relation, TableStart,
+    UnaryClause, VariadicClause,
 };
 
 /// What a name means, by how many arguments it takes.
 #[derive(Clone, Copy)]
 pub(crate) enum Meaning {
     /// It takes none.
-    Nullary(Nullary),
+    Nullary(NullaryClause),
+    /// It prints the statement, and takes none.
+    Prints(Printing),
     /// It opens a statement on one table.
     Start(TableStart),
     /// It opens a statement of any number of values.
@@ -37,18 +39,9 @@ pub(crate) enum Meaning {
     SubqueryAs,
 }
 
-/// A name that takes no argument.
+/// A printing call without an argument. `Finish`, which may hold a text, is slower to return.
 #[derive(Clone, Copy)]
-pub(crate) enum Nullary {
-    Natural,
-    Left,
-    LeftOuter,
-    Right,
-    RightOuter,
-    Inner,
-    Cross,
-    Distinct,
-    ReturningId,
+pub(crate) enum Printing {
     Sql,
     Query,
     QueryValues,
@@ -193,19 +186,19 @@ fn nullary_call(name: &str) -> Option<Meaning>
     ensures { result ≡ found_in nullaries name.now }
 {
     Some(match name {
-        "natural" => Meaning::Nullary(Nullary::Natural),
-        "left" => Meaning::Nullary(Nullary::Left),
-        "left_outer" => Meaning::Nullary(Nullary::LeftOuter),
-        "right" => Meaning::Nullary(Nullary::Right),
-        "right_outer" => Meaning::Nullary(Nullary::RightOuter),
-        "inner" => Meaning::Nullary(Nullary::Inner),
-        "cross" => Meaning::Nullary(Nullary::Cross),
-        "distinct" => Meaning::Nullary(Nullary::Distinct),
-        "returning_id" => Meaning::Nullary(Nullary::ReturningId),
-        "sql" => Meaning::Nullary(Nullary::Sql),
-        "query" => Meaning::Nullary(Nullary::Query),
-        "query_values" => Meaning::Nullary(Nullary::QueryValues),
-        "subquery" => Meaning::Nullary(Nullary::Subquery),
+        "natural" => Meaning::Nullary(NullaryClause::Natural),
+        "left" => Meaning::Nullary(NullaryClause::Left),
+        "left_outer" => Meaning::Nullary(NullaryClause::LeftOuter),
+        "right" => Meaning::Nullary(NullaryClause::Right),
+        "right_outer" => Meaning::Nullary(NullaryClause::RightOuter),
+        "inner" => Meaning::Nullary(NullaryClause::Inner),
+        "cross" => Meaning::Nullary(NullaryClause::Cross),
+        "distinct" => Meaning::Nullary(NullaryClause::Distinct),
+        "returning_id" => Meaning::Nullary(NullaryClause::ReturningId),
+        "sql" => Meaning::Prints(Printing::Sql),
+        "query" => Meaning::Prints(Printing::Query),
+        "query_values" => Meaning::Prints(Printing::QueryValues),
+        "subquery" => Meaning::Prints(Printing::Subquery),
         _ => return None,
     })
 }

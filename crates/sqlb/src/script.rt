@@ -1,11 +1,12 @@
 //! The statement that is open, and what the lines do to it. Each returns whether the line finished
 //! the statement.
 ghost use Rattle.std.specs.Prelude.{◌≡◌, IfErr, IfOk, IfSome, IsErrOf, IsSome, None, Ok, OnOk, is_some, string_bytes};
-ghost use Rattle.sql_builder.specs.Builder.{HasJoin, MayTakeMemory};
+ghost use Rattle.sql_builder.specs.Builder.{HasJoin};
 ghost use Rattle.sql_builder.specs.Calls.{Cond, OrderBy, SelectValues, SubqueryAs};
-ghost use Rattle.sql_builder.specs.Calls.{binary_call, call_view, finish_view, start_on, unary_call, variadic_call};
+ghost use Rattle.sql_builder.specs.Calls.{binary_call, finish_view, nullary_call, start_on, unary_call, variadic_call};
 ghost use Rattle.sql_builder.specs.Condition.{borrowed_view};
 ghost use Rattle.sql_builder.specs.declared.steps.BinaryClause.TheVariants.{OnEq};
+ghost use Rattle.sql_builder.specs.declared.steps.NullaryClause.TheVariants.{ReturningId};
 ghost use Rattle.sql_builder.specs.declared.steps.UnaryClause.TheVariants.{On};
 ghost use Rattle.sqlb.specs.Lines.{Calls, Finishes, Starts};
 ghost use Rattle.sqlb.specs.Script.{Does, Runs};
@@ -17,9 +18,9 @@ use crate::arguments::Arguments;
 use crate::fault::{Fault, LineError, Reason};
 use sql_builder::SqlBuilder;
 use sql_builder::calls::{
-    BinaryClause, BorrowedCondition, Call, Family, Finish, TableStart, UnaryClause, VariadicClause,
-    make, make_binary, make_condition, make_order, make_unary, make_variadic, print_to, restart_on,
-    restart_values,
+    BinaryClause, BorrowedCondition, Family, Finish, NullaryClause, TableStart, UnaryClause,
+    VariadicClause, make_binary, make_condition, make_nullary, make_order, make_unary,
+    make_variadic, print_to, restart_on, restart_values,
 };
 use std::alloc::Global;
 use std::marker::Model;
@@ -108,18 +109,19 @@ impl Script {
         Ok(false)
     }
 
-    /// Makes a call of the open statement.
-    pub(crate) fn add_call(&mut self, call: &Call) -> Result<bool, LineError>
-        ensures given { Does result self.old self.new (Calls (call_view call.now)) }
-        ensures memory { IsErrOf result out.Memory
-            → IfSome self.old (MayTakeMemory (call_view call.now)) }
+    /// Makes a call of the open statement without a text.
+    pub(crate) fn add_nullary(&mut self, clause: NullaryClause) -> Result<bool, LineError>
+        ensures given { Does result self.old self.new (Calls (nullary_call clause)) }
+        ensures memory { IsErrOf result out.Memory → clause ≡ ReturningId }
     {
         self.check_open()?;
-        make(&mut self.builder, call)?;
+        make_nullary(&mut self.builder, clause)?;
         Ok(false)
     }
 
-    /// Makes a call of the open statement with one text.
+    /// Makes a call of the open statement with one text. A function of its own, as the next, so that
+    /// `take` stays a part of the loop over lines.
+    #[inline(never)]
     pub(crate) fn add_unary(&mut self, clause: UnaryClause, text: &str) -> Result<bool, LineError>
         ensures given { Does result self.old self.new (Calls (unary_call clause text.now)) }
         ensures memory { IsErrOf result out.Memory
@@ -131,6 +133,7 @@ impl Script {
     }
 
     /// Makes a call of the open statement with two texts.
+    #[inline(never)]
     pub(crate) fn add_binary<'a>(
         &mut self,
         clause: BinaryClause,
