@@ -2,12 +2,16 @@
 use Rattle.std.proofs.Common.{◌≡◌, refl, sym, subst, ℕ, Bool, true, List, [], ◌∷◌, map, length, ◌≤◌, arith}
 use Rattle.std.specs.Prelude.{Err, IfOk, Ok, Result, string_bytes}
 use Rattle.std.specs.List.{list_all}
-use Rattle.std.proofs.lemmas.Bool.{and_from}
-use Rattle.sql_parts.specs.Operands.{is_fragment}
+use Rattle.std.proofs.lemmas.Bool.{and_from, false≢true}
+use Rattle.sql_parts.specs.Operands.{ServesAsOperand, is_fragment}
 use Rattle.sql_parts.specs.declared.error.SqlBuilderError.{SqlBuilderError}
-use Rattle.sql_builder.specs.Condition.{InList, condition_bytes}
+use Rattle.sql_parts.proofs.fragments.OperandFacts.{is-fragment}
+use Rattle.sql_builder.specs.Condition.{ConditionText, Raw, Compare, Like, IsNull, IsNotNull, InList, InQuoted, InQuery, Between}
+use Rattle.sql_builder.specs.Condition.{condition_bytes, condition_raw_texts, has_operands}
+use Rattle.sql_builder.specs.RawFragments.{is_fit}
+use Rattle.sql_builder.proofs.fragments.FitListLemmas.{row_fits}
 use Rattle.sql_typed.specs.declared.texts.Condition.{Condition}
-use Rattle.sql_typed.specs.Conditions.{list_text}
+use Rattle.sql_typed.specs.Conditions.{OperandsServe, list_text}
 use Rattle.sql_typed.specs.Results.{Prints}
 
 -- where there are values
@@ -26,3 +30,31 @@ printed-is P (Err e) is holds = tt
 pub conditions_fit : (conditions : List Condition) → list_all is_fragment (map (λ c. string_bytes c.text) conditions) ≡ true
 conditions_fit [] = refl
 conditions_fit (condition ∷ conditions) = and_from _ _ condition.fits (conditions_fit conditions)
+
+-- ---- texts that serve as operands
+
+pub serves_as : {text given : List ℕ} → text ≡ given → ServesAsOperand given → ServesAsOperand text
+serves_as is serves = subst ServesAsOperand (sym is) serves
+
+pub operands_serve : (condition : ConditionText) → OperandsServe condition → has_operands condition ≡ true
+operands_serve (Compare relation field value) serve = and_from _ _ serve.0.is_operand serve.1.is_operand
+operands_serve (Like negated percent field mask) serve = serve.is_operand
+operands_serve (IsNull field) serve = serve.is_operand
+operands_serve (IsNotNull field) serve = serve.is_operand
+operands_serve (InList negated field values) serve = and_from _ _ serve.0.is_operand serve.1
+operands_serve (InQuery negated field query) serve = and_from _ _ serve.0.is_operand serve.1
+operands_serve (Between negated field least greatest) serve = and_from _ _ serve.0.is_operand (and_from _ _ serve.1.is_operand serve.2.is_operand)
+operands_serve (Raw text) serve = absurd (false≢true serve)
+operands_serve (InQuoted negated field values) serve = absurd (false≢true serve)
+
+pub operands_fit : (condition : ConditionText) → OperandsServe condition → list_all is_fit (condition_raw_texts condition) ≡ true
+operands_fit (Compare relation field value) serve = and_from _ _ (is-fragment serve.0) (and_from _ _ (is-fragment serve.1) refl)
+operands_fit (Like negated percent field mask) serve = and_from _ _ (is-fragment serve) refl
+operands_fit (IsNull field) serve = and_from _ _ (is-fragment serve) refl
+operands_fit (IsNotNull field) serve = and_from _ _ (is-fragment serve) refl
+operands_fit (InList negated field values) serve = and_from _ _ (is-fragment serve.0) (row_fits values serve.1)
+operands_fit (InQuery negated field query) serve = and_from _ _ (is-fragment serve.0) (and_from _ _ serve.1 refl)
+operands_fit (Between negated field least greatest) serve =
+    and_from _ _ (is-fragment serve.0) (and_from _ _ (is-fragment serve.1) (and_from _ _ (is-fragment serve.2) refl))
+operands_fit (Raw text) serve = absurd (false≢true serve)
+operands_fit (InQuoted negated field values) serve = absurd (false≢true serve)

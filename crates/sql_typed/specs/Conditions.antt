@@ -1,8 +1,11 @@
 -- The texts of conditions on a field that have no call of the builder's.
-use Rattle.std.specs.Prelude.{ℕ, List, [], ◌∷◌, Bool, Option, None, Some}
+use Rattle.std.specs.Prelude.{ℕ, IsTrue, List, [], ◌∷◌, Bool, false, Option, None, Some}
+use Rattle.std.specs.List.{list_all}
+use Rattle.sql_parts.specs.Fragments.{balanced}
 use Rattle.sql_parts.specs.Like.{like_escaped}
+use Rattle.sql_parts.specs.Operands.{ServesAsOperand}
 use Rattle.sql_builder.specs.Combined.{constant_text}
-use Rattle.sql_builder.specs.Condition.{Compare, InList, IsNull, condition_bytes, mask_text}
+use Rattle.sql_builder.specs.Condition.{ConditionText, Between, Compare, InList, InQuery, IsNotNull, IsNull, Like, condition_bytes, mask_text}
 use Rattle.sql_builder.specs.declared.condition.Percent.{Percent}
 use Rattle.sql_builder.specs.declared.condition.Relation.TheVariants.{Eq}
 
@@ -19,3 +22,14 @@ equal_or_null field (Some value) = condition_bytes (Compare Eq field value)
 -- a text as a mask of LIKE with percent signs: `!` is before each wildcard and each `!` of the text
 abbrev pub escaped_mask : Percent → List ℕ → List ℕ
 escaped_mask percent text = mask_text percent (like_escaped 33 text)
+
+-- The texts of a condition serve as operands; of IN the field does, and what is in the brackets is balanced.
+abbrev pub OperandsServe : ConditionText → Type 0
+OperandsServe (Compare relation field value) = ServesAsOperand field × ServesAsOperand value
+OperandsServe (Like negated percent field mask) = ServesAsOperand field
+OperandsServe (IsNull field) = ServesAsOperand field
+OperandsServe (IsNotNull field) = ServesAsOperand field
+OperandsServe (InList negated field values) = ServesAsOperand field × IsTrue (list_all balanced values)
+OperandsServe (InQuery negated field query) = ServesAsOperand field × IsTrue (balanced query)
+OperandsServe (Between negated field least greatest) = ServesAsOperand field × ServesAsOperand least × ServesAsOperand greatest
+OperandsServe _ = IsTrue false

@@ -1,29 +1,40 @@
-//! Conditions as values, whose types say that their texts fit. Each function fails only if memory
-//! runs out.
+//! Conditions as values, whose types say that their texts fit. Each function fails only if memory runs out.
 ghost use Rattle.std.specs.Prelude.{◌≡◌, ◌++◌, [], ◌∷◌, IfOk, IsTrue, OnOk, false, map, option_map, string_bytes, true};
 ghost use Rattle.sql_parts.specs.Error.{FailsOnlyByMemory};
 ghost use Rattle.sql_parts.specs.Tokens.{tokens};
 ghost use Rattle.sql_builder.specs.Combined.{IsCombined, combined_text, constant_text, like_text, negation_text};
-ghost use Rattle.sql_builder.specs.Condition.{Between, Compare, InList, InQuery, IsNotNull, IsNull, Like, condition_bytes};
+ghost use Rattle.sql_builder.specs.Condition.{Between, Compare, InList, InQuery, IsNotNull, IsNull, Like, borrowed_view, condition_bytes};
 ghost use Rattle.sql_builder.specs.Layout.{byte_units};
 ghost use Rattle.sql_builder.specs.Phrases.{in_brackets};
-ghost use Rattle.sql_builder.specs.Truths.{Valuation, and_all, not3, or_all, truth};
+ghost use Rattle.sql_builder.specs.Truths.{IsAtom, Valuation, and_all, not3, or_all, truth};
 ghost use Rattle.sql_builder.specs.declared.condition.Percent.TheVariants as percent;
 ghost use Rattle.sql_builder.specs.declared.condition.Relation.TheVariants.{Eq, Ge, Gt, Le, Lt, Ne};
-ghost use Rattle.sql_typed.specs.Conditions.{equal_or_null, escaped_mask, list_text};
+ghost use Rattle.sql_typed.specs.Conditions.{OperandsServe, equal_or_null, escaped_mask, list_text};
 ghost use Rattle.sql_typed.specs.Results.{Prints};
 
-use crate::Result;
 use crate::operand_text::OperandText;
 pub use crate::texts::Condition;
 use crate::texts::Query;
 use sql_builder::calls::{BorrowedCondition, Percent, Relation, condition_text};
 use sql_parts::Value;
-use sql_parts::text::{Fragment, Items, LikeEscape, ToText, escape_like};
+use sql_parts::text::{Fragment, Items, LikeEscape, Texts, ToText, escape_like};
 use std::alloc::{AllocError, Global};
+
+type Result = crate::Result<Condition>;
 
 // A condition without a list.
 type Plain<'a> = BorrowedCondition<'a, Items<'a, String>>;
+
+// A condition on a field.
+#[inline(always)]
+fn made<'a, T: Texts<'a>>(alloc: Global, condition: BorrowedCondition<'a, T>) -> Result
+    requires operands { OperandsServe (borrowed_view T.left condition) }
+    ensures text { Prints result (condition_bytes (borrowed_view T.left condition.entry)) }
+    ensures atom { IfOk result (λ c. IsAtom (tokens (string_bytes c.text))) }
+{
+    let text = condition_text(alloc, condition)?;
+    Ok(Condition { text })
+}
 
 #[inline(always)]
 fn compare<F: OperandText, V: OperandText>(
@@ -31,84 +42,88 @@ fn compare<F: OperandText, V: OperandText>(
     relation: Relation,
     field: F,
     value: V,
-) -> Result<Condition>
+) -> Result
     ensures text { Prints result (condition_bytes (Compare relation (F.text field) (V.text value))) }
+    ensures atom { IfOk result (λ c. IsAtom (tokens (string_bytes c.text))) }
 {
     let field = field.as_text(alloc)?;
     let value = value.as_text(alloc)?;
-    let text = condition_text(
-        alloc,
-        Plain::Compare(relation, field.as_str(), value.as_str()),
-    )?;
-    Ok(Condition { text })
+    let condition = Plain::Compare(relation, field.as_str(), value.as_str());
+    made(alloc, condition)
 }
 
 /// `field = value`.
 /// `eq(alloc, Operand::of("a"), Value("it's"))?.text` → `a = 'it''s'`
-pub fn eq<F: OperandText, V: OperandText>(alloc: Global, field: F, value: V) -> Result<Condition>
+pub fn eq<F: OperandText, V: OperandText>(alloc: Global, field: F, value: V) -> Result
     ensures text { Prints result (condition_bytes (Compare Eq (F.text field) (V.text value))) }
+    ensures atom { IfOk result (λ c. IsAtom (tokens (string_bytes c.text))) }
 {
     compare(alloc, Relation::Eq, field, value)
 }
 
 /// `field <> value`.
 /// `ne(alloc, Operand::of("a"), Value("it's"))?.text` → `a <> 'it''s'`
-pub fn ne<F: OperandText, V: OperandText>(alloc: Global, field: F, value: V) -> Result<Condition>
+pub fn ne<F: OperandText, V: OperandText>(alloc: Global, field: F, value: V) -> Result
     ensures text { Prints result (condition_bytes (Compare Ne (F.text field) (V.text value))) }
+    ensures atom { IfOk result (λ c. IsAtom (tokens (string_bytes c.text))) }
 {
     compare(alloc, Relation::Ne, field, value)
 }
 
 /// `field > value`.
 /// `gt(alloc, Operand::of("a"), Value("it's"))?.text` → `a > 'it''s'`
-pub fn gt<F: OperandText, V: OperandText>(alloc: Global, field: F, value: V) -> Result<Condition>
+pub fn gt<F: OperandText, V: OperandText>(alloc: Global, field: F, value: V) -> Result
     ensures text { Prints result (condition_bytes (Compare Gt (F.text field) (V.text value))) }
+    ensures atom { IfOk result (λ c. IsAtom (tokens (string_bytes c.text))) }
 {
     compare(alloc, Relation::Gt, field, value)
 }
 
 /// `field >= value`.
 /// `ge(alloc, Operand::of("a"), Value("it's"))?.text` → `a >= 'it''s'`
-pub fn ge<F: OperandText, V: OperandText>(alloc: Global, field: F, value: V) -> Result<Condition>
+pub fn ge<F: OperandText, V: OperandText>(alloc: Global, field: F, value: V) -> Result
     ensures text { Prints result (condition_bytes (Compare Ge (F.text field) (V.text value))) }
+    ensures atom { IfOk result (λ c. IsAtom (tokens (string_bytes c.text))) }
 {
     compare(alloc, Relation::Ge, field, value)
 }
 
 /// `field < value`.
 /// `lt(alloc, Operand::of("a"), Value("it's"))?.text` → `a < 'it''s'`
-pub fn lt<F: OperandText, V: OperandText>(alloc: Global, field: F, value: V) -> Result<Condition>
+pub fn lt<F: OperandText, V: OperandText>(alloc: Global, field: F, value: V) -> Result
     ensures text { Prints result (condition_bytes (Compare Lt (F.text field) (V.text value))) }
+    ensures atom { IfOk result (λ c. IsAtom (tokens (string_bytes c.text))) }
 {
     compare(alloc, Relation::Lt, field, value)
 }
 
 /// `field <= value`.
 /// `le(alloc, Operand::of("a"), Value("it's"))?.text` → `a <= 'it''s'`
-pub fn le<F: OperandText, V: OperandText>(alloc: Global, field: F, value: V) -> Result<Condition>
+pub fn le<F: OperandText, V: OperandText>(alloc: Global, field: F, value: V) -> Result
     ensures text { Prints result (condition_bytes (Compare Le (F.text field) (V.text value))) }
+    ensures atom { IfOk result (λ c. IsAtom (tokens (string_bytes c.text))) }
 {
     compare(alloc, Relation::Le, field, value)
 }
 
 /// `field IS NULL`.
 /// `is_null(alloc, Operand::of("a"))?.text` → `a IS NULL`
-pub fn is_null<F: OperandText>(alloc: Global, field: F) -> Result<Condition>
+pub fn is_null<F: OperandText>(alloc: Global, field: F) -> Result
     ensures text { Prints result (condition_bytes (IsNull (F.text field))) }
+    ensures atom { IfOk result (λ c. IsAtom (tokens (string_bytes c.text))) }
 {
     let field = field.as_text(alloc)?;
-    let text = condition_text(alloc, Plain::IsNull(field.as_str()))?;
-    Ok(Condition { text })
+    made(alloc, Plain::IsNull(field.as_str()))
 }
 
 /// `field IS NOT NULL`.
 /// `is_not_null(alloc, Operand::of("a"))?.text` → `a IS NOT NULL`
-pub fn is_not_null<F: OperandText>(alloc: Global, field: F) -> Result<Condition>
+pub fn is_not_null<F: OperandText>(alloc: Global, field: F) -> Result
     ensures text { Prints result (condition_bytes (IsNotNull (F.text field))) }
+    ensures atom { IfOk result (λ c. IsAtom (tokens (string_bytes c.text))) }
 {
     let field = field.as_text(alloc)?;
-    let text = condition_text(alloc, Plain::IsNotNull(field.as_str()))?;
-    Ok(Condition { text })
+    made(alloc, Plain::IsNotNull(field.as_str()))
 }
 
 /// `field = value`, and `field IS NULL` without a value.
@@ -117,8 +132,9 @@ pub fn eq_or_null<F: OperandText, V: OperandText>(
     alloc: Global,
     field: F,
     value: Option<V>,
-) -> Result<Condition>
+) -> Result
     ensures text { Prints result (equal_or_null (F.text field) (option_map V.text value)) }
+    ensures atom { IfOk result (λ c. IsAtom (tokens (string_bytes c.text))) }
 {
     match value {
         Some(value) => eq(alloc, field, value),
@@ -128,56 +144,36 @@ pub fn eq_or_null<F: OperandText, V: OperandText>(
 
 /// A raw condition, which is printed unchanged.
 /// `raw(alloc, Fragment::of("a = b"))?.text` → `a = b`
-pub fn raw(alloc: Global, fragment: Fragment<'_>) -> Result<Condition>
+pub fn raw(alloc: Global, fragment: Fragment<'_>) -> Result
     ensures text { Prints result fragment.entry.text.now }
 {
     let text = fragment.to_text(alloc)?;
     Ok(Condition { text })
 }
 
-fn liked<F: OperandText>(
-    alloc: Global,
-    negated: bool,
-    percent: Percent,
-    field: F,
-    mask: Value<&str>,
-) -> Result<Condition>
-    ensures text { Prints result
-        (condition_bytes (Like negated percent (F.text field) mask.entry.0.now)) }
+/// `field LIKE 'mask'`, with the percent signs that `percent` says. A `%` or `_` of the mask is a wildcard too.
+/// `like(alloc, Percent::Left, Operand::of("a"), Value("b"))?.text` → `a LIKE 'b%'`
+pub fn like<F: OperandText>(alloc: Global, percent: Percent, field: F, mask: Value<&str>) -> Result
+    ensures text { Prints result (condition_bytes (Like false percent (F.text field) mask.entry.0.now)) }
+    ensures atom { IfOk result (λ c. IsAtom (tokens (string_bytes c.text))) }
 {
     let field = field.as_text(alloc)?;
-    let text = condition_text(alloc, Plain::Like(negated, percent, field.as_str(), mask.0))?;
-    Ok(Condition { text })
+    made(alloc, Plain::Like(false, percent, field.as_str(), mask.0))
 }
 
-/// `field LIKE 'mask'`, with the percent signs that `percent` says. A `%` or `_` of the mask is a
-/// wildcard too.
-/// `like(alloc, Percent::Left, Operand::of("a"), Value("b"))?.text` → `a LIKE 'b%'`
-pub fn like<F: OperandText>(
-    alloc: Global,
-    percent: Percent,
-    field: F,
-    mask: Value<&str>,
-) -> Result<Condition>
-    ensures text { Prints result
-        (condition_bytes (Like false percent (F.text field) mask.entry.0.now)) }
-{
-    liked(alloc, false, percent, field, mask)
-}
-
-/// `field NOT LIKE 'mask'`, with the percent signs that `percent` says. A `%` or `_` of the mask is a
-/// wildcard too.
+/// `field NOT LIKE 'mask'`, with the percent signs that `percent` says. A `%` or `_` of the mask is a wildcard too.
 /// `not_like(alloc, Percent::Any, Operand::of("a"), Value("b"))?.text` → `a NOT LIKE '%b%'`
 pub fn not_like<F: OperandText>(
     alloc: Global,
     percent: Percent,
     field: F,
     mask: Value<&str>,
-) -> Result<Condition>
-    ensures text { Prints result
-        (condition_bytes (Like true percent (F.text field) mask.entry.0.now)) }
+) -> Result
+    ensures text { Prints result (condition_bytes (Like true percent (F.text field) mask.entry.0.now)) }
+    ensures atom { IfOk result (λ c. IsAtom (tokens (string_bytes c.text))) }
 {
-    liked(alloc, true, percent, field, mask)
+    let field = field.as_text(alloc)?;
+    made(alloc, Plain::Like(true, percent, field.as_str(), mask.0))
 }
 
 fn like_escaped<F: OperandText>(
@@ -186,78 +182,68 @@ fn like_escaped<F: OperandText>(
     percent: Percent,
     field: F,
     word: Value<&str>,
-) -> Result<Condition>
-    ensures text { Prints result
-        (like_text negated (F.text field) (escaped_mask percent word.entry.0.now)) }
+) -> Result
+    ensures text { Prints result (like_text negated (F.text field) (escaped_mask percent word.entry.0.now)) }
+    ensures atom { IfOk result (λ c. IsAtom (tokens (string_bytes c.text))) }
 {
     let field = field.as_text(alloc)?;
     let mask = escape_like(alloc, word.0, LikeEscape::Exclamation)?;
-    let mut text = condition_text(
-        alloc,
-        Plain::Like(negated, percent, field.as_str(), mask.as_str()),
-    )?;
+    let condition = Plain::Like(negated, percent, field.as_str(), mask.as_str());
+    let mut text = condition_text(alloc, condition)?;
     text.push_str(" ESCAPE '!'")?;
     Ok(Condition { text })
 }
 
 /// Whether the field contains this text, whose wildcards are escaped.
 /// `contains(alloc, Operand::of("a"), Value("50%"))?.text` → `a LIKE '%50!%%' ESCAPE '!'`
-pub fn contains<F: OperandText>(alloc: Global, field: F, word: Value<&str>) -> Result<Condition>
-    ensures text { Prints result
-        (like_text false (F.text field) (escaped_mask percent.Any word.entry.0.now)) }
+pub fn contains<F: OperandText>(alloc: Global, field: F, word: Value<&str>) -> Result
+    ensures text { Prints result (like_text false (F.text field) (escaped_mask percent.Any word.entry.0.now)) }
+    ensures atom { IfOk result (λ c. IsAtom (tokens (string_bytes c.text))) }
 {
     like_escaped(alloc, false, Percent::Any, field, word)
 }
 
 /// Whether the field does not contain this text, whose wildcards are escaped.
 /// `not_contains(alloc, Operand::of("a"), Value("50%"))?.text` → `a NOT LIKE '%50!%%' ESCAPE '!'`
-pub fn not_contains<F: OperandText>(alloc: Global, field: F, word: Value<&str>) -> Result<Condition>
-    ensures text { Prints result
-        (like_text true (F.text field) (escaped_mask percent.Any word.entry.0.now)) }
+pub fn not_contains<F: OperandText>(alloc: Global, field: F, word: Value<&str>) -> Result
+    ensures text { Prints result (like_text true (F.text field) (escaped_mask percent.Any word.entry.0.now)) }
+    ensures atom { IfOk result (λ c. IsAtom (tokens (string_bytes c.text))) }
 {
     like_escaped(alloc, true, Percent::Any, field, word)
 }
 
 /// Whether the field starts with this text, whose wildcards are escaped.
 /// `starts_with(alloc, Operand::of("a"), Value("50%"))?.text` → `a LIKE '50!%%' ESCAPE '!'`
-pub fn starts_with<F: OperandText>(alloc: Global, field: F, word: Value<&str>) -> Result<Condition>
-    ensures text { Prints result
-        (like_text false (F.text field) (escaped_mask percent.Left word.entry.0.now)) }
+pub fn starts_with<F: OperandText>(alloc: Global, field: F, word: Value<&str>) -> Result
+    ensures text { Prints result (like_text false (F.text field) (escaped_mask percent.Left word.entry.0.now)) }
+    ensures atom { IfOk result (λ c. IsAtom (tokens (string_bytes c.text))) }
 {
     like_escaped(alloc, false, Percent::Left, field, word)
 }
 
 /// Whether the field does not start with this text, whose wildcards are escaped.
 /// `not_starts_with(alloc, Operand::of("a"), Value("50%"))?.text` → `a NOT LIKE '50!%%' ESCAPE '!'`
-pub fn not_starts_with<F: OperandText>(
-    alloc: Global,
-    field: F,
-    word: Value<&str>,
-) -> Result<Condition>
-    ensures text { Prints result
-        (like_text true (F.text field) (escaped_mask percent.Left word.entry.0.now)) }
+pub fn not_starts_with<F: OperandText>(alloc: Global, field: F, word: Value<&str>) -> Result
+    ensures text { Prints result (like_text true (F.text field) (escaped_mask percent.Left word.entry.0.now)) }
+    ensures atom { IfOk result (λ c. IsAtom (tokens (string_bytes c.text))) }
 {
     like_escaped(alloc, true, Percent::Left, field, word)
 }
 
 /// Whether the field ends with this text, whose wildcards are escaped.
 /// `ends_with(alloc, Operand::of("a"), Value("50%"))?.text` → `a LIKE '%50!%' ESCAPE '!'`
-pub fn ends_with<F: OperandText>(alloc: Global, field: F, word: Value<&str>) -> Result<Condition>
-    ensures text { Prints result
-        (like_text false (F.text field) (escaped_mask percent.Right word.entry.0.now)) }
+pub fn ends_with<F: OperandText>(alloc: Global, field: F, word: Value<&str>) -> Result
+    ensures text { Prints result (like_text false (F.text field) (escaped_mask percent.Right word.entry.0.now)) }
+    ensures atom { IfOk result (λ c. IsAtom (tokens (string_bytes c.text))) }
 {
     like_escaped(alloc, false, Percent::Right, field, word)
 }
 
 /// Whether the field does not end with this text, whose wildcards are escaped.
 /// `not_ends_with(alloc, Operand::of("a"), Value("50%"))?.text` → `a NOT LIKE '%50!%' ESCAPE '!'`
-pub fn not_ends_with<F: OperandText>(
-    alloc: Global,
-    field: F,
-    word: Value<&str>,
-) -> Result<Condition>
-    ensures text { Prints result
-        (like_text true (F.text field) (escaped_mask percent.Right word.entry.0.now)) }
+pub fn not_ends_with<F: OperandText>(alloc: Global, field: F, word: Value<&str>) -> Result
+    ensures text { Prints result (like_text true (F.text field) (escaped_mask percent.Right word.entry.0.now)) }
+    ensures atom { IfOk result (λ c. IsAtom (tokens (string_bytes c.text))) }
 {
     like_escaped(alloc, true, Percent::Right, field, word)
 }
@@ -267,31 +253,26 @@ fn listed<F: OperandText, V: OperandText>(
     negated: bool,
     field: F,
     values: &[V],
-) -> Result<Condition>
+) -> Result
     ensures text { Prints result (list_text negated (F.text field) (map V.text values.now)) }
+    ensures atom { IfOk result (λ c. IsAtom (tokens (string_bytes c.text))) }
 {
     match values {
         [] => constant(alloc, negated),
         [_, ..] => {
             let field = field.as_text(alloc)?;
             let values = Items { items: values };
-            let text = condition_text(
-                alloc,
-                BorrowedCondition::InList(negated, field.as_str(), values),
-            )?;
-            Ok(Condition { text })
+            let condition = BorrowedCondition::InList(negated, field.as_str(), values);
+            made(alloc, condition)
         }
     }
 }
 
 /// `field IN (values)`. Of no values it is `1 = 0`, which is false.
 /// `in_values(alloc, Operand::of("a"), &[1, 2])?.text` → `a IN (1, 2)`
-pub fn in_values<F: OperandText, V: OperandText>(
-    alloc: Global,
-    field: F,
-    values: &[V],
-) -> Result<Condition>
+pub fn in_values<F: OperandText, V: OperandText>(alloc: Global, field: F, values: &[V]) -> Result
     ensures text { Prints result (list_text false (F.text field) (map V.text values.now)) }
+    ensures atom { IfOk result (λ c. IsAtom (tokens (string_bytes c.text))) }
 {
     listed(alloc, false, field, values)
 }
@@ -302,60 +283,33 @@ pub fn not_in_values<F: OperandText, V: OperandText>(
     alloc: Global,
     field: F,
     values: &[V],
-) -> Result<Condition>
+) -> Result
     ensures text { Prints result (list_text true (F.text field) (map V.text values.now)) }
+    ensures atom { IfOk result (λ c. IsAtom (tokens (string_bytes c.text))) }
 {
     listed(alloc, true, field, values)
 }
 
-fn in_rows<F: OperandText>(
-    alloc: Global,
-    negated: bool,
-    field: F,
-    query: &Query,
-) -> Result<Condition>
-    ensures text { Prints result (condition_bytes (InQuery negated (F.text field) (string_bytes query.now.text))) }
-{
-    let field = field.as_text(alloc)?;
-    let text = condition_text(
-        alloc,
-        Plain::InQuery(negated, field.as_str(), query.text.as_str()),
-    )?;
-    Ok(Condition { text })
-}
-
 /// `field IN (query)`.
 /// `in_query(alloc, Operand::of("a"), &query)?.text` → `a IN (SELECT b FROM t)`
-pub fn in_query<F: OperandText>(alloc: Global, field: F, query: &Query) -> Result<Condition>
+pub fn in_query<F: OperandText>(alloc: Global, field: F, query: &Query) -> Result
     ensures text { Prints result (condition_bytes (InQuery false (F.text field) (string_bytes query.now.text))) }
+    ensures atom { IfOk result (λ c. IsAtom (tokens (string_bytes c.text))) }
 {
-    in_rows(alloc, false, field, query)
+    let field = field.as_text(alloc)?;
+    let condition = Plain::InQuery(false, field.as_str(), query.text.as_str());
+    made(alloc, condition)
 }
 
 /// `field NOT IN (query)`.
 /// `not_in_query(alloc, Operand::of("a"), &query)?.text` → `a NOT IN (SELECT b FROM t)`
-pub fn not_in_query<F: OperandText>(alloc: Global, field: F, query: &Query) -> Result<Condition>
+pub fn not_in_query<F: OperandText>(alloc: Global, field: F, query: &Query) -> Result
     ensures text { Prints result (condition_bytes (InQuery true (F.text field) (string_bytes query.now.text))) }
-{
-    in_rows(alloc, true, field, query)
-}
-
-fn in_range<F: OperandText, L: OperandText, G: OperandText>(
-    alloc: Global,
-    negated: bool,
-    field: F,
-    least: L,
-    greatest: G,
-) -> Result<Condition>
-    ensures text { Prints result
-        (condition_bytes (Between negated (F.text field) (L.text least) (G.text greatest))) }
+    ensures atom { IfOk result (λ c. IsAtom (tokens (string_bytes c.text))) }
 {
     let field = field.as_text(alloc)?;
-    let least = least.as_text(alloc)?;
-    let greatest = greatest.as_text(alloc)?;
-    let condition = Plain::Between(negated, field.as_str(), least.as_str(), greatest.as_str());
-    let text = condition_text(alloc, condition)?;
-    Ok(Condition { text })
+    let condition = Plain::InQuery(true, field.as_str(), query.text.as_str());
+    made(alloc, condition)
 }
 
 /// `field BETWEEN least AND greatest`.
@@ -365,11 +319,15 @@ pub fn between<F: OperandText, L: OperandText, G: OperandText>(
     field: F,
     least: L,
     greatest: G,
-) -> Result<Condition>
-    ensures text { Prints result
-        (condition_bytes (Between false (F.text field) (L.text least) (G.text greatest))) }
+) -> Result
+    ensures text { Prints result (condition_bytes (Between false (F.text field) (L.text least) (G.text greatest))) }
+    ensures atom { IfOk result (λ c. IsAtom (tokens (string_bytes c.text))) }
 {
-    in_range(alloc, false, field, least, greatest)
+    let field = field.as_text(alloc)?;
+    let least = least.as_text(alloc)?;
+    let greatest = greatest.as_text(alloc)?;
+    let condition = Plain::Between(false, field.as_str(), least.as_str(), greatest.as_str());
+    made(alloc, condition)
 }
 
 /// `field NOT BETWEEN least AND greatest`.
@@ -379,15 +337,20 @@ pub fn not_between<F: OperandText, L: OperandText, G: OperandText>(
     field: F,
     least: L,
     greatest: G,
-) -> Result<Condition>
-    ensures text { Prints result
-        (condition_bytes (Between true (F.text field) (L.text least) (G.text greatest))) }
+) -> Result
+    ensures text { Prints result (condition_bytes (Between true (F.text field) (L.text least) (G.text greatest))) }
+    ensures atom { IfOk result (λ c. IsAtom (tokens (string_bytes c.text))) }
 {
-    in_range(alloc, true, field, least, greatest)
+    let field = field.as_text(alloc)?;
+    let least = least.as_text(alloc)?;
+    let greatest = greatest.as_text(alloc)?;
+    let condition = Plain::Between(true, field.as_str(), least.as_str(), greatest.as_str());
+    made(alloc, condition)
 }
 
-fn constant(alloc: Global, holds: bool) -> Result<Condition>
+fn constant(alloc: Global, holds: bool) -> Result
     ensures text { Prints result (constant_text holds) }
+    ensures atom { IfOk result (λ c. IsAtom (tokens (string_bytes c.text))) }
 {
     let text = String::from_str(alloc, if holds { "1 = 1" } else { "1 = 0" })?;
     Ok(Condition { text })
@@ -408,7 +371,7 @@ fn joined(
     conjunction: bool,
     first: &Condition,
     further: &[Condition],
-) -> Result<String>
+) -> crate::Result<String>
     ensures text { IfOk result (λ s. string_bytes s ≡ combined_text conjunction
         (string_bytes first.now.text ∷ map (λ c. string_bytes c.text) further.now)) }
     ensures memory { FailsOnlyByMemory result }
@@ -424,9 +387,8 @@ fn joined(
     Ok(text)
 }
 
-fn combined(alloc: Global, conjunction: bool, conditions: &[Condition]) -> Result<Condition>
-    ensures text { Prints result
-        (combined_text conjunction (map (λ c. string_bytes c.text) conditions.now)) }
+fn combined(alloc: Global, conjunction: bool, conditions: &[Condition]) -> Result
+    ensures text { Prints result (combined_text conjunction (map (λ c. string_bytes c.text) conditions.now)) }
 {
     let text = match conditions {
         [] => return constant(alloc, conjunction),
@@ -437,9 +399,8 @@ fn combined(alloc: Global, conjunction: bool, conditions: &[Condition]) -> Resul
 
 /// The AND of these conditions, each in brackets, in brackets. Of none it is `1 = 1`, which is true.
 /// `all(alloc, &[eq(alloc, Operand::of("a"), 1)?, is_null(alloc, Operand::of("b"))?])?.text` → `((a = 1) AND (b IS NULL))`
-pub fn all(alloc: Global, conditions: &[Condition]) -> Result<Condition>
-    ensures text { Prints result
-        (combined_text true (map (λ c. string_bytes c.text) conditions.now)) }
+pub fn all(alloc: Global, conditions: &[Condition]) -> Result
+    ensures text { Prints result (combined_text true (map (λ c. string_bytes c.text) conditions.now)) }
     ensures truth { IfOk result (λ c. IsCombined and_all
         (map (λ c. string_bytes c.text) conditions.now) (string_bytes c.text)) }
 {
@@ -448,9 +409,8 @@ pub fn all(alloc: Global, conditions: &[Condition]) -> Result<Condition>
 
 /// The OR of these conditions, each in brackets, in brackets. Of none it is `1 = 0`, which is false.
 /// `any(alloc, &[eq(alloc, Operand::of("a"), 1)?, is_null(alloc, Operand::of("b"))?])?.text` → `((a = 1) OR (b IS NULL))`
-pub fn any(alloc: Global, conditions: &[Condition]) -> Result<Condition>
-    ensures text { Prints result
-        (combined_text false (map (λ c. string_bytes c.text) conditions.now)) }
+pub fn any(alloc: Global, conditions: &[Condition]) -> Result
+    ensures text { Prints result (combined_text false (map (λ c. string_bytes c.text) conditions.now)) }
     ensures truth { IfOk result (λ c. IsCombined or_all
         (map (λ c. string_bytes c.text) conditions.now) (string_bytes c.text)) }
 {
@@ -459,7 +419,7 @@ pub fn any(alloc: Global, conditions: &[Condition]) -> Result<Condition>
 
 /// NOT of a condition, which is in brackets.
 /// `not(alloc, &eq(alloc, Operand::of("a"), 1)?)?.text` → `NOT (a = 1)`
-pub fn not(alloc: Global, condition: &Condition) -> Result<Condition>
+pub fn not(alloc: Global, condition: &Condition) -> Result
     ensures text { Prints result (negation_text (string_bytes condition.now.text)) }
     ensures truth { IfOk result (λ c. (facts : Valuation) → truth facts (tokens (string_bytes c.text))
         ≡ not3 (truth facts (tokens (string_bytes condition.now.text)))) }

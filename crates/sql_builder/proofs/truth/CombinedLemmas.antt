@@ -1,42 +1,46 @@
 -- The texts of conditions are fragments, and what is true of those that are made of others.
-use Rattle.std.proofs.Common.{◌≡◌, refl, sym, ◌∙◌, ap, ℕ, Bool, true, false, not, ◌&&◌, List, [], ◌∷◌, ◌++◌, map, pos, codes, append-nil, append_assoc}
+use Rattle.std.proofs.Common.{◌≡◌, refl, sym, ◌∙◌, ap, subst, ℕ, Bool, true, false, not, ◌&&◌, List, [], ◌∷◌, ◌++◌, map, pos, codes, append-nil, append_assoc, length, ◌≤◌, arith}
 use Rattle.std.specs.List.{AllByRecursion, list_all}
 use Rattle.std.proofs.lemmas.Bool.{and_from, and_parts, not_from_false}
-use Rattle.sql_parts.specs.Fragments.{balanced, is_clause_word, is_joining}
+use Rattle.sql_parts.specs.Fragments.{balanced, is_clause_word, is_joining, operand}
 use Rattle.sql_parts.specs.Operands.{ServesAsOperand, is_fragment}
 use Rattle.sql_parts.specs.Quoting.{quoted}
 use Rattle.sql_parts.specs.Text.{join_with}
 use Rattle.sql_parts.specs.Tokens.{Token, Str, Word, tokens, closed}
-use Rattle.sql_parts.proofs.fragments.DepthFacts.{has_top_level-is, is_balanced, is_balanced-is}
+use Rattle.sql_parts.proofs.fragments.DepthFacts.{has_top_level-is, is_balanced, is_balanced-is, closes_from, has_top_level, is_even, is_operand-is}
+use Rattle.std.proofs.lemmas.List.Folds.{list_all-append}
+use Rattle.sql_parts.proofs.tokens.JoinFacts.{Edged}
 use Rattle.sql_builder.specs.Calls.{Cond, SelectFrom, Sql}
-use Rattle.sql_builder.specs.Condition.{ConditionText, Like, condition_bytes, condition_pieces, condition_raw_texts, mask_text, not_text}
+use Rattle.sql_builder.specs.Condition.{ConditionText, Compare, Like, condition_bytes, condition_pieces, condition_raw_texts, has_operands, mask_text, not_text}
 use Rattle.sql_builder.specs.Layout.{byte_units}
 use Rattle.sql_builder.specs.Phrases as phrase
-use Rattle.sql_builder.specs.Pieces.{Pieces, fixed_piece, pieces_text, quoted_piece, raw_piece}
-use Rattle.sql_builder.specs.RawFragments.{are_fit, has_closed_fragments, is_fit}
-use Rattle.sql_builder.specs.RawTexts.{Enclosed}
-use Rattle.sql_builder.specs.Shape.{pieces_tokens}
-use Rattle.sql_builder.specs.Truths.{Valuation, and_all, not3, or_all, truth}
+use Rattle.sql_builder.specs.Pieces.{Pieces, fixed_piece, pieces_text, quoted_piece, raw_piece, Fixed, Quoted, Raw}
+use Rattle.sql_builder.specs.RawFragments.{are_fit, has_closed_fragments, is_fit, is_closed_piece}
+use Rattle.sql_builder.specs.RawTexts.{Enclosed, Bare}
+use Rattle.sql_builder.specs.Shape.{pieces_tokens, cond_tokens}
+use Rattle.sql_builder.specs.Truths.{Valuation, and_all, not3, or_all, truth, IsAtom}
 use Rattle.sql_builder.specs.WhereTokens.{in_brackets, joined}
 use Rattle.sql_builder.specs.declared.condition.Family.TheVariants.{And}
 use Rattle.sql_builder.specs.declared.condition.Percent.{Percent}
+use Rattle.sql_builder.specs.declared.condition.Relation.TheVariants.{Eq}
 use Rattle.sql_builder.proofs.fragments.FitLemmas.{fit_conditions}
 use Rattle.sql_builder.proofs.pieces.ClauseShapeLemmas.{condition_keeps}
 use Rattle.sql_builder.proofs.pieces.ShapeLemmas.{Inside, brackets-inside, pieces_tokens-brackets, quoted-inside, raw-inside, shaped, text-append}
 use Rattle.sql_builder.proofs.pieces.ShapeLemmas.{closing-last, words-first}
 use Rattle.sql_builder.proofs.reading.ClauseWordLemmas.{are_fit-is, fit-balanced, fragments_closed}
-use Rattle.sql_builder.proofs.tokens.BalancedFacts.{IsPlain, balanced_closed, balanced_even, is_balanced-brackets, is_condition-append, is_condition-joined}
-use Rattle.sql_builder.proofs.tokens.BalancedFacts.{is_even-brackets, no_clause-brackets}
-use Rattle.sql_builder.proofs.tokens.WhereTokenFacts.{and_word, is_condition, is_group, not_word, or_word}
+use Rattle.sql_builder.proofs.tokens.BalancedFacts.{IsPlain, balanced_closed, balanced_even, is_balanced-brackets, is_condition-append, is_condition-joined, is_even-brackets, no_clause-brackets, even_closes}
+use Rattle.sql_builder.proofs.tokens.WhereTokenFacts.{and_word, is_condition, is_group, not_word, or_word, like_word}
+use Rattle.sql_builder.proofs.truth.AtomLemmas.{atom_plain}
 use Rattle.sql_builder.proofs.truth.ConditionGroupLemmas.{condition-fit, pieces_tokens-joined}
 use Rattle.sql_builder.proofs.truth.ConnectiveLemmas.{none-brackets, or3-False, truth_brackets}
 use Rattle.sql_builder.proofs.truth.TruthLemmas.{of_not}
 use Rattle.sql_builder.proofs.truth.WhereLemmas.{bracketed_groups, condition_closes, condition_no_clause, truth_group, truth_joined}
 use Rattle.sql_parts.specs.StringTexts.{blank, outline}
 use Rattle.sql_builder.specs.Combined.{CombinedFollowTheirParts, ConditionsFollowTheirPieces, IsCombined, MasksFollowTheirField, NegationsFollowTheirPart}
-use Rattle.sql_builder.specs.Combined.{combined_text, joined_text, like_text, negation_text}
+use Rattle.sql_builder.specs.Combined.{combined_text, constant_text, joined_text, like_text, negation_text}
 use Rattle.sql_builder.specs.Interference.{piece_outline}
-use Rattle.sql_builder.proofs.conditions.ConditionLemmas.{condition_printed, like-between}
+use Rattle.sql_builder.proofs.conditions.ConditionLemmas as conditions
+use Rattle.sql_builder.proofs.conditions.ConditionLemmas.{condition_printed, like-between, condition_atom}
 use Rattle.sql_builder.proofs.interference.OutlineLemmas.{pieces-outline}
 use Rattle.sql_builder.proofs.fragments.PropertyLemmas as pieces
 use Rattle.sql_builder.proofs.pieces.LayoutMapLemmas.{joined_in_form}
@@ -75,11 +79,6 @@ condition_fragment condition fits =
 pub fits_as : {text given : List ℕ} → text ≡ given → ServesAsOperand given → is_fragment text ≡ true
 fits_as is serves = ap is_fragment is ∙ and_from _ _ serves.is_balanced serves.no_clause_word
 
-pub operands_fit : {X : Type 0} (text : X → List ℕ) → ((x : X) → ServesAsOperand (text x)) → (values : List X)
-    → list_all is_fit (map Enclosed (map text values)) ≡ true
-operands_fit text serves [] = refl
-operands_fit text serves (value ∷ values) = and_from _ _ (serves value).is_balanced (operands_fit text serves values)
-
 pub operands_balanced : {X : Type 0} (text : X → List ℕ) → ((x : X) → ServesAsOperand (text x)) → (values : List X) → list_all balanced (map text values) ≡ true
 operands_balanced text serves [] = refl
 operands_balanced text serves (value ∷ values) = and_from _ _ (serves value).is_balanced (operands_balanced text serves values)
@@ -113,6 +112,31 @@ pub like_fragment : (negated : Bool) (field mask : List ℕ) → is_fragment fie
 unfolding like-pieces
 like_fragment negated field mask is =
     from-pieces (like-pieces negated field mask) (like-inside negated field mask) (fragment_closed field is) (like-condition negated field mask (condition-of field is))
+
+-- ---- atoms
+
+-- a condition whose texts are operands
+pub condition_is_atom : (condition : ConditionText) → has_operands condition ≡ true → IsAtom (tokens (condition_bytes condition))
+condition_is_atom condition operands =
+    subst IsAtom (sym ((condition_keeps condition).0 (fragments_closed (condition_pieces condition) (conditions.operands_balanced condition operands))))
+    (condition_atom condition operands)
+
+pub constant_is_atom : (holds : Bool) → IsAtom (tokens (constant_text holds))
+constant_is_atom true = condition_is_atom (Compare Eq (codes "1") (codes "1")) refl
+constant_is_atom false = condition_is_atom (Compare Eq (codes "1") (codes "0")) refl
+
+like-atom : (negated : Bool) (field mask : List ℕ) → operand field ≡ true → IsAtom (pieces_tokens (like-pieces negated field mask))
+unfolding like-pieces
+like-atom true field mask is =
+    atom_plain (tokens field) not_word (like_word ∷ Str mask ∷ Word (codes "ESCAPE") ∷ Str (codes "!") ∷ []) (sym (is_operand-is (tokens field)) ∙ is) refl
+like-atom false field mask is =
+    atom_plain (tokens field) like_word (Str mask ∷ Word (codes "ESCAPE") ∷ Str (codes "!") ∷ []) (sym (is_operand-is (tokens field)) ∙ is) refl
+
+pub like_is_atom : (negated : Bool) (field mask : List ℕ) → ServesAsOperand field → IsAtom (tokens (like_text negated field mask))
+unfolding like-pieces
+like_is_atom negated field mask serves =
+    subst IsAtom (sym ((shaped (like-pieces negated field mask) (like-inside negated field mask)).shape_is (fragment_closed field (fits_as refl serves))))
+    (like-atom negated field mask serves.is_operand)
 
 -- ---- conditions joined by a word
 
