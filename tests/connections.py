@@ -233,7 +233,9 @@ class Maria(Database):
         version = self.shown("SELECT VERSION()")
         is_maria = "MariaDB" in version
         self.product = f"MariaDB {version.split('-')[0]}" if is_maria else f"MySQL {version}"
-        self.column = f"LONGTEXT CHARACTER SET utf8mb4 COLLATE {'utf8mb4_nopad_bin' if is_maria else 'utf8mb4_0900_bin'}"
+        collation = "utf8mb4_nopad_bin" if is_maria else "utf8mb4_0900_bin"
+        self.column = f"LONGTEXT CHARACTER SET utf8mb4 COLLATE {collation}"
+        self.run(f"SET collation_connection = {collation}")
         self.run("CREATE DATABASE texts CHARACTER SET utf8mb4")
         self.run("USE texts")
 

@@ -1,6 +1,7 @@
-//! The laws of the builder.
+//! The laws of the builder, and of statements by types.
 
 use sql_builder::laws;
+use sql_typed::laws::values_do_not_interfere;
 
 // The contracts of these say all: here each is only called once.
 #[test]
@@ -14,11 +15,16 @@ fn states_its_laws() {
     laws::quoted_names_are_operands();
     laws::literals_without_backslashes_read_alike();
     laws::escaped_masks_match_their_text();
+    laws::literals_end_for_any_reader();
+    laws::readers_ignore_quoted_parts();
+    laws::readers_ignore_bound_texts();
+    laws::rules_are_readers();
     laws::bound_texts_do_not_interfere();
     laws::string_texts_decide_nothing();
     laws::string_texts_begin_no_clause();
     laws::quoted_texts_do_not_interfere();
     laws::quoted_fragments_do_not_interfere();
+    laws::readers_ignore_quoted_texts();
     laws::fields_join();
     laws::only_last_counts();
     laws::only_the_end_is_a_semicolon();
@@ -39,4 +45,5 @@ fn states_its_laws() {
     laws::truth_follows_the_form();
     laws::brackets_make_operands();
     laws::worked_truths();
+    values_do_not_interfere();
 }

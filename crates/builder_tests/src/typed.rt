@@ -1,4 +1,5 @@
-//! Statements by types: each call once, and attacks in each argument that takes untrusted text.
+//! Statements by types: each call once, and an attack as a value that is set and in a condition.
+//! `tests/databases` puts each attack of SECURITY into each argument.
 
 use callers::form::{Form, search};
 use callers::searches::{Search, search_printed};

@@ -1,4 +1,4 @@
-//! The search of `searches` by types, which takes no proof.
+//! The search of `searches` by types, which takes no proof but for `of_author`.
 ghost use Rattle.std.specs.Prelude.{◌≡◌, codes, string_bytes, IfOk, IsTrue, Ok};
 ghost use Rattle.sql_builder.specs.Calls.{Sql};
 ghost use Rattle.sql_builder.specs.Meaning.{HasTruthOf, condition_groups};

@@ -1,5 +1,5 @@
 -- A statement stays fit by one more call.
-use Rattle.std.proofs.Common.{◌≡◌, refl, sym, ◌∙◌, ap, ℕ, true, ◌&&◌, List, [], ◌∷◌, ◌++◌}
+use Rattle.std.proofs.Common.{◌≡◌, refl, sym, ◌∙◌, ap, ℕ, true, List, [], ◌∷◌, ◌++◌}
 use Rattle.std.specs.List.{list_all}
 use Rattle.std.proofs.lemmas.Bool.{and_from, and_parts}
 use Rattle.sql_parts.specs.Fragments.{balanced}
@@ -11,9 +11,6 @@ use Rattle.sql_builder.proofs.fragments.FitListLemmas.{all-more, calls-fit}
 use Rattle.sql_builder.proofs.statements.RunLemmas.{clauses-push, clauses_start}
 use Rattle.sql_typed.specs.Fits.{IsFitBy, Made, adding, beginning}
 
-pub none_yet : (start : StartText) (r : ClauseTexts) → r ≡ started start → list_all is_fit (start_raw_texts start) ≡ true → IsFitBy (beginning start) r
-none_yet start r is fits = record { is_made = is ∙ sym (clauses_start start); start_fits = fits; calls_fit = refl }
-
 pub one_more : (made : Made) (c : CallText) (old new : ClauseTexts) → new ≡ with_call c old → IsFitBy made old → call_fits c ≡ true
     → IsFitBy (adding c made) new
 one_more made c old new is fit also = record {
@@ -21,12 +18,6 @@ one_more made c old new is fit also = record {
   start_fits = fit.start_fits;
   calls_fit = all-more made.calls c fit.calls_fit also;
 }
-
-pub values_more : (values : List (List ℕ)) (value : List ℕ) → list_all balanced values ≡ true → balanced value ≡ true
-    → list_all balanced (values ++ value ∷ []) ≡ true
-values_more [] value all also = and_from _ _ also refl
-values_more (first ∷ values) value all also =
-    let both = and_parts (balanced first) (list_all balanced values) all in and_from _ _ both.0 (values_more values value both.1 also)
 
 pub texts_fit : (made : Made) (finish : FinishText) (r : ClauseTexts) → IsFitBy made r → list_all is_fit (finish_raw_texts finish) ≡ true
     → has_fit_texts made.start made.calls finish ≡ true

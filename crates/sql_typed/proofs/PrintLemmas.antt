@@ -13,7 +13,7 @@ use Rattle.sql_parts.specs.StringTexts.{outline}
 use Rattle.sql_parts.specs.Tokens.{begins_with, closed, tokens}
 use Rattle.sql_parts.specs.declared.error.SqlBuilderError.{SqlBuilderError}
 use Rattle.sql_builder.specs.Builder.{ClauseTexts}
-use Rattle.sql_builder.specs.Calls.{CallText, FinishText, StartText, Sql, finish_raw_texts, kind_of}
+use Rattle.sql_builder.specs.Calls.{FinishText, Sql, finish_raw_texts, kind_of}
 use Rattle.sql_builder.specs.Meaning.{HasTruthOf, condition_groups, is_nested}
 use Rattle.sql_builder.specs.RawFragments.{has_fit_texts, is_fit}
 use Rattle.sql_builder.specs.Reading.{clause_list, read}
@@ -132,13 +132,7 @@ fails_as made finish r fit result failed memory =
     by None failed memory = memory refl
     by (Some error) failed memory = failed
 
--- an error is passed on, and so is that there is none
-pub passed_on : {T U : Type 0} (known : Option SqlBuilderError) (error : SqlBuilderError) (one : Result T SqlBuilderError) (other : Result U SqlBuilderError)
-    → one ≡ Err error → other ≡ Err error → FailsWith known one → FailsWith known other
-passed_on {T} {U} None error one other is also failed =
-    subst (λ (r : Result U SqlBuilderError). FailsOnlyByMemory r) (sym also) (subst (λ (r : Result T SqlBuilderError). FailsOnlyByMemory r) is failed)
-passed_on (Some wanted) error one other is also failed = let same : error ≡ wanted = cc (sym is ∙ failed) in also ∙ ap Err same
-
+-- an answer is passed on, since there was no error
 pub given_on : {T U : Type 0} (known : Option SqlBuilderError) (x : T) (y : U) (one : Result T SqlBuilderError) (other : Result U SqlBuilderError)
     → one ≡ Ok x → other ≡ Ok y → FailsWith known one → FailsWith known other
 given_on {T} {U} None x y one other is also failed = subst (λ (r : Result U SqlBuilderError). FailsOnlyByMemory r) (sym also) tt

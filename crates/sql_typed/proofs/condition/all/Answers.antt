@@ -1,8 +1,6 @@
-use Rattle.std.proofs.Common.{map, string_bytes, subst, sym, ◌≡◌, true, Ok, Err, Result}
-use Rattle.sql_parts.specs.declared.error.SqlBuilderError.{SqlBuilderError}
-use Rattle.std.specs.Prelude.{IfOk}
+use Rattle.std.proofs.Common.{map, string_bytes}
 use Rattle.sql_builder.specs.Truths.{and_all}
-use Rattle.sql_builder.specs.Combined.{IsCombined, combined_text}
+use Rattle.sql_builder.specs.Combined.{IsCombined}
 use Rattle.sql_builder.proofs.truth.CombinedLemmas.{all_combined}
 use Rattle.sql_typed.proofs.ConditionLemmas.{conditions_fit, printed-is}
 use Rattle.sql_typed.proofs.condition.all.Goals as goal

@@ -1,5 +1,4 @@
 use Rattle.sql_typed.proofs.PrintLemmas.{serves_of}
-use Rattle.std.proofs.Common.{refl}
 use Rattle.sql_typed.proofs.select.Statement+SelectKind.subquery.Goals as goal
 
 pub invariant_of-result : goal.invariant_of-result
