@@ -40,7 +40,7 @@ pub struct OwnedOperand {
 }
 
 impl<'a> Fragment<'a> {
-    /// The fragment of this text, which fits. It can't fail.
+    /// The fragment of this text, which fits: only a proof tests it, `rt try` doesn't. It can't fail.
     /// `Fragment::of("books AS b").text` → `books AS b`
     pub fn of(text: &'a str) -> Fragment<'a>
         requires fits { IsTrue (is_fragment text.now) }
@@ -66,7 +66,7 @@ impl<'a> Fragment<'a> {
 }
 
 impl<'a> Operand<'a> {
-    /// The operand of this text, which fits. It can't fail.
+    /// The operand of this text, which fits: only a proof tests it, `rt try` doesn't. It can't fail.
     /// `Operand::of("price").text` → `price`
     pub fn of(text: &'a str) -> Operand<'a>
         requires fits { ServesAsOperand text.now }

@@ -153,7 +153,8 @@ impl SqlName {
     }
 
     /// Sets the alias, in place of any other. It fails only if memory runs out, and then
-    /// the name is as it was.
+    /// the name is as it was. An alias that isn't plain is between backquotes in every form, which
+    /// not every database reads as quotes.
     /// `SqlName::new(alloc, "a")?.alias("b")?.safe()?` → `a AS b`
     pub fn alias<S: ToText>(&mut self, alias: S) -> Result<&mut Self, SqlBuilderError>
         ensures* unchanged { sem 𝓛 (IsUnchangedIfErr self.entry result) }
@@ -373,7 +374,7 @@ macro_rules! name_in_form {
 
 /// A name by `safe`: `name!(alloc, part, ..; alias)`, with one part or more and perhaps an alias.
 /// The five macros want `SqlName` in the caller's scope. The value is the text, and an error is
-/// what the caller's function returns, by `?`.
+/// what the caller's function returns, by `?`. An alias that isn't plain is between backquotes in each.
 /// `name!(alloc, "a", "b"; "c")` → `a.b AS c`
 #[macro_export]
 macro_rules! name {

@@ -16,10 +16,10 @@ use std::alloc::Global;
 /// An INSERT into a table.
 pub type Insert = Statement<InsertKind>;
 
-/// An UPDATE of a table.
+/// An UPDATE of a table: of every row, without a condition.
 pub type Update = Statement<UpdateKind>;
 
-/// A DELETE from a table.
+/// A DELETE from a table: of every row, without a condition.
 pub type Delete = Statement<DeleteKind>;
 
 impl Statement<InsertKind> {

@@ -151,7 +151,8 @@ pub fn raw(alloc: Global, fragment: Fragment<'_>) -> Result
     Ok(Condition { text })
 }
 
-/// `field LIKE 'mask'`, with the percent signs that `percent` says. A `%` or `_` of the mask is a wildcard too.
+/// `field LIKE 'mask'`, with the percent signs that `percent` says. A `%` or `_` of the mask is a wildcard too,
+/// and a backslash escapes on PostgreSQL, MySQL and MariaDB.
 /// `like(alloc, Percent::Left, Operand::of("a"), Value("b"))?.text` → `a LIKE 'b%'`
 pub fn like<F: OperandText>(alloc: Global, percent: Percent, field: F, mask: Value<&str>) -> Result
     ensures text { Prints result (condition_bytes (Like false percent (F.text field) mask.entry.0.now)) }
@@ -161,7 +162,8 @@ pub fn like<F: OperandText>(alloc: Global, percent: Percent, field: F, mask: Val
     made(alloc, Plain::Like(false, percent, field.as_str(), mask.0))
 }
 
-/// `field NOT LIKE 'mask'`, with the percent signs that `percent` says. A `%` or `_` of the mask is a wildcard too.
+/// `field NOT LIKE 'mask'`, with the percent signs that `percent` says. A `%` or `_` of the mask is a wildcard too,
+/// and a backslash escapes on PostgreSQL, MySQL and MariaDB.
 /// `not_like(alloc, Percent::Any, Operand::of("a"), Value("b"))?.text` → `a NOT LIKE '%b%'`
 pub fn not_like<F: OperandText>(
     alloc: Global,
@@ -277,7 +279,7 @@ pub fn in_values<F: OperandText, V: OperandText>(alloc: Global, field: F, values
     listed(alloc, false, field, values)
 }
 
-/// `field NOT IN (values)`. Of no values it is `1 = 1`, which is true.
+/// `field NOT IN (values)`. Of no values it is `1 = 1`, which is true; with a NULL among them it is true of no row.
 /// `not_in_values(alloc, Operand::of("a"), &[1, 2])?.text` → `a NOT IN (1, 2)`
 pub fn not_in_values<F: OperandText, V: OperandText>(
     alloc: Global,
