@@ -5,8 +5,9 @@ ghost use Rattle.sql_builder.specs.Builder.{started};
 ghost use Rattle.sql_builder.specs.Calls.{SelectFrom, SelectValues, InsertInto, UpdateTable, DeleteFrom};
 ghost use Rattle.sql_builder.specs.Clauses.{new_clauses};
 
-use crate::clauses::{GroupedCondition, JoinOperator, Kind, copy_conditions};
+use crate::clauses::{JoinOperator, Kind};
 use crate::concat::copied;
+use crate::condition_list::ConditionList;
 use crate::ghost_list::Bytes;
 use crate::optional_text::OptionalText;
 use crate::printed_list::PrintedList;
@@ -36,7 +37,7 @@ pub struct SqlBuilder {
     pub(crate) returning: OptionalText,
     pub(crate) group_fields: TextList,
     pub(crate) having: OptionalText,
-    pub(crate) conditions: Vec<GroupedCondition>,
+    pub(crate) conditions: ConditionList,
     pub(crate) unions: PrintedList<(bool, Bytes)>,
     pub(crate) order_fields: TextList,
     pub(crate) limit: OptionalText,
@@ -95,7 +96,7 @@ impl Model for SqlBuilder {
       returning = b.returning;
       group_fields = b.group_fields;
       having = b.having;
-      groups = group_texts b.conditions.items;
+      groups = group_texts b.conditions;
       unions = b.unions;
       order_fields = b.order_fields;
       limit = b.limit;
@@ -114,7 +115,7 @@ type OptionalTexts = (
 
 // Copies of the conditions, GROUP BY, the unions and ORDER BY.
 type FurtherClauses = (
-    Vec<GroupedCondition>,
+    ConditionList,
     TextList,
     PrintedList<(bool, Bytes)>,
     TextList,
@@ -141,7 +142,7 @@ impl SqlBuilder {
             returning: OptionalText::new(alloc),
             group_fields: TextList::new(alloc),
             having: OptionalText::new(alloc),
-            conditions: Vec::new(alloc),
+            conditions: ConditionList::new(alloc),
             unions: PrintedList::new(alloc),
             order_fields: TextList::new(alloc),
             limit: OptionalText::new(alloc),
@@ -287,14 +288,14 @@ impl SqlBuilder {
     }
 
     fn copy_further_clauses(&self) -> Result<FurtherClauses, SqlBuilderError>
-        ensures groups { IfOk result (λ copy. group_texts copy.0.items ≡ self.now.groups) }
+        ensures groups { IfOk result (λ copy. group_texts copy.0 ≡ self.now.groups) }
         ensures group_fields { IfOk result (λ copy. copy.1 ≡ self.now.group_fields) }
         ensures unions { IfOk result (λ copy. copy.2 ≡ self.now.unions) }
         ensures order_fields { IfOk result (λ copy. copy.3 ≡ self.now.order_fields) }
         ensures memory { FailsOnlyByMemory result }
     {
         Ok((
-            copy_conditions(self.alloc, &self.conditions)?,
+            self.conditions.copy(self.alloc)?,
             self.group_fields.copy(self.alloc)?,
             self.unions.copy(self.alloc)?,
             self.order_fields.copy(self.alloc)?,

@@ -1,6 +1,6 @@
 //! Texts that are made of parts, each made in one allocation: room is asked for first, and then the
 //! parts are written, which can't fail.
-ghost use Rattle.std.specs.Prelude.{◌≡◌, ◌++◌, length, string_bytes, IfOk, OnErr, OnOk};
+ghost use Rattle.std.specs.Prelude.{◌≡◌, ◌++◌, ◌≤◌, [], length, string_bytes, string_capacity, IfOk, OnErr, OnOk};
 ghost use Rattle.sql_builder.specs.Concat.{HasRoom, Writes, at_most_usize, concat_bytes};
 
 use std::alloc::{AllocError, Global};
@@ -44,14 +44,27 @@ pub(crate) fn push_all(out: &mut String, parts: &[Part<'_>])
     }
 }
 
-/// A text of the parts.
+/// Empties a text, which then has room for so many bytes. Where memory runs out, it is as it was.
 #[inline(always)]
-pub(crate) fn concat(alloc: Global, parts: &[Part<'_>]) -> Result<String, AllocError>
-    ensures { IfOk result (λ text. string_bytes text ≡ concat_bytes parts.now) }
+pub(crate) fn empty_with_room(text: &mut String, room: usize) -> Result<(), AllocError>
+    ensures empty { OnOk result (string_bytes text.new ≡ []) }
+    ensures room { OnOk result (room ≤ string_capacity text.new) }
 {
-    let mut text = String::with_capacity(alloc, total_len(parts))?;
-    push_all(&mut text, parts);
-    Ok(text)
+    if text.capacity() < room {
+        *text = String::with_capacity(*text.allocator(), room)?;
+    }
+    text.clear();
+    Ok(())
+}
+
+/// Puts the parts in the place of a text.
+#[inline(always)]
+pub(crate) fn refill(text: &mut String, parts: &[Part<'_>]) -> Result<(), AllocError>
+    ensures { OnOk result (string_bytes text.new ≡ concat_bytes parts.now) }
+{
+    empty_with_room(text, total_len(parts))?;
+    push_all(text, parts);
+    Ok(())
 }
 
 /// A copy of a text. Where that is empty, it takes no call.

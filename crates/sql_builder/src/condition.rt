@@ -1,14 +1,14 @@
 //! What a condition says, and its text.
-ghost use Rattle.std.specs.Prelude.{◌≡◌, ◌++◌, codes, if◌then◌else◌, map, string_bytes, IfOk};
+ghost use Rattle.std.specs.Prelude.{◌≡◌, ◌++◌, codes, if◌then◌else◌, map, string_bytes, OnOk};
 ghost use Rattle.sql_parts.specs.Error.{FailsOnlyByMemory};
 ghost use Rattle.sql_builder.specs.Condition.{Between, Compare, InList, InQuery, InQuoted, IsNotNull, IsNull, Like, borrowed_view, condition_bytes, condition_view, has_trailing, has_leading, not_text, relation_text};
 
-use crate::concat::{Part, concat};
+use crate::concat::{Part, empty_with_room, refill};
 use crate::phrases::{push_items, push_quoted_items};
 use crate::text_list::FIRST_ROOM;
 use sql_parts::text::{Items, Texts};
 use sql_parts::{SqlBuilderError, ToText, escaped};
-use std::alloc::{AllocError, Global};
+use std::alloc::AllocError;
 
 /// Which family a condition's call belongs to.
 #[derive(Clone, Copy)]
@@ -157,34 +157,34 @@ impl Condition {
 }
 
 impl<'a, T: Texts<'a>> BorrowedCondition<'a, T> {
-    /// The condition's text. It is a part of its caller, where the condition need not be made first.
+    /// Puts the condition's text in the place of another. It is a part of its caller, where the condition need not be made first.
     #[inline(always)]
-    pub(crate) fn text(self, alloc: Global) -> Result<String, SqlBuilderError>
-        ensures made { IfOk result (λ s. string_bytes s
+    pub(crate) fn write(self, out: &mut String) -> Result<(), SqlBuilderError>
+        ensures made { OnOk result (string_bytes out.new
             ≡ condition_bytes (borrowed_view T.left self.entry)) }
         ensures memory { FailsOnlyByMemory result }
     {
         match self {
-            BorrowedCondition::Raw(condition) => condition.to_text(alloc),
+            BorrowedCondition::Raw(condition) => Ok(refill(out, &[Part(condition)])?),
             BorrowedCondition::Compare(relation, field, value) => {
-                compare(alloc, relation, field, value)
+                compare(out, relation, field, value)
             }
             BorrowedCondition::Like(negated, percent, field, mask) => {
-                like(alloc, negated, percent, field, mask)
+                like(out, negated, percent, field, mask)
             }
-            BorrowedCondition::IsNull(field) => is_null(alloc, field),
-            BorrowedCondition::IsNotNull(field) => is_not_null(alloc, field),
+            BorrowedCondition::IsNull(field) => is_null(out, field),
+            BorrowedCondition::IsNotNull(field) => is_not_null(out, field),
             BorrowedCondition::InList(negated, field, values) => {
-                in_list(alloc, negated, field, values)
+                in_list(out, negated, field, values)
             }
             BorrowedCondition::InQuoted(negated, field, values) => {
-                in_quoted(alloc, negated, field, values)
+                in_quoted(out, negated, field, values)
             }
             BorrowedCondition::InQuery(negated, field, query) => {
-                in_query(alloc, negated, field, query)
+                in_query(out, negated, field, query)
             }
             BorrowedCondition::Between(negated, field, least, greatest) => {
-                between(alloc, negated, field, least, greatest)
+                between(out, negated, field, least, greatest)
             }
         }
     }
@@ -199,65 +199,65 @@ fn not(negated: bool) -> &'static str
 
 /// A field compared with a value.
 pub(crate) fn compare<'a>(
-    alloc: Global,
+    out: &mut String,
     relation: Relation,
     field: &'a str,
     value: &'a str,
-) -> Result<String, SqlBuilderError>
-    ensures made { IfOk result (λ s. string_bytes s
+) -> Result<(), SqlBuilderError>
+    ensures made { OnOk result (string_bytes out.new
         ≡ condition_bytes (Compare relation field.now value.now)) }
     ensures memory { FailsOnlyByMemory result }
 {
-    Ok(concat(alloc, &[Part(field), Part(relation.sign()), Part(value)])?)
+    Ok(refill(out, &[Part(field), Part(relation.sign()), Part(value)])?)
 }
 
 /// A field that is NULL.
-pub(crate) fn is_null(alloc: Global, field: &str) -> Result<String, SqlBuilderError>
-    ensures made { IfOk result (λ s. string_bytes s ≡ condition_bytes (IsNull field.now)) }
+pub(crate) fn is_null(out: &mut String, field: &str) -> Result<(), SqlBuilderError>
+    ensures made { OnOk result (string_bytes out.new ≡ condition_bytes (IsNull field.now)) }
     ensures memory { FailsOnlyByMemory result }
 {
-    Ok(concat(alloc, &[Part(field), Part(" IS NULL")])?)
+    Ok(refill(out, &[Part(field), Part(" IS NULL")])?)
 }
 
 /// A field that is not NULL.
-pub(crate) fn is_not_null(alloc: Global, field: &str) -> Result<String, SqlBuilderError>
-    ensures made { IfOk result (λ s. string_bytes s ≡ condition_bytes (IsNotNull field.now)) }
+pub(crate) fn is_not_null(out: &mut String, field: &str) -> Result<(), SqlBuilderError>
+    ensures made { OnOk result (string_bytes out.new ≡ condition_bytes (IsNotNull field.now)) }
     ensures memory { FailsOnlyByMemory result }
 {
-    Ok(concat(alloc, &[Part(field), Part(" IS NOT NULL")])?)
+    Ok(refill(out, &[Part(field), Part(" IS NOT NULL")])?)
 }
 
 /// A field that is like a mask, which is quoted with its percent signs.
 #[tactic(auto, using(crate::proofs::conditions::QuotedMaskFacts::quoted_mask))]
 pub(crate) fn like<'a>(
-    alloc: Global,
+    out: &mut String,
     negated: bool,
     percent: Percent,
     field: &'a str,
     mask: &'a str,
-) -> Result<String, SqlBuilderError>
-    ensures made { IfOk result (λ s. string_bytes s
+) -> Result<(), SqlBuilderError>
+    ensures made { OnOk result (string_bytes out.new
         ≡ condition_bytes (Like negated percent field.now mask.now)) }
     ensures memory { FailsOnlyByMemory result }
 {
-    let mask = escaped(alloc, mask)?;
-    Ok(like_escaped(alloc, not(negated), percent, field, mask.as_str())?)
+    let mask = escaped(*out.allocator(), mask)?;
+    Ok(like_escaped(out, not(negated), percent, field, mask.as_str())?)
 }
 
 // The same of a mask whose quotes are doubled.
 fn like_escaped<'a>(
-    alloc: Global,
+    out: &mut String,
     not: &'static str,
     percent: Percent,
     field: &'a str,
     mask: &'a str,
-) -> Result<String, AllocError>
-    ensures { IfOk result (λ s. string_bytes s ≡ field.now ++ (not.now ++ (codes " LIKE "
+) -> Result<(), AllocError>
+    ensures { OnOk result (string_bytes out.new ≡ field.now ++ (not.now ++ (codes " LIKE "
         ++ ((if has_leading percent then codes "'%" else codes "'")
         ++ (mask.now ++ (if has_trailing percent then codes "%'" else codes "'")))))) }
 {
-    concat(
-        alloc,
+    refill(
+        out,
         &[
             Part(field),
             Part(not),
@@ -270,65 +270,65 @@ fn like_escaped<'a>(
 }
 
 // A field and the words in front of a list, with room for the list.
-fn field_in(alloc: Global, negated: bool, field: &str) -> Result<String, AllocError>
-    ensures { IfOk result (λ s. string_bytes s ≡ field.now ++ (not_text negated ++ codes " IN (")) }
+fn field_in(out: &mut String, negated: bool, field: &str) -> Result<(), AllocError>
+    ensures { OnOk result (string_bytes out.new ≡ field.now ++ (not_text negated ++ codes " IN (")) }
 {
     let room = field.len().saturating_add(FIRST_ROOM);
-    let mut text = String::with_capacity(alloc, room)?;
-    text.push_str(field)?;
-    text.push_str(not(negated))?;
-    text.push_str(" IN (")?;
-    Ok(text)
+    empty_with_room(out, room)?;
+    out.push_str(field)?;
+    out.push_str(not(negated))?;
+    out.push_str(" IN (")?;
+    Ok(())
 }
 
 /// A field that is one of a list of values.
 pub(crate) fn in_list<'a, T: Texts<'a>>(
-    alloc: Global,
+    out: &mut String,
     negated: bool,
     field: &str,
     values: T,
-) -> Result<String, SqlBuilderError>
-    ensures made { IfOk result (λ s. string_bytes s
+) -> Result<(), SqlBuilderError>
+    ensures made { OnOk result (string_bytes out.new
         ≡ condition_bytes (InList negated field.now (T.left values))) }
     ensures memory { FailsOnlyByMemory result }
 {
-    let mut text = field_in(alloc, negated, field)?;
-    push_items(alloc, &mut text, values)?;
-    text.push_str(")")?;
-    Ok(text)
+    field_in(out, negated, field)?;
+    push_items(*out.allocator(), out, values)?;
+    out.push_str(")")?;
+    Ok(())
 }
 
 /// A field that is one of a list of values, each of which is quoted.
 pub(crate) fn in_quoted<'a, T: Texts<'a>>(
-    alloc: Global,
+    out: &mut String,
     negated: bool,
     field: &str,
     values: T,
-) -> Result<String, SqlBuilderError>
-    ensures made { IfOk result (λ s. string_bytes s
+) -> Result<(), SqlBuilderError>
+    ensures made { OnOk result (string_bytes out.new
         ≡ condition_bytes (InQuoted negated field.now (T.left values))) }
     ensures memory { FailsOnlyByMemory result }
 {
-    let mut text = field_in(alloc, negated, field)?;
-    push_quoted_items(alloc, &mut text, values)?;
-    text.push_str(")")?;
-    Ok(text)
+    field_in(out, negated, field)?;
+    push_quoted_items(*out.allocator(), out, values)?;
+    out.push_str(")")?;
+    Ok(())
 }
 
 /// A field that is one of what a query gives.
 pub(crate) fn in_query<'a>(
-    alloc: Global,
+    out: &mut String,
     negated: bool,
     field: &'a str,
     query: &'a str,
-) -> Result<String, SqlBuilderError>
-    ensures made { IfOk result (λ s. string_bytes s
+) -> Result<(), SqlBuilderError>
+    ensures made { OnOk result (string_bytes out.new
         ≡ condition_bytes (InQuery negated field.now query.now)) }
     ensures memory { FailsOnlyByMemory result }
 {
     let not = not(negated);
-    Ok(concat(
-        alloc,
+    Ok(refill(
+        out,
         &[
             Part(field),
             Part(not),
@@ -341,19 +341,19 @@ pub(crate) fn in_query<'a>(
 
 /// A field between a least and a greatest value.
 pub(crate) fn between<'a>(
-    alloc: Global,
+    out: &mut String,
     negated: bool,
     field: &'a str,
     least: &'a str,
     greatest: &'a str,
-) -> Result<String, SqlBuilderError>
-    ensures made { IfOk result (λ s. string_bytes s
+) -> Result<(), SqlBuilderError>
+    ensures made { OnOk result (string_bytes out.new
         ≡ condition_bytes (Between negated field.now least.now greatest.now)) }
     ensures memory { FailsOnlyByMemory result }
 {
     let not = not(negated);
-    Ok(concat(
-        alloc,
+    Ok(refill(
+        out,
         &[
             Part(field),
             Part(not),

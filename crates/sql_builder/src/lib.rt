@@ -10,6 +10,7 @@ mod checks;
 mod clauses;
 mod concat;
 mod condition;
+mod condition_list;
 mod ghost_list;
 pub mod laws;
 mod optional_text;

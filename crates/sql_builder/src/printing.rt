@@ -163,7 +163,7 @@ impl SqlBuilder {
         ensures { Prints O.printed O.room out.old out.new (query byte_units self.now) }
     {
         self.push_query_start(out);
-        push_where(out, &self.conditions);
+        push_where(out, self.conditions.as_slice());
         self.push_query_end(out);
     }
 
@@ -223,7 +223,7 @@ impl SqlBuilder {
     {
         push_clause(out, "UPDATE ", self.table.as_str());
         push_list(out, " SET ", &self.sets);
-        push_where(out, &self.conditions);
+        push_where(out, self.conditions.as_slice());
         push_optional(out, " RETURNING ", &self.returning);
     }
 
@@ -232,7 +232,7 @@ impl SqlBuilder {
         ensures { Prints O.printed O.room out.old out.new (delete_bytes self.now) }
     {
         push_clause(out, "DELETE FROM ", self.table.as_str());
-        push_where(out, &self.conditions);
+        push_where(out, self.conditions.as_slice());
         push_optional(out, " RETURNING ", &self.returning);
     }
 

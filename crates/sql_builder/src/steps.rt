@@ -259,6 +259,15 @@ impl SqlBuilder {
         Ok(self.offset.set(offset)?)
     }
 
+    /// A buffer for the text of the next condition.
+    #[inline(always)]
+    pub(crate) fn buffer(&mut self) -> String
+        ensures { self.new ≡ self.old }
+    {
+        self.conditions.buffer(self.alloc)
+    }
+
+    #[inline(always)]
     #[tactic(auto, using(crate::proofs::lists::GroupLemmas::one_more_condition))]
     pub(crate) fn push_condition(
         &mut self,
@@ -441,7 +450,8 @@ pub fn make_condition<'a, T: Texts<'a>>(
     ensures unchanged { OnErr result (builder.new ≡ builder.old) }
     ensures memory { FailsOnlyByMemory result }
 {
-    let text = condition.text(builder.alloc)?;
+    let mut text = builder.buffer();
+    condition.write(&mut text)?;
     builder.push_condition(family, text)
 }
 
@@ -457,7 +467,9 @@ pub fn condition_text<'a, T: Texts<'a>>(
         ≡ condition_bytes (borrowed_view T.left condition.entry)) }
     ensures memory { FailsOnlyByMemory result }
 {
-    condition.text(alloc)
+    let mut text = String::new(alloc);
+    condition.write(&mut text)?;
+    Ok(text)
 }
 
 /// Makes the call of this family that adds the condition of this text, which isn't copied, for

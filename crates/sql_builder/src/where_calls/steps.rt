@@ -47,7 +47,8 @@ impl SqlBuilder {
         ensures memory { FailsOnlyByMemory result }
     {
         let field = field.as_text(self.alloc)?;
-        let text = is_null(self.alloc, field.as_str())?;
+        let mut text = self.buffer();
+        is_null(&mut text, field.as_str())?;
         self.push_condition(family, text)?;
         Ok(Held(self))
     }
@@ -64,7 +65,8 @@ impl SqlBuilder {
         ensures memory { FailsOnlyByMemory result }
     {
         let field = field.as_text(self.alloc)?;
-        let text = is_not_null(self.alloc, field.as_str())?;
+        let mut text = self.buffer();
+        is_not_null(&mut text, field.as_str())?;
         self.push_condition(family, text)?;
         Ok(Held(self))
     }
@@ -84,7 +86,8 @@ impl SqlBuilder {
     {
         let field = field.as_text(self.alloc)?;
         let value = value.as_text(self.alloc)?;
-        let text = compare(self.alloc, relation, field.as_str(), value.as_str())?;
+        let mut text = self.buffer();
+        compare(&mut text, relation, field.as_str(), value.as_str())?;
         self.push_condition(family, text)?;
         Ok(Held(self))
     }
@@ -104,7 +107,8 @@ impl SqlBuilder {
     {
         let field = field.as_text(self.alloc)?;
         let mask = mask.as_text(self.alloc)?;
-        let text = like(self.alloc, false, percent, field.as_str(), mask.as_str())?;
+        let mut text = self.buffer();
+        like(&mut text, false, percent, field.as_str(), mask.as_str())?;
         self.push_condition(family, text)?;
         Ok(Held(self))
     }
@@ -124,7 +128,8 @@ impl SqlBuilder {
     {
         let field = field.as_text(self.alloc)?;
         let mask = mask.as_text(self.alloc)?;
-        let text = like(self.alloc, true, percent, field.as_str(), mask.as_str())?;
+        let mut text = self.buffer();
+        like(&mut text, true, percent, field.as_str(), mask.as_str())?;
         self.push_condition(family, text)?;
         Ok(Held(self))
     }
@@ -144,7 +149,8 @@ impl SqlBuilder {
     {
         let field = field.as_text(self.alloc)?;
         let values = Items { items: values };
-        let text = in_list(self.alloc, sense.is_negated(), field.as_str(), values)?;
+        let mut text = self.buffer();
+        in_list(&mut text, sense.is_negated(), field.as_str(), values)?;
         self.push_condition(family, text)?;
         Ok(Held(self))
     }
@@ -164,7 +170,8 @@ impl SqlBuilder {
     {
         let field = field.as_text(self.alloc)?;
         let values = Items { items: values };
-        let text = in_quoted(self.alloc, sense.is_negated(), field.as_str(), values)?;
+        let mut text = self.buffer();
+        in_quoted(&mut text, sense.is_negated(), field.as_str(), values)?;
         self.push_condition(family, text)?;
         Ok(Held(self))
     }
@@ -184,8 +191,9 @@ impl SqlBuilder {
     {
         let field = field.as_text(self.alloc)?;
         let query = query.as_text(self.alloc)?;
-        let text = in_query(
-            self.alloc,
+        let mut text = self.buffer();
+        in_query(
+            &mut text,
             sense.is_negated(),
             field.as_str(),
             query.as_str(),
@@ -211,8 +219,9 @@ impl SqlBuilder {
         let field = field.as_text(self.alloc)?;
         let least = least.as_text(self.alloc)?;
         let greatest = greatest.as_text(self.alloc)?;
-        let text = between(
-            self.alloc,
+        let mut text = self.buffer();
+        between(
+            &mut text,
             sense.is_negated(),
             field.as_str(),
             least.as_str(),

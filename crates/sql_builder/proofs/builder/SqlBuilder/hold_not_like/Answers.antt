@@ -7,8 +7,8 @@ use Rattle.sql_builder.proofs.builder.SqlBuilder.hold_not_like.Goals as goal
 pub returns : goal.returns
 returns g c =
     let condition = Like true c.args.percent (g.S.ToText.text c.args.field) (g.T.ToText.text c.args.mask) in
-    let text : string_bytes c.in_ok-text.text ≡ condition_bytes condition =
-    rw (c.as_str.ensures.value, c.in_ok-field.ensures.text, c.as_str-2.ensures.value, c.in_ok-mask.ensures.text) at c.in_ok-text.ensures.made in
+    let text : string_bytes c.like.new.out ≡ condition_bytes condition =
+    rw (c.as_str.ensures.value, c.in_ok-field.ensures.text, c.as_str-2.ensures.value, c.in_ok-mask.ensures.text) at c.in_ok-like.ensures.made in
     let added : c.push_condition.new.self ≡ with_condition c.args.family condition c.args.self.now =
-    c.in_ok-push_condition.ensures ∙ ap (λ bytes. with_condition_bytes c.args.family bytes c.args.self.now) text in
+    c.in_ok-push_condition.ensures ∙ (ap (λ bytes. with_condition_bytes c.args.family bytes c.buffer-text.new.self) text ∙ ap (λ b. with_condition c.args.family condition b) c.buffer-text.ensures) in
     search (rules, adds_condition_opaque c.args.family condition c.args.self.now c.push_condition.new.self added)

@@ -13,4 +13,4 @@ returns g c =
     (prints_both g.O.Out.printed g.O.Out.room (codes "DELETE FROM " ++ r.table) _ c.args.out.now c.push_clause.new.out c.push_optional.new.out
     (rw (c.as_str.ensures.value) at c.push_clause.ensures)
     (prints_both g.O.Out.printed g.O.Out.room (where_bytes r.groups) (optional_bytes (codes " RETURNING ") r.returning) c.push_clause.new.out c.push_where.new.out c.push_optional.new.out
-    (rw (c.deref.ensures.value) at c.push_where.ensures) c.push_optional.ensures)))
+    (rw (c.as_slice.ensures) at c.push_where.ensures) c.push_optional.ensures)))

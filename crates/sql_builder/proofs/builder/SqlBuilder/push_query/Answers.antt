@@ -11,7 +11,7 @@ push_query_end-requires g c =
       room = room_rest g.O.Out.printed g.O.Out.room (where_bytes r.groups) (query_end r) c.push_query_start.new.out c.push_where.new.out
           (room_rest g.O.Out.printed g.O.Out.room (query_start r) (where_bytes r.groups ++ query_end r) c.args.out.now c.push_query_start.new.out
           (rw (query_is r) at c.requires.room) c.push_query_start.ensures)
-          (rw (← c.self.view_is) (rw (c.deref.ensures.value) at c.push_where.ensures));
+          (rw (← c.self.view_is) (rw (c.as_slice.ensures) at c.push_where.ensures));
     }
 
 pub returns : goal.returns
@@ -21,4 +21,4 @@ returns g c =
     rw (query_is r)
     (prints_both g.O.Out.printed g.O.Out.room (query_start r) _ c.args.out.now c.push_query_start.new.out out c.push_query_start.ensures
     (prints_both g.O.Out.printed g.O.Out.room (where_bytes r.groups) _ c.push_query_start.new.out c.push_where.new.out out
-    (rw (← c.self.view_is) (rw (c.deref.ensures.value) at c.push_where.ensures)) c.push_query_end.ensures))
+    (rw (← c.self.view_is) (rw (c.as_slice.ensures) at c.push_where.ensures)) c.push_query_end.ensures))

@@ -17,4 +17,4 @@ returns g c =
     (prints_both g.O.Out.printed g.O.Out.room (codes " SET " ++ comma_list byte_units r.sets) _ c.push_clause.new.out c.push_list.new.out c.push_optional.new.out
     c.push_list.ensures
     (prints_both g.O.Out.printed g.O.Out.room (where_bytes r.groups) (optional_bytes (codes " RETURNING ") r.returning) c.push_list.new.out c.push_where.new.out c.push_optional.new.out
-    (rw (c.deref.ensures.value) at c.push_where.ensures) c.push_optional.ensures))))
+    (rw (c.as_slice.ensures) at c.push_where.ensures) c.push_optional.ensures))))
