@@ -265,7 +265,8 @@ fn segments_apart(alloc: Global, template: &str, marks: Marks<'_>) -> Result<boo
 
 /// Whether the values that these marks bind stand apart in a template: no `?` lacks an argument,
 /// each segment of it is closed, and nothing but a separator or an end of the text touches a value.
-/// A text that is bound there can't leave its literal. It fails only if memory runs out.
+/// By our rules of tokens, which know no dollar quotes and no nested comments, a text that is bound
+/// there can't leave its literal. It fails only if memory runs out.
 /// `stands_apart(alloc, "a = ?", &Marks::First)?` → `true`
 /// `stands_apart(alloc, "a = '?'", &Marks::First)?` → `false`
 pub fn stands_apart(
