@@ -276,7 +276,7 @@ impl SqlBuilder {
     }
 }
 
-/// Makes a call without a text, for `make`. `returning_id` fails only if memory runs out, and then
+/// Makes a call without a text, for `make` and `sqlb`. `returning_id` fails only if memory runs out, and then
 /// leaves the builder as it was; the others can't fail.
 /// ```
 /// let mut b = SqlBuilder::select_from(alloc, "t")?;
