@@ -1,12 +1,10 @@
 //! What a builder keeps of its clauses.
 ghost use Rattle.std.specs.List.{list_any};
 ghost use Rattle.std.specs.Prelude.{◌≡◌, map, IfOk};
-ghost use Rattle.sql_parts.specs.Error.{FailsOnlyByMemory};
 ghost use Rattle.sql_builder.specs.Builder.{condition_in_group};
 ghost use Rattle.sql_builder.specs.Phrases.{operator_text};
 
-use sql_parts::{SqlBuilderError, ToText};
-use std::alloc::Global;
+use std::alloc::{AllocError, Global};
 
 /// The kind of a statement.
 #[derive(Clone, Copy)]
@@ -54,19 +52,6 @@ impl JoinOperator {
     }
 }
 
-impl GroupedCondition {
-    fn copy(&self, alloc: Global) -> Result<GroupedCondition, SqlBuilderError>
-        ensures copied { IfOk result (λ copied.
-            condition_in_group copied ≡ condition_in_group self.now) }
-        ensures memory { FailsOnlyByMemory result }
-    {
-        Ok(GroupedCondition {
-            opens_group: self.opens_group,
-            text: self.text.to_text(alloc)?,
-        })
-    }
-}
-
 /// Whether a group begins with one of these.
 pub(crate) fn any_opens_group(conditions: &[GroupedCondition]) -> bool
     ensures { result ≡ list_any (λ condition. condition.opens_group) conditions.now }
@@ -79,14 +64,16 @@ pub(crate) fn any_opens_group(conditions: &[GroupedCondition]) -> bool
 pub(crate) fn copy_conditions(
     alloc: Global,
     conditions: &[GroupedCondition],
-) -> Result<Vec<GroupedCondition>, SqlBuilderError>
-    ensures copied { IfOk result (λ copied. map condition_in_group copied.items
+) -> Result<Vec<GroupedCondition>, AllocError>
+    ensures { IfOk result (λ copied. map condition_in_group copied.items
         ≡ map condition_in_group conditions.now) }
-    ensures memory { FailsOnlyByMemory result }
 {
     let mut copied = Vec::with_capacity(alloc, conditions.len())?;
     for condition in conditions {
-        copied.push_reserved(condition.copy(alloc)?);
+        copied.push_reserved(GroupedCondition {
+            opens_group: condition.opens_group,
+            text: String::from_str(alloc, condition.text.as_str())?,
+        });
     }
     Ok(copied)
 }

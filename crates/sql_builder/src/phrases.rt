@@ -1,5 +1,6 @@
 //! Lists of texts with commas between them.
-ghost use Rattle.std.specs.Prelude.{◌≡◌, ◌++◌, OnOk, codes, flat_map, map, string_bytes};
+ghost use Rattle.std.specs.Prelude.{◌≡◌, ◌++◌, ◌==◌, IfOk, OnErr, OnOk, codes, flat_map, length, map, not, string_bytes};
+ghost use Rattle.std.specs.Io.{StartsWith};
 ghost use Rattle.sql_parts.specs.Error.{FailsOnlyByMemory};
 ghost use Rattle.sql_parts.specs.Quoting.{quoted};
 ghost use Rattle.sql_builder.specs.Layout.{byte_units};
@@ -10,6 +11,7 @@ use sql_parts::{SqlBuilderError, push_quoted};
 use std::alloc::Global;
 
 // Each text, with `, ` in front of it.
+#[tactic(auto, using(sql_parts::proofs::bytes::DoublingLemmas::starts_with_more))]
 fn push_further<'a, T: Texts<'a>>(
     alloc: Global,
     out: &mut String,
@@ -17,6 +19,7 @@ fn push_further<'a, T: Texts<'a>>(
 ) -> Result<(), SqlBuilderError>
     ensures pushed { OnOk result (string_bytes out.new
         ≡ string_bytes out.old ++ flat_map (λ item. codes ", " ++ item) (T.left texts)) }
+    ensures kept { OnErr result (StartsWith (string_bytes out.new) (string_bytes out.old)) }
     ensures memory { FailsOnlyByMemory result }
 {
     while let Some(text) = texts.next_text(alloc)? {
@@ -26,21 +29,25 @@ fn push_further<'a, T: Texts<'a>>(
     Ok(())
 }
 
-/// Appends the texts, with `, ` between each and the next.
+/// Appends the texts, with `, ` between each and the next, and says whether there are any.
+#[tactic(auto, using(std::proofs::Transfers::starts_with_of_append, std::proofs::Transfers::starts_with_trans))]
 pub(crate) fn push_items<'a, T: Texts<'a>>(
     alloc: Global,
     out: &mut String,
     mut texts: T,
-) -> Result<(), SqlBuilderError>
+) -> Result<bool, SqlBuilderError>
     ensures pushed { OnOk result (string_bytes out.new
         ≡ string_bytes out.old ++ comma_list byte_units (T.left texts)) }
+    ensures any { IfOk result (λ any. not any ≡ (length (T.left texts) == 0)) }
+    ensures kept { OnErr result (StartsWith (string_bytes out.new) (string_bytes out.old)) }
     ensures memory { FailsOnlyByMemory result }
 {
-    if let Some(first) = texts.next_text(alloc)? {
-        out.push_str(first.as_str())?;
-        push_further(alloc, out, texts)?;
-    }
-    Ok(())
+    let Some(first) = texts.next_text(alloc)? else {
+        return Ok(false);
+    };
+    out.push_str(first.as_str())?;
+    push_further(alloc, out, texts)?;
+    Ok(true)
 }
 
 // Each text, quoted, with `, ` in front of it.
@@ -78,6 +85,7 @@ pub(crate) fn push_quoted_items<'a, T: Texts<'a>>(
 }
 
 /// Appends the values in brackets, with commas between them.
+#[tactic(auto, using(std::proofs::Transfers::starts_with_of_append, std::proofs::Transfers::starts_with_trans))]
 pub(crate) fn push_row<'a, T: Texts<'a>>(
     alloc: Global,
     out: &mut String,
@@ -85,6 +93,7 @@ pub(crate) fn push_row<'a, T: Texts<'a>>(
 ) -> Result<(), SqlBuilderError>
     ensures pushed { OnOk result (string_bytes out.new
         ≡ string_bytes out.old ++ row byte_units (T.left values)) }
+    ensures kept { OnErr result (StartsWith (string_bytes out.new) (string_bytes out.old)) }
     ensures memory { FailsOnlyByMemory result }
 {
     out.push_str("(")?;

@@ -396,8 +396,7 @@ pub fn make_variadic<'a, T: Texts<'a>>(
             swap(&mut builder.fields, spare);
         }
         VariadicClause::Values => {
-            spare.refill_with_row(builder.alloc, texts)?;
-            builder.rows.append(spare)?;
+            builder.rows.push_row(builder.alloc, texts)?;
             builder.query.clear();
         }
     }

