@@ -218,7 +218,7 @@ def colons(name, text):
 
 CALLS = [
     Calls("a SELECT with a join and three conditions", "select", 100_000, 0.3),
-    Calls("a SELECT of a subquery, with two others in it", "nested", 100_000, 0.3),
+    Calls("a SELECT of a subquery, with two others in it", "nested", 100_000, 0.4),
     Calls("an UPDATE", "update", 100_000, 0.3),
     Calls("an UPDATE by a restarted builder, to a kept text", "restart", 100_000, 0.3),
     Calls("an INSERT of 100 rows", "insert", 5_000, 0.1, repeated("x" * 100)),
@@ -277,13 +277,15 @@ CONDITION = "(price > 100 AND title LIKE 'it''s%') OR CASE WHEN a THEN b ELSE c 
 TESTS = {"is_closed": 20, "has_semicolon": 20, "is_balanced": 30, "has_clause_word": 30, "is_operand": 30, "misfit": 30, "has_dangling": 30}
 
 KINDS = {"symbols": "+=<>,|&^", "brackets": "(((())))", "quotes": "'it''s'\"a\""}
+# How many times a test's aim is that on these kinds of text, whose tokens are short.
+ON_KINDS = {"symbols": 1.5, "brackets": 1.8, "quotes": 1.8}
 
 OWN = [
     *(Tests(f"`{test}`", test, 5_000, aim, repeated(f"({CONDITION * 40}a = b)")) for test, aim in TESTS.items()),
     Tests("`stands_apart`", "stands_apart", 5_000, 30, repeated(filled(TEMPLATES["binds"] + PLAIN, "a = b"))),
     *(
-        Tests(f"`{test}` on {kind}", test, 5_000, aim, repeated(text * 500))
-        for test, aim in (("is_closed", 41), ("is_operand", 65))
+        Tests(f"`{test}` on {kind}", test, 5_000, ON_KINDS[kind] * aim, repeated(text * 500))
+        for test, aim in TESTS.items()
         for kind, text in KINDS.items()
     ),
     Tests("`has_backslash`", "has_backslash", 5_000, 1, repeated("x" * 4096)),

@@ -1,5 +1,5 @@
 //! Lists of texts with commas between them.
-ghost use Rattle.std.specs.Prelude.{◌≡◌, ◌++◌, ◌==◌, IfOk, OnErr, OnOk, codes, flat_map, length, map, not, string_bytes};
+ghost use Rattle.std.specs.Prelude.{◌≡◌, ◌++◌, OnErr, OnOk, codes, flat_map, map, string_bytes};
 ghost use Rattle.std.specs.Io.{StartsWith};
 ghost use Rattle.sql_parts.specs.Error.{FailsOnlyByMemory};
 ghost use Rattle.sql_parts.specs.Quoting.{quoted};
@@ -29,25 +29,23 @@ fn push_further<'a, T: Texts<'a>>(
     Ok(())
 }
 
-/// Appends the texts, with `, ` between each and the next, and says whether there are any.
+/// Appends the texts, with `, ` between each and the next.
 #[tactic(auto, using(std::proofs::Transfers::starts_with_of_append, std::proofs::Transfers::starts_with_trans))]
 pub(crate) fn push_items<'a, T: Texts<'a>>(
     alloc: Global,
     out: &mut String,
     mut texts: T,
-) -> Result<bool, SqlBuilderError>
+) -> Result<(), SqlBuilderError>
     ensures pushed { OnOk result (string_bytes out.new
         ≡ string_bytes out.old ++ comma_list byte_units (T.left texts)) }
-    ensures any { IfOk result (λ any. not any ≡ (length (T.left texts) == 0)) }
     ensures kept { OnErr result (StartsWith (string_bytes out.new) (string_bytes out.old)) }
     ensures memory { FailsOnlyByMemory result }
 {
-    let Some(first) = texts.next_text(alloc)? else {
-        return Ok(false);
-    };
-    out.push_str(first.as_str())?;
-    push_further(alloc, out, texts)?;
-    Ok(true)
+    if let Some(first) = texts.next_text(alloc)? {
+        out.push_str(first.as_str())?;
+        push_further(alloc, out, texts)?;
+    }
+    Ok(())
 }
 
 // Each text, quoted, with `, ` in front of it.

@@ -19,7 +19,7 @@ use sql_parts::{SqlBuilderError, ToText, escaped, split_at_quote};
 use std::alloc::Global;
 use std::mem::swap;
 
-/// A call without a text.
+/// A call without a text. For the crates here alone.
 #[derive(Clone, Copy)]
 pub enum NullaryClause {
     /// `natural`.
@@ -42,7 +42,7 @@ pub enum NullaryClause {
     ReturningId,
 }
 
-/// A call with one text.
+/// A call with one text. For the crates here alone.
 #[derive(Clone, Copy)]
 pub enum UnaryClause {
     /// `and_table` of a table.
@@ -79,7 +79,7 @@ pub enum UnaryClause {
     Offset,
 }
 
-/// A call with two texts.
+/// A call with two texts. For the crates here alone.
 #[derive(Clone, Copy)]
 pub enum BinaryClause {
     /// `on_eq` of two texts.
@@ -92,7 +92,7 @@ pub enum BinaryClause {
     SetStr,
 }
 
-/// A call with a list of texts.
+/// A call with a list of texts. For the crates here alone.
 #[derive(Clone, Copy)]
 pub enum VariadicClause {
     /// `fields`.

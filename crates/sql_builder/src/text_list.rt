@@ -8,7 +8,7 @@ ghost use Rattle.sql_builder.specs.Phrases.{row};
 
 use crate::concat::{Part, copied, push_all, push_text, total_len};
 use crate::ghost_list::{Bytes, GhostList};
-use crate::phrases::{push_items, push_row};
+use crate::phrases::push_row;
 use sql_parts::SqlBuilderError;
 use sql_parts::text::Texts;
 use std::alloc::{AllocError, Global};
@@ -92,6 +92,13 @@ impl TextList {
         Ok(())
     }
 
+    fn push_text(&mut self, text: &str) -> Result<(), AllocError>
+        ensures pushed { OnOk result (self.new ≡ self.old ++ text.now ∷ []) }
+        ensures unchanged { OnErr result (self.new ≡ self.old) }
+    {
+        self.push(&[Part(text)])
+    }
+
     /// Puts a text that is made of parts in the place of all others. Where memory runs out, the
     /// list is as it was.
     pub(crate) fn replace(&mut self, parts: &[Part<'_>]) -> Result<(), AllocError>
@@ -134,30 +141,21 @@ impl TextList {
         Ok(())
     }
 
-    /// Puts texts that are taken one after another in the place of all. Where memory runs out, no text
-    /// is there.
+    /// Puts texts that are taken one after another in the place of all. Where memory runs out, some
+    /// of them are there.
     pub(crate) fn refill<'a, T: Texts<'a>>(
         &mut self,
         alloc: Global,
-        texts: T,
+        mut texts: T,
     ) -> Result<(), SqlBuilderError>
         ensures refilled { OnOk result (self.new ≡ T.left texts) }
         ensures memory { FailsOnlyByMemory result }
     {
         self.clear();
-        let items = GhostList::of(&texts);
-        self.text.reserve(FIRST_ROOM)?;
-        match push_items(alloc, &mut self.text, texts) {
-            Ok(has_items) => {
-                self.has_items = has_items;
-                self.items = items;
-                Ok(())
-            }
-            Err(error) => {
-                self.text.clear();
-                Err(error)
-            }
+        while let Some(text) = texts.next_text(alloc)? {
+            self.push_text(text.as_str())?;
         }
+        Ok(())
     }
 
     /// Appends one text: a row of the values, which are taken one after another. Where memory runs out,

@@ -180,7 +180,7 @@ fn condition_call(family: Family, prefix: &str, name: &str) -> Option<Meaning>
     Some(Meaning::Where(family, Ending::of(ending)?))
 }
 
-// The names that take no argument.
+// The names are in four tables, since a long `match` over texts proves slowly. Those that take no argument.
 #[tactic(auto, unfolding(crate::specs::Names::nullaries))]
 fn nullary_call(name: &str) -> Option<Meaning>
     ensures { result ≡ found_in nullaries name.now }
