@@ -117,6 +117,13 @@ class Typed(Calls):
 
 
 @dataclass
+class Copied(Calls):
+    """Copies of so few texts that the C library has room for them at hand, which it hasn't for ten times as many."""
+
+    growth: ClassVar = 14
+
+
+@dataclass
 class Own(Calls):
     """Steps that the crate doesn't have: what is aimed at is the greatest number of instructions for a byte."""
 
@@ -262,7 +269,9 @@ CALLS = [
     *(Calls(f"IN of 1,000 {of}", f"in_{of}", 500, 1.0, repeated("x" * 1_000)) for of in ("u8", "u32", "i64", "i128")),
     Calls("`clone` of a SELECT of 6,000 items", "clone", 500, 0.9, repeated("x" * 1_000)),
     *(
-        Calls(f"`clone` of a SELECT of {count:,} conditions", "clone_conditions", turns, 1.0, repeated("x" * count))
+        (Calls if count > 100 else Copied)(
+            f"`clone` of a SELECT of {count:,} conditions", "clone_conditions", turns, 1.0, repeated("x" * count)
+        )
         for count, turns in ((1, 100_000), (10, 50_000), (10_000, 100))
     ),
 ]

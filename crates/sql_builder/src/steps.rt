@@ -1,6 +1,6 @@
 //! The steps of the calls: one for each way to be given texts. A constant says which clause is
 //! meant, and one that adds a condition. Those that borrow their texts are public in `calls`.
-ghost use Rattle.std.specs.Prelude.{◌≡◌, [], ◌∷◌, ◌++◌, map, codes, string_bytes, IfErr, IfOk, OnOk, OnErr};
+ghost use Rattle.std.specs.Prelude.{◌≡◌, [], ◌∷◌, ◌++◌, map, codes, drop, string_bytes, IfErr, IfOk, OnOk, OnErr};
 ghost use Rattle.sql_parts.specs.Error.{FailsOnlyByMemory};
 ghost use Rattle.sql_parts.specs.Quoting.{escaped};
 ghost use Rattle.sql_builder.specs.Builder.{with_condition, with_condition_bytes, with_order, with_returning, IsBinaryError, IsNullaryError, IsUnaryError, with_binary, with_nullary, with_unary, with_variadic};
@@ -128,25 +128,21 @@ impl SqlBuilder {
         Ok(())
     }
 
-    // A constraint of the last join, in three parts. Without a join it does nothing, and can't fail.
+    // A constraint of the last join, in parts of which the first is ` ON `. Without a join it does nothing,
+    // and can't fail.
     #[inline(never)]
     #[tactic(auto, using(crate::proofs::output::LoopFacts::printed_extended))]
-    fn push_constraint<'a>(
-        &mut self,
-        left: &'a str,
-        sign: &'a str,
-        right: &'a str,
-    ) -> Result<(), SqlBuilderError>
-        ensures done { Applies result self.old self.new
-            (with_on (left.now ++ (sign.now ++ right.now))) }
+    fn push_constraint(&mut self, parts: &[Part<'_>]) -> Result<(), SqlBuilderError>
+        requires on { concat_bytes parts.now ≡ codes " ON " ++ drop 4 (concat_bytes parts.now) }
+        ensures done { Applies result self.old self.new (with_on (drop 4 (concat_bytes parts.now))) }
         ensures memory { IfErr result (IsConstraintError self.old) }
     {
         if self.joins.is_empty() {
             return Ok(());
         }
-        let parts = [Part(" ON "), Part(left), Part(sign), Part(right)];
-        let joins = GhostList::of(&(&self.joins, parts));
-        Ok(self.joins.print(&parts, joins)?)
+        let added: GhostList<u8> = GhostList::of(&parts);
+        let joins = GhostList::of(&(&self.joins, &added));
+        Ok(self.joins.print(parts, joins)?)
     }
 
     fn push_field(&mut self, parts: &[Part<'_>]) -> Result<(), SqlBuilderError>
@@ -321,7 +317,7 @@ pub fn make_unary(
     match clause {
         UnaryClause::AndTable => builder.push_table(text),
         UnaryClause::Join => builder.push_join(text),
-        UnaryClause::On => builder.push_constraint(text, "", ""),
+        UnaryClause::On => builder.push_constraint(&[Part(" ON "), Part(text)]),
         UnaryClause::Field => builder.push_field(&[Part(text)]),
         UnaryClause::SetField => builder.set_only_field(text),
         UnaryClause::Count => builder.push_field(&[Part("COUNT("), Part(text), Part(")")]),
@@ -357,7 +353,9 @@ pub fn make_binary<'a>(
     ensures memory { IfErr result (IsBinaryError clause builder.old) }
 {
     match clause {
-        BinaryClause::OnEq => builder.push_constraint(first, " = ", second),
+        BinaryClause::OnEq => {
+            builder.push_constraint(&[Part(" ON "), Part(first), Part(" = "), Part(second)])
+        }
         BinaryClause::CountAs => builder.push_field(&[
             Part("COUNT("),
             Part(first),
