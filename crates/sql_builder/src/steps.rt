@@ -130,7 +130,7 @@ impl SqlBuilder {
 
     // A constraint of the last join, in parts of which the first is ` ON `. Without a join it does nothing,
     // and can't fail.
-    #[inline(never)]
+    #[inline(always)]
     #[tactic(auto, using(crate::proofs::output::LoopFacts::printed_extended))]
     fn push_constraint(&mut self, parts: &[Part<'_>]) -> Result<(), SqlBuilderError>
         requires on { concat_bytes parts.now ≡ codes " ON " ++ drop 4 (concat_bytes parts.now) }
@@ -143,6 +143,23 @@ impl SqlBuilder {
         let added: GhostList<u8> = GhostList::of(&parts);
         let joins = GhostList::of(&(&self.joins, &added));
         Ok(self.joins.print(parts, joins)?)
+    }
+
+    #[inline(never)]
+    fn push_on(&mut self, condition: &str) -> Result<(), SqlBuilderError>
+        ensures done { Applies result self.old self.new (with_on condition.now) }
+        ensures memory { IfErr result (IsConstraintError self.old) }
+    {
+        self.push_constraint(&[Part(" ON "), Part(condition)])
+    }
+
+    #[inline(never)]
+    fn push_on_eq<'a>(&mut self, left: &'a str, right: &'a str) -> Result<(), SqlBuilderError>
+        ensures done { Applies result self.old self.new
+            (with_on (left.now ++ (codes " = " ++ right.now))) }
+        ensures memory { IfErr result (IsConstraintError self.old) }
+    {
+        self.push_constraint(&[Part(" ON "), Part(left), Part(" = "), Part(right)])
     }
 
     fn push_field(&mut self, parts: &[Part<'_>]) -> Result<(), SqlBuilderError>
@@ -317,7 +334,7 @@ pub fn make_unary(
     match clause {
         UnaryClause::AndTable => builder.push_table(text),
         UnaryClause::Join => builder.push_join(text),
-        UnaryClause::On => builder.push_constraint(&[Part(" ON "), Part(text)]),
+        UnaryClause::On => builder.push_on(text),
         UnaryClause::Field => builder.push_field(&[Part(text)]),
         UnaryClause::SetField => builder.set_only_field(text),
         UnaryClause::Count => builder.push_field(&[Part("COUNT("), Part(text), Part(")")]),
@@ -353,9 +370,7 @@ pub fn make_binary<'a>(
     ensures memory { IfErr result (IsBinaryError clause builder.old) }
 {
     match clause {
-        BinaryClause::OnEq => {
-            builder.push_constraint(&[Part(" ON "), Part(first), Part(" = "), Part(second)])
-        }
+        BinaryClause::OnEq => builder.push_on_eq(first, second),
         BinaryClause::CountAs => builder.push_field(&[
             Part("COUNT("),
             Part(first),
