@@ -46,7 +46,7 @@ pub enum Start {
     DeleteFrom(String),
 }
 
-/// How a statement on a table begins, for `restart_on`. For the crates here alone.
+/// How a statement on a table begins. For `restart_on`, and for the crates here alone.
 #[derive(Clone, Copy)]
 pub enum TableStart {
     /// `select_from`.
