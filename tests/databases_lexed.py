@@ -1,5 +1,5 @@
 #!/usr/bin/python3
-"""Runs the readers of crates/builder_tests beside the lexers of SQLite and PostgreSQL, and compares what each is in behind a text.
+"""Runs the readers of crates/callers beside the lexers of SQLite and PostgreSQL, and compares what each is in behind a text.
 
 Behind a text a lexer is outside of everything (in a word or number, or behind a sign), or in a string of a kind, a name between quotes, a
 comment or the like. SQLite says so by the token that it doesn't recognize, where a control character follows the text in a statement that
@@ -98,18 +98,23 @@ def read_by_postgres(text):
 
 def built_states(folder):
     """Proves and builds tests/databases_lexed.rt.txt, over copies of sql_parts and of the readers."""
-    ours = f"{folder}/crates/builder_tests"
-    for part in ("sql_parts", "builder_tests/specs", "builder_tests/proofs"):
-        shutil.copytree(f"{ROOT}/crates/{part}", f"{folder}/crates/{part}", ignore=shutil.ignore_patterns("out"))
+    ours, theirs = f"{folder}/crates/callers", f"{ROOT}/crates/callers"
+    shutil.copytree(f"{ROOT}/crates/sql_parts", f"{folder}/crates/sql_parts", ignore=shutil.ignore_patterns("out"))
+    os.makedirs(f"{ours}/specs")
     os.makedirs(f"{ours}/src")
     for reader in READERS:
-        shutil.copyfile(f"{ROOT}/crates/builder_tests/src/{reader}.rt", f"{ours}/src/{reader}.rt")
+        spec = reader.title().replace("_", "")
+        shutil.copytree(f"{theirs}/proofs/{reader}", f"{ours}/proofs/{reader}")
+        shutil.copyfile(f"{theirs}/specs/{spec}.antt", f"{ours}/specs/{spec}.antt")
+        shutil.copyfile(f"{theirs}/src/{reader}.rt", f"{ours}/src/{reader}.rt")
+        with open(f"{ours}/specs/Lib.antt", "a", encoding="utf-8") as it:
+            it.write(f"pub mod {spec}\n")
     with open(f"{ours}/src/lib.rt", "w", encoding="utf-8") as it:
         it.write("".join(["//! Readers.\n#![tactic(auto)]\n\n", *(f"pub mod {reader};\n" for reader in READERS)]))
     os.makedirs(f"{folder}/crates/states/src")
     shutil.copyfile(f"{ROOT}/tests/databases_lexed.rt.txt", f"{folder}/crates/states/src/main.rt")
     with open(f"{folder}/crates.txt", "w", encoding="utf-8") as it:
-        it.write("sql_parts:\nbuilder_tests: sql_parts\nstates: builder_tests sql_parts\n")
+        it.write("sql_parts:\ncallers: sql_parts\nstates: callers sql_parts\n")
     ran(["git", "init", "-q"], cwd=folder)
     ran(["rt", "run"], cwd=f"{folder}/crates/states")
     return f"{folder}/crates/states/out/states"

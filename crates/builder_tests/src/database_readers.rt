@@ -1,7 +1,7 @@
 //! What two databases are in behind a text, by the numbers of `specs/`.
 
-use crate::postgres_reader::postgres_state;
-use crate::sqlite_reader::sqlite_state;
+use callers::postgres_reader::postgres_state;
+use callers::sqlite_reader::sqlite_state;
 use std::test::Fail;
 
 #[test]

@@ -1,6 +1,5 @@
 //! Tests of `sql_builder` that aren't rows. Rows of statements are lines, in `tests/rows` and `tests/conditions.md`, and rows of
-//! calls are in `tests/calls.md` and `tests/every_call.md`. And how two databases read a text, as readers, of which the laws of
-//! readers speak: `tests/databases_lexed.py` runs these beside the databases' own lexers.
+//! calls are in `tests/calls.md` and `tests/every_call.md`.
 #![tactic(auto)]
 
 #[cfg(test)]
@@ -27,12 +26,10 @@ mod hostile;
 mod lists_of_calls;
 #[cfg(test)]
 mod names;
-pub mod postgres_reader;
 #[cfg(test)]
 mod quoting;
 #[cfg(test)]
 mod reused_buffers;
-pub mod sqlite_reader;
 #[cfg(test)]
 mod stated_laws;
 #[cfg(test)]

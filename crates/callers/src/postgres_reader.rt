@@ -2,7 +2,7 @@
 ghost use Rattle.std.specs.Prelude.{◌≡◌, ◌<◌, ◌||◌, ◌==◌, ◌^◌};
 ghost use Rattle.sql_parts.specs.Readers.{after};
 ghost use Rattle.sql_parts.specs.Tokens.{is_word_byte};
-ghost use Rattle.builder_tests.specs.PostgresReader.{begun, behind_string, ends_line, in_comment, in_nested, in_string, in_tag, in_tagged, in_token, in_word, is_blank, most, nested, outside, postgres, string};
+ghost use Rattle.callers.specs.PostgresReader.{begun, behind_string, ends_line, in_comment, in_nested, in_string, in_tag, in_tagged, in_token, in_word, is_blank, most, nested, outside, postgres, string};
 
 const OUTSIDE: u64 = 0;
 

@@ -6,8 +6,8 @@ use Rattle.std.proofs.Common.{ne_eqb, subst, sym}
 use Rattle.std.proofs.lemmas.Bool.{eqb-false}
 use Rattle.sql_parts.specs.Readers.{IsInside, OpensLiteral, after}
 use Rattle.sql_parts.specs.declared.delimiters.Quotes.TheVariants.{Back, Double, Single, Square}
-use Rattle.builder_tests.specs.PostgresReader.{postgres}
-use Rattle.builder_tests.specs.SqliteReader.{sqlite}
+use Rattle.callers.specs.PostgresReader.{postgres}
+use Rattle.callers.specs.SqliteReader.{sqlite}
 
 -- each byte but zero, which ends a text, is plain
 abbrev but_zero : ℕ → Bool

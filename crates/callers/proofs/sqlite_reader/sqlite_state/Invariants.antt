@@ -1,7 +1,7 @@
 use Rattle.std.proofs.Common.{◌≡◌, length}
 use Rattle.sql_parts.specs.Readers.{after}
-use Rattle.builder_tests.specs.SqliteReader.{outside, sqlite}
-use Rattle.builder_tests.proofs.sqlite_reader.sqlite_state.Given as goal
+use Rattle.callers.specs.SqliteReader.{outside, sqlite}
+use Rattle.callers.proofs.sqlite_reader.sqlite_state.Given as goal
 
 abbrev pub invariant-loop-byte : goal.invariant-loop-byte
 invariant-loop-byte l = after sqlite l.state l.rest ≡ after sqlite outside l.text

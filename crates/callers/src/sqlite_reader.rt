@@ -1,7 +1,7 @@
 //! How SQLite reads a text.
 ghost use Rattle.std.specs.Prelude.{◌≡◌};
 ghost use Rattle.sql_parts.specs.Readers.{after};
-ghost use Rattle.builder_tests.specs.SqliteReader.{begun, continues, in_mark, in_parameter, in_quotes, in_variable, in_word, outside, outside_quotes, sqlite};
+ghost use Rattle.callers.specs.SqliteReader.{begun, continues, in_mark, in_parameter, in_quotes, in_variable, in_word, outside, outside_quotes, sqlite};
 
 const OUTSIDE: u64 = 0;
 

@@ -1,2 +1,0 @@
-pub mod PostgresReader
-pub mod SqliteReader
