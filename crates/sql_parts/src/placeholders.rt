@@ -10,9 +10,9 @@ ghost use Rattle.sql_parts.specs.Search.{front_of};
 ghost use Rattle.sql_parts.specs.Templates as templates;
 ghost use Rattle.sql_parts.specs.Templates.{Writes, counted, followed_by, named, numbered, prefix, place_behind, resolved_from};
 
+use crate::arg::SqlArg;
 use crate::error::SqlBuilderError;
 use crate::search::{Front, split_at_first};
-use crate::text::ToText;
 use std::alloc::Global;
 use std::borrow::CowStr;
 
@@ -80,8 +80,9 @@ fn number_prefix(alloc: Global, number: u16) -> Result<String, SqlBuilderError>
     ensures text { IfOk result (λ s. string_bytes s ≡ prefix (templates.Num number)) }
     ensures memory { FailsOnlyByMemory result }
 {
-    let mut text = number.to_text(alloc)?;
-    text.insert(0, '$')?;
+    let mut text = String::with_capacity(alloc, 6)?;
+    text.push('$')?;
+    number.push_sql_arg(alloc, &mut text)?;
     Ok(text)
 }
 
