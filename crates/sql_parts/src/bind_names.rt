@@ -68,10 +68,12 @@ pub trait BindNames {
         ensures memory { FailsOnlyByMemory result }
     {
         let _ = places;
-        match self.look_up(alloc, name)? {
-            None => Ok(out.push_str("NULL")?),
-            Some(text) => Ok(out.push_str(text.as_str())?),
-        }
+        let text = self.look_up(alloc, name)?;
+        let text = match &text {
+            None => "NULL",
+            Some(text) => text.as_str(),
+        };
+        Ok(out.push_str(text)?)
     }
 }
 
@@ -94,7 +96,7 @@ fn found_text(
 }
 
 // Appends the literal in a box, or NULL.
-fn push_found(
+pub(crate) fn push_found(
     alloc: Global,
     found: Option<&Box<dyn SqlArg>>,
     out: &mut String,

@@ -7,7 +7,7 @@ ghost use Rattle.sql_parts.specs.Templates as templates;
 ghost use Rattle.sql_parts.specs.Templates.{alone, listed, looked_up, resolve, resolved_from, written, HasBoundTokens, IsClosedIfApart, IsSupplied};
 
 use crate::arg::SqlArg;
-use crate::bind_names::BindNames;
+use crate::bind_names::{BindNames, push_found};
 use crate::error::SqlBuilderError;
 use crate::placeholders::{Marks, Place, Value, first_place, prefix};
 use crate::search::Front;
@@ -99,13 +99,9 @@ impl Literals for &[Box<dyn SqlArg>] {
         value: &Value<'_>,
         out: &mut String,
     ) -> Result<(), SqlBuilderError> {
-        let found = match value {
-            Value::Argument(at) => self.get(*at),
-            Value::Named(_) => None,
-        };
-        match found {
-            None => Ok(out.push_str("NULL")?),
-            Some(arg) => arg.push_sql_arg(alloc, out),
+        match value {
+            Value::Argument(at) => push_found(alloc, self.get(*at), out),
+            Value::Named(_) => Ok(out.push_str("NULL")?),
         }
     }
 }
