@@ -151,6 +151,20 @@ pub fn raw(alloc: Global, fragment: Fragment<'_>) -> Result
     Ok(Condition { text })
 }
 
+fn masked<F: OperandText>(
+    alloc: Global,
+    negated: bool,
+    percent: Percent,
+    field: F,
+    mask: Value<&str>,
+) -> Result
+    ensures text { Prints result (condition_bytes (Like negated percent (F.text field) mask.entry.0.now)) }
+    ensures atom { IfOk result (λ c. IsAtom (tokens (string_bytes c.text))) }
+{
+    let field = field.as_text(alloc)?;
+    made(alloc, Plain::Like(negated, percent, field.as_str(), mask.0))
+}
+
 /// `field LIKE 'mask'`, with the percent signs that `percent` says. A `%` or `_` of the mask is a wildcard too,
 /// and a backslash escapes on PostgreSQL, MySQL and MariaDB.
 /// `like(alloc, Percent::Left, Operand::of("a"), Value("b"))?.text` → `a LIKE 'b%'`
@@ -158,8 +172,7 @@ pub fn like<F: OperandText>(alloc: Global, percent: Percent, field: F, mask: Val
     ensures text { Prints result (condition_bytes (Like false percent (F.text field) mask.entry.0.now)) }
     ensures atom { IfOk result (λ c. IsAtom (tokens (string_bytes c.text))) }
 {
-    let field = field.as_text(alloc)?;
-    made(alloc, Plain::Like(false, percent, field.as_str(), mask.0))
+    masked(alloc, false, percent, field, mask)
 }
 
 /// `field NOT LIKE 'mask'`, with the percent signs that `percent` says. A `%` or `_` of the mask is a wildcard too,
@@ -174,8 +187,7 @@ pub fn not_like<F: OperandText>(
     ensures text { Prints result (condition_bytes (Like true percent (F.text field) mask.entry.0.now)) }
     ensures atom { IfOk result (λ c. IsAtom (tokens (string_bytes c.text))) }
 {
-    let field = field.as_text(alloc)?;
-    made(alloc, Plain::Like(true, percent, field.as_str(), mask.0))
+    masked(alloc, true, percent, field, mask)
 }
 
 fn like_escaped<F: OperandText>(
@@ -292,15 +304,22 @@ pub fn not_in_values<F: OperandText, V: OperandText>(
     listed(alloc, true, field, values)
 }
 
+fn queried<F: OperandText>(alloc: Global, negated: bool, field: F, query: &Query) -> Result
+    ensures text { Prints result (condition_bytes (InQuery negated (F.text field) (string_bytes query.now.text))) }
+    ensures atom { IfOk result (λ c. IsAtom (tokens (string_bytes c.text))) }
+{
+    let field = field.as_text(alloc)?;
+    let condition = Plain::InQuery(negated, field.as_str(), query.text.as_str());
+    made(alloc, condition)
+}
+
 /// `field IN (query)`.
 /// `in_query(alloc, Operand::of("a"), &query)?.text` → `a IN (SELECT b FROM t)`
 pub fn in_query<F: OperandText>(alloc: Global, field: F, query: &Query) -> Result
     ensures text { Prints result (condition_bytes (InQuery false (F.text field) (string_bytes query.now.text))) }
     ensures atom { IfOk result (λ c. IsAtom (tokens (string_bytes c.text))) }
 {
-    let field = field.as_text(alloc)?;
-    let condition = Plain::InQuery(false, field.as_str(), query.text.as_str());
-    made(alloc, condition)
+    queried(alloc, false, field, query)
 }
 
 /// `field NOT IN (query)`.
@@ -309,8 +328,23 @@ pub fn not_in_query<F: OperandText>(alloc: Global, field: F, query: &Query) -> R
     ensures text { Prints result (condition_bytes (InQuery true (F.text field) (string_bytes query.now.text))) }
     ensures atom { IfOk result (λ c. IsAtom (tokens (string_bytes c.text))) }
 {
+    queried(alloc, true, field, query)
+}
+
+fn ranged<F: OperandText, L: OperandText, G: OperandText>(
+    alloc: Global,
+    negated: bool,
+    field: F,
+    least: L,
+    greatest: G,
+) -> Result
+    ensures text { Prints result (condition_bytes (Between negated (F.text field) (L.text least) (G.text greatest))) }
+    ensures atom { IfOk result (λ c. IsAtom (tokens (string_bytes c.text))) }
+{
     let field = field.as_text(alloc)?;
-    let condition = Plain::InQuery(true, field.as_str(), query.text.as_str());
+    let least = least.as_text(alloc)?;
+    let greatest = greatest.as_text(alloc)?;
+    let condition = Plain::Between(negated, field.as_str(), least.as_str(), greatest.as_str());
     made(alloc, condition)
 }
 
@@ -325,11 +359,7 @@ pub fn between<F: OperandText, L: OperandText, G: OperandText>(
     ensures text { Prints result (condition_bytes (Between false (F.text field) (L.text least) (G.text greatest))) }
     ensures atom { IfOk result (λ c. IsAtom (tokens (string_bytes c.text))) }
 {
-    let field = field.as_text(alloc)?;
-    let least = least.as_text(alloc)?;
-    let greatest = greatest.as_text(alloc)?;
-    let condition = Plain::Between(false, field.as_str(), least.as_str(), greatest.as_str());
-    made(alloc, condition)
+    ranged(alloc, false, field, least, greatest)
 }
 
 /// `field NOT BETWEEN least AND greatest`.
@@ -343,11 +373,7 @@ pub fn not_between<F: OperandText, L: OperandText, G: OperandText>(
     ensures text { Prints result (condition_bytes (Between true (F.text field) (L.text least) (G.text greatest))) }
     ensures atom { IfOk result (λ c. IsAtom (tokens (string_bytes c.text))) }
 {
-    let field = field.as_text(alloc)?;
-    let least = least.as_text(alloc)?;
-    let greatest = greatest.as_text(alloc)?;
-    let condition = Plain::Between(true, field.as_str(), least.as_str(), greatest.as_str());
-    made(alloc, condition)
+    ranged(alloc, true, field, least, greatest)
 }
 
 fn constant(alloc: Global, holds: bool) -> Result

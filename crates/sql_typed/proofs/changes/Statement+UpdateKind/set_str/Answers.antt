@@ -1,0 +1,9 @@
+use Rattle.std.proofs.Common.{◌∙◌, refl}
+use Rattle.std.proofs.lemmas.Bool.{and_from}
+use Rattle.sql_builder.proofs.truth.CombinedLemmas.{fits_as}
+use Rattle.sql_typed.proofs.changes.Statement+UpdateKind.set_str.Goals as goal
+
+pub add-requires : goal.add-requires
+add-requires g c = record {
+  fits = and_from _ _ (fits_as (c.as_str.ensures.value ∙ c.in_ok-field.ensures.text) (g.met.F.OperandText.serves_as_operand c.args.field)) refl;
+}
