@@ -115,7 +115,6 @@ impl SqlBuilder {
     // A function of its own, as the two that print constraints and unions, so that the others have less
     // to clear.
     #[inline(never)]
-    #[tactic(auto, using(crate::proofs::output::LoopFacts::printed_push))]
     fn push_join(&mut self, table: &str) -> Result<(), SqlBuilderError>
         ensures { Applies result self.old self.new (with_join table.now) }
     {
@@ -131,7 +130,6 @@ impl SqlBuilder {
     // A constraint of the last join, in parts of which the first is ` ON `. Without a join it does nothing,
     // and can't fail.
     #[inline(always)]
-    #[tactic(auto, using(crate::proofs::output::LoopFacts::printed_extended))]
     fn push_constraint(&mut self, parts: &[Part<'_>]) -> Result<(), SqlBuilderError>
         requires on { concat_bytes parts.now ≡ codes " ON " ++ drop 4 (concat_bytes parts.now) }
         ensures done { Applies result self.old self.new (with_on (drop 4 (concat_bytes parts.now))) }

@@ -3,10 +3,11 @@ use Rattle.std.specs.Io.{StartsWith}
 use Rattle.sql_builder.proofs.phrases.push_further.Given as goal
 
 abbrev pub invariant-loop-texts : goal.invariant-loop-texts
-invariant-loop-texts g l =
-    (string_bytes l.out ++ flat_map (λ item. codes ", " ++ item) (g.T.Texts.left l.texts) ≡ string_bytes l.initial.out
-    ++ flat_map (λ item. codes ", " ++ item) (g.T.Texts.left l.initial.texts))
-    × StartsWith (string_bytes l.out) (string_bytes l.initial.out)
+invariant-loop-texts g l = record {
+  same : string_bytes l.out ++ flat_map (λ item. codes ", " ++ item) (g.T.Texts.left l.texts)
+      ≡ string_bytes l.initial.out ++ flat_map (λ item. codes ", " ++ item) (g.T.Texts.left l.initial.texts);
+  kept : StartsWith (string_bytes l.out) (string_bytes l.initial.out);
+}
 
 abbrev pub decreases-loop-texts : goal.decreases-loop-texts
 decreases-loop-texts g l = length (g.T.Texts.left l.texts)

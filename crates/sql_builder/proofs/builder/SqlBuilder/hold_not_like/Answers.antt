@@ -1,4 +1,4 @@
-use Rattle.std.proofs.Common.{◌≡◌, rules, string_bytes, true, ap, ◌∙◌}
+use Rattle.std.proofs.Common.{◌≡◌, refl, string_bytes, true, ap, ◌∙◌}
 use Rattle.sql_builder.specs.Builder.{with_condition, with_condition_bytes}
 use Rattle.sql_builder.specs.Condition.{Like, condition_bytes}
 use Rattle.sql_builder.proofs.pieces.ClauseShapeLemmas.{adds_condition_opaque}
@@ -10,5 +10,7 @@ returns g c =
     let text : string_bytes c.in_ok-text.text ≡ condition_bytes condition =
     rw (c.as_str.ensures.value, c.in_ok-field.ensures.text, c.as_str-2.ensures.value, c.in_ok-mask.ensures.text) at c.in_ok-text.ensures.made in
     let added : c.push_condition.new.self ≡ with_condition c.args.family condition c.args.self.now =
-    c.in_ok-push_condition.ensures ∙ ap (λ bytes. with_condition_bytes c.args.family bytes c.args.self.now) text in
-    search (rules, adds_condition_opaque c.args.family condition c.args.self.now c.push_condition.new.self added)
+    c.in_ok-push_condition.ensures ∙ ap (λ bytes. with_condition_bytes c.args.family bytes c.args.self.now) text in (
+      (refl, (λ w. refl), tt),
+      record { unchanged = tt; changed = (refl, adds_condition_opaque c.args.family condition c.args.self.now c.push_condition.new.self added); memory = tt },
+    )

@@ -1,4 +1,4 @@
-use Rattle.std.proofs.Common.{◌++◌, codes}
+use Rattle.std.proofs.Common.{◌++◌, ℕ, arith, codes, length-append}
 use Rattle.sql_builder.specs.contracts.builder.SqlBuilder.{the_view}
 use Rattle.sql_builder.specs.Layout.{byte_units}
 use Rattle.sql_builder.specs.Phrases.{comma_list}
@@ -18,3 +18,16 @@ returns g c =
     (prints_both g.O.Out.printed g.O.Out.room (inserted_bytes r.query r.rows) (optional_bytes (codes " RETURNING ") r.returning) c.push_list.new.out c.push_clause-2.new.out
     c.push_optional.new.out
     (rw (c.inserted.ensures, ← c.self.view_is) at c.push_clause-2.ensures) c.push_optional.ensures))))
+
+pub push_clause-requires-2 : goal.push_clause-requires-2
+push_clause-requires-2 g c =
+    let whole = simp length-append at (rw (insert_is (the_view c.self.inside)) at (rw (← c.self.view_is) at c.requires.room)) in
+    let first = rw (c.as_str.ensures.value) at c.push_clause.ensures in
+    record { room = rw (c.inserted.ensures, ← c.self.view_is) (omega (arith, length-append {A = ℕ}, whole, first.1, c.push_list.ensures.1)) }
+
+pub push_optional-requires : goal.push_optional-requires
+push_optional-requires g c =
+    let whole = simp length-append at (rw (insert_is (the_view c.self.inside)) at (rw (← c.self.view_is) at c.requires.room)) in
+    let first = rw (c.as_str.ensures.value) at c.push_clause.ensures in
+    let third = rw (c.inserted.ensures, ← c.self.view_is) at c.push_clause-2.ensures in
+    record { room = omega (arith, length-append {A = ℕ}, whole, first.1, c.push_list.ensures.1, third.1) }
