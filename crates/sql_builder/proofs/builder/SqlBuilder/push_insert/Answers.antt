@@ -24,10 +24,3 @@ push_clause-requires-2 g c =
     let whole = simp length-append at (rw (insert_is (the_view c.self.inside)) at (rw (← c.self.view_is) at c.requires.room)) in
     let first = rw (c.as_str.ensures.value) at c.push_clause.ensures in
     record { room = rw (c.inserted.ensures, ← c.self.view_is) (omega (arith, length-append {A = ℕ}, whole, first.1, c.push_list.ensures.1)) }
-
-pub push_optional-requires : goal.push_optional-requires
-push_optional-requires g c =
-    let whole = simp length-append at (rw (insert_is (the_view c.self.inside)) at (rw (← c.self.view_is) at c.requires.room)) in
-    let first = rw (c.as_str.ensures.value) at c.push_clause.ensures in
-    let third = rw (c.inserted.ensures, ← c.self.view_is) at c.push_clause-2.ensures in
-    record { room = omega (arith, length-append {A = ℕ}, whole, first.1, c.push_list.ensures.1, third.1) }

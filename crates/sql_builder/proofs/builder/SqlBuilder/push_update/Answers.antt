@@ -1,11 +1,11 @@
 use Rattle.std.proofs.Common.{◌++◌, codes, subst, sym}
-use Rattle.sql_builder.specs.Concat.{Prints}
+use Rattle.sql_builder.specs.Concat.{Fits, Prints}
 use Rattle.sql_builder.specs.contracts.builder.SqlBuilder.{the_view}
 use Rattle.sql_builder.specs.Layout.{byte_units}
 use Rattle.sql_builder.specs.Phrases.{comma_list}
 use Rattle.sql_builder.specs.Printed.{optional_bytes, where_bytes}
 use Rattle.sql_builder.proofs.output.PrintingLemmas.{update_is}
-use Rattle.sql_builder.proofs.output.LoopFacts.{prints_both}
+use Rattle.sql_builder.proofs.output.LoopFacts.{prints_both, room_first}
 use Rattle.sql_builder.proofs.builder.SqlBuilder.push_update.Goals as goal
 
 pub returns : goal.returns
@@ -18,3 +18,9 @@ returns g c =
     c.push_list.ensures
     (prints_both g.O.Out.printed g.O.Out.room (where_bytes r.groups) (optional_bytes (codes " RETURNING ") r.returning) c.push_list.new.out c.push_where.new.out c.push_optional.new.out
     (rw (c.deref.ensures.value) at c.push_where.ensures) c.push_optional.ensures))))
+
+pub push_clause-requires : goal.push_clause-requires
+push_clause-requires g c =
+    let r = the_view c.self.inside in
+    let whole = subst (λ bytes. Fits (g.O.Out.room c.args.out.now) bytes) (update_is r) (rw (← c.self.view_is) at c.requires.room) in
+    record { room = rw c.as_str.ensures.value (room_first g.O.Out.printed g.O.Out.room (codes "UPDATE " ++ r.table) _ c.args.out.now whole) }
