@@ -1,4 +1,4 @@
-use Rattle.std.proofs.Common.{◌∙◌}
+use Rattle.std.proofs.Common.{◌∙◌, refl}
 use Rattle.std.specs.Io.Buffered.{writer_buffer}
 use Rattle.std.proofs.KnownBytes.{Appends-kept}
 use Rattle.sqlb.specs.Output.{output}
@@ -20,6 +20,10 @@ returns-in_default-clause-ran g c =
       loses_none c.flush-flushed.result _ _ lost (c.into_below-below.ensures.failed ∙ c.flush-flushed.ensures.failed) c.flush-flushed.ensures.emptied,
       tt,
     )
+
+pub returns-in_default-clause-write : goal.returns-in_default-clause-write
+returns-in_default-clause-write g c _ =
+    (λ _. c.into_below-below.ensures.failed ∙ c.flush-flushed.ensures.failed ∙ rw (← c.if-failed.ensures.failed, ← c.if-is_err.ensures.value) refl, λ _. refl)
 
 pub returns-in_default-2-clause-ran : goal.returns-in_default-2-clause-ran
 returns-in_default-2-clause-ran g c =
