@@ -46,6 +46,13 @@ fn says_why_a_text_does_not_fit(rt: HostRuntime) -> Result<(), Fail> {
     Ok(())
 }
 
+fn at_most(alloc: Global, value: &str) -> Result<Call, AllocError> {
+    let field = String::from_str(alloc, "b")?;
+    let value = String::from_str(alloc, value)?;
+    let condition = Condition::Compare(Relation::Le, field, value);
+    Ok(Call::Cond(Family::And, condition))
+}
+
 /// A SELECT from `t` of `a` where `b` is at most the value.
 fn run_list(
     alloc: Global,
@@ -55,12 +62,7 @@ fn run_list(
 ) -> Result<Result<String, CheckedError>, AllocError> {
     let start = Start::SelectFrom(String::from_str(alloc, table)?);
     let field = Call::Field(String::from_str(alloc, "a")?);
-    let condition = Condition::Compare(
-        Relation::Le,
-        String::from_str(alloc, "b")?,
-        String::from_str(alloc, value)?,
-    );
-    let calls = [field, Call::Cond(Family::And, condition)];
+    let calls = [field, at_most(alloc, value)?];
     Ok(run_checked(alloc, &start, &calls, finish))
 }
 
@@ -116,32 +118,51 @@ fn runs_a_list_that_fits(rt: HostRuntime) -> Result<(), Fail> {
     Ok(())
 }
 
+/// A call that tests a list of calls and runs it.
+type Run = fn(Global, &Start, &[Call], &Finish) -> Result<String, CheckedError>;
+
+fn insert_of(alloc: Global, query: &str) -> Result<[Call; 2], AllocError> {
+    let field = Call::Field(String::from_str(alloc, "a")?);
+    Ok([field, Call::Select(String::from_str(alloc, query)?)])
+}
+
+/// What comes of an INSERT into `t` of what the query gives.
+fn run_insert(
+    alloc: Global,
+    query: &str,
+    run: Run,
+) -> Result<Result<String, CheckedError>, AllocError>
+    requires { IsAlwaysCallable run }
+{
+    let start = Start::InsertInto(String::from_str(alloc, "t")?);
+    let calls = insert_of(alloc, query)?;
+    Ok(run(alloc, &start, &calls, &Finish::Sql))
+}
+
+/// Whether its texts pass `check`, and whether they pass `check_confined`.
+fn checked_insert(alloc: Global, query: &str) -> Result<(bool, bool), AllocError> {
+    let start = Start::InsertInto(String::from_str(alloc, "t")?);
+    let calls = insert_of(alloc, query)?;
+    let fits = check(&start, &calls, &Finish::Sql).is_ok();
+    Ok((fits, check_confined(&start, &calls, &Finish::Sql).is_ok()))
+}
+
 #[test]
 fn runs_an_insert_of_a_query(rt: HostRuntime) -> Result<(), Fail> {
     let alloc = rt.alloc();
-    let start = Start::InsertInto(String::from_str(alloc, "t")?);
-    let field = Call::Field(String::from_str(alloc, "a")?);
-    let calls = [
-        field,
-        Call::Select(String::from_str(alloc, "SELECT b FROM u")?),
-    ];
+    let query = "SELECT b FROM u";
+    assert_eq!(rt; checked_insert(alloc, query)?, (false, true));
+    let ran = run_insert(alloc, query, run_checked)?;
     let clause = "A top-level clause keyword";
-    let ran = run_checked(alloc, &start, &calls, &Finish::Sql);
     assert!(rt; is_unfit(&ran, Place::Call(1), 0, clause), "run_checked");
-    assert!(rt; check(&start, &calls, &Finish::Sql).is_err(), "check");
-    assert!(rt;
-        check_confined(&start, &calls, &Finish::Sql).is_ok(),
-        "check_confined"
-    );
-    let ran = run_confined(alloc, &start, &calls, &Finish::Sql);
+    let ran = run_insert(alloc, query, run_confined)?;
     assert!(rt;
         is_text(&ran, "INSERT INTO t (a) SELECT b FROM u;"),
         "run_confined"
     );
-    let calls = [Call::Select(String::from_str(alloc, "SELECT a; --")?)];
-    let ran = run_confined(alloc, &start, &calls, &Finish::Sql);
+    let ran = run_insert(alloc, "SELECT a; --", run_confined)?;
     assert!(rt;
-        is_unfit(&ran, Place::Call(0), 0, "A quote or a comment has no end"),
+        is_unfit(&ran, Place::Call(1), 0, "A quote or a comment has no end"),
         "a comment"
     );
     Ok(())

@@ -1,5 +1,6 @@
 //! Each example of the crate `callers` runs.
 
+use crate::every_call::is_made;
 use callers::chains::{cheapest_first, dearer, limit, repriced, titles, titles_printed};
 use callers::interference::remarked;
 use callers::lists::{books_where, of_books, titled_above};
@@ -14,13 +15,15 @@ use std::test::Fail;
 #[test]
 fn writes_values(rt: HostRuntime) -> Result<(), Fail> {
     let alloc = rt.alloc();
-    assert_eq!(rt; above(alloc, Cents(900))?.as_str(), "price > 900");
-    assert_eq!(rt; title(alloc)?.as_str(), "b.title");
-    assert_eq!(rt; between(alloc, 5, 9)?.as_str(), "price BETWEEN 5 AND 9");
-    assert_eq!(rt; of_title(alloc, "it's")?.as_str(), "title = 'it''s'");
-    assert_eq!(rt;
-        sold_in(alloc, "it's", "?")?.as_str(),
-        "title = 'it''s' AND shop = '?'"
+    assert!(rt; is_made(above(alloc, Cents(900)), "price > 900"));
+    assert!(rt; is_made(title(alloc), "b.title"));
+    assert!(rt; is_made(between(alloc, 5, 9), "price BETWEEN 5 AND 9"));
+    assert!(rt; is_made(of_title(alloc, "it's"), "title = 'it''s'"));
+    assert!(rt;
+        is_made(
+            sold_in(alloc, "it's", "?"),
+            "title = 'it''s' AND shop = '?'"
+        )
     );
     Ok(())
 }
@@ -41,25 +44,25 @@ fn cheap_titles(alloc: Global) -> Result<String, SqlBuilderError> {
 #[test]
 fn makes_chains(rt: HostRuntime) -> Result<(), Fail> {
     let alloc = rt.alloc();
-    assert_eq!(rt;
-        cheapest(alloc)?.as_str(),
-        "SELECT title FROM books ORDER BY price LIMIT 2;"
+    assert!(rt;
+        is_made(
+            cheapest(alloc),
+            "SELECT title FROM books ORDER BY price LIMIT 2;"
+        )
     );
-    assert_eq!(rt;
-        cheap_titles(alloc)?.as_str(),
-        "SELECT title FROM books ORDER BY price LIMIT 3;"
+    assert!(rt;
+        is_made(
+            cheap_titles(alloc),
+            "SELECT title FROM books ORDER BY price LIMIT 3;"
+        )
     );
-    assert_eq!(rt;
-        titles_printed(alloc, None)?.as_str(),
-        "SELECT title FROM books;"
-    );
-    assert_eq!(rt;
-        dearer(alloc, 9)?.as_str(),
-        "SELECT title FROM books WHERE price > 9;"
-    );
-    assert_eq!(rt;
-        repriced(alloc, "it's", 5, 9)?.as_str(),
-        "UPDATE books SET title = 'it''s', price = 5 WHERE price < 9;"
+    assert!(rt; is_made(titles_printed(alloc, None), "SELECT title FROM books;"));
+    assert!(rt; is_made(dearer(alloc, 9), "SELECT title FROM books WHERE price > 9;"));
+    assert!(rt;
+        is_made(
+            repriced(alloc, "it's", 5, 9),
+            "UPDATE books SET title = 'it''s', price = 5 WHERE price < 9;"
+        )
     );
     Ok(())
 }
@@ -67,17 +70,23 @@ fn makes_chains(rt: HostRuntime) -> Result<(), Fail> {
 #[test]
 fn seeks_untrusted_texts(rt: HostRuntime) -> Result<(), Fail> {
     let alloc = rt.alloc();
-    assert_eq!(rt;
-        titled_bound(alloc, "it's; --")?.as_str(),
-        "SELECT * FROM books WHERE title = 'it''s; --';"
+    assert!(rt;
+        is_made(
+            titled_bound(alloc, "it's; --"),
+            "SELECT * FROM books WHERE title = 'it''s; --';"
+        )
     );
-    assert_eq!(rt;
-        sought_printed(alloc, "it's", None)?.as_str(),
-        "SELECT * FROM books WHERE title = 'it''s';"
+    assert!(rt;
+        is_made(
+            sought_printed(alloc, "it's", None),
+            "SELECT * FROM books WHERE title = 'it''s';"
+        )
     );
-    assert_eq!(rt;
-        sought_printed(alloc, "it's", Some("') OR (1 = 1"))?.as_str(),
-        "SELECT * FROM books WHERE (title = 'it''s') AND (author = ''') OR (1 = 1');"
+    assert!(rt;
+        is_made(
+            sought_printed(alloc, "it's", Some("') OR (1 = 1")),
+            "SELECT * FROM books WHERE (title = 'it''s') AND (author = ''') OR (1 = 1');"
+        )
     );
     Ok(())
 }
@@ -91,19 +100,18 @@ fn searches_by_the_filters_that_are_given(rt: HostRuntime) -> Result<(), Fail> {
         least_price: None,
         in_stock: false,
     };
-    assert_eq!(rt;
-        search_printed(alloc, &all)?.as_str(),
-        "SELECT title FROM books;"
-    );
+    assert!(rt; is_made(search_printed(alloc, &all), "SELECT title FROM books;"));
     let narrow = Search {
         title: Some("it's"),
         author: Some("') OR (1 = 1; --"),
         least_price: Some(5),
         in_stock: true,
     };
-    assert_eq!(rt;
-        search_printed(alloc, &narrow)?.as_str(),
-        "SELECT title FROM books WHERE (title LIKE '%it''s%') AND (author = ''') OR (1 = 1; --') AND (price >= 5) AND (stock > 0);"
+    assert!(rt;
+        is_made(
+            search_printed(alloc, &narrow),
+            "SELECT title FROM books WHERE (title LIKE '%it''s%') AND (author = ''') OR (1 = 1; --') AND (price >= 5) AND (stock > 0);"
+        )
     );
     Ok(())
 }
@@ -111,13 +119,17 @@ fn searches_by_the_filters_that_are_given(rt: HostRuntime) -> Result<(), Fail> {
 #[test]
 fn says_the_same_of_other_texts(rt: HostRuntime) -> Result<(), Fail> {
     let alloc = rt.alloc();
-    assert_eq!(rt;
-        remarked(alloc, "sea", "out of print")?.as_str(),
-        "UPDATE books SET remark = 'out of print' WHERE title LIKE '%sea%';"
+    assert!(rt;
+        is_made(
+            remarked(alloc, "sea", "out of print"),
+            "UPDATE books SET remark = 'out of print' WHERE title LIKE '%sea%';"
+        )
     );
-    assert_eq!(rt;
-        remarked(alloc, "' OR 1 = 1; --", "', price = '0")?.as_str(),
-        "UPDATE books SET remark = ''', price = ''0' WHERE title LIKE '%'' OR 1 = 1; --%';"
+    assert!(rt;
+        is_made(
+            remarked(alloc, "' OR 1 = 1; --", "', price = '0"),
+            "UPDATE books SET remark = ''', price = ''0' WHERE title LIKE '%'' OR 1 = 1; --%';"
+        )
     );
     Ok(())
 }
@@ -125,9 +137,11 @@ fn says_the_same_of_other_texts(rt: HostRuntime) -> Result<(), Fail> {
 #[test]
 fn quotes_untrusted_texts(rt: HostRuntime) -> Result<(), Fail> {
     let alloc = rt.alloc();
-    assert_eq!(rt;
-        titled(alloc, "it's; --")?.as_str(),
-        "SELECT * FROM books WHERE title = 'it''s; --';"
+    assert!(rt;
+        is_made(
+            titled(alloc, "it's; --"),
+            "SELECT * FROM books WHERE title = 'it''s; --';"
+        )
     );
     let mut args: Vec<Box<dyn SqlArg>> = Vec::new(alloc);
     args.push(Box::new(alloc, 7)?)?;
@@ -143,7 +157,7 @@ fn quotes_untrusted_texts(rt: HostRuntime) -> Result<(), Fail> {
 #[test]
 fn takes_conditions_that_keep_the_statement(rt: HostRuntime) -> Result<(), Fail> {
     let alloc = rt.alloc();
-    assert_eq!(rt; of_books(alloc, &[])?.as_str(), "SELECT * FROM books;");
+    assert!(rt; is_made(of_books(alloc, &[]), "SELECT * FROM books;"));
     let made = books_where(alloc, "price < 9 OR new", "stock > 0")?;
     assert_eq!(rt;
         made.as_deref(),
@@ -159,9 +173,11 @@ fn takes_conditions_that_keep_the_statement(rt: HostRuntime) -> Result<(), Fail>
 #[test]
 fn takes_values_without_a_test(rt: HostRuntime) -> Result<(), Fail> {
     let alloc = rt.alloc();
-    assert_eq!(rt;
-        titled_above(alloc, "it's) OR (1 = 1", 9)?.as_str(),
-        "SELECT * FROM books WHERE (title = 'it''s) OR (1 = 1') AND (price > 9);"
+    assert!(rt;
+        is_made(
+            titled_above(alloc, "it's) OR (1 = 1", 9),
+            "SELECT * FROM books WHERE (title = 'it''s) OR (1 = 1') AND (price > 9);"
+        )
     );
     Ok(())
 }

@@ -1,6 +1,7 @@
 //! Statements by types: each call once, and an attack as a value that is set and in a condition.
 //! `tests/databases` puts each attack of SECURITY into each argument.
 
+use crate::every_call::is_made;
 use callers::form::{Form, search};
 use callers::searches::{Search, search_printed};
 use callers::typed::search_typed;
@@ -8,9 +9,9 @@ use callers::values::Column;
 use sql_builder::SqlBuilderError;
 use sql_builder::calls::Percent;
 use sql_builder::prelude::*;
-use sql_builder::text::{Fragment, Operand, Quotes};
+use sql_builder::text::{Fragment, Operand, OwnedOperand, Quotes};
 use sql_typed::condition::{
-    all, any, between, contains, ends_with, eq, eq_or_null, ge, gt, in_query, in_values,
+    Condition, all, any, between, contains, ends_with, eq, eq_or_null, ge, gt, in_query, in_values,
     is_not_null, is_null, le, like, lt, ne, not, not_between, not_contains, not_ends_with,
     not_in_query, not_in_values, not_like, not_starts_with, raw, starts_with,
 };
@@ -31,33 +32,29 @@ fn books(alloc: Global) -> Result<Query, SqlBuilderError> {
     Select::from(alloc, Fragment::of("t"))?.field(a())?.query()
 }
 
+/// Whether this condition was made.
+fn prints(made: Result<Condition, SqlBuilderError>, wanted: &str) -> bool {
+    match made {
+        Ok(condition) => condition.text.as_str() == wanted,
+        Err(_) => false,
+    }
+}
+
 #[test]
 fn compares(rt: HostRuntime) -> Result<(), Fail> {
     let alloc = rt.alloc();
-    assert_eq!(rt; eq(alloc, a(), Value("it's"))?.text.as_str(), "a = 'it''s'");
-    assert_eq!(rt; ne(alloc, a(), 1)?.text.as_str(), "a <> 1");
-    assert_eq!(rt; gt(alloc, a(), Literal::Null)?.text.as_str(), "a > NULL");
-    assert_eq!(rt; ge(alloc, a(), -1)?.text.as_str(), "a >= -1");
-    assert_eq!(rt; lt(alloc, a(), true)?.text.as_str(), "a < true");
-    assert_eq!(rt; le(alloc, a(), Operand::of("b"))?.text.as_str(), "a <= b");
-    assert_eq!(rt; is_null(alloc, a())?.text.as_str(), "a IS NULL");
-    assert_eq!(rt; is_not_null(alloc, a())?.text.as_str(), "a IS NOT NULL");
-    assert_eq!(rt;
-        eq_or_null(alloc, a(), Some(Value("b")))?.text.as_str(),
-        "a = 'b'"
-    );
-    assert_eq!(rt;
-        eq_or_null(alloc, a(), None::<i64>)?.text.as_str(),
-        "a IS NULL"
-    );
-    assert_eq!(rt;
-        between(alloc, a(), 1, 2)?.text.as_str(),
-        "a BETWEEN 1 AND 2"
-    );
-    assert_eq!(rt;
-        not_between(alloc, a(), 1, 2)?.text.as_str(),
-        "a NOT BETWEEN 1 AND 2"
-    );
+    assert!(rt; prints(eq(alloc, a(), Value("it's")), "a = 'it''s'"));
+    assert!(rt; prints(ne(alloc, a(), 1), "a <> 1"));
+    assert!(rt; prints(gt(alloc, a(), Literal::Null), "a > NULL"));
+    assert!(rt; prints(ge(alloc, a(), -1), "a >= -1"));
+    assert!(rt; prints(lt(alloc, a(), true), "a < true"));
+    assert!(rt; prints(le(alloc, a(), Operand::of("b")), "a <= b"));
+    assert!(rt; prints(is_null(alloc, a()), "a IS NULL"));
+    assert!(rt; prints(is_not_null(alloc, a()), "a IS NOT NULL"));
+    assert!(rt; prints(eq_or_null(alloc, a(), Some(Value("b"))), "a = 'b'"));
+    assert!(rt; prints(eq_or_null(alloc, a(), None::<i64>), "a IS NULL"));
+    assert!(rt; prints(between(alloc, a(), 1, 2), "a BETWEEN 1 AND 2"));
+    assert!(rt; prints(not_between(alloc, a(), 1, 2), "a NOT BETWEEN 1 AND 2"));
     Ok(())
 }
 
@@ -65,37 +62,33 @@ fn compares(rt: HostRuntime) -> Result<(), Fail> {
 fn matches_masks(rt: HostRuntime) -> Result<(), Fail> {
     let alloc = rt.alloc();
     let word = Value("50%'");
-    assert_eq!(rt;
-        like(alloc, Percent::Left, a(), word)?.text.as_str(),
-        "a LIKE '50%''%'"
+    assert!(rt; prints(like(alloc, Percent::Left, a(), word), "a LIKE '50%''%'"));
+    assert!(rt;
+        prints(
+            not_like(alloc, Percent::Plain, a(), word),
+            "a NOT LIKE '50%'''"
+        )
     );
-    assert_eq!(rt;
-        not_like(alloc, Percent::Plain, a(), word)?.text.as_str(),
-        "a NOT LIKE '50%'''"
+    assert!(rt; prints(contains(alloc, a(), word), "a LIKE '%50!%''%' ESCAPE '!'"));
+    assert!(rt; prints(starts_with(alloc, a(), word), "a LIKE '50!%''%' ESCAPE '!'"));
+    assert!(rt; prints(ends_with(alloc, a(), word), "a LIKE '%50!%''' ESCAPE '!'"));
+    assert!(rt;
+        prints(
+            not_contains(alloc, a(), word),
+            "a NOT LIKE '%50!%''%' ESCAPE '!'"
+        )
     );
-    assert_eq!(rt;
-        contains(alloc, a(), word)?.text.as_str(),
-        "a LIKE '%50!%''%' ESCAPE '!'"
+    assert!(rt;
+        prints(
+            not_starts_with(alloc, a(), word),
+            "a NOT LIKE '50!%''%' ESCAPE '!'"
+        )
     );
-    assert_eq!(rt;
-        starts_with(alloc, a(), word)?.text.as_str(),
-        "a LIKE '50!%''%' ESCAPE '!'"
-    );
-    assert_eq!(rt;
-        ends_with(alloc, a(), word)?.text.as_str(),
-        "a LIKE '%50!%''' ESCAPE '!'"
-    );
-    assert_eq!(rt;
-        not_contains(alloc, a(), word)?.text.as_str(),
-        "a NOT LIKE '%50!%''%' ESCAPE '!'"
-    );
-    assert_eq!(rt;
-        not_starts_with(alloc, a(), word)?.text.as_str(),
-        "a NOT LIKE '50!%''%' ESCAPE '!'"
-    );
-    assert_eq!(rt;
-        not_ends_with(alloc, a(), word)?.text.as_str(),
-        "a NOT LIKE '%50!%''' ESCAPE '!'"
+    assert!(rt;
+        prints(
+            not_ends_with(alloc, a(), word),
+            "a NOT LIKE '%50!%''' ESCAPE '!'"
+        )
     );
     Ok(())
 }
@@ -104,44 +97,31 @@ fn matches_masks(rt: HostRuntime) -> Result<(), Fail> {
 fn combines(rt: HostRuntime) -> Result<(), Fail> {
     let alloc = rt.alloc();
     let both = [eq(alloc, a(), 1)?, raw(alloc, Fragment::of("b OR c"))?];
-    assert_eq!(rt; all(alloc, &both)?.text.as_str(), "((a = 1) AND (b OR c))");
-    assert_eq!(rt; any(alloc, &both)?.text.as_str(), "((a = 1) OR (b OR c))");
-    assert_eq!(rt; all(alloc, &[])?.text.as_str(), "1 = 1");
-    assert_eq!(rt; any(alloc, &[])?.text.as_str(), "1 = 0");
-    assert_eq!(rt;
-        not(alloc, &is_null(alloc, a())?)?.text.as_str(),
-        "NOT (a IS NULL)"
-    );
-    assert_eq!(rt;
-        in_values(alloc, a(), &[1, 2])?.text.as_str(),
-        "a IN (1, 2)"
-    );
-    assert_eq!(rt;
-        not_in_values(alloc, a(), &[Value("b")])?.text.as_str(),
-        "a NOT IN ('b')"
-    );
+    assert!(rt; prints(all(alloc, &both), "((a = 1) AND (b OR c))"));
+    assert!(rt; prints(any(alloc, &both), "((a = 1) OR (b OR c))"));
+    assert!(rt; prints(all(alloc, &[]), "1 = 1"));
+    assert!(rt; prints(any(alloc, &[]), "1 = 0"));
+    assert!(rt; prints(not(alloc, &is_null(alloc, a())?), "NOT (a IS NULL)"));
+    assert!(rt; prints(in_values(alloc, a(), &[1, 2]), "a IN (1, 2)"));
+    assert!(rt; prints(not_in_values(alloc, a(), &[Value("b")]), "a NOT IN ('b')"));
     let none: [i64; 0] = [];
-    assert_eq!(rt; in_values(alloc, a(), &none)?.text.as_str(), "1 = 0");
-    assert_eq!(rt; not_in_values(alloc, a(), &none)?.text.as_str(), "1 = 1");
+    assert!(rt; prints(in_values(alloc, a(), &none), "1 = 0"));
+    assert!(rt; prints(not_in_values(alloc, a(), &none), "1 = 1"));
     let query = books(alloc)?;
-    assert_eq!(rt;
-        in_query(alloc, a(), &query)?.text.as_str(),
-        "a IN (SELECT a FROM t)"
-    );
-    assert_eq!(rt;
-        not_in_query(alloc, a(), &query)?.text.as_str(),
-        "a NOT IN (SELECT a FROM t)"
+    assert!(rt; prints(in_query(alloc, a(), &query), "a IN (SELECT a FROM t)"));
+    assert!(rt;
+        prints(
+            not_in_query(alloc, a(), &query),
+            "a NOT IN (SELECT a FROM t)"
+        )
     );
     Ok(())
 }
 
-#[test]
-fn selects(rt: HostRuntime) -> Result<(), Fail> {
-    let alloc = rt.alloc();
-    let name = SqlName::new(alloc, "b\"")?.operand(Quotes::Double)?;
-    let select = Select::from(alloc, Fragment::of("t"))?
+fn selected(alloc: Global, name: &OwnedOperand) -> Result<String, SqlBuilderError> {
+    Select::from(alloc, Fragment::of("t"))?
         .distinct()?
-        .field(&name)?
+        .field(name)?
         .count(Operand::of("*"))?
         .count_as(a(), Operand::of("n"))?
         .and_table(Operand::of("u"))?
@@ -152,37 +132,49 @@ fn selects(rt: HostRuntime) -> Result<(), Fail> {
         .on(&is_null(alloc, a())?)?
         .and_where(eq(alloc, a(), 1)?)?
         .or_where(eq(alloc, a(), 2)?)?
-        .group_by(&name)?
+        .group_by(name)?
         .having(&gt(alloc, a(), 3)?)?
         .order_asc(a())?
-        .order_desc(&name)?
+        .order_desc(name)?
         .limit(4)?
-        .offset(5)?;
+        .offset(5)?
+        .sql()
+}
+
+#[test]
+fn selects(rt: HostRuntime) -> Result<(), Fail> {
+    let name = SqlName::new(rt.alloc(), "b\"")?.operand(Quotes::Double)?;
     assert_eq!(rt;
-        select.sql()?.as_str(),
+        selected(rt.alloc(), &name)?.as_str(),
         "SELECT DISTINCT \"b\"\"\", COUNT(*), COUNT(a) AS n FROM t, u LEFT JOIN v ON a = v.a NATURAL CROSS JOIN w ON a IS NULL WHERE a = 1 OR a = 2 GROUP BY \"b\"\"\" HAVING a > 3 ORDER BY a, \"b\"\"\" DESC LIMIT 4 OFFSET 5;"
     );
-    let query = books(alloc)?;
-    let union = Select::from(alloc, Fragment::of("u"))?
+    Ok(())
+}
+
+#[test]
+fn unites_queries(rt: HostRuntime) -> Result<(), Fail> {
+    let query = books(rt.alloc())?;
+    let union = Select::from(rt.alloc(), Fragment::of("u"))?
         .union(&query)?
         .union_all(&query)?;
-    assert_eq!(rt;
-        union.sql()?.as_str(),
-        "SELECT * FROM u UNION SELECT a FROM t UNION ALL SELECT a FROM t;"
-    );
-    let mut out = String::from_str(alloc, "-- ")?;
+    let wanted = "SELECT * FROM u UNION SELECT a FROM t UNION ALL SELECT a FROM t;";
+    assert!(rt; is_made(union.sql(), wanted));
+    let mut out = String::from_str(rt.alloc(), "-- ")?;
     union.print_to(&mut out)?;
-    assert_eq!(rt;
-        out.as_str(),
-        "-- SELECT * FROM u UNION SELECT a FROM t UNION ALL SELECT a FROM t;"
-    );
-    let inner = Select::from(alloc, Fragment::of("t"))?;
-    let outer = Select::from(alloc, inner.subquery_as(Operand::of("s"))?)?.field(
-        inner.subquery()?,
-    )?;
-    assert_eq!(rt;
-        outer.sql()?.as_str(),
-        "SELECT (SELECT * FROM t) FROM (SELECT * FROM t) AS s;"
+    assert_eq!(rt; out.as_str().strip_prefix("-- "), Some(wanted));
+    Ok(())
+}
+
+#[test]
+fn nests_queries(rt: HostRuntime) -> Result<(), Fail> {
+    let inner = Select::from(rt.alloc(), Fragment::of("t"))?;
+    let table = inner.subquery_as(Operand::of("s"))?;
+    let outer = Select::from(rt.alloc(), table)?.field(inner.subquery()?)?;
+    assert!(rt;
+        is_made(
+            outer.sql(),
+            "SELECT (SELECT * FROM t) FROM (SELECT * FROM t) AS s;"
+        )
     );
     Ok(())
 }
@@ -197,22 +189,28 @@ fn changes(rt: HostRuntime) -> Result<(), Fail> {
         .values(&[Literal::Text(String::from_str(alloc, "c")?), Literal::Null])?
         .values(&[operand(alloc, Value("d"))?, operand(alloc, 3)?])?
         .returning(Operand::of("id"))?;
-    assert_eq!(rt;
-        insert.sql()?.as_str(),
-        "INSERT INTO t (a, b) VALUES ('it''s', 2), ('c', NULL), ('d', 3) RETURNING id;"
+    assert!(rt;
+        is_made(
+            insert.sql(),
+            "INSERT INTO t (a, b) VALUES ('it''s', 2), ('c', NULL), ('d', 3) RETURNING id;"
+        )
     );
     let update = Update::table(alloc, Fragment::of("t"))?
         .set(a(), Value("b"))?
         .set_str(Operand::of("b"), Value("it's"))?
         .and_where(is_null(alloc, a())?)?;
-    assert_eq!(rt;
-        update.sql()?.as_str(),
-        "UPDATE t SET a = 'b', b = 'it''s' WHERE a IS NULL;"
+    assert!(rt;
+        is_made(
+            update.sql(),
+            "UPDATE t SET a = 'b', b = 'it''s' WHERE a IS NULL;"
+        )
     );
     let delete = Delete::from(alloc, Fragment::of("t"))?.and_where(eq(alloc, a(), 1)?)?;
-    assert_eq!(rt;
-        delete.returning_id()?.sql()?.as_str(),
-        "DELETE FROM t WHERE a = 1 RETURNING id;"
+    assert!(rt;
+        is_made(
+            delete.returning_id()?.sql(),
+            "DELETE FROM t WHERE a = 1 RETURNING id;"
+        )
     );
     Ok(())
 }
@@ -259,9 +257,11 @@ fn asks_by_a_form(rt: HostRuntime) -> Result<(), Fail> {
         in_stock: false,
         column: Column::Price,
     };
-    assert_eq!(rt;
-        search(alloc, &nothing)?.as_str(),
-        "SELECT title FROM books ORDER BY price;"
+    assert!(rt;
+        is_made(
+            search(alloc, &nothing),
+            "SELECT title FROM books ORDER BY price;"
+        )
     );
     let everything = Form {
         title: Some("50%_'"),
@@ -271,9 +271,11 @@ fn asks_by_a_form(rt: HostRuntime) -> Result<(), Fail> {
         in_stock: true,
         column: Column::Title,
     };
-    assert_eq!(rt;
-        search(alloc, &everything)?.as_str(),
-        "SELECT title FROM books WHERE (title LIKE '%50!%!_''%' ESCAPE '!') AND (author IS NULL) AND (price >= 3) AND (1 = 0) AND (stock > 0) ORDER BY title;"
+    assert!(rt;
+        is_made(
+            search(alloc, &everything),
+            "SELECT title FROM books WHERE (title LIKE '%50!%!_''%' ESCAPE '!') AND (author IS NULL) AND (price >= 3) AND (1 = 0) AND (stock > 0) ORDER BY title;"
+        )
     );
     let genres = [Value("it's"), Value("b")];
     let some = Form {
@@ -281,9 +283,11 @@ fn asks_by_a_form(rt: HostRuntime) -> Result<(), Fail> {
         genres: Some(&genres),
         ..nothing
     };
-    assert_eq!(rt;
-        search(alloc, &some)?.as_str(),
-        "SELECT title FROM books WHERE (author = 'O''Neill') AND (genre IN ('it''s', 'b')) ORDER BY price;"
+    assert!(rt;
+        is_made(
+            search(alloc, &some),
+            "SELECT title FROM books WHERE (author = 'O''Neill') AND (genre IN ('it''s', 'b')) ORDER BY price;"
+        )
     );
     Ok(())
 }
