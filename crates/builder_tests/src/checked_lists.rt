@@ -121,28 +121,41 @@ fn runs_a_list_that_fits(rt: HostRuntime) -> Result<(), Fail> {
 /// A call that tests a list of calls and runs it.
 type Run = fn(Global, &Start, &[Call], &Finish) -> Result<String, CheckedError>;
 
-fn insert_of(alloc: Global, query: &str) -> Result<[Call; 2], AllocError> {
-    let field = Call::Field(String::from_str(alloc, "a")?);
-    Ok([field, Call::Select(String::from_str(alloc, query)?)])
-}
-
-/// What comes of an INSERT into `t` of what the query gives.
+/// What comes of an INSERT into `t` by these calls.
 fn run_insert(
     alloc: Global,
-    query: &str,
+    calls: &[Call],
     run: Run,
 ) -> Result<Result<String, CheckedError>, AllocError>
     requires { IsAlwaysCallable run }
 {
     let start = Start::InsertInto(String::from_str(alloc, "t")?);
-    let calls = insert_of(alloc, query)?;
-    Ok(run(alloc, &start, &calls, &Finish::Sql))
+    Ok(run(alloc, &start, calls, &Finish::Sql))
 }
 
-/// Whether its texts pass `check`, and whether they pass `check_confined`.
-fn checked_insert(alloc: Global, query: &str) -> Result<(bool, bool), AllocError> {
+fn of_a_query(alloc: Global) -> Result<[Call; 2], AllocError> {
+    let field = Call::Field(String::from_str(alloc, "a")?);
+    Ok([
+        field,
+        Call::Select(String::from_str(alloc, "SELECT b FROM u")?),
+    ])
+}
+
+fn run_query(alloc: Global, run: Run) -> Result<Result<String, CheckedError>, AllocError>
+    requires { IsAlwaysCallable run }
+{
+    run_insert(alloc, &of_a_query(alloc)?, run)
+}
+
+fn run_comment(alloc: Global) -> Result<Result<String, CheckedError>, AllocError> {
+    let calls = [Call::Select(String::from_str(alloc, "SELECT a; --")?)];
+    run_insert(alloc, &calls, run_confined)
+}
+
+/// Whether the texts of an INSERT of a query pass `check`, and whether they pass `check_confined`.
+fn check_query(alloc: Global) -> Result<(bool, bool), AllocError> {
     let start = Start::InsertInto(String::from_str(alloc, "t")?);
-    let calls = insert_of(alloc, query)?;
+    let calls = of_a_query(alloc)?;
     let fits = check(&start, &calls, &Finish::Sql).is_ok();
     Ok((fits, check_confined(&start, &calls, &Finish::Sql).is_ok()))
 }
@@ -150,19 +163,18 @@ fn checked_insert(alloc: Global, query: &str) -> Result<(bool, bool), AllocError
 #[test]
 fn runs_an_insert_of_a_query(rt: HostRuntime) -> Result<(), Fail> {
     let alloc = rt.alloc();
-    let query = "SELECT b FROM u";
-    assert_eq!(rt; checked_insert(alloc, query)?, (false, true));
-    let ran = run_insert(alloc, query, run_checked)?;
+    assert_eq!(rt; check_query(alloc)?, (false, true));
+    let ran = run_query(alloc, run_checked)?;
     let clause = "A top-level clause keyword";
     assert!(rt; is_unfit(&ran, Place::Call(1), 0, clause), "run_checked");
-    let ran = run_insert(alloc, query, run_confined)?;
+    let ran = run_query(alloc, run_confined)?;
     assert!(rt;
         is_text(&ran, "INSERT INTO t (a) SELECT b FROM u;"),
         "run_confined"
     );
-    let ran = run_insert(alloc, "SELECT a; --", run_confined)?;
+    let ran = run_comment(alloc)?;
     assert!(rt;
-        is_unfit(&ran, Place::Call(1), 0, "A quote or a comment has no end"),
+        is_unfit(&ran, Place::Call(0), 0, "A quote or a comment has no end"),
         "a comment"
     );
     Ok(())

@@ -1,4 +1,4 @@
-//! What two databases are in behind a text, by the numbers of `specs/`.
+//! What two databases are in behind a text, by the numbers of `callers`' `specs/`.
 
 use callers::postgres_reader::postgres_state;
 use callers::sqlite_reader::sqlite_state;

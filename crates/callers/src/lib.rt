@@ -1,7 +1,6 @@
 //! Examples for those who call `sql_parts` and `sql_builder` in code with contracts of its own: each
-//! is proved. `docs/CALLING.md` reads them one by one, but for how two databases read a text, as
-//! readers, of which the laws of readers speak: `tests/databases_lexed.py` runs these beside the
-//! databases' own lexers.
+//! is proved. `docs/CALLING.md` reads them one by one. Beside them, how two databases read a text, as
+//! the readers that the laws speak of: `tests/databases_lexed.py` runs them beside their lexers.
 #![tactic(auto)]
 
 pub mod chains;

@@ -80,6 +80,7 @@ fn number_prefix(alloc: Global, number: u16) -> Result<String, SqlBuilderError>
     ensures text { IfOk result (λ s. string_bytes s ≡ prefix (templates.Num number)) }
     ensures memory { FailsOnlyByMemory result }
 {
+    // The sign and at most five digits.
     let mut text = String::with_capacity(alloc, 6)?;
     text.push('$')?;
     number.push_sql_arg(alloc, &mut text)?;
