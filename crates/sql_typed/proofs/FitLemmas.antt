@@ -1,15 +1,14 @@
 -- A statement stays fit by one more call.
-use Rattle.std.proofs.Common.{◌≡◌, refl, sym, ◌∙◌, ap, ℕ, true, List, [], ◌∷◌, ◌++◌}
+use Rattle.std.proofs.Common.{◌≡◌, sym, ◌∙◌, ap, true}
 use Rattle.std.specs.List.{list_all}
-use Rattle.std.proofs.lemmas.Bool.{and_from, and_parts}
-use Rattle.sql_parts.specs.Fragments.{balanced}
-use Rattle.sql_builder.specs.Builder.{ClauseTexts, started, with_call}
-use Rattle.sql_builder.specs.Calls.{CallText, FinishText, StartText, finish_raw_texts, start_raw_texts}
+use Rattle.std.proofs.lemmas.Bool.{and_from}
+use Rattle.sql_builder.specs.Builder.{ClauseTexts, with_call}
+use Rattle.sql_builder.specs.Calls.{CallText, FinishText, finish_raw_texts}
 use Rattle.sql_builder.specs.FitCalls.{call_fits}
 use Rattle.sql_builder.specs.RawFragments.{encloses_fields, has_fit_texts, is_fit}
 use Rattle.sql_builder.proofs.fragments.FitListLemmas.{all-more, calls-fit}
-use Rattle.sql_builder.proofs.statements.RunLemmas.{clauses-push, clauses_start}
-use Rattle.sql_typed.specs.Fits.{IsFitBy, Made, adding, beginning}
+use Rattle.sql_builder.proofs.statements.RunLemmas.{clauses-push}
+use Rattle.sql_typed.specs.Fits.{IsFitBy, Made, adding}
 
 pub one_more : (made : Made) (c : CallText) (old new : ClauseTexts) → new ≡ with_call c old → IsFitBy made old → call_fits c ≡ true
     → IsFitBy (adding c made) new

@@ -1,7 +1,7 @@
 -- The calls that steps make.
 use Rattle.std.specs.Prelude.{string_bytes}
 use Rattle.sql_builder.specs.Calls as call
-use Rattle.sql_builder.specs.Calls.{CallText, Cond, binary_call, call_view, unary_call}
+use Rattle.sql_builder.specs.Calls.{CallText, Cond, binary_call, nullary_call, unary_call}
 use Rattle.sql_builder.specs.Condition.{Raw}
 use Rattle.sql_typed.specs.declared.select.JoinKind.{JoinKind}
 use Rattle.sql_typed.specs.declared.select.JoinKind.TheVariants as kind
@@ -13,7 +13,7 @@ abbrev pub step_call : Step → CallText
 step_call (step.Unary clause text) = unary_call clause text.now
 step_call (step.Binary clause first second) = binary_call clause first.now second.now
 step_call (step.Condition family condition) = Cond family (Raw (string_bytes condition))
-step_call (step.Word word) = call_view word
+step_call (step.Nullary clause) = nullary_call clause
 
 -- the call of an operator
 abbrev pub operator_call : JoinKind → CallText

@@ -1,7 +1,7 @@
 //! The calls of SELECT, each of which fails only if memory runs out, and what it prints as a query.
 ghost use Rattle.std.specs.Prelude.{◌≡◌, ◌++◌, [], ◌∷◌, IfOk, IsTrue, string_bytes};
 ghost use Rattle.sql_parts.specs.Text.{decimal_text};
-ghost use Rattle.sql_builder.specs.Calls.{AndTable, Count, CountAs, Distinct, Field, GroupBy, Having, Join, Limit, Natural, Offset, On, OnEq, OrderAsc, OrderDesc, SelectFrom, Subquery, SubqueryAs, Union, UnionAll, call_view};
+ghost use Rattle.sql_builder.specs.Calls.{AndTable, Count, CountAs, Distinct, Field, GroupBy, Having, Join, Limit, Natural, Offset, On, OnEq, OrderAsc, OrderDesc, SelectFrom, Subquery, SubqueryAs, Union, UnionAll, nullary_call};
 ghost use Rattle.sql_builder.specs.Calls as finish;
 ghost use Rattle.sql_typed.specs.Fits.{adding, beginning};
 ghost use Rattle.sql_typed.specs.Printed.{FailsAs, IsPrinted};
@@ -13,7 +13,7 @@ use crate::condition::Condition;
 use crate::operand_text::{FragmentText, OperandText};
 use crate::statement::{SelectKind, Statement, Step};
 use crate::texts::{Query, TableQuery};
-use sql_builder::calls::{BinaryClause, Call, Finish, TableStart, UnaryClause};
+use sql_builder::calls::{BinaryClause, Finish, NullaryClause, TableStart, UnaryClause};
 use sql_parts::text::OwnedOperand;
 use std::alloc::Global;
 
@@ -37,16 +37,16 @@ pub enum JoinKind {
     Cross,
 }
 
-fn join_operator(kind: JoinKind) -> Call
-    ensures { call_view result ≡ operator_call kind }
+fn join_operator(kind: JoinKind) -> NullaryClause
+    ensures { nullary_call result ≡ operator_call kind }
 {
     match kind {
-        JoinKind::Inner => Call::Inner,
-        JoinKind::Left => Call::Left,
-        JoinKind::LeftOuter => Call::LeftOuter,
-        JoinKind::Right => Call::Right,
-        JoinKind::RightOuter => Call::RightOuter,
-        JoinKind::Cross => Call::Cross,
+        JoinKind::Inner => NullaryClause::Inner,
+        JoinKind::Left => NullaryClause::Left,
+        JoinKind::LeftOuter => NullaryClause::LeftOuter,
+        JoinKind::Right => NullaryClause::Right,
+        JoinKind::RightOuter => NullaryClause::RightOuter,
+        JoinKind::Cross => NullaryClause::Cross,
     }
 }
 
@@ -88,7 +88,7 @@ impl Statement<SelectKind> {
     pub fn distinct(self) -> Result<Select>
         ensures made { Gives result (adding Distinct self) }
     {
-        self.with_word(Call::Distinct)
+        self.with_nullary(NullaryClause::Distinct)
     }
 
     /// One more table.
@@ -104,7 +104,7 @@ impl Statement<SelectKind> {
     pub fn natural(self) -> Result<Select>
         ensures made { Gives result (adding Natural self) }
     {
-        self.with_word(Call::Natural)
+        self.with_nullary(NullaryClause::Natural)
     }
 
     /// A join with this table.
@@ -112,7 +112,7 @@ impl Statement<SelectKind> {
     pub fn join<T: FragmentText>(self, kind: JoinKind, table: T) -> Result<Select>
         ensures made { Gives result (adding (Join (T.text table)) (adding (operator_call kind) self)) }
     {
-        let statement = self.with_word(join_operator(kind))?;
+        let statement = self.with_nullary(join_operator(kind))?;
         statement.with_fragment(UnaryClause::Join, table)
     }
 

@@ -7,7 +7,7 @@ ghost use Rattle.sql_parts.specs.StringTexts.{outline};
 ghost use Rattle.sql_parts.specs.Text.{texts};
 ghost use Rattle.sql_parts.specs.Tokens.{closed, tokens};
 ghost use Rattle.sql_builder.specs.Builder.{with_call};
-ghost use Rattle.sql_builder.specs.Calls.{Cond, Returning, ReturningId, Sql, Values, binary_call, call_view, finish_raw_texts, finish_view, kind_of, start_on, unary_call};
+ghost use Rattle.sql_builder.specs.Calls.{Cond, Returning, ReturningId, Sql, Values, binary_call, finish_raw_texts, finish_view, kind_of, nullary_call, start_on, unary_call};
 ghost use Rattle.sql_builder.specs.Condition.{Raw};
 ghost use Rattle.sql_builder.specs.FitCalls.{call_fits};
 ghost use Rattle.sql_builder.specs.Interference.{answer_of};
@@ -29,8 +29,8 @@ use crate::ghost_value::GhostValue;
 use crate::operand_text::{FragmentText, OperandText};
 use sql_builder::SqlBuilder;
 use sql_builder::calls::{
-    BinaryClause, Call, Family, Finish, TableStart, UnaryClause, VariadicClause, add_condition,
-    make, make_binary, make_unary, make_variadic, print, print_to,
+    BinaryClause, Family, Finish, NullaryClause, TableStart, UnaryClause, VariadicClause,
+    add_condition, make_binary, make_nullary, make_unary, make_variadic, print, print_to,
 };
 use sql_parts::text::{Items, ToText};
 use std::alloc::Global;
@@ -110,7 +110,7 @@ pub(crate) enum Step<'a> {
     Unary(UnaryClause, &'a str),
     Binary(BinaryClause, &'a str, &'a str),
     Condition(Family, String),
-    Word(Call),
+    Nullary(NullaryClause),
 }
 
 #[inline(always)]
@@ -122,7 +122,7 @@ fn make_step(builder: &mut SqlBuilder, step: Step<'_>) -> Result<()>
         Step::Unary(clause, text) => make_unary(builder, clause, text),
         Step::Binary(clause, first, second) => make_binary(builder, clause, first, second),
         Step::Condition(family, condition) => add_condition(builder, family, condition),
-        Step::Word(call) => make(builder, &call),
+        Step::Nullary(clause) => make_nullary(builder, clause),
     }
 }
 
@@ -235,11 +235,11 @@ impl<K> Statement<K> {
     }
 
     // A call without texts.
-    pub(crate) fn with_word(self, call: Call) -> Result<Statement<K>>
-        requires fits { IsTrue (call_fits (call_view call)) }
-        ensures made { Gives result (adding (call_view call) self) }
+    pub(crate) fn with_nullary(self, clause: NullaryClause) -> Result<Statement<K>>
+        requires fits { IsTrue (call_fits (nullary_call clause)) }
+        ensures made { Gives result (adding (nullary_call clause) self) }
     {
-        self.add(Step::Word(call))
+        self.add(Step::Nullary(clause))
     }
 
     // What a finish prints, whose name, if it has one, fits.
@@ -333,6 +333,6 @@ impl<K: Returns> Statement<K> {
     pub fn returning_id(self) -> Result<Statement<K>>
         ensures made { Gives result (adding ReturningId self) }
     {
-        self.with_word(Call::ReturningId)
+        self.with_nullary(NullaryClause::ReturningId)
     }
 }

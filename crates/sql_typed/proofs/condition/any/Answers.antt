@@ -9,3 +9,6 @@ pub returns-clause-truth : goal.returns-clause-truth
 returns-clause-truth c =
     let texts = map (λ k. string_bytes k.text) c.args.conditions.now in
     printed-is (IsCombined or_all texts) c.combined.result c.combined.ensures.text (any_combined texts (conditions_fit c.args.conditions.now))
+
+pub returns-clause-text : goal.returns-clause-text
+returns-clause-text c = c.combined.ensures.text

@@ -7,3 +7,6 @@ pub add-requires : goal.add-requires
 add-requires g c = record {
   fits = and_from _ _ (fits_as (c.as_str.ensures.value ∙ c.in_ok-field.ensures.text) (g.met.F.OperandText.serves_as_operand c.args.field)) refl;
 }
+
+pub returns : goal.returns
+returns g c = rw (c.as_str.ensures.value, c.in_ok-field.ensures.text) at c.add.ensures

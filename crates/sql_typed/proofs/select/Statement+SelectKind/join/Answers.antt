@@ -13,5 +13,5 @@ operator-fits Right = refl
 operator-fits RightOuter = refl
 operator-fits Cross = refl
 
-pub with_word-requires : goal.with_word-requires
-with_word-requires g c = record { fits = ap call_fits c.join_operator.ensures ∙ operator-fits c.args.kind }
+pub with_nullary-requires : goal.with_nullary-requires
+with_nullary-requires g c = record { fits = ap call_fits c.join_operator.ensures ∙ operator-fits c.args.kind }

@@ -1,0 +1,4 @@
+use Rattle.sql_typed.proofs.changes.Statement+InsertKind.into.Goals as goal
+
+pub returns : goal.returns
+returns g c = c.begin.ensures

@@ -1,0 +1,4 @@
+use Rattle.sql_typed.proofs.statement.Statement.returning_id.Goals as goal
+
+pub returns : goal.returns
+returns g c = c.with_nullary.ensures
