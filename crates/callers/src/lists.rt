@@ -44,12 +44,13 @@ pub fn books_where(alloc: Global, one: &str, other: &str) -> Result<Option<Strin
         return Ok(None);
     }
     fit_texts_make_fit_fragments();
+    let first = String::from_str(alloc, one)?;
+    let second = String::from_str(alloc, other)?;
     let start = Start::SelectFrom(String::from_str(alloc, "books")?);
-    let mut calls = Vec::new(alloc);
-    let condition = Condition::Raw(String::from_str(alloc, one)?);
-    calls.push(Call::Cond(Family::And, condition))?;
-    let condition = Condition::Raw(String::from_str(alloc, other)?);
-    calls.push(Call::Cond(Family::And, condition))?;
+    let calls = [
+        Call::Cond(Family::And, Condition::Raw(first)),
+        Call::Cond(Family::And, Condition::Raw(second)),
+    ];
     Ok(Some(run(alloc, &start, &calls, &Finish::Sql)?))
 }
 
@@ -65,13 +66,15 @@ pub fn titled_above(alloc: Global, title: &str, price: u64) -> Result<String, Sq
 {
     fit_texts_make_fit_fragments();
     literals_are_operands();
-    let start = Start::SelectFrom(String::from_str(alloc, "books")?);
     let mut calls = Vec::new(alloc);
     let field = String::from_str(alloc, "title")?;
-    let condition = Condition::Compare(Relation::Eq, field, quote(alloc, title)?);
+    let title = quote(alloc, title)?;
+    let condition = Condition::Compare(Relation::Eq, field, title);
     calls.push(Call::Cond(Family::And, condition))?;
     let field = String::from_str(alloc, "price")?;
-    let condition = Condition::Compare(Relation::Gt, field, price.to_text(alloc)?);
+    let price = price.to_text(alloc)?;
+    let condition = Condition::Compare(Relation::Gt, field, price);
     calls.push(Call::Cond(Family::And, condition))?;
+    let start = Start::SelectFrom(String::from_str(alloc, "books")?);
     run(alloc, &start, &calls, &Finish::Sql)
 }
