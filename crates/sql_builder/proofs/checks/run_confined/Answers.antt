@@ -35,3 +35,12 @@ returns-clause-nests_as_table c = λ table.
     c.in_ok-run.ensures.nests_as_table table
     (balanced_fragments (start_view c.args.start.now) (map call_view c.args.calls.now) (finish_view c.args.finish.now)
     (sym c.in_ok-check_confined.ensures.balanced))
+
+pub returns-clause-balanced : goal.returns-clause-balanced
+returns-clause-balanced c = sym c.in_ok-check_confined.ensures.balanced
+
+pub returns-clause-refused : goal.returns-clause-refused
+returns-clause-refused c = rw (← c.in_ok-check_confined.ensures.tests) tt
+
+pub returns-in_err-run-clause-refused : goal.returns-in_err-run-clause-refused
+returns-in_err-run-clause-refused c = rw (← c.in_ok-check_confined.ensures.tests) tt
