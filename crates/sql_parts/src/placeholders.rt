@@ -174,6 +174,7 @@ fn place_behind<'t>(marks: Marks<'_>, seen: usize, behind: &'t str) -> (Place<'t
             (Place::Holds(Value::Argument(0)), behind)
         }
         Marks::Cycle(count) => {
+            // No count is 0 here, since callers then refuse a `?`: the definition is total.
             let argument = seen.checked_rem(count).unwrap_or(seen);
             (Place::Holds(Value::Argument(argument)), behind)
         }

@@ -101,6 +101,7 @@ impl Literals for &[Box<dyn SqlArg>] {
     ) -> Result<(), SqlBuilderError> {
         match value {
             Value::Argument(at) => push_found(alloc, self.get(*at), out),
+            // `binds` and `bind_nums` look for no names: the definition is total.
             Value::Named(_) => Ok(out.push_str("NULL")?),
         }
     }
@@ -126,6 +127,7 @@ impl<N: BindNames + Drop> Literals for LookedUp<'_, N> {
         out: &mut String,
     ) -> Result<(), SqlBuilderError> {
         match value {
+            // `bind_names` looks for no numbers: the definition is total.
             Value::Argument(_) => Ok(out.push_str("NULL")?),
             Value::Named(name) => self.names.push_named(alloc, &self.places, name, out),
         }
