@@ -96,7 +96,7 @@ abbrev pub not_text : Bool → List ℕ
 not_text true = codes " NOT"
 not_text false = []
 
--- `word` gives the units of a text of the product's own, `raw` of a raw text, `quoted` of one between quotes
+-- `word` gives the units of a text of the builder's own, `raw` of a raw text, `quoted` of one between quotes
 module _ {A : Type 0} (word raw quoted : List ℕ → List A) where
   -- what a condition prints
   abbrev pub condition_layout : ConditionText → List A

@@ -44,7 +44,7 @@ union_sections unions = map (λ union. section (union_opening union.0) union.1) 
 abbrev pub range_sections : {A : Type 0} → Clauses (List A) → List (Section A)
 range_sections r = optional_section (codes " LIMIT ") r.limit ++ optional_section (codes " OFFSET ") r.offset
 
--- `word` gives the units of a text of the product's own
+-- `word` gives the units of a text of the builder's own
 module _ {A : Type 0} (word : List ℕ → List A) where
   -- the sections one after another
   abbrev pub concat_sections : List (Section A) → List A

@@ -19,7 +19,7 @@ abbrev pub join_words : Bool → Option JoinOperator → List ℕ
 join_words true operator = codes "NATURAL " ++ operator_text operator
 join_words false operator = operator_text operator
 
--- `word` gives the units of a text of the product's own
+-- `word` gives the units of a text of the builder's own
 module _ {A : Type 0} (word : List ℕ → List A) where
   -- items with commas between them
   abbrev pub comma_list : List (List A) → List A

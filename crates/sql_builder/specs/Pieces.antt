@@ -2,7 +2,7 @@
 use Rattle.std.specs.Prelude.{ℕ, List, [], ◌∷◌, flat_map}
 use Rattle.sql_parts.specs.Quoting.{quoted}
 
--- A piece of a statement: a text of the product's own, a text between single quotes, or a raw fragment, which is printed unchanged.
+-- A piece of a statement: a text of the builder's own, a text between single quotes, or a raw fragment, which is printed unchanged.
 pub data Piece : Type 0 where
   Fixed : List ℕ → Piece
   Quoted : List ℕ → Piece
@@ -22,7 +22,7 @@ piece_text (Raw text) = text
 abbrev pub pieces_text : Pieces → List ℕ
 pieces_text pieces = flat_map piece_text pieces
 
--- a text of the product's own
+-- a text of the builder's own
 abbrev pub fixed_piece : List ℕ → Pieces
 fixed_piece text = Fixed text ∷ []
 

@@ -19,7 +19,7 @@ error_at QueryValues r = None
 error_at Subquery r = query_error r
 error_at (SubqueryAs name) r = query_error r
 
--- what a finish lays out: `word` gives the units of the product's own texts, `raw` of raw fragments
+-- what a finish lays out: `word` gives the units of the builder's own texts, `raw` of raw fragments
 abbrev pub layout_at : {A : Type 0} → (List ℕ → List A) → (List ℕ → List A) → FinishText → Clauses (List A)
     → List A
 layout_at word raw Sql r = sql word r

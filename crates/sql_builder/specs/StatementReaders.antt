@@ -80,7 +80,7 @@ NoTextsDecide printed = (next : Reader) (plain : ℕ → Bool) (state : ℕ) (st
 
 -- ---- texts that are quoted inside of fragments
 
--- a text of the product's own, as a part
+-- a text of the builder's own, as a part
 abbrev pub constant_part : List ℕ → List Part
 constant_part text = Constant text ∷ []
 

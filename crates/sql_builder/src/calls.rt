@@ -297,7 +297,7 @@ pub fn make(builder: &mut SqlBuilder, call: &Call) -> Result<(), SqlBuilderError
     }
 }
 
-#[tactic(auto, using(crate::proofs::statements::RunLemmas::one_more_call, crate::proofs::statements::RunLemmas::clauses_start))]
+#[tactic(auto, using(crate::proofs::statements::RunLemmas::clauses_start))]
 fn build(alloc: Global, start: &Start, calls: &[Call]) -> Result<SqlBuilder, SqlBuilderError>
     ensures made { IfOk result (λ b. b
         ≡ made_by (start_view start.now) (map call_view calls.now)) }

@@ -425,7 +425,6 @@ impl SqlBuilder {
     /// are, and without a top-level clause keyword, where the name has none; so it serves as a
     /// table. It fails as `query` does.
     /// `SqlBuilder::select_from(alloc, "t")?.subquery_as("s")?` → `(SELECT * FROM t) AS s`
-    #[tactic(auto, using(crate::proofs::pieces::LayoutShapeLemmas::subquery_as_shape, crate::proofs::pieces::LayoutShapeLemmas::subquery_as_closed, crate::proofs::reading::ReadBackLemmas::subquery_as_nests, crate::proofs::reading::SubqueryLemmas::subquery_as_table))]
     pub fn subquery_as<S: ToText>(&self, name: S) -> Result<String, SqlBuilderError>
         ensures text { IfOk result (λ s. string_bytes s
             ≡ subquery_as byte_units (S.text name) self.now) }

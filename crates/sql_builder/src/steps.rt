@@ -287,8 +287,8 @@ impl SqlBuilder {
     }
 }
 
-/// Makes a call without a text, for `make` and `sqlb`. `returning_id` fails only if memory runs out, and then
-/// leaves the builder as it was; the others can't fail.
+/// Makes a call without a text, for `make`, `sqlb` and `sql_typed`. `returning_id` fails only if memory runs
+/// out, and then leaves the builder as it was; the others can't fail.
 /// ```
 /// let mut b = SqlBuilder::select_from(alloc, "t")?;
 /// make_nullary(&mut b, NullaryClause::Distinct)?;

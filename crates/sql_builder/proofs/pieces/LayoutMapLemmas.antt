@@ -1,4 +1,4 @@
--- The layout in one kind of unit becomes that in another by a map that keeps `++` and the product's words.
+-- The layout in one kind of unit becomes that in another by a map that keeps `++` and the builder's words.
 use Rattle.std.proofs.Common.{◌≡◌, ℕ, List, [], ◌∷◌, ◌++◌, Option, None, Some, Bool, map, codes, flat_map, refl, ap, ◌∙◌}
 use Rattle.std.proofs.lemmas.List.{map-append}
 use Rattle.std.specs.Prelude.{option_map}

@@ -1,4 +1,4 @@
--- Pieces of a statement keep their tokens side by side, since the product's words between them end and begin with edges.
+-- Pieces of a statement keep their tokens side by side, since the builder's words between them end and begin with edges.
 use Rattle.std.proofs.Common.{◌≡◌, ℕ, Bool, true, false, not, List, [], ◌∷◌, ◌++◌, codes, refl, sym, ap, ◌∙◌, subst, inl, inr, ◌⊎◌, append_assoc, map}
 use Rattle.std.proofs.lemmas.List.{append-nil}
 use Rattle.std.proofs.lemmas.Grind.{flat_map-append}
@@ -94,7 +94,7 @@ inside-inside x y one behind other = record {
       (other.opens both.1));
 }
 
--- the product's words
+-- the builder's words
 pub record Whole (words : List ℕ) : Type 0 where
   pub is_closed : closed words ≡ true
   pub plain : has_semicolon words ≡ false

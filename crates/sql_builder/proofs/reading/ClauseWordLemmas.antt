@@ -112,7 +112,7 @@ parts-flags (m ∷ ms) = ap (with_front (at_top_level is_clause_word m) (token_o
 pub same-parts : (a b : List Placed) → flags a ≡ flags b → parts_at is_clause_word a ≡ parts_at is_clause_word b
 same-parts a b same = parts-flags a ∙ ap parts_of same ∙ sym (parts-flags b)
 
--- the product's own texts
+-- the builder's own texts
 flag-own : (zero : Bool) (t : Token) → (zero || not (is_clause_word t)) ≡ true → flag (as_placed zero t) ≡ flag (TopLevel t)
 flag-own true t h = refl
 flag-own false t h = ap (λ (b : Bool). (b, t)) (sym (not-true _ h))
@@ -218,7 +218,7 @@ shape-whole (Raw text ∷ ps) all own_whole =
     list_all-append is_whole (tokens text) (pieces_tokens ps)
     ∙ and_from _ _ (and_parts (list_all is_whole (tokens text)) _ (even_text text both.0)).0 (shape-whole ps both.1 own_whole)
 
--- where the product's own words are balanced or none, so is the whole
+-- where the builder's own words are balanced or none, so is the whole
 pub shape-even : (ps : Pieces) → list_all is_balanced_piece ps ≡ true → is_even (own ps) ≡ true → is_even (pieces_tokens ps) ≡ true
 shape-even ps all even =
     let both = and_parts (list_all is_whole (own ps)) (closes_from (pos 0) (own ps)) even in

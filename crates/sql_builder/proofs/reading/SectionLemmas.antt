@@ -27,7 +27,7 @@ use Rattle.sql_parts.specs.Fragments as fragments
 use Rattle.std.proofs.lemmas.List.{map-append}
 use Rattle.sql_builder.proofs.lists.AllFacts.{none-weaker}
 
--- the product's own words before the first UNION
+-- the builder's own words before the first UNION
 pub record Front (ts : List Token) : Type 0 where
   pub laid : laid_from (pos 0) ts ≡ true
   pub even : is_even ts ≡ true
@@ -52,7 +52,7 @@ neutral-front ps neutral = record {
   no_union = none-weaker is_union is_clause_word not_union (own ps) neutral.no_word;
 }
 
--- ---- top-level tokens of the product's own
+-- ---- top-level tokens of the builder's own
 
 top_level-all : (test : Token → Bool) (ts : List Token) → list_any (at_top_level test) (map TopLevel ts) ≡ list_any test ts
 top_level-all test [] = refl

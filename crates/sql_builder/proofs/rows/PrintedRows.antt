@@ -1,8 +1,8 @@
 -- Worked rows, what the definitions give by computing; tests run the others (`tests/rows`, `tests/conditions.md`, `tests/every_call.md`).
 use Rattle.std.specs.Prelude.{◌≡◌, [], ◌∷◌, ◌++◌, Ok, Err, codes, refl, true, false}
 use Rattle.sql_parts.specs.declared.error.SqlBuilderError.TheVariants.{NoTableName, NoGroupBy}
-use Rattle.sql_builder.specs.Calls.{SelectFrom, UpdateTable, Left, LeftOuter, Right, RightOuter, Inner, Cross, AndTable, Join, On, Fields, Field, CountAs}
-use Rattle.sql_builder.specs.Calls.{SetTo, SetStr, Returning, ReturningId, GroupBy, Having, Union, OrderAsc, OrderDesc, Limit, Cond, Sql, Query, clauses}
+use Rattle.sql_builder.specs.Calls.{SelectFrom, UpdateTable, Left, LeftOuter, Right, RightOuter, Inner, Cross, AndTable, Join, Fields, Field}
+use Rattle.sql_builder.specs.Calls.{SetTo, SetStr, Returning, ReturningId, Having, Sql, Query, clauses}
 use Rattle.sql_builder.specs.Condition.{Raw, Like}
 use Rattle.sql_builder.specs.Statement.{pieces, statement}
 use Rattle.sql_builder.specs.declared.condition.Family.TheVariants.{And}
@@ -16,28 +16,11 @@ use Rattle.sql_builder.specs.declared.condition.Percent.TheVariants.{Any}
 use Rattle.sql_builder.specs.Pieces as piece
 use Rattle.sql_builder.specs.Calls as call
 
-operator_stays : statement (SelectFrom (codes "a"))
-    (Left ∷ Join (codes "b") ∷ Join (codes "c") ∷ On (codes "x") ∷ On (codes "y") ∷ []) Sql
-    ≡ Ok (codes "SELECT * FROM a LEFT JOIN b LEFT JOIN c ON x ON y;")
-operator_stays = refl
-
-no_order_beside_union : statement (SelectFrom (codes "a"))
-    (OrderAsc (codes "x") ∷ Union (codes "SELECT 1") ∷ Limit (codes "3") ∷ []) Sql
-    ≡ Ok (codes "SELECT * FROM a UNION SELECT 1 LIMIT 3;")
-no_order_beside_union = refl
-
 having_without_table : statement (SelectFrom []) (Having (codes "a") ∷ []) Sql ≡ Err NoTableName
 having_without_table = refl
 
 having_without_table_query : statement (SelectFrom []) (Having (codes "a") ∷ []) Query ≡ Err NoGroupBy
 having_without_table_query = refl
-
-grouped_books : statement (SelectFrom (codes "books"))
-    (Field (codes "price") ∷ CountAs (codes "price") (codes "cnt") ∷
-    Cond And (Raw (codes "price > 1")) ∷ GroupBy (codes "price") ∷ Having (codes "cnt > 2") ∷
-    OrderDesc (codes "cnt") ∷ []) Sql
-    ≡ Ok (codes "SELECT price, COUNT(price) AS cnt FROM books WHERE price > 1 GROUP BY price HAVING cnt > 2 ORDER BY cnt DESC;")
-grouped_books = refl
 
 every_operator : statement (SelectFrom (codes "t"))
     (Left ∷ Join (codes "a") ∷ LeftOuter ∷ Join (codes "b") ∷ Right ∷ Join (codes "c") ∷ RightOuter

@@ -40,7 +40,7 @@ any-flags : (ms : List Placed) → list_any (at_top_level is_clause_word) ms ≡
 any-flags [] = refl
 any-flags (m ∷ ms) = ap (λ (b : Bool). at_top_level is_clause_word m || b) (any-flags ms)
 
--- fit pieces without a clause word of the product's have no top-level clause keyword
+-- fit pieces without a clause word of the builder's have no top-level clause keyword
 no_clause-tokens : (ps : Pieces) → Neutral ps → are_fit_from (pos 0) ps ≡ true → has_clause (pieces_tokens ps) ≡ false
 no_clause-tokens ps neutral fit =
     any-flags (placed (pieces_tokens ps))
