@@ -1,5 +1,5 @@
 -- Conditions, and what is known of their texts.
-use Rattle.std.proofs.Common.{◌≡◌, refl, sym, subst, ℕ, Bool, true, List, [], ◌∷◌, map, length, ◌≤◌, arith}
+use Rattle.std.proofs.Common.{◌≡◌, ◌∙◌, ◌++◌, ap, codes, refl, sym, subst, ℕ, Bool, true, List, [], ◌∷◌, map, length, ◌≤◌, arith}
 use Rattle.std.specs.Prelude.{Err, IfOk, Ok, Result, string_bytes}
 use Rattle.std.specs.List.{list_all}
 use Rattle.std.proofs.lemmas.Bool.{and_from, false≢true}
@@ -7,9 +7,12 @@ use Rattle.sql_parts.specs.Operands.{ServesAsOperand, is_fragment}
 use Rattle.sql_parts.specs.declared.error.SqlBuilderError.{SqlBuilderError}
 use Rattle.sql_parts.proofs.fragments.OperandFacts.{is-fragment}
 use Rattle.sql_builder.specs.Condition.{ConditionText, Raw, Compare, Like, IsNull, IsNotNull, InList, InQuoted, InQuery, Between}
-use Rattle.sql_builder.specs.Condition.{condition_bytes, condition_raw_texts, has_operands}
+use Rattle.sql_builder.specs.Condition.{condition_bytes, condition_raw_texts, has_operands, mask_text}
+use Rattle.sql_builder.specs.Combined.{like_text}
 use Rattle.sql_builder.specs.RawFragments.{is_fit}
+use Rattle.sql_builder.specs.declared.condition.Percent.{Percent}
 use Rattle.sql_builder.proofs.fragments.FitListLemmas.{row_fits}
+use Rattle.sql_builder.proofs.truth.CombinedLemmas.{like_text_is}
 use Rattle.sql_typed.specs.declared.texts.Condition.{Condition}
 use Rattle.sql_typed.specs.Conditions.{OperandsServe, list_text}
 use Rattle.sql_typed.specs.Results.{Prints}
@@ -30,6 +33,11 @@ printed-is P (Err e) is holds = tt
 pub conditions_fit : (conditions : List Condition) → list_all is_fragment (map (λ c. string_bytes c.text) conditions) ≡ true
 conditions_fit [] = refl
 conditions_fit (condition ∷ conditions) = and_from _ _ condition.fits (conditions_fit conditions)
+
+-- a condition of LIKE, with its escape behind it
+pub escaped_is : {printed before : List ℕ} (negated : Bool) (percent : Percent) (field mask : List ℕ) → printed ≡ before ++ codes " ESCAPE '!'"
+    → before ≡ condition_bytes (Like negated percent field mask) → printed ≡ like_text negated field (mask_text percent mask)
+escaped_is negated percent field mask is like = is ∙ ap (λ text. text ++ codes " ESCAPE '!'") like ∙ like_text_is negated percent field mask
 
 -- ---- texts that serve as operands
 

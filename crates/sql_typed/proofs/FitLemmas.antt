@@ -1,14 +1,28 @@
 -- A statement stays fit by one more call.
-use Rattle.std.proofs.Common.{◌≡◌, sym, ◌∙◌, ap, true}
+use Rattle.std.proofs.Common.{◌≡◌, refl, sym, ◌∙◌, ap, true}
 use Rattle.std.specs.List.{list_all}
 use Rattle.std.proofs.lemmas.Bool.{and_from}
 use Rattle.sql_builder.specs.Builder.{ClauseTexts, with_call}
-use Rattle.sql_builder.specs.Calls.{CallText, FinishText, finish_raw_texts}
+use Rattle.sql_builder.specs.Calls.{CallText, FinishText, finish_raw_texts, nullary_call}
+use Rattle.sql_builder.specs.declared.steps.NullaryClause.{NullaryClause}
+use Rattle.sql_builder.specs.declared.steps.NullaryClause.TheVariants.{Natural, Left, LeftOuter, Right, RightOuter, Inner, Cross, Distinct, ReturningId}
 use Rattle.sql_builder.specs.FitCalls.{call_fits}
 use Rattle.sql_builder.specs.RawFragments.{encloses_fields, has_fit_texts, is_fit}
 use Rattle.sql_builder.proofs.fragments.FitListLemmas.{all-more, calls-fit}
 use Rattle.sql_builder.proofs.statements.RunLemmas.{clauses-push}
 use Rattle.sql_typed.specs.Fits.{IsFitBy, Made, adding}
+
+-- a call without texts
+pub nullary_fits : (clause : NullaryClause) → call_fits (nullary_call clause) ≡ true
+nullary_fits Natural = refl
+nullary_fits Left = refl
+nullary_fits LeftOuter = refl
+nullary_fits Right = refl
+nullary_fits RightOuter = refl
+nullary_fits Inner = refl
+nullary_fits Cross = refl
+nullary_fits Distinct = refl
+nullary_fits ReturningId = refl
 
 pub one_more : (made : Made) (c : CallText) (old new : ClauseTexts) → new ≡ with_call c old → IsFitBy made old → call_fits c ≡ true
     → IsFitBy (adding c made) new

@@ -200,10 +200,8 @@ fn like_escaped<F: OperandText>(
     ensures text { Prints result (like_text negated (F.text field) (escaped_mask percent word.entry.0.now)) }
     ensures atom { IfOk result (λ c. IsAtom (tokens (string_bytes c.text))) }
 {
-    let field = field.as_text(alloc)?;
     let mask = escape_like(alloc, word.0, LikeEscape::Exclamation)?;
-    let condition = Plain::Like(negated, percent, field.as_str(), mask.as_str());
-    let mut text = condition_text(alloc, condition)?;
+    let Condition { mut text } = masked(alloc, negated, percent, field, Value(mask.as_str()))?;
     text.push_str(" ESCAPE '!'")?;
     Ok(Condition { text })
 }

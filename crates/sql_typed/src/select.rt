@@ -1,5 +1,5 @@
 //! The calls of SELECT, each of which fails only if memory runs out, and what it prints as a query.
-ghost use Rattle.std.specs.Prelude.{◌≡◌, ◌++◌, [], ◌∷◌, IfOk, IsTrue, string_bytes};
+ghost use Rattle.std.specs.Prelude.{◌≡◌, IfOk, IsOk, string_bytes};
 ghost use Rattle.sql_parts.specs.Text.{decimal_text};
 ghost use Rattle.sql_builder.specs.Calls.{AndTable, Count, CountAs, Distinct, Field, GroupBy, Having, Join, Limit, Natural, Offset, On, OnEq, OrderAsc, OrderDesc, SelectFrom, Subquery, SubqueryAs, Union, UnionAll, nullary_call};
 ghost use Rattle.sql_builder.specs.Calls as finish;
@@ -83,10 +83,11 @@ impl Statement<SelectKind> {
         self.with_pair(BinaryClause::CountAs, field, name)
     }
 
-    /// Selects equal rows once.
+    /// Selects equal rows once. It can't fail.
     /// `Select::from(alloc, Fragment::of("t"))?.distinct()?.field(Operand::of("a"))?.sql()?` → `SELECT DISTINCT a FROM t;`
     pub fn distinct(self) -> Result<Select>
         ensures made { Gives result (adding Distinct self) }
+        ensures succeeds { IsOk result }
     {
         self.with_nullary(NullaryClause::Distinct)
     }
@@ -99,10 +100,11 @@ impl Statement<SelectKind> {
         self.with_fragment(UnaryClause::AndTable, table)
     }
 
-    /// The next join is NATURAL.
+    /// The next join is NATURAL. It can't fail.
     /// `Select::from(alloc, Fragment::of("t"))?.natural()?.join(JoinKind::Left, Fragment::of("u"))?.sql()?` → `SELECT * FROM t NATURAL LEFT JOIN u;`
     pub fn natural(self) -> Result<Select>
         ensures made { Gives result (adding Natural self) }
+        ensures succeeds { IsOk result }
     {
         self.with_nullary(NullaryClause::Natural)
     }

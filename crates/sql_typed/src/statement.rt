@@ -1,12 +1,11 @@
 //! A statement by value.
-ghost use Rattle.std.specs.Prelude.{◌≡◌, ◌+◌, ◌≤◌, ◌++◌, [], ◌∷◌, IfOk, IsNone, IsOk, length, string_capacity, string_len, IsTrue, List, Ok, map, OnErr, OnOk, ℕ, string_bytes};
+ghost use Rattle.std.specs.Prelude.{◌≡◌, ◌+◌, ◌≤◌, [], IfErr, IfOk, IsNone, IsOk, length, string_capacity, string_len, IsTrue, List, Ok, map, OnErr, OnOk, ℕ, string_bytes};
 ghost use Rattle.std.specs.List.{list_all};
 ghost use Rattle.sql_parts.specs.Error.{FailsOnlyByMemory};
 ghost use Rattle.sql_parts.specs.Fragments.{balanced};
 ghost use Rattle.sql_parts.specs.StringTexts.{outline};
-ghost use Rattle.sql_parts.specs.Text.{texts};
 ghost use Rattle.sql_parts.specs.Tokens.{closed, tokens};
-ghost use Rattle.sql_builder.specs.Builder.{with_call};
+ghost use Rattle.sql_builder.specs.Builder.{IsNullaryError, with_call};
 ghost use Rattle.sql_builder.specs.Calls.{Cond, Returning, ReturningId, Sql, Values, binary_call, finish_raw_texts, finish_view, kind_of, nullary_call, start_on, unary_call};
 ghost use Rattle.sql_builder.specs.Condition.{Raw};
 ghost use Rattle.sql_builder.specs.FitCalls.{call_fits};
@@ -21,7 +20,7 @@ ghost use Rattle.sql_builder.specs.declared.condition.Family.TheVariants.{And, O
 ghost use Rattle.sql_typed.specs.Fits.{Made, adding, beginning};
 ghost use Rattle.sql_typed.specs.Printed.{DifferInStrings, FailsAs, IsPrinted, PrintsBehind, ReadersIgnoreTexts};
 ghost use Rattle.sql_typed.specs.Results.{Gives};
-ghost use Rattle.sql_typed.specs.Steps.{step_call};
+ghost use Rattle.sql_typed.specs.Steps.{IsStepError, step_call};
 
 use crate::Result;
 use crate::condition::Condition;
@@ -117,6 +116,7 @@ pub(crate) enum Step<'a> {
 fn make_step(builder: &mut SqlBuilder, step: Step<'_>) -> Result<()>
     ensures made { OnOk result (builder.new ≡ with_call (step_call step.entry) builder.old) }
     ensures memory { FailsOnlyByMemory result }
+    ensures error { IfErr result (IsStepError step.entry) }
 {
     match step {
         Step::Unary(clause, text) => make_unary(builder, clause, text),
@@ -154,6 +154,7 @@ impl<K> Statement<K> {
     pub(crate) fn add(self, step: Step<'_>) -> Result<Statement<K>>
         requires fits { IsTrue (call_fits (step_call step)) }
         ensures made { Gives result (adding (step_call step.entry) self) }
+        ensures error { IfErr result (IsStepError step.entry) }
     {
         let Statement {
             alloc,
@@ -236,8 +237,8 @@ impl<K> Statement<K> {
 
     // A call without texts.
     pub(crate) fn with_nullary(self, clause: NullaryClause) -> Result<Statement<K>>
-        requires fits { IsTrue (call_fits (nullary_call clause)) }
         ensures made { Gives result (adding (nullary_call clause) self) }
+        ensures error { IfErr result (IsNullaryError clause) }
     {
         self.add(Step::Nullary(clause))
     }

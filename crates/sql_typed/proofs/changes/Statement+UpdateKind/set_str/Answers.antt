@@ -9,4 +9,4 @@ add-requires g c = record {
 }
 
 pub returns : goal.returns
-returns g c = rw (c.as_str.ensures.value, c.in_ok-field.ensures.text) at c.add.ensures
+returns g c = record { made = rw (c.as_str.ensures.value, c.in_ok-field.ensures.text) at c.add.ensures.made }

@@ -1,4 +1,4 @@
 use Rattle.sql_typed.proofs.select.Statement+SelectKind.union.Goals as goal
 
 pub returns : goal.returns
-returns c = rw c.as_str.ensures.value at c.add.ensures
+returns c = record { made = rw c.as_str.ensures.value at c.add.ensures.made }
