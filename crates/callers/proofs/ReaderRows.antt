@@ -1,5 +1,4 @@
 -- Where a quote opens a string in SQLite and in PostgreSQL, as the laws of readers ask, and where it doesn't.
-use Prim.Native.Char.{code}
 use Rattle.std.specs.Prelude.{◌≡◌, ◌==◌, ℕ, Bool, true, not, List, [], ◌∷◌, codes, refl}
 use Rattle.std.specs.List.{list_all}
 use Rattle.std.proofs.Common.{ne_eqb, subst, sym}

@@ -1,5 +1,5 @@
 -- What a search form asks for of the table of books.
-use Rattle.std.specs.Prelude.{ℕ, Bool, false, List, [], ◌∷◌, Option, None, Some, codes, if◌then◌else◌, map, option_map}
+use Rattle.std.specs.Prelude.{ℕ, Bool, false, List, Option, None, Some, codes, if◌then◌else◌, map, option_map}
 use Rattle.std.specs.Borrow.{Bor}
 use Rattle.sql_parts.specs.Literal.{literal_text, words}
 use Rattle.sql_builder.specs.Calls.{Cond, Field, OrderAsc, SelectFrom}

@@ -1,8 +1,8 @@
 -- What a search by types asks for of the table of books.
-use Rattle.std.specs.Prelude.{ℕ, List, Bool, Option, None, Some, codes, false, if◌then◌else◌}
+use Rattle.std.specs.Prelude.{ℕ, List, Bool, Option, None, Some, codes, if◌then◌else◌}
 use Rattle.std.specs.Borrow.{Bor}
 use Rattle.sql_builder.specs.Calls.{Cond, Field, SelectFrom}
-use Rattle.sql_builder.specs.Condition.{ConditionText, Compare, Like, Raw, condition_bytes}
+use Rattle.sql_builder.specs.Condition.{ConditionText, Raw, condition_bytes}
 use Rattle.sql_builder.specs.declared.condition.Family.TheVariants.{And}
 use Rattle.sql_typed.specs.Fits.{Made, adding, beginning}
 use Rattle.callers.specs.Searches.{titled, written_by, priced_from, stocked}

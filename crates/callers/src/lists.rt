@@ -1,5 +1,5 @@
 //! Lists of calls, as values.
-ghost use Rattle.std.specs.Prelude.{◌≡◌, ◌&&◌, ◌⊎◌, [], ◌∷◌, ◌++◌, codes, is_some, map, string_bytes, Err, IfErr, IfOk, IfSome, Ok};
+ghost use Rattle.std.specs.Prelude.{◌≡◌, ◌&&◌, ◌⊎◌, [], ◌∷◌, ◌++◌, codes, false, is_some, map, string_bytes, Err, IfErr, IfOk, IfSome, IsOk, Ok};
 ghost use Rattle.sql_builder.specs.Calls.{SelectFrom, Sql, call_view};
 ghost use Rattle.sql_builder.specs.Error.{FailsOnlyByMemory, IsMemory};
 ghost use Rattle.sql_builder.specs.RawTexts.{Bare};
@@ -29,10 +29,11 @@ pub fn of_books(alloc: Global, calls: &[Call]) -> Result<String, SqlBuilderError
 }
 
 /// The books that meet both conditions, where these leave the statement as it is: its WHERE is
-/// true where both of them are, whatever they say.
+/// true where both of them are, whatever they say. Else there is none, and nothing can fail.
 pub fn books_where(alloc: Global, one: &str, other: &str) -> Result<Option<String>, SqlBuilderError>
     ensures asked { IfOk result (λ found. is_some found
         ≡ (is_fit (Bare one.now) && is_fit (Bare other.now))) }
+    ensures refused { (is_fit (Bare one.now) && is_fit (Bare other.now)) ≡ false → IsOk result }
     ensures text { IfOk result (λ found. IfSome found (λ text. string_bytes text
         ≡ codes "SELECT * FROM books WHERE (" ++ (one.now ++ (codes ") AND ("
         ++ (other.now ++ codes ");"))))) }

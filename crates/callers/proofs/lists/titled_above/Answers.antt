@@ -1,16 +1,13 @@
-use Rattle.std.proofs.Common.{Ok, ◌≡◌, refl, sym, ◌∙◌, ap, subst, List, [], ◌∷◌, ◌++◌, ℕ, true, codes, map, pos, string_bytes, append-nil, IfOk}
+use Rattle.std.proofs.Common.{◌≡◌, refl, sym, ◌∙◌, ap, subst, List, [], ◌∷◌, ◌++◌, ℕ, true, codes, map, pos, string_bytes, append-nil, IfOk}
 use Rattle.std.proofs.lemmas.Bool.{and_from}
-use Rattle.std.proofs.lemmas.Result.{IfOk-weaker}
 use Rattle.sql_parts.specs.Operands.{ServesAsOperand}
 use Rattle.sql_parts.specs.Text.{decimal_text}
-use Rattle.sql_parts.specs.Quoting.{quoted}
 use Rattle.sql_parts.specs.Tokens.{Str, tokens}
 use Rattle.sql_builder.specs.Calls.{CallText, Cond, SelectFrom, Sql, call_view}
 use Rattle.sql_builder.specs.Condition.{Compare}
 use Rattle.sql_builder.specs.RawFragments.{has_fit_texts, is_fit}
 use Rattle.sql_builder.specs.RawTexts.{Bare}
 use Rattle.sql_builder.specs.Meaning.{HasTruthOf, condition_groups}
-use Rattle.sql_builder.specs.Statement.{statement}
 use Rattle.sql_builder.specs.declared.condition.Family.TheVariants.{And}
 use Rattle.sql_builder.specs.declared.condition.Relation.TheVariants.{Eq, Gt}
 use Rattle.callers.proofs.lists.titled_above.Goals as goal
@@ -40,22 +37,12 @@ returns-clause-truth c =
     rw (c.deref.ensures.value, c.in_ok-push-2.ensures.items, c.in_ok-push.ensures.items, c.new-calls.ensures.items)
     (rw (c.in_ok-field.ensures.ok, c.in_ok-field-2.ensures.ok, c.in_ok-price.ensures.text) refl) in
     let law = c.literals_are_operands.ensures in
-    let operand = fit title (subst ServesAsOperand (sym c.in_ok-title.ensures.text) (law.quote c.args.title.now)) in
+    let quoted = fit title (subst ServesAsOperand (sym c.in_ok-title.ensures.text) (law.quote c.args.title.now)) in
     let fits = (λ i. has_fit_texts (SelectFrom (c.in_ok-from_str.ensures.ok i)) (calls i) Sql)
-    ∙ texts_fit title price operand (fit price (law.numbers (pos c.args.price))) in
+    ∙ texts_fit title price quoted (fit price (law.numbers (pos c.args.price))) in
     let start = SelectFrom (string_bytes c.in_ok-from_str.field-0) in
     let made = map call_view c.deref.result.now in
     let texts = c.fit_texts_make_fit_fragments.ensures in
     subst (λ groups. IfOk c.run.result (λ s. HasTruthOf groups (string_bytes s)))
     (ap condition_groups calls ∙ groups_are c.args.title.now title price c.in_ok-title.ensures.token)
     (c.run.ensures.truth refl (texts.fragments start made Sql refl fits) (texts.conditions start made Sql fits))
-
-pub returns-clause-text : goal.returns-clause-text
-returns-clause-text c =
-    let wanted = asked (quoted c.args.title.now) (decimal_text c.args.price) in
-    let calls : map call_view c.deref.result.now ≡ wanted =
-    rw (c.deref.ensures.value, c.in_ok-push-2.ensures.items, c.in_ok-push.ensures.items, c.new-calls.ensures.items)
-    (rw (c.in_ok-field.ensures.ok, c.in_ok-field-2.ensures.ok, c.in_ok-title.ensures.text, c.in_ok-price.ensures.text) refl) in
-    let made = statement (SelectFrom (codes "books")) wanted Sql in
-    IfOk-weaker c.run.result (λ s. made ≡ Ok (string_bytes s)) (λ s. IfOk made (λ text. string_bytes s ≡ text))
-    (λ s is. subst (λ r. IfOk r (λ text. string_bytes s ≡ text)) (sym is) refl) (rw (calls, c.in_ok-from_str.ensures.ok) at c.run.ensures.text)

@@ -1,7 +1,6 @@
 -- The statement of an author differs from that of none in the text of a string alone.
-use Rattle.std.proofs.Common.{◌≡◌, ◌∷◌, Ok, Err, IfOk, List, Result, [], ap, codes, refl, subst, sym, ℕ, string_bytes}
+use Rattle.std.proofs.Common.{◌≡◌, ◌∷◌, Ok, List, [], ap, codes, refl, subst, sym, ℕ, string_bytes}
 use Rattle.std.proofs.lemmas.Result.{IfOk-weaker}
-use Rattle.sql_parts.specs.Quoting.{quoted}
 use Rattle.sql_parts.specs.StringTexts.{outline}
 use Rattle.sql_parts.specs.Tokens.{Token, tokens}
 use Rattle.sql_builder.specs.Calls.{Sql}
