@@ -62,8 +62,8 @@ pub fn added_texts_keep_tokens()
 /// quote, and whose raw fragments are closed, `run` prints the same tokens, but for the texts of the
 /// string tokens at these places, or returns the same error, since it returns the statement of which
 /// this is said; so does a builder that these calls made. Neither the number of tokens nor that of
-/// `;`, nor the clauses that are parsed back, nor a test of fragments depends on texts that calls
-/// quote.
+/// `;`, nor a test of fragments depends on texts that calls quote, nor, but for the texts of strings,
+/// the clauses that are parsed back.
 /// `SqlBuilder::update_table(alloc, "t")?.set_str("a", "x', b = 'y")?.sql()?` →
 /// `UPDATE t SET a = 'x'', b = ''y';`
 pub fn quoted_texts_do_not_interfere()
@@ -87,7 +87,7 @@ pub fn quoted_texts_do_not_interfere()
 /// printed of the other, and goes through the same states over the bytes outside of them; or both
 /// fail with the same error. It is so of what `run` prints, and of what `print` prints of the builder
 /// that `begin` and `make` make, and of any builder where texts are quoted inside of raw fragments. So
-/// a statement that a database reads as meant with empty texts is read so with every text.
+/// a statement that a database reads as meant with empty texts is read so with any such texts.
 /// `SqlBuilder::update_table(alloc, "t")?.set_str("a", "x'; --")?.sql()?` → `UPDATE t SET a = 'x''; --';`
 pub fn readers_ignore_quoted_texts()
     ensures statements { ReadersIgnoreQuotedTexts statement }
