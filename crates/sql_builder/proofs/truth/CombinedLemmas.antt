@@ -1,5 +1,5 @@
 -- The texts of conditions are fragments, and what is true of those that are made of others.
-use Rattle.std.proofs.Common.{◌≡◌, refl, sym, ◌∙◌, ap, subst, ℕ, Bool, true, false, not, ◌&&◌, List, [], ◌∷◌, ◌++◌, map, pos, codes, append-nil, append_assoc, length, ◌≤◌, arith}
+use Rattle.std.proofs.Common.{◌≡◌, refl, sym, ◌∙◌, ap, subst, ℕ, Bool, true, false, not, ◌&&◌, List, [], ◌∷◌, ◌++◌, map, pos, codes, append-nil, append_assoc}
 use Rattle.std.specs.List.{AllByRecursion, list_all}
 use Rattle.std.proofs.lemmas.Bool.{and_from, and_parts, not_from_false}
 use Rattle.sql_parts.specs.Fragments.{balanced, is_clause_word, is_joining, operand}
@@ -7,17 +7,14 @@ use Rattle.sql_parts.specs.Operands.{ServesAsOperand, is_fragment}
 use Rattle.sql_parts.specs.Quoting.{quoted}
 use Rattle.sql_parts.specs.Text.{join_with}
 use Rattle.sql_parts.specs.Tokens.{Token, Str, Word, tokens, closed}
-use Rattle.sql_parts.proofs.fragments.DepthFacts.{has_top_level-is, is_balanced, is_balanced-is, closes_from, has_top_level, is_even, is_operand-is}
-use Rattle.std.proofs.lemmas.List.Folds.{list_all-append}
-use Rattle.sql_parts.proofs.tokens.JoinFacts.{Edged}
+use Rattle.sql_parts.proofs.fragments.DepthFacts.{has_top_level-is, is_balanced, is_balanced-is, is_operand-is}
 use Rattle.sql_builder.specs.Calls.{Cond, SelectFrom, Sql}
 use Rattle.sql_builder.specs.Condition.{ConditionText, Compare, Like, condition_bytes, condition_pieces, condition_raw_texts, has_operands, mask_text, not_text}
 use Rattle.sql_builder.specs.Layout.{byte_units}
 use Rattle.sql_builder.specs.Phrases as phrase
-use Rattle.sql_builder.specs.Pieces.{Pieces, fixed_piece, pieces_text, quoted_piece, raw_piece, Fixed, Quoted, Raw}
-use Rattle.sql_builder.specs.RawFragments.{are_fit, has_closed_fragments, is_fit, is_closed_piece}
-use Rattle.sql_builder.specs.RawTexts.{Enclosed, Bare}
-use Rattle.sql_builder.specs.Shape.{pieces_tokens, cond_tokens}
+use Rattle.sql_builder.specs.Pieces.{Pieces, fixed_piece, pieces_text, quoted_piece, raw_piece}
+use Rattle.sql_builder.specs.RawFragments.{are_fit, has_closed_fragments, is_fit}
+use Rattle.sql_builder.specs.Shape.{pieces_tokens}
 use Rattle.sql_builder.specs.Truths.{Valuation, and_all, not3, or_all, truth, IsAtom}
 use Rattle.sql_builder.specs.WhereTokens.{in_brackets, joined}
 use Rattle.sql_builder.specs.declared.condition.Family.TheVariants.{And}
@@ -28,7 +25,7 @@ use Rattle.sql_builder.proofs.pieces.ClauseShapeLemmas.{condition_keeps}
 use Rattle.sql_builder.proofs.pieces.ShapeLemmas.{Inside, brackets-inside, pieces_tokens-brackets, quoted-inside, raw-inside, shaped, text-append}
 use Rattle.sql_builder.proofs.pieces.ShapeLemmas.{closing-last, words-first}
 use Rattle.sql_builder.proofs.reading.ClauseWordLemmas.{are_fit-is, fit-balanced, fragments_closed}
-use Rattle.sql_builder.proofs.tokens.BalancedFacts.{IsPlain, balanced_closed, balanced_even, is_balanced-brackets, is_condition-append, is_condition-joined, is_even-brackets, no_clause-brackets, even_closes}
+use Rattle.sql_builder.proofs.tokens.BalancedFacts.{IsPlain, balanced_closed, balanced_even, is_balanced-brackets, is_condition-append, is_condition-joined, is_even-brackets, no_clause-brackets}
 use Rattle.sql_builder.proofs.tokens.WhereTokenFacts.{and_word, is_condition, is_group, not_word, or_word, like_word}
 use Rattle.sql_builder.proofs.truth.AtomLemmas.{atom_plain}
 use Rattle.sql_builder.proofs.truth.ConditionGroupLemmas.{condition-fit, pieces_tokens-joined}
