@@ -17,6 +17,7 @@ class Workload:
     limit: ClassVar = None
     memory: ClassVar = 1.0
     growth: ClassVar = 10.5
+    prints_same: ClassVar = True
 
     def is_right(self, _printed):
         return True
@@ -117,6 +118,13 @@ class Typed(Calls):
 
 
 @dataclass
+class Bound(Typed):
+    """Turns of a step by parameters, beside the same statements by `Value`s, which print other texts."""
+
+    prints_same: ClassVar = False
+
+
+@dataclass
 class Copied(Calls):
     """Copies of so few texts that the C library has room for them at hand, which it hasn't for ten times as many."""
 
@@ -214,6 +222,15 @@ def numbered(count, name, placeholder):
 
 
 NAMES = numbered(1_000, "n{}", "")
+
+
+def numbered_few(count):
+    """So many names, and the placeholders of their numbers again and again."""
+    numbers = range(1, count + 1)
+    names, placeholders = " ".join("x" * count), "".join(f"${it}, " for it in numbers)
+    return lambda times: f"{names}\n{placeholders * times}"
+
+
 # Names that begin with these bytes and have seven digits behind them collide in std's `HashMap`, whose seed is fixed.
 COLLIDING = "sltgzdusqyrawqsbxl4ePHbk0"
 
@@ -229,16 +246,27 @@ CALLS = [
     Calls("an UPDATE", "update", 100_000, 0.3),
     Calls("an UPDATE by a restarted builder, to a kept text", "restart", 100_000, 0.3),
     Calls("an INSERT of 100 rows", "insert", 5_000, 0.1, repeated("x" * 100)),
+    Calls("an empty SELECT of the builder", "built_none", 100_000, 1.0),
+    Calls("a list of 100 `or_where`", "or_where", 5_000, 1.6, repeated("x" * 100)),
     *(Calls(f"`{macro}!`", macro, 200_000, 0.25) for macro in ("name", "qname", "baname", "brname", "dname")),
     *(Calls(f"`{call}`, 40 bytes", call, 500_000, 0.55, repeated(TITLE)) for call in QUOTINGS),
     Calls("`quote`, 4 KB with a quote in each 64 bytes", "quote", 20_000, 0.55, repeated(("x" * 63 + "'") * 64)),
     Calls("`quote`, 4 KB without a quote", "quote", 20_000, 0.55, repeated("x" * 4096)),
     Calls("`quote`, 4 KB of quotes", "quote", 2_000, 0.55, repeated("'" * 4096)),
+    Calls("`quote`, 40 bytes with a quote in each two", "quote", 200_000, 1.0, repeated("'x" * 20)),
+    Calls("`set_str`, 40 bytes with a quote in each two", "set_str", 200_000, 1.0, repeated("'x" * 20)),
+    Calls("`esc` of an empty text", "esc", 500_000, 1.5),
+    Calls("`SqlName::safe` of 4 KB", "safe", 5_000, 1.0, repeated("n" * 4096)),
     # the crate's `dquote` escapes nothing
     *(Calls(f"`{call}`, 1 MB, ASCII", call, 100, 1.6 if call == "dquote" else 0.9, repeated("x" * 1_000_000)) for call in QUOTINGS),
     Calls("`quote`, 1 MB, not ASCII", "quote", 100, 0.9, repeated("é" * 500_000)),
     Calls("`quote`, 1 MB of quotes", "quote", 100, 0.9, repeated("'" * 1_000_000)),
     *(Calls(f"`{call}`, 40 bytes", call, 200_000, 0.55, template(call, it)) for call, it in TEMPLATES.items()),
+    Calls("`binds` of 5", "binds", 200_000, 1.0, lambda times: f"a b c d e\n{'?, ?, ?, ?, ?, ' * times}"),
+    *(
+        Calls(f"`bind_nums` of {count}", "bind_nums", 200_000, 1.0, numbered_few(count))
+        for count in (2, 5)
+    ),
     Calls("three `bind` in a chain, 40 bytes", "bind_chain", 100_000, 0.55, repeated(TEMPLATES["binds"])),
     *(
         Calls(f"`{call}`, 4 KB", call, 5_000, 0.75, template(call, filled(it + PLAIN, "a = b")))
@@ -266,6 +294,7 @@ CALLS = [
     Calls("`sql_arg` of a `Some(u64)`", "arg_some", 200_000, 1.0),
     Calls("`sql_arg` of a `Literal::Whole`", "arg_whole", 200_000, 1.0),
     Calls("`sql_arg` of a bool", "arg_bool", 200_000, 1.0),
+    Calls("`sql_arg` of a `None`", "arg_none", 200_000, 1.0),
     *(Calls(f"IN of 1,000 {of}", f"in_{of}", 500, 1.0, repeated("x" * 1_000)) for of in ("u8", "u32", "i64", "i128")),
     Calls("`clone` of a SELECT of 6,000 items", "clone", 500, 0.9, repeated("x" * 1_000)),
     *(
@@ -274,12 +303,30 @@ CALLS = [
         )
         for count, turns in ((1, 100_000), (10, 50_000), (10_000, 100))
     ),
+    # the crate keeps conditions in one text, so there is no aim
+    *(
+        Copied(f"`clone` of a SELECT of {count:,} ORs", "clone_ors", turns, 100, repeated("x" * count))
+        for count, turns in ((1, 100_000), (3, 100_000), (10, 50_000), (1_000, 1_000))
+    ),
 ]
 
 TYPED = [
     Typed("a SELECT with five filters", "search", 100_000, 1.15),
     Typed("an UPDATE of three fields", "update", 100_000, 1.15),
     Typed("an INSERT of 100 rows of mixed values", "insert", 5_000, 1.15, repeated("x" * 100)),
+    Typed("an INSERT of 100 rows of five values by `Row`", "rows", 5_000, 0.8, repeated("x" * 100)),
+    Typed("an INSERT of 100 rows of five values by `Literal`", "literals", 5_000, 1.0, repeated("x" * 100)),
+    Typed("IN of 1,000 texts", "in", 500, 1.0, repeated("x" * 1_000)),
+    Typed("`any` of 100 in `all`, over a text by hand", "any", 5_000, 1.2, repeated("x" * 100)),
+    Typed("an empty SELECT", "none", 100_000, 1.1),
+    Typed("a SELECT of one field", "field", 100_000, 1.1),
+    Typed("a DELETE", "delete", 100_000, 1.1),
+]
+
+BOUND = [
+    Bound("a SELECT with five conditions", "bound_search", 100_000, 1.0),
+    Bound("an INSERT of 100 rows", "bound_rows", 5_000, 1.0, repeated("x" * 100)),
+    Bound("IN of 1,000", "bound_in", 500, 1.0, repeated("x" * 1_000)),
 ]
 
 CONDITION = "(price > 100 AND title LIKE 'it''s%') OR CASE WHEN a THEN b ELSE c END = 3 AND cost BETWEEN 1 AND 2 OR "

@@ -9,6 +9,8 @@ from dataclasses import dataclass
 TESTS = os.path.dirname(os.path.realpath(__file__))
 CRATES = f"{os.path.dirname(TESTS)}/crates"
 SQLB = f"{CRATES}/sqlb/out/sqlb"
+# Each takes those before it.
+LIBRARIES = ("sql_parts", "sql_builder", "sql_typed")
 
 
 @dataclass
@@ -30,6 +32,23 @@ def build(crate="sqlb", command="run"):
         ran = subprocess.run(["rt", command], cwd=f"{CRATES}/{crate}", stdin=subprocess.DEVNULL, capture_output=True, text=True)
         if ran.returncode:
             sys.exit(f"{ran.stdout}{ran.stderr}{crate} isn't built")
+
+
+def proved(folder, name, *others):
+    """Proves and builds tests/NAME.rt.txt, over copies of the libraries and with these other crates. Gives the program's path."""
+    crate = f"{folder}/crates/{name}"
+    os.makedirs(f"{crate}/src")
+    shutil.copyfile(f"{TESTS}/{name}.rt.txt", f"{crate}/src/main.rt")
+    for library in LIBRARIES:
+        shutil.copytree(f"{CRATES}/{library}", f"{folder}/crates/{library}")
+    with open(f"{folder}/crates.txt", "w", encoding="utf-8") as it:
+        it.write("".join(f"{it}: {' '.join(LIBRARIES[:at])}\n" for at, it in enumerate(LIBRARIES)))
+        it.write(f"{name}: {' '.join([*LIBRARIES, *others])}\n")
+    subprocess.run(["git", "init", "-q"], cwd=folder, check=True)
+    ran = subprocess.run(["rt", "run"], cwd=crate, stdin=subprocess.DEVNULL, capture_output=True, text=True)
+    if ran.returncode:
+        sys.exit(f"{ran.stdout}{ran.stderr}{name} isn't built")
+    return f"{crate}/out/{name}"
 
 
 def build_failing(folder):

@@ -7,6 +7,7 @@ import glob
 import os
 import pwd
 import shutil
+import sqlite3
 import subprocess
 import tempfile
 import time
@@ -46,9 +47,22 @@ def first_line(message):
     return message.decode(errors="replace").split("\n")[0].removeprefix("ERROR:").strip()
 
 
+class Bind(ctypes.Structure):
+    """A value or a column of a prepared statement of MariaDB's library."""
+
+    _fields_ = [
+        *((it, POINTER) for it in ("length", "is_null", "buffer", "error", "row", "store", "fetch", "skip")),
+        *((it, ULONG) for it in ("buffer_length", "offset", "length_value")),
+        *((it, UINT) for it in ("flags", "pack_length", "buffer_type")),
+        *((it, ctypes.c_bool) for it in ("error_value", "is_unsigned", "long_data_used", "is_null_value")),
+        ("extension", POINTER),
+    ]
+
+
 class Database:
-    """A connection. `run` runs all statements of a text and gives their rows, each value as its bytes or None, `text_of` is an
-    expression for a text that needs no quoting, and `words` start the database's command-line program, with `variables`."""
+    """A connection. `run` runs all statements of a text and gives their rows, each value as its bytes or None, `run_with` runs one with
+    values beside it (texts, whole numbers and None), `text_of` is an expression for a text that needs no quoting, and `words` start the
+    database's command-line program, with `variables`."""
 
     # What the database is measured with, by `set`.
     settings = ("",)
@@ -78,7 +92,7 @@ class Database:
 
 class Sqlite(Database):
     def __init__(self, folder):
-        self.path = f"{folder}/database"
+        self.folder, self.path = folder, f"{folder}/database"
         self.lib = library("sqlite3")
         declare(
             self.lib,
@@ -101,6 +115,8 @@ class Sqlite(Database):
         self.run("PRAGMA case_sensitive_like = ON")
         # nothing has to outlive the run
         self.run("PRAGMA synchronous = OFF; PRAGMA journal_mode = MEMORY")
+        self.python = sqlite3.connect(self.path, isolation_level=None)
+        self.python.executescript("PRAGMA case_sensitive_like = ON; PRAGMA synchronous = OFF; PRAGMA journal_mode = MEMORY")
 
     def words(self):
         return [program("sqlite3"), self.path]
@@ -140,7 +156,16 @@ class Sqlite(Database):
         text = self.lib.sqlite3_column_text(made, number)
         return ctypes.string_at(text, self.lib.sqlite3_column_bytes(made, number))
 
+    def run_with(self, statement, values):
+        """By Python's library."""
+        try:
+            rows = self.python.execute(statement, values).fetchall()
+        except sqlite3.Error as why:
+            raise Refused(f"{why}") from why
+        return [tuple(None if it is None else f"{it}".encode() for it in row) for row in rows]
+
     def close(self):
+        self.python.close()
         self.lib.sqlite3_close(self.db)
 
 
@@ -148,7 +173,7 @@ class Postgres(Database):
     settings = ("on", "off")
 
     def __init__(self, folder):
-        self.variables = {"PGHOST": folder, "PGUSER": "tester"}
+        self.folder, self.variables = folder, {"PGHOST": folder, "PGUSER": "tester"}
         self.lib = library("pq")
         declare(
             self.lib,
@@ -156,6 +181,7 @@ class Postgres(Database):
             PQstatus=(INT, POINTER),
             PQfinish=(None, POINTER),
             PQexec=(POINTER, POINTER, TEXT),
+            PQexecParams=(POINTER, POINTER, TEXT, INT, POINTER, POINTER, POINTER, POINTER, INT),
             PQresultStatus=(INT, POINTER),
             PQresultErrorMessage=(TEXT, POINTER),
             PQntuples=(INT, POINTER),
@@ -183,7 +209,20 @@ class Postgres(Database):
         return f"convert_from(decode('{text.encode().hex()}', 'hex'), 'UTF8')"
 
     def run(self, statement):
-        result = self.lib.PQexec(self.db, statement.encode())
+        return self.rows(self.lib.PQexec(self.db, statement.encode()))
+
+    def run_with(self, statement, values, is_binary=True):
+        """By PQexecParams, in the binary format or as texts, which libpq cuts at a zero byte."""
+        count, number, text = len(values), 20, 25  # the types int8 and text
+        binary = lambda it: it.to_bytes(8, "big", signed=True) if isinstance(it, int) else it.encode()
+        sent = [None if it is None else binary(it) if is_binary else f"{it}".encode() for it in values]
+        types = (UINT * count)(*(number if isinstance(it, int) else text for it in values))
+        lengths = (INT * count)(*(len(it or b"") for it in sent))
+        formats = (INT * count)(*[is_binary] * count)
+        return self.rows(self.lib.PQexecParams(self.db, statement.encode(), count, types, (TEXT * count)(*sent), lengths, formats, 0))
+
+    def rows(self, result):
+        """The rows of a result, which is then freed."""
         try:
             # of nothing, of a statement without rows, of one with rows
             if self.lib.PQresultStatus(result) not in (0, 1, 2):
@@ -206,7 +245,7 @@ class Maria(Database):
     settings = ("default mode", "NO_BACKSLASH_ESCAPES")
 
     def __init__(self, folder):
-        self.socket = f"{folder}/socket"
+        self.folder, self.socket = folder, f"{folder}/socket"
         self.lib = library("mariadb", "mysqlclient")
         declare(
             self.lib,
@@ -223,6 +262,16 @@ class Maria(Database):
             mysql_fetch_row=(ctypes.POINTER(POINTER), POINTER),
             mysql_fetch_lengths=(ctypes.POINTER(ULONG), POINTER),
             mysql_free_result=(None, POINTER),
+            mysql_stmt_init=(POINTER, POINTER),
+            mysql_stmt_prepare=(INT, POINTER, TEXT, ULONG),
+            mysql_stmt_param_count=(ULONG, POINTER),
+            mysql_stmt_bind_param=(ctypes.c_bool, POINTER, POINTER),
+            mysql_stmt_execute=(INT, POINTER),
+            mysql_stmt_field_count=(UINT, POINTER),
+            mysql_stmt_bind_result=(ctypes.c_bool, POINTER, POINTER),
+            mysql_stmt_fetch=(INT, POINTER),
+            mysql_stmt_error=(TEXT, POINTER),
+            mysql_stmt_close=(ctypes.c_bool, POINTER),
         )
         self.db = self.lib.mysql_init(None)
         self.lib.mysql_options(self.db, 7, b"utf8mb4")  # MYSQL_SET_CHARSET_NAME
@@ -271,8 +320,67 @@ class Maria(Database):
             rows.append(tuple(None if row[it] is None else ctypes.string_at(row[it], lengths[it]) for it in width))
         return rows
 
+    def takes(self, statement):
+        """How many values a prepared statement takes."""
+        text, made = statement.encode(), self.lib.mysql_stmt_init(self.db)
+        try:
+            if self.lib.mysql_stmt_prepare(made, text, len(text)):
+                raise Refused(first_line(self.lib.mysql_stmt_error(made)))
+            return self.lib.mysql_stmt_param_count(made)
+        finally:
+            self.lib.mysql_stmt_close(made)
+
+    def run_with(self, statement, values):
+        """By a prepared statement of its library."""
+        text, made = statement.encode(), self.lib.mysql_stmt_init(self.db)
+
+        def succeed(is_failed):
+            if is_failed:
+                raise Refused(first_line(self.lib.mysql_stmt_error(made)))
+
+        try:
+            succeed(self.lib.mysql_stmt_prepare(made, text, len(text)))
+            if self.lib.mysql_stmt_param_count(made) != len(values):
+                raise Broken(f"it takes no {len(values)} values: {statement}")
+            sent = [bound(it) for it in values]
+            succeed(sent and self.lib.mysql_stmt_bind_param(made, (Bind * len(sent))(*sent)))
+            succeed(self.lib.mysql_stmt_execute(made))
+            return self.fetched(made, succeed)
+        finally:
+            self.lib.mysql_stmt_close(made)
+
+    def fetched(self, made, succeed):
+        """The rows of a prepared statement that has been run, each value up to so many bytes."""
+        width, most = self.lib.mysql_stmt_field_count(made), 1 << 16
+        if not width:
+            return []
+        buffers = [ctypes.create_string_buffer(most) for _ in range(width)]
+        lengths, nulls = (ULONG * width)(), (ctypes.c_bool * width)()
+        binds = (Bind * width)()
+        for at, it in enumerate(binds):
+            it.buffer, it.buffer_length, it.buffer_type = ctypes.addressof(buffers[at]), most, 254  # MYSQL_TYPE_STRING
+            it.length, it.is_null = ctypes.addressof(lengths) + at * ctypes.sizeof(ULONG), ctypes.addressof(nulls) + at
+        succeed(self.lib.mysql_stmt_bind_result(made, binds))
+        rows = []
+        while not (status := self.lib.mysql_stmt_fetch(made)):
+            rows.append(tuple(None if null else buffer.raw[:length] for buffer, length, null in zip(buffers, lengths, nulls)))
+        succeed(status != 100)  # MYSQL_NO_DATA
+        return rows
+
     def close(self):
         self.lib.mysql_close(self.db)
+
+
+def bound(value):
+    """What MariaDB's library binds of a value."""
+    found = Bind(buffer_type=6)  # MYSQL_TYPE_NULL
+    if value is not None:
+        kind, data = (8, value.to_bytes(8, "little", signed=True)) if isinstance(value, int) else (254, value.encode())
+        # (the structure keeps nothing alive)
+        found.kept = ctypes.create_string_buffer(data, len(data) + 1)
+        found.buffer, found.buffer_length, found.length_value = ctypes.addressof(found.kept), len(data), len(data)
+        found.buffer_type = kind  # MYSQL_TYPE_LONGLONG, MYSQL_TYPE_STRING
+    return found
 
 
 def ran(words, **how):

@@ -42,8 +42,9 @@ def fits_line(text):
 
 
 def attacks():
-    """The texts in the code of docs/SECURITY.md, each once, attacks among them; without those with a zero byte."""
-    page = f"{os.path.dirname(os.path.dirname(os.path.realpath(__file__)))}/docs/SECURITY.md"
-    with open(page, encoding="utf-8") as it:
-        found = [ast.literal_eval(text) for text in re.findall(r'"(?:[^"\\]|\\.)*"', it.read())]
+    """The texts in the code of docs/SECURITY.md and tests/readings.md, each once, attacks among them; without those with a zero byte."""
+    root, found = os.path.dirname(os.path.dirname(os.path.realpath(__file__))), []
+    for page in ("docs/SECURITY.md", "tests/readings.md"):
+        with open(f"{root}/{page}", encoding="utf-8") as it:
+            found += [ast.literal_eval(text) for text in re.findall(r'"(?:[^"\\]|\\.)*"', it.read())]
     return [*dict.fromkeys(text for text in found if "\0" not in text)]

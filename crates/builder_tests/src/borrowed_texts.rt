@@ -1,8 +1,8 @@
 //! The calls that take borrowed texts, or none, each once.
 
 use sql_builder::calls::{
-    BinaryClause, BorrowedCondition, Family, NullaryClause, UnaryClause, VariadicClause,
-    make_binary, make_condition, make_nullary, make_order, make_unary, make_variadic,
+    BinaryClause, BorrowedCondition, Family, NullaryClause, TextList, UnaryClause, VariadicClause,
+    add_row, make_binary, make_condition, make_nullary, make_order, make_unary, make_variadic,
 };
 use sql_builder::text::{Items, Texts};
 use sql_builder::{SqlBuilder, SqlBuilderError};
@@ -37,18 +37,27 @@ fn makes_calls_of_borrowed_texts(rt: HostRuntime) -> Result<(), Fail> {
     Ok(())
 }
 
+#[test]
+fn makes_a_row_of_texts(rt: HostRuntime) -> Result<(), Fail> {
+    let mut row = TextList::new(rt.alloc());
+    row.push_text(rt.alloc(), &1)?;
+    row.push_text(rt.alloc(), &"b")?;
+    let mut builder = SqlBuilder::insert_into(rt.alloc(), "t")?;
+    builder.field("a")?;
+    add_row(&mut builder, &row)?;
+    assert_eq!(rt; builder.sql()?.as_str(), "INSERT INTO t (a) VALUES (1, b);");
+    Ok(())
+}
+
 /// Whether the next text of a list is this.
-fn is_next(alloc: Global, mut items: Items<'_, &str>, wanted: &str) -> bool {
-    match items.next_text(alloc) {
-        Ok(Some(text)) => text.as_str() == wanted,
-        _ => false,
-    }
+fn is_next(mut items: Items<'_, &str>, wanted: &str) -> bool {
+    items.next_text().is_some_and(|text| *text == wanted)
 }
 
 #[test]
 fn takes_texts_one_by_one(rt: HostRuntime) -> Result<(), Fail> {
     let items = Items { items: &["a", "b"] };
-    assert!(rt; is_next(rt.alloc(), items, "a"));
+    assert!(rt; is_next(items, "a"));
     Ok(())
 }
 

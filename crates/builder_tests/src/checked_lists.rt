@@ -1,21 +1,29 @@
 //! Texts that don't fit, and lists of calls that are tested before they are run.
 
+use sql_builder::SqlBuilderError;
 use sql_builder::calls::{
-    Call, CheckedError, Condition, Family, Finish, Place, Relation, Start, check, check_confined,
-    run_checked, run_confined,
+    Call, CheckedError, Condition, Family, Finish, Place, Relation, Start, Unfit, check,
+    check_confined, run_checked, run_confined,
 };
-use sql_builder::lex::{Demand, Misfit, misfit};
+use sql_builder::lex::{Demand, Misfit, has_clause_word, has_dialect_word, misfit};
 use sql_builder::text::{Fragment, Operand};
 use std::alloc::{AllocError, Global};
 use std::test::Fail;
 
 /// Whether a text has this message as a fragment, and this as an operand; none where it fits.
 fn has_messages(text: &str, as_fragment: Option<&str>, as_operand: Option<&str>) -> bool {
-    let fragment = Fragment::new(text).err();
-    let operand = Operand::new(text).err();
     message(misfit(text, Demand::Fragment)) == as_fragment
-        && message(fragment) == as_fragment
         && message(misfit(text, Demand::Operand)) == as_operand
+        && has_typed_messages(text, as_fragment, as_operand)
+}
+
+/// The same of `Fragment` and `Operand`.
+fn has_typed_messages(text: &str, as_fragment: Option<&str>, as_operand: Option<&str>) -> bool {
+    let fragment = Fragment::of_trusted(text).err();
+    let operand = Operand::of_trusted(text).err();
+    message(misfit(text, Demand::TypedFragment)) == as_fragment
+        && message(fragment) == as_fragment
+        && message(misfit(text, Demand::TypedOperand)) == as_operand
         && message(operand) == as_operand
 }
 
@@ -43,6 +51,87 @@ fn says_why_a_text_does_not_fit(rt: HostRuntime) -> Result<(), Fail> {
     ] {
         assert!(rt; has_messages(text, Some(message), Some(message)), "{text}");
     }
+    Ok(())
+}
+
+#[test]
+fn refuses_clauses_of_some_databases(rt: HostRuntime) -> Result<(), Fail> {
+    let dialect = Some("A top-level word that begins a clause in some databases");
+    for text in [
+        "a INTO evil",
+        "a INTO OUTFILE '/x'",
+        "true INTERSECT (SELECT b FROM secrets)",
+        "a except (SELECT b)",
+        "a MINUS (SELECT b)",
+        "TABLE secrets",
+        "a FETCH FIRST ROW ONLY",
+        "a FOR SHARE",
+        "a WITH TIES",
+        "a window b AS (c)",
+    ] {
+        assert!(rt; has_typed_messages(text, dialect, dialect), "{text}");
+        assert!(rt; has_dialect_word(text) && !has_clause_word(text), "{text}");
+        let as_before = misfit(text, Demand::Operand).is_none();
+        assert!(rt;
+            as_before && misfit(text, Demand::Fragment).is_none(),
+            "{text}"
+        );
+    }
+    Ok(())
+}
+
+#[test]
+fn takes_their_words_elsewhere(rt: HostRuntime) -> Result<(), Fail> {
+    for text in [
+        "substring(a FROM 1 FOR 2)",
+        "CAST(a AS timestamp with time zone)",
+        "(SELECT a INTERSECT TABLE b)",
+        "\"into\"",
+        "`for`",
+        "[with]",
+        "'a INTO b'",
+        "format",
+        "into_x",
+    ] {
+        assert!(rt; has_typed_messages(text, None, None), "{text}");
+        assert!(rt; !has_dialect_word(text), "{text}");
+    }
+    Ok(())
+}
+
+/// Whether Display prints the message of the reason, and of a list of calls that has it.
+fn is_displayed(alloc: Global, misfit: Misfit, message: &str) -> Result<bool, Fail> {
+    let unfit = Unfit {
+        place: Place::Start,
+        text: 0,
+        misfit,
+    };
+    let error = CheckedError::Unfit(unfit);
+    Ok(
+        format!(in alloc; "{misfit}")?.as_str() == message
+            && format!(in alloc; "{error}")?.as_str() == message,
+    )
+}
+
+#[test]
+fn displays_its_errors(rt: HostRuntime) -> Result<(), Fail> {
+    let alloc = rt.alloc();
+    for (misfit, message) in [
+        (Misfit::Blank, "No token"),
+        (Misfit::Open, "A quote or a comment has no end"),
+        (
+            Misfit::DialectWord,
+            "A top-level word that begins a clause in some databases",
+        ),
+        (
+            Misfit::CaseWord,
+            "A clause keyword or an open bracket between CASE and END",
+        ),
+    ] {
+        assert!(rt; is_displayed(alloc, misfit, message)?, "{message}");
+    }
+    let error = SqlBuilderError::NoTableName;
+    assert_eq!(rt; format!(in alloc; "{error}")?.as_str(), "No table name");
     Ok(())
 }
 

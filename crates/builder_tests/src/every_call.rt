@@ -8,7 +8,7 @@ use std::test::Fail;
 pub(crate) type Made = Result<String, SqlBuilderError>;
 
 /// Whether this was printed.
-pub(crate) fn is_made(made: Made, wanted: &str) -> bool {
+pub(crate) fn is_made<E: Drop>(made: Result<String, E>, wanted: &str) -> bool {
     match made {
         Ok(text) => text.as_str() == wanted,
         Err(_) => false,

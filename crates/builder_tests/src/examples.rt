@@ -100,7 +100,12 @@ fn searches_by_the_filters_that_are_given(rt: HostRuntime) -> Result<(), Fail> {
         least_price: None,
         in_stock: false,
     };
-    assert!(rt; is_made(search_printed(alloc, &all), "SELECT title FROM books;"));
+    assert!(rt;
+        is_made(
+            search_printed(alloc, &all),
+            "SELECT title FROM books ORDER BY title;"
+        )
+    );
     let narrow = Search {
         title: Some("it's"),
         author: Some("') OR (1 = 1; --"),
@@ -110,7 +115,7 @@ fn searches_by_the_filters_that_are_given(rt: HostRuntime) -> Result<(), Fail> {
     assert!(rt;
         is_made(
             search_printed(alloc, &narrow),
-            "SELECT title FROM books WHERE (title LIKE '%it''s%') AND (author = ''') OR (1 = 1; --') AND (price >= 5) AND (stock > 0);"
+            "SELECT title FROM books WHERE (title LIKE '%it''s%') AND (author = ''') OR (1 = 1; --') AND (price >= 5) AND (stock > 0) ORDER BY title;"
         )
     );
     Ok(())

@@ -11,6 +11,8 @@ mod borrowed_texts;
 #[cfg(test)]
 mod checked_lists;
 #[cfg(test)]
+mod clauses;
+#[cfg(test)]
 mod clones;
 #[cfg(test)]
 mod conditions;
@@ -27,11 +29,15 @@ mod lists_of_calls;
 #[cfg(test)]
 mod names;
 #[cfg(test)]
+mod parameters;
+#[cfg(test)]
 mod quoting;
 #[cfg(test)]
 mod reused_buffers;
 #[cfg(test)]
 mod stated_laws;
+#[cfg(test)]
+mod templates;
 #[cfg(test)]
 mod typed;
 #[cfg(test)]

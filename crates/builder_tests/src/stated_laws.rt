@@ -12,6 +12,9 @@ fn states_its_laws() {
     laws::tokens_join_at_edges();
     laws::bound_texts_keep_the_count();
     laws::literals_are_operands();
+    laws::literals_have_their_tokens();
+    laws::placeholders_are_operands();
+    laws::numbers_bind_part_by_part();
     laws::quoted_names_are_operands();
     laws::literals_without_backslashes_read_alike();
     laws::escaped_masks_match_their_text();
@@ -34,6 +37,8 @@ fn states_its_laws() {
     laws::statements_keep_tokens();
     laws::statements_have_truth();
     laws::statements_nest();
+    laws::statements_bind_part_by_part();
+    laws::values_are_beside_statements::<String, u64>();
     laws::builders_print_statements();
     laws::inserts_read_back();
     laws::fit_texts_make_fit_fragments();

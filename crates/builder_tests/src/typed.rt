@@ -10,12 +10,15 @@ use sql_builder::SqlBuilderError;
 use sql_builder::calls::Percent;
 use sql_builder::prelude::*;
 use sql_builder::text::{Fragment, Operand, OwnedOperand, Quotes};
+use sql_parts::{Parameters, Style};
 use sql_typed::condition::{
-    Condition, all, any, between, contains, ends_with, eq, eq_or_null, ge, gt, in_query, in_values,
-    is_not_null, is_null, le, like, lt, ne, not, not_between, not_contains, not_ends_with,
-    not_in_query, not_in_values, not_like, not_starts_with, raw, starts_with,
+    Condition, all, any, between, contains, ends_with, eq, eq_or_null, exists, ge, gt, in_query,
+    in_values, is_not_null, is_null, le, like, like_mask, lt, ne, not, not_between, not_contains,
+    not_ends_with, not_exists, not_in_query, not_in_values, not_like, not_like_mask,
+    not_starts_with, raw, starts_with,
 };
-use sql_typed::{Delete, Insert, JoinKind, Query, Row, Select, Update, operand};
+use sql_typed::mask::{containing, ending_with, starting_with};
+use sql_typed::{Delete, Error, Insert, JoinKind, Query, Row, Select, Update, operand};
 use std::alloc::Global;
 use std::test::Fail;
 
@@ -28,7 +31,7 @@ fn a() -> Operand<'static> {
     Operand::of("a")
 }
 
-fn books(alloc: Global) -> Result<Query, SqlBuilderError> {
+fn books(alloc: Global) -> Result<Query, Error> {
     Select::from(alloc, Fragment::of("t"))?.field(a())?.query()
 }
 
@@ -55,6 +58,54 @@ fn compares(rt: HostRuntime) -> Result<(), Fail> {
     assert!(rt; prints(eq_or_null(alloc, a(), None::<i64>), "a IS NULL"));
     assert!(rt; prints(between(alloc, a(), 1, 2), "a BETWEEN 1 AND 2"));
     assert!(rt; prints(not_between(alloc, a(), 1, 2), "a NOT BETWEEN 1 AND 2"));
+    Ok(())
+}
+
+#[test]
+fn asks_for_rows_of_queries(rt: HostRuntime) -> Result<(), Fail> {
+    let alloc = rt.alloc();
+    let query = books(alloc)?;
+    assert!(rt; prints(exists(alloc, &query), "EXISTS (SELECT a FROM t)"));
+    assert!(rt; prints(not_exists(alloc, &query), "NOT EXISTS (SELECT a FROM t)"));
+    let average = Select::from(alloc, Fragment::of("t"))?
+        .field(Operand::of("AVG(a)"))?
+        .subquery()?;
+    assert!(rt; prints(eq(alloc, a(), &average), "a = (SELECT AVG(a) FROM t)"));
+    assert!(rt; prints(lt(alloc, average, a()), "(SELECT AVG(a) FROM t) < a"));
+    Ok(())
+}
+
+#[test]
+fn copies_searches(rt: HostRuntime) -> Result<(), Fail> {
+    let alloc = rt.alloc();
+    let filter = eq(alloc, a(), Value("it's"))?;
+    let search = Select::from(alloc, Fragment::of("t"))?
+        .and_where(filter.clone()?)?
+        .or_where(not(alloc, &filter)?)?;
+    let count = search.clone()?.count(Operand::of("*"))?;
+    let page = search.clone()?.order_asc(a())?.limit(10)?;
+    let all = "SELECT * FROM t WHERE a = 'it''s' OR NOT (a = 'it''s');";
+    assert!(rt; is_made(search.sql(), all));
+    assert!(rt;
+        is_made(
+            count.sql(),
+            "SELECT COUNT(*) FROM t WHERE a = 'it''s' OR NOT (a = 'it''s');"
+        )
+    );
+    assert!(rt;
+        is_made(
+            page.sql(),
+            "SELECT * FROM t WHERE a = 'it''s' OR NOT (a = 'it''s') ORDER BY a LIMIT 10;"
+        )
+    );
+    let row = Insert::into(alloc, Fragment::of("t"))?.values(&[1])?;
+    assert!(rt;
+        is_made(
+            row.clone()?.values(&[2])?.sql(),
+            "INSERT INTO t () VALUES (1), (2);"
+        )
+    );
+    assert!(rt; is_made(row.sql(), "INSERT INTO t () VALUES (1);"));
     Ok(())
 }
 
@@ -94,6 +145,63 @@ fn matches_masks(rt: HostRuntime) -> Result<(), Fail> {
 }
 
 #[test]
+fn makes_masks(rt: HostRuntime) -> Result<(), Fail> {
+    let alloc = rt.alloc();
+    let word = "50%_!'";
+    assert!(rt; is_made(containing(alloc, word), "%50!%!_!!'%"));
+    assert!(rt; is_made(starting_with(alloc, word), "50!%!_!!'%"));
+    assert!(rt; is_made(ending_with(alloc, word), "%50!%!_!!'"));
+    let mask = Value(containing(alloc, word)?);
+    assert!(rt;
+        prints(
+            like_mask(alloc, a(), mask),
+            "a LIKE '%50!%!_!!''%' ESCAPE '!'"
+        )
+    );
+    let mut values = Parameters::new(alloc, Style::Question);
+    let mask = values.bind(containing(alloc, word)?)?;
+    assert!(rt; prints(like_mask(alloc, a(), mask), "a LIKE ?1 ESCAPE '!'"));
+    assert!(rt; prints(not_like_mask(alloc, a(), mask), "a NOT LIKE ?1 ESCAPE '!'"));
+    Ok(())
+}
+
+#[test]
+fn compares_with_one_query(rt: HostRuntime) -> Result<(), Fail> {
+    let alloc = rt.alloc();
+    let query = Select::from(alloc, Fragment::of("t"))?.subquery()?;
+    let rows = [
+        (
+            query.as_operand(),
+            "a = ((SELECT * FROM t))",
+            "a <> ((SELECT * FROM t))",
+        ),
+        (Operand::of(" (b)"), "a = ( (b))", "a <> ( (b))"),
+        (
+            Operand::of("/* c */(b)"),
+            "a = (/* c */(b))",
+            "a <> (/* c */(b))",
+        ),
+        (
+            Operand::of("-- c\n(b)"),
+            "a = (-- c\n(b))",
+            "a <> (-- c\n(b))",
+        ),
+        (Operand::of("-b"), "a IN (-b)", "a NOT IN (-b)"),
+        (Operand::of("b"), "a IN (b)", "a NOT IN (b)"),
+    ];
+    for (value, inside, outside) in rows {
+        assert!(rt; prints(in_values(alloc, a(), &[value]), inside), "{inside}");
+        assert!(rt;
+            prints(not_in_values(alloc, a(), &[value]), outside),
+            "{outside}"
+        );
+    }
+    let two = [query.as_operand(), Operand::of("b")];
+    assert!(rt; prints(in_values(alloc, a(), &two), "a IN ((SELECT * FROM t), b)"));
+    Ok(())
+}
+
+#[test]
 fn combines(rt: HostRuntime) -> Result<(), Fail> {
     let alloc = rt.alloc();
     let both = [eq(alloc, a(), 1)?, raw(alloc, Fragment::of("b OR c"))?];
@@ -118,7 +226,7 @@ fn combines(rt: HostRuntime) -> Result<(), Fail> {
     Ok(())
 }
 
-fn selected(alloc: Global, name: &OwnedOperand) -> Result<String, SqlBuilderError> {
+fn selected(alloc: Global, name: &OwnedOperand) -> Result<String, Error> {
     Select::from(alloc, Fragment::of("t"))?
         .distinct()?
         .field(name)?
@@ -162,6 +270,85 @@ fn unites_queries(rt: HostRuntime) -> Result<(), Fail> {
     let mut out = String::from_str(rt.alloc(), "-- ")?;
     union.print_to(&mut out)?;
     assert_eq!(rt; out.as_str().strip_prefix("-- "), Some(wanted));
+    Ok(())
+}
+
+// A SELECT with UNION and this query.
+fn united(alloc: Global, query: Result<Select, SqlBuilderError>) -> Result<String, Error> {
+    let query = query?.query()?;
+    Select::from(alloc, Fragment::of("u"))?
+        .union(&query)?
+        .limit(1)?
+        .sql()
+}
+
+#[test]
+fn unites_queries_as_tables(rt: HostRuntime) -> Result<(), Fail> {
+    let alloc = rt.alloc();
+    let t = || Select::from(alloc, Fragment::of("t"));
+    let query = t()?.query()?;
+    let rows = [
+        (t()?.limit(2), "SELECT * FROM t LIMIT 2"),
+        (t()?.offset(2), "SELECT * FROM t OFFSET 2"),
+        (t()?.order_asc(a()), "SELECT * FROM t ORDER BY a"),
+        (t()?.order_desc(a()), "SELECT * FROM t ORDER BY a DESC"),
+        (
+            t()?.union_all(&query),
+            "SELECT * FROM t UNION ALL SELECT * FROM t",
+        ),
+    ];
+    for (select, text) in rows {
+        let mut wanted = String::from_str(alloc, "SELECT * FROM u UNION SELECT * FROM (")?;
+        wanted.push_str(text)?;
+        wanted.push_str(") AS u LIMIT 1;")?;
+        assert!(rt; is_made(united(alloc, select), wanted.as_str()), "{text}");
+    }
+    let plain = "SELECT * FROM u UNION SELECT * FROM t LIMIT 1;";
+    assert!(rt; is_made(united(alloc, t()), plain));
+    Ok(())
+}
+
+#[test]
+fn takes_placeholders(rt: HostRuntime) -> Result<(), Fail> {
+    let alloc = rt.alloc();
+    let mut values = Parameters::new(alloc, Style::Question);
+    let select = Select::from(alloc, Fragment::of("t"))?
+        .field(values.bind(1)?)?
+        .join(JoinKind::Left, Fragment::of("u"))?
+        .on(&eq(alloc, a(), values.bind(2)?)?)?
+        .and_where(in_values(alloc, a(), &[values.bind(3)?, values.bind(4)?])?)?
+        .and_where(not_in_values(alloc, a(), &[values.bind(5)?])?)?
+        .and_where(between(alloc, a(), values.bind(6)?, values.bind(7)?)?)?
+        .group_by(a())?
+        .having(&gt(alloc, a(), values.bind(8)?)?)?
+        .limit(values.bind(9)?)?
+        .offset(values.bind(10)?)?;
+    assert!(rt;
+        is_made(
+            select.sql(),
+            "SELECT ?1 FROM t LEFT JOIN u ON a = ?2 WHERE (a IN (?3, ?4)) AND (a NOT IN (?5)) AND (a BETWEEN ?6 AND ?7) GROUP BY a HAVING a > ?8 LIMIT ?9 OFFSET ?10;"
+        )
+    );
+    let mut values = Parameters::new(alloc, Style::Dollar);
+    let insert = Insert::into(alloc, Fragment::of("t"))?
+        .row(
+            Row::new(alloc)
+                .value(values.bind(1)?)?
+                .value(Literal::Null)?,
+        )?
+        .values(&[values.bind(2)?, values.bind(3)?])?
+        .returning(values.bind(4)?)?;
+    assert!(rt;
+        is_made(
+            insert.sql(),
+            "INSERT INTO t () VALUES ($1, NULL), ($2, $3) RETURNING $4;"
+        )
+    );
+    let mut values = Parameters::new(alloc, Style::Dollar);
+    let update = Update::table(alloc, Fragment::of("t"))?
+        .set(a(), values.bind(1)?)?
+        .and_where(not(alloc, &eq_or_null(alloc, a(), Some(values.bind(2)?))?)?)?;
+    assert!(rt; is_made(update.sql(), "UPDATE t SET a = $1 WHERE NOT (a = $2);"));
     Ok(())
 }
 

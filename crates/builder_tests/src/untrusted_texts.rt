@@ -1,11 +1,49 @@
-//! What untrusted text needs beside quotes: tests for backslashes and zero bytes, and masks of LIKE.
+//! Untrusted text as a literal of the builder, and what it needs beside quotes: tests for backslashes and zero bytes, and masks
+//! of LIKE.
 
+use crate::every_call::is_made;
 use sql_builder::SqlBuilderError;
 use sql_builder::lex::has_backslash;
 use sql_builder::prelude::*;
 use sql_builder::text::{LikeEscape, escape_like, has_zero};
 use std::alloc::Global;
 use std::test::Fail;
+
+fn inserted(alloc: Global) -> Result<String, SqlBuilderError> {
+    let text = Literal::Text(String::from_str(alloc, "it's")?);
+    SqlBuilder::insert_into(alloc, "t")?
+        .fields(&["a", "b", "c"])?
+        .values(&[text, Literal::Whole(5), Literal::Null])?
+        .sql()
+}
+
+#[test]
+fn takes_values_and_literals(rt: HostRuntime) -> Result<(), Fail> {
+    let alloc = rt.alloc();
+    let select = SqlBuilder::select_from(alloc, "t")?
+        .and_where_eq("a", Value("it's"))?
+        .and_where_in("b", &[Value("c"), Value("'d")])?
+        .and_where_gt("e", Literal::Whole(5))?
+        .sql();
+    assert!(rt;
+        is_made(
+            select,
+            "SELECT * FROM t WHERE (a = 'it''s') AND (b IN ('c', '''d')) AND (e > 5);"
+        )
+    );
+    let update = SqlBuilder::update_table(alloc, "t")?
+        .set("a", Value("it's"))?
+        .set("b", Value(None::<i32>))?
+        .sql();
+    assert!(rt; is_made(update, "UPDATE t SET a = 'it''s', b = NULL;"));
+    assert!(rt;
+        is_made(
+            inserted(alloc),
+            "INSERT INTO t (a, b, c) VALUES ('it''s', 5, NULL);"
+        )
+    );
+    Ok(())
+}
 
 #[test]
 fn finds_a_backslash(rt: HostRuntime) -> Result<(), Fail> {

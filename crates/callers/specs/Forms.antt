@@ -2,6 +2,7 @@
 use Rattle.std.specs.Prelude.{ℕ, Bool, false, List, Option, None, Some, codes, if◌then◌else◌, map, option_map}
 use Rattle.std.specs.Borrow.{Bor}
 use Rattle.sql_parts.specs.Literal.{literal_text, words}
+use Rattle.sql_parts.specs.Quoting.{quoted}
 use Rattle.sql_builder.specs.Calls.{Cond, Field, OrderAsc, SelectFrom}
 use Rattle.sql_builder.specs.Condition.{Compare, Raw, condition_bytes}
 use Rattle.sql_builder.specs.Text.{decimal_text}
@@ -26,7 +27,7 @@ value_text value = literal_text (words value.0.now)
 -- each filter, if it is given
 abbrev pub of_title : Option (Bor (List ℕ)) → Made → Made
 of_title None before = before
-of_title (Some title) before = where_also (like_text false (codes "title") (escaped_mask Any title.now)) before
+of_title (Some title) before = where_also (like_text false (codes "title") (quoted (escaped_mask Any title.now))) before
 
 abbrev pub of_author : Option (Option (Value (Bor (List ℕ)))) → Made → Made
 of_author None before = before

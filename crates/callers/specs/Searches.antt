@@ -1,7 +1,7 @@
 -- What a search asks for of the table of books.
 use Rattle.std.specs.Prelude.{ℕ, List, [], ◌∷◌, ◌++◌, codes, false, if◌then◌else◌, option_map}
 use Rattle.std.specs.Option.{option_to_list}
-use Rattle.sql_builder.specs.Calls.{CallText, Cond, Field}
+use Rattle.sql_builder.specs.Calls.{CallText, Cond, Field, OrderAsc}
 use Rattle.sql_builder.specs.Condition.{ConditionText, Compare, Like}
 use Rattle.sql_builder.specs.Quoting.{quoted}
 use Rattle.sql_builder.specs.Text.{decimal_text}
@@ -36,6 +36,10 @@ by_price search = option_to_list (option_map (λ price. Cond And (priced_from pr
 abbrev pub by_stock : Search → List CallText
 by_stock search = if search.in_stock then Cond And stocked ∷ [] else []
 
--- the calls that ask for the titles of such books
+-- the order of the titles
+abbrev pub ordered : CallText
+ordered = OrderAsc (codes "title")
+
+-- the calls that ask for the titles of such books, in order
 abbrev pub calls : Search → List CallText
-calls search = (Field (codes "title") ∷ []) ++ by_title search ++ by_author search ++ by_price search ++ by_stock search
+calls search = (Field (codes "title") ∷ []) ++ by_title search ++ by_author search ++ by_price search ++ by_stock search ++ ordered ∷ []

@@ -5,7 +5,7 @@ use Rattle.sql_builder.specs.Calls.{Cond, Field, SelectFrom}
 use Rattle.sql_builder.specs.Condition.{ConditionText, Raw, condition_bytes}
 use Rattle.sql_builder.specs.declared.condition.Family.TheVariants.{And}
 use Rattle.sql_typed.specs.Fits.{Made, adding, beginning}
-use Rattle.callers.specs.Searches.{titled, written_by, priced_from, stocked}
+use Rattle.callers.specs.Searches.{ordered, titled, written_by, priced_from, stocked}
 use Rattle.callers.specs.declared.searches.Search.{Search}
 
 -- one more condition
@@ -28,11 +28,12 @@ by_price (Some price) before = asking (priced_from price) before
 abbrev pub by_stock : Bool → Made → Made
 by_stock in_stock before = if in_stock then asking stocked before else before
 
--- the titles of such books
+-- the titles of such books, in order
 abbrev pub asked : Search → Made
 asked search =
-    by_stock search.in_stock
-    (by_price search.least_price (by_author search.author (by_title search.title (adding (Field (codes "title")) (beginning (SelectFrom (codes "books")))))))
+    adding ordered
+    (by_stock search.in_stock
+    (by_price search.least_price (by_author search.author (by_title search.title (adding (Field (codes "title")) (beginning (SelectFrom (codes "books"))))))))
 
 -- the books of an author
 abbrev pub asked_of_author : List ℕ → Made

@@ -12,7 +12,7 @@ use crate::values::Column;
 use sql_builder::arg::Value;
 use sql_builder::text::{Fragment, Operand};
 use sql_typed::condition::{contains, eq_or_null, ge, gt, in_values};
-use sql_typed::{Result, Select};
+use sql_typed::{Error, Result, Select};
 use std::alloc::Global;
 
 /// What a user asks for: each filter that is given narrows the search.
@@ -93,7 +93,7 @@ pub fn asking(alloc: Global, form: &Form<'_>) -> Result<Select>
 
 /// The statement of a form, whatever was typed: closed, with one `;`, and a WHERE that has the truth
 /// of the filters that are given.
-pub fn search(alloc: Global, form: &Form<'_>) -> Result<String>
+pub fn search(alloc: Global, form: &Form<'_>) -> Result<String, Error>
     ensures statement { IfOk result (λ s. let asked = asked form.now in
         statement asked.start asked.calls Sql ≡ Ok (string_bytes s)) }
     ensures closed { IfOk result (λ s. IsTrue (closed (string_bytes s))) }

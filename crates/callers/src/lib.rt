@@ -3,6 +3,7 @@
 //! the readers that the laws speak of: `tests/databases_lexed.py` runs them beside their lexers.
 #![tactic(auto)]
 
+pub mod asked;
 pub mod chains;
 pub mod form;
 pub mod interference;

@@ -45,10 +45,11 @@ pub fn searching(alloc: Global, search: &Search<'_>) -> Result<SqlBuilder, SqlBu
     if search.in_stock {
         builder.and_where_gt("stock", 0)?;
     }
+    builder.order_asc("title")?;
     Ok(builder)
 }
 
-/// The titles of the books that a search asks for. Whatever its texts are, the statement is closed
+/// The titles of the books that a search asks for, in order. Whatever its texts are, the statement is closed
 /// and ends in its only `;`, and its WHERE has the truth of the filters that are given.
 pub fn search_printed(alloc: Global, search: &Search<'_>) -> Result<String, SqlBuilderError>
     ensures statement { IfOk result (λ s. statement (SelectFrom (codes "books"))

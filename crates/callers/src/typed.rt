@@ -14,7 +14,7 @@ use sql_builder::arg::Value;
 use sql_builder::calls::Percent;
 use sql_builder::text::{Fragment, Operand};
 use sql_typed::condition::{eq, ge, gt, like};
-use sql_typed::{Result, Select};
+use sql_typed::{Error, Result, Select};
 use std::alloc::Global;
 
 /// Those whose title contains this, if it is given.
@@ -71,12 +71,13 @@ pub fn searching(alloc: Global, search: &Search<'_>) -> Result<Select>
     let books = titled(alloc, books, search.title)?;
     let books = written_by(alloc, books, search.author)?;
     let books = priced_from(alloc, books, search.least_price)?;
-    stocked(alloc, books, search.in_stock)
+    let books = stocked(alloc, books, search.in_stock)?;
+    books.order_asc(Operand::of("title"))
 }
 
-/// The titles of the books that a search asks for. Whatever its texts are, the statement is closed
+/// The titles of the books that a search asks for, in order. Whatever its texts are, the statement is closed
 /// and ends in its only `;`, and its WHERE has the truth of the filters that are given.
-pub fn search_typed(alloc: Global, search: &Search<'_>) -> Result<String>
+pub fn search_typed(alloc: Global, search: &Search<'_>) -> Result<String, Error>
     ensures statement { IfOk result (λ s. let asked = asked search.now in
         statement asked.start asked.calls Sql ≡ Ok (string_bytes s)) }
     ensures closed { IfOk result (λ s. IsTrue (closed (string_bytes s))) }
@@ -96,7 +97,7 @@ fn of_one_author(alloc: Global, author: &str) -> Result<Select>
 }
 
 /// The books of this author. Whoever it is, the tokens are the same, but for the text of the string.
-pub fn of_author(alloc: Global, author: &str) -> Result<String>
+pub fn of_author(alloc: Global, author: &str) -> Result<String, Error>
     ensures same { IfOk result (λ s. outline (string_bytes s)
         ≡ tokens (codes "SELECT * FROM books WHERE author = '';")) }
 {

@@ -1,3 +1,4 @@
+pub mod BoundStatementRows
 pub mod ConditionRows
 pub mod InsertRows
 pub mod InterferenceRows

@@ -1,3 +1,6 @@
+pub mod BoundCallLemmas
+pub mod BesideStatementLemmas
+pub mod BoundStatementLemmas
 pub mod LaterCallLemmas
 pub mod NextCallLemmas
 pub mod RunLemmas

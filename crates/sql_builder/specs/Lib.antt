@@ -1,3 +1,5 @@
+pub mod BesideStatements
+pub mod BoundStatements
 pub mod Builder
 pub mod Calls
 pub mod BuilderLoans
@@ -17,6 +19,7 @@ pub mod BuilderLaws
 pub mod Layout
 pub mod Meaning
 pub mod TokenParts
+pub mod Unions
 pub mod Phrases
 pub mod Printed
 pub mod PrintedLists

@@ -11,6 +11,7 @@ ghost use Rattle.sql_builder.specs.Shape.{HasClosedFragments, shape};
 ghost use Rattle.sql_builder.specs.Statement.{error_at, statement, text_at};
 ghost use Rattle.sql_builder.specs.StatementLaws.{made_by};
 ghost use Rattle.sql_builder.specs.Subqueries.{makes_table};
+ghost use Rattle.sql_builder.specs.Unions.{needs_brackets};
 ghost use Rattle.sql_parts.specs.Tokens.{closed, tokens};
 
 use crate::builder::SqlBuilder;
@@ -23,9 +24,11 @@ pub use crate::condition::{BorrowedCondition, Condition, Family, Percent, Relati
 use crate::ghost_list::GhostList;
 use crate::sink::Count;
 pub use crate::steps::{
-    BinaryClause, NullaryClause, UnaryClause, VariadicClause, add_condition, condition_text,
-    make_binary, make_condition, make_nullary, make_order, make_unary, make_variadic,
+    BinaryClause, NullaryClause, UnaryClause, VariadicClause, add_condition, add_row,
+    condition_text, make_binary, make_condition, make_nullary, make_order, make_unary,
+    make_variadic,
 };
+pub use crate::text_list::TextList;
 use sql_parts::SqlBuilderError;
 use sql_parts::text::{Items, Texts};
 use std::alloc::{AllocError, Global};
@@ -378,6 +381,18 @@ pub fn print_to(
     out.reserve(printed_length(builder, finish))?;
     builder.push_finished(finish, out);
     Ok(())
+}
+
+/// Whether the builder has a UNION, an ORDER BY, a LIMIT or an OFFSET: behind the UNION of another query
+/// they would be of the whole. It can't fail. For the crates here alone.
+/// `needs_brackets(&begin(alloc, &Start::SelectFrom(String::from_str(alloc, "t")?))?)` → `false`
+pub fn needs_brackets(builder: &SqlBuilder) -> bool
+    ensures { result ≡ needs_brackets builder.now }
+{
+    !builder.unions.is_empty()
+        || !builder.order_fields.is_empty()
+        || builder.limit.is_some()
+        || builder.offset.is_some()
 }
 
 /// Makes the builder, makes the calls in order, and prints: the statement that the whole list

@@ -97,7 +97,9 @@ pub enum BorrowedCondition<'a, T> {
 }
 
 impl Relation {
-    fn sign(self) -> &'static str
+    /// Its sign, between blanks. It can't fail.
+    /// `Relation::Ge.sign().trim()` → `>=`
+    pub fn sign(self) -> &'static str
         ensures { result.now ≡ relation_text self }
     {
         match self {

@@ -1,6 +1,8 @@
 //! Laws of lists of calls, of clauses and of truth, each the contract of a function that does
 //! nothing.
 ghost use Rattle.std.specs.Prelude.{IfOk, IsTrue, List, codes};
+ghost use Rattle.sql_builder.specs.BesideStatements.{BindGivesTheNext, ValuesAreBesideStatements};
+ghost use Rattle.sql_builder.specs.BoundStatements.{CombinedBindByParts, ConditionsBindByFragments, ConditionsBindByPieces, ExistsBindsByQuery, MasksBindByParts, NegationsBindByPart, StatementsBindByCalls, StatementsBindByClauses, StatementsBindByPieces};
 ghost use Rattle.sql_builder.specs.Calls.{CallText, Sql, StartText, having_in, limit_in, offset_in, returning_in};
 ghost use Rattle.sql_builder.specs.TextTests.{ClosedTextsMakeClosedFragments, FitTextsMakeClosedFragments, PlainTextsEndInOneSemicolon, PlainTextsMakePlainFragments, SelectsNeedGroupBy, TextsAreFitCallByCall, TextsPassCallByCall};
 ghost use Rattle.sql_builder.specs.Unfits.{QuotedTextsDecideNoTest, TestsPassBalancedTexts, TestsPassFitTexts};
@@ -22,7 +24,8 @@ ghost use Rattle.sql_parts.specs.Tokens.{closed, tokens};
 pub use sql_parts::laws::{
     bound_texts_do_not_interfere, bound_texts_keep_the_count, doubling_is_undone,
     escaped_masks_match_their_text, literals_are_operands, literals_end_for_any_reader,
-    literals_without_backslashes_read_alike, quoted_names_are_operands, quoting_is_injective,
+    literals_have_their_tokens, literals_without_backslashes_read_alike, numbers_bind_part_by_part,
+    placeholders_are_operands, quoted_names_are_operands, quoting_is_injective,
     readers_ignore_bound_texts, readers_ignore_quoted_parts, rules_are_readers,
     string_texts_decide_nothing, tokens_join_at_edges, unmarked_is_unchanged,
 };
@@ -319,4 +322,35 @@ pub fn inserts_read_back()
     ensures queries { QueriesAreOne }
     ensures queries_of_builders { BuildersOfQueriesAreOne }
     ensures texts { FitTextsMakeFitTargets }
+{}
+
+/// `bind_nums` of a statement binds each of its texts, and the builder's own words stay as they are. A
+/// fragment without a `$` stays as it is, and one with a `$` gets the literals of its numbers; so does
+/// each quoted text. The same holds of the text of a condition, of conditions that are joined or
+/// negated, of EXISTS, of LIKE and a mask, and of the clauses of a builder. Where quoted texts have no `$`,
+/// `bind_nums` gives what the same calls and conditions print, each fragment with these literals. So
+/// the statement of placeholders becomes that of `Value`s, byte for byte, if its other fragments have
+/// no `$`; but a negative number in a template's hole has brackets as a `Value` alone. It does nothing
+/// when it runs.
+/// `SqlBuilder::select_from(alloc, "t")?.and_where("a = $1")?.sql()?.bind_nums(alloc, &[Box::new(alloc, 7)?])?` →
+/// `SELECT * FROM t WHERE a = 7;`
+pub fn statements_bind_part_by_part()
+    ensures statements { StatementsBindByPieces }
+    ensures clauses { StatementsBindByClauses }
+    ensures conditions { ConditionsBindByPieces }
+    ensures fragments { ConditionsBindByFragments }
+    ensures combined { CombinedBindByParts }
+    ensures negations { NegationsBindByPart }
+    ensures exists { ExistsBindsByQuery }
+    ensures masks { MasksBindByParts }
+    ensures calls { StatementsBindByCalls }
+{}
+
+/// A statement that is made of placeholders has no value in it: with as many other values, of any
+/// types and any bytes, its text is the same, byte for byte, or its error is. It does nothing when it
+/// runs.
+/// `Parameters::new(alloc, Style::Dollar).bind("it's")?.to_text(alloc)?` → `$1`
+pub fn values_are_beside_statements<V, W>()
+    ensures bind { BindGivesTheNext V }
+    ensures statements { ValuesAreBesideStatements V W }
 {}

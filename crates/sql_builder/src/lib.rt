@@ -25,5 +25,5 @@ mod where_calls;
 pub use builder::SqlBuilder;
 pub use sql_parts::{
     SqlBuilderError, SqlName, arg, baname, baquote, bind, brname, brquote, dname, dquote, error,
-    esc, lex, name, qname, quote, text,
+    esc, lex, name, parameter, qname, quote, text,
 };

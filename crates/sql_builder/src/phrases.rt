@@ -6,7 +6,7 @@ ghost use Rattle.sql_parts.specs.Quoting.{quoted};
 ghost use Rattle.sql_builder.specs.Layout.{byte_units};
 ghost use Rattle.sql_builder.specs.Phrases.{comma_list, row};
 
-use sql_parts::text::Texts;
+use sql_parts::text::{Texts, ToText};
 use sql_parts::{SqlBuilderError, push_quoted};
 use std::alloc::Global;
 
@@ -22,9 +22,9 @@ fn push_further<'a, T: Texts<'a>>(
     ensures kept { OnErr result (StartsWith (string_bytes out.new) (string_bytes out.old)) }
     ensures memory { FailsOnlyByMemory result }
 {
-    while let Some(text) = texts.next_text(alloc)? {
+    while let Some(text) = texts.next_text() {
         out.push_str(", ")?;
-        out.push_str(text.as_str())?;
+        text.push_text(alloc, out)?;
     }
     Ok(())
 }
@@ -41,8 +41,8 @@ pub(crate) fn push_items<'a, T: Texts<'a>>(
     ensures kept { OnErr result (StartsWith (string_bytes out.new) (string_bytes out.old)) }
     ensures memory { FailsOnlyByMemory result }
 {
-    if let Some(first) = texts.next_text(alloc)? {
-        out.push_str(first.as_str())?;
+    if let Some(first) = texts.next_text() {
+        first.push_text(alloc, out)?;
         push_further(alloc, out, texts)?;
     }
     Ok(())
@@ -58,9 +58,9 @@ fn push_further_quoted<'a, T: Texts<'a>>(
         ++ flat_map (λ item. codes ", " ++ item) (map quoted (T.left texts))) }
     ensures memory { FailsOnlyByMemory result }
 {
-    while let Some(text) = texts.next_text(alloc)? {
+    while let Some(text) = texts.next_text() {
         out.push_str(", ")?;
-        push_quoted(out, text.as_str())?;
+        push_quoted(out, text.as_text(alloc)?.as_str())?;
     }
     Ok(())
 }
@@ -75,8 +75,8 @@ pub(crate) fn push_quoted_items<'a, T: Texts<'a>>(
         ≡ string_bytes out.old ++ comma_list byte_units (map quoted (T.left texts))) }
     ensures memory { FailsOnlyByMemory result }
 {
-    if let Some(first) = texts.next_text(alloc)? {
-        push_quoted(out, first.as_str())?;
+    if let Some(first) = texts.next_text() {
+        push_quoted(out, first.as_text(alloc)?.as_str())?;
         push_further_quoted(alloc, out, texts)?;
     }
     Ok(())

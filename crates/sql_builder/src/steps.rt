@@ -3,7 +3,7 @@
 ghost use Rattle.std.specs.Prelude.{◌≡◌, [], ◌∷◌, ◌++◌, map, codes, drop, string_bytes, IfErr, IfOk, OnOk, OnErr};
 ghost use Rattle.sql_parts.specs.Error.{FailsOnlyByMemory};
 ghost use Rattle.sql_parts.specs.Quoting.{escaped};
-ghost use Rattle.sql_builder.specs.Builder.{with_condition, with_condition_bytes, with_order, with_returning, IsBinaryError, IsNullaryError, IsUnaryError, with_binary, with_nullary, with_unary, with_variadic};
+ghost use Rattle.sql_builder.specs.Builder.{with_condition, with_condition_bytes, with_order, with_returning, IsBinaryError, IsNullaryError, IsUnaryError, with_binary, with_nullary, with_row, with_unary, with_variadic};
 ghost use Rattle.sql_builder.specs.Concat.{concat_bytes};
 ghost use Rattle.sql_builder.specs.Condition.{borrowed_view, condition_bytes};
 ghost use Rattle.sql_builder.specs.Steps.{AddsBinary, Applies};
@@ -13,6 +13,7 @@ use crate::clauses::{GroupedCondition, JoinOperator};
 use crate::concat::{Part, append};
 use crate::condition::{BorrowedCondition, Family};
 use crate::ghost_list::GhostList;
+use crate::text_list::TextList;
 use sql_parts::loan::Held;
 use sql_parts::text::{Items, Texts};
 use sql_parts::{SqlBuilderError, ToText, escaped, split_at_quote};
@@ -411,6 +412,27 @@ pub fn make_variadic<'a, T: Texts<'a>>(
             builder.query.clear();
         }
     }
+    Ok(())
+}
+
+/// Makes the call of VALUES with a row whose texts are stored. It fails only if memory runs out, and
+/// then leaves the builder as it was. For `sql_typed`: the row is borrowed.
+/// ```
+/// let mut b = SqlBuilder::insert_into(alloc, "t")?;
+/// let mut row = TextList::new(alloc);
+/// row.push_text(alloc, &1)?;
+/// add_row(&mut b, &row)?;
+/// b.field("a")?.sql()?; // INSERT INTO t (a) VALUES (1);
+/// ```
+pub fn add_row(builder: &mut SqlBuilder, row: &TextList) -> Result<(), SqlBuilderError>
+    ensures made { OnOk result (builder.new
+        ≡ with_row row.now builder.old) }
+    ensures unchanged { OnErr result (builder.new ≡ builder.old) }
+    ensures memory { FailsOnlyByMemory result }
+{
+    let parts = [Part("("), Part(row.as_str()), Part(")")];
+    builder.rows.push(&parts)?;
+    builder.query.clear();
     Ok(())
 }
 

@@ -10,7 +10,7 @@ use crate::concat::{Part, copied, push_all, push_text, total_len};
 use crate::ghost_list::{Bytes, GhostList};
 use crate::phrases::push_row;
 use sql_parts::SqlBuilderError;
-use sql_parts::text::Texts;
+use sql_parts::text::{Texts, ToText};
 use std::alloc::{AllocError, Global};
 use std::marker::Model;
 
@@ -18,8 +18,9 @@ use std::marker::Model;
 pub(crate) const FIRST_ROOM: usize = 64;
 
 /// A list of texts, stored in one text with `, ` between each and the next. Contracts see the list.
+/// For the crates here alone.
 #[derive(Drop)]
-pub(crate) struct TextList {
+pub struct TextList {
     text: String,
     // One empty text and none are printed alike.
     has_items: bool,
@@ -49,8 +50,9 @@ fn push_comma(out: &mut String, is_first: bool)
 }
 
 impl TextList {
-    /// No text.
-    pub(crate) fn new(alloc: Global) -> TextList
+    /// No text. It can't fail.
+    /// `TextList::new(alloc).as_str().len()` → `0`
+    pub fn new(alloc: Global) -> TextList
         ensures { result ≡ [] }
     {
         TextList {
@@ -66,8 +68,9 @@ impl TextList {
         !self.has_items
     }
 
-    /// The texts with `, ` between each and the next.
-    pub(crate) fn as_str(&self) -> &str
+    /// The texts with `, ` between each and the next. It can't fail.
+    /// `TextList::new(alloc).as_str().is_empty()` → `true`
+    pub fn as_str(&self) -> &str
         ensures { result.now ≡ join_with (codes ", ") self.now }
     {
         self.text.as_str()
@@ -92,11 +95,30 @@ impl TextList {
         Ok(())
     }
 
-    fn push_text(&mut self, text: &str) -> Result<(), AllocError>
-        ensures pushed { OnOk result (self.new ≡ self.old ++ text.now ∷ []) }
+    /// Appends the text of a value. It fails only if memory runs out, and then the list is as it was.
+    /// ```
+    /// let mut list = TextList::new(alloc);
+    /// list.push_text(alloc, &25)?;
+    /// list.as_str().to_text(alloc)?; // 25
+    /// ```
+    pub fn push_text<S: ToText>(&mut self, alloc: Global, text: &S) -> Result<(), SqlBuilderError>
+        ensures pushed { OnOk result (self.new ≡ self.old ++ S.text text.now ∷ []) }
         ensures unchanged { OnErr result (self.new ≡ self.old) }
+        ensures memory { FailsOnlyByMemory result }
     {
-        self.push(&[Part(text)])
+        let is_first = self.is_empty();
+        let before = self.text.len();
+        let room = if is_first { FIRST_ROOM } else { ", ".len() };
+        self.text.reserve(room)?;
+        push_comma(&mut self.text, is_first);
+        let pushed = text.push_text(alloc, &mut self.text);
+        if pushed.is_err() {
+            self.text.truncate(before);
+            return pushed;
+        }
+        self.has_items = true;
+        self.items.append(&GhostList::of(text));
+        Ok(())
     }
 
     /// Puts a text that is made of parts in the place of all others. Where memory runs out, the
@@ -152,8 +174,8 @@ impl TextList {
         ensures memory { FailsOnlyByMemory result }
     {
         self.clear();
-        while let Some(text) = texts.next_text(alloc)? {
-            self.push_text(text.as_str())?;
+        while let Some(text) = texts.next_text() {
+            self.push_text(alloc, &text)?;
         }
         Ok(())
     }

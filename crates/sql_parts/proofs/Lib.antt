@@ -1,6 +1,7 @@
 pub mod bytes
 pub mod chains
 pub mod fragments
+pub mod parameters
 pub mod rows
 pub mod templates
 pub mod tokens

@@ -1,9 +1,11 @@
 pub mod BetweenLemmas
 pub mod DepthCountLemmas
 pub mod DepthFacts
+pub mod HoleLemmas
 pub mod KeywordLemmas
 pub mod MisfitLemmas
 pub mod OpenRangeLemmas
 pub mod OperandFacts
+pub mod PlaceholderFacts
 pub mod SideLemmas
 pub mod StringTextFacts

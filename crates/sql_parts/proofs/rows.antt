@@ -1,11 +1,14 @@
 pub mod BackslashRows
 pub mod BoundTextRows
 pub mod FragmentRows
+pub mod HoleRows
 pub mod LikeRows
 pub mod LiteralRows
 pub mod MisfitRows
 pub mod NameRows
 pub mod OperandRows
+pub mod ParameterRows
+pub mod PositionalRows
 pub mod ReaderRows
 pub mod TemplateRows
 pub mod TextRows

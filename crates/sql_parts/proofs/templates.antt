@@ -1,7 +1,9 @@
 pub mod ApartFacts
 pub mod BoundReaderLemmas
+pub mod BoundSeamLemmas
 pub mod BoundTextFacts
 pub mod CallerFacts
+pub mod HoleFacts
 pub mod PairLemmas
 pub mod PlaceholderLemmas
 pub mod ResolveLemmas

@@ -1,6 +1,6 @@
 -- Fragments of SQL: their nesting depth, and which are balanced, operands, or dangling.
 use Prim.Native.Char.{code}
-use Rattle.std.specs.Prelude.{ℕ, zero, suc, ◌==◌, ◌&&◌, ◌||◌, Bool, true, false, not, nat_lt, List, [], ◌∷◌, length, take, map, ℤ, pos, ◌-ℤ◌, int_le}
+use Rattle.std.specs.Prelude.{ℕ, zero, suc, ◌-◌, ◌==◌, ◌&&◌, ◌||◌, Bool, true, false, not, nat_lt, List, [], ◌∷◌, length, take, map, ℤ, pos, ◌-ℤ◌, int_le}
 use Rattle.std.specs.Prelude.{if◌then◌else◌, codes, IsTrue}
 use Rattle.std.specs.List.{count_by, list_all, list_any, zip}
 use Rattle.std.specs.Ordering.{int_eq}
@@ -105,6 +105,32 @@ is_clause_word token = is_word_of clause_words token
 -- a text has a top-level clause keyword
 abbrev pub has_clause_word : List ℕ → Bool
 has_clause_word text = has_top_level is_clause_word (tokens text)
+
+-- the further words that begin a clause in some databases
+abbrev pub dialect_words : List (List ℕ)
+dialect_words =
+    codes "INTO" ∷ codes "INTERSECT" ∷ codes "EXCEPT" ∷ codes "MINUS" ∷ codes "TABLE" ∷ codes "FETCH" ∷ codes "FOR" ∷ codes "WITH"
+    ∷ codes "WINDOW" ∷ []
+
+-- a word that begins a clause in some databases
+abbrev pub is_dialect_word : Token → Bool
+is_dialect_word token = is_word_of dialect_words token
+
+-- a word that begins a clause, in every database or in some
+abbrev pub starts_clause : Token → Bool
+starts_clause token = is_clause_word token || is_dialect_word token
+
+-- By `(` and `)` alone, behind so many that are open: each has its match, and each word that begins a clause is between two of them.
+abbrev pub encloses_clauses : ℕ → List Token → Bool
+encloses_clauses level [] = level == 0
+encloses_clauses level (token ∷ ts) =
+    if is_symbol (code "(") token then encloses_clauses (suc level) ts
+    else if is_symbol (code ")") token then nat_lt 0 level && encloses_clauses (level - 1) ts
+    else not (level == 0 && starts_clause token) && encloses_clauses level ts
+
+-- a text has a top-level word that begins a clause in some databases
+abbrev pub has_dialect_word : List ℕ → Bool
+has_dialect_word text = has_top_level is_dialect_word (tokens text)
 
 -- neither a quote or a comment without an end, nor a `;`
 abbrev pub is_whole : Token → Bool

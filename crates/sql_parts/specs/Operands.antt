@@ -1,9 +1,9 @@
 -- Texts that are one operand wherever a statement takes one: literals, and names between quotes.
 use Rattle.std.specs.Prelude.{ℕ, Bool, true, not, ◌&&◌, ◌||◌, IsTrue, List, Option, Some, None}
 use Rattle.std.specs.List.{list_all}
-use Rattle.sql_parts.specs.Fragments.{balanced, has_clause_word, operand}
+use Rattle.sql_parts.specs.Fragments.{balanced, encloses_clauses, has_clause_word, has_dialect_word, operand}
 use Rattle.sql_parts.specs.Name.{Name, is_plain, name_parts, name_text}
-use Rattle.sql_parts.specs.Tokens.{closed}
+use Rattle.sql_parts.specs.Tokens.{closed, tokens}
 
 -- A text is an operand, is balanced and closed, and has no top-level clause keyword.
 pub record ServesAsOperand (text : List ℕ) : Type 0 where
@@ -19,6 +19,18 @@ is_fragment text = balanced text && not (has_clause_word text)
 -- a text that is written bare is an operand without a top-level clause keyword
 abbrev pub is_bare_operand : List ℕ → Bool
 is_bare_operand text = operand text && not (has_clause_word text)
+
+-- a text has no top-level word that begins a clause in some databases, and no clause outside of brackets where CASE and END are names
+abbrev pub has_no_clause : List ℕ → Bool
+has_no_clause text = not (has_dialect_word text) && encloses_clauses 0 (tokens text)
+
+-- a fragment without such a clause
+abbrev pub is_typed_fragment : List ℕ → Bool
+is_typed_fragment text = is_fragment text && has_no_clause text
+
+-- an operand without a top-level clause keyword and without such a clause
+abbrev pub is_typed_operand : List ℕ → Bool
+is_typed_operand text = is_bare_operand text && has_no_clause text
 
 -- the alias, if there is one, is written between backquotes, or is an operand without a top-level clause keyword
 abbrev pub is_operand_alias : Option (List ℕ) → Bool

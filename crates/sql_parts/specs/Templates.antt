@@ -137,7 +137,7 @@ segment_apart first last segment =
     && (first || last && is_empty segment || begins_with is_separator segment)
 
 -- each segment of a template
-abbrev pub segments_apart : Bool → List ℕ → List (Value × List ℕ) → Bool
+abbrev pub segments_apart : {V : Type 0} → Bool → List ℕ → List (V × List ℕ) → Bool
 segments_apart first segment [] = segment_apart first true segment
 segments_apart first segment (next ∷ parts) = segment_apart first false segment && segments_apart false next.1 parts
 

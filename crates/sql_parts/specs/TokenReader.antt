@@ -41,7 +41,7 @@ is_open_state state = is_one_of (in_block ∷ codes "'\"`]\n*") state
 abbrev pub ReadsClosed : Type 0
 ReadsClosed = (text : List ℕ) → closed text ≡ not (is_open_state (after token_reader 0 text))
 
--- outside of literals and comments it opens a literal at each delimiter, and every byte is plain to it
+-- between two tokens it opens a literal at each delimiter, and every byte is plain to it
 abbrev pub OpensEveryLiteral : Type 0
 OpensEveryLiteral = (quotes : Quotes) → OpensLiteral token_reader (λ byte. true) quotes 0
 

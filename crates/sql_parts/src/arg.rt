@@ -26,7 +26,8 @@ pub enum Literal {
 }
 
 /// A value in a statement, whose text is its literal: a text is quoted, a number is written in
-/// decimal, and what isn't there is NULL. Where a call takes a text, untrusted text goes in so.
+/// decimal, and what isn't there is NULL. Where a call prints its value unchanged, untrusted text goes
+/// in so.
 /// `Value("it's").to_text(alloc)?` → `'it''s'`
 #[derive(Clone, Copy, Drop)]
 pub struct Value<A>(pub A);
@@ -123,6 +124,10 @@ impl SqlArg for u8 {
     fn sql_arg(&self, alloc: Global) -> Result<String, SqlBuilderError> {
         self.to_text(alloc)
     }
+
+    fn push_sql_arg(&self, alloc: Global, out: &mut String) -> Result<(), SqlBuilderError> {
+        self.push_text(alloc, out)
+    }
 }
 
 impl SqlArg for u16 {
@@ -130,6 +135,10 @@ impl SqlArg for u16 {
 
     fn sql_arg(&self, alloc: Global) -> Result<String, SqlBuilderError> {
         self.to_text(alloc)
+    }
+
+    fn push_sql_arg(&self, alloc: Global, out: &mut String) -> Result<(), SqlBuilderError> {
+        self.push_text(alloc, out)
     }
 }
 
@@ -139,6 +148,10 @@ impl SqlArg for u32 {
     fn sql_arg(&self, alloc: Global) -> Result<String, SqlBuilderError> {
         self.to_text(alloc)
     }
+
+    fn push_sql_arg(&self, alloc: Global, out: &mut String) -> Result<(), SqlBuilderError> {
+        self.push_text(alloc, out)
+    }
 }
 
 impl SqlArg for u64 {
@@ -146,6 +159,10 @@ impl SqlArg for u64 {
 
     fn sql_arg(&self, alloc: Global) -> Result<String, SqlBuilderError> {
         self.to_text(alloc)
+    }
+
+    fn push_sql_arg(&self, alloc: Global, out: &mut String) -> Result<(), SqlBuilderError> {
+        self.push_text(alloc, out)
     }
 }
 
@@ -155,6 +172,10 @@ impl SqlArg for u128 {
     fn sql_arg(&self, alloc: Global) -> Result<String, SqlBuilderError> {
         self.to_text(alloc)
     }
+
+    fn push_sql_arg(&self, alloc: Global, out: &mut String) -> Result<(), SqlBuilderError> {
+        self.push_text(alloc, out)
+    }
 }
 
 impl SqlArg for usize {
@@ -162,6 +183,10 @@ impl SqlArg for usize {
 
     fn sql_arg(&self, alloc: Global) -> Result<String, SqlBuilderError> {
         self.to_text(alloc)
+    }
+
+    fn push_sql_arg(&self, alloc: Global, out: &mut String) -> Result<(), SqlBuilderError> {
+        self.push_text(alloc, out)
     }
 }
 
@@ -171,6 +196,10 @@ impl SqlArg for i8 {
     fn sql_arg(&self, alloc: Global) -> Result<String, SqlBuilderError> {
         self.to_text(alloc)
     }
+
+    fn push_sql_arg(&self, alloc: Global, out: &mut String) -> Result<(), SqlBuilderError> {
+        self.push_text(alloc, out)
+    }
 }
 
 impl SqlArg for i16 {
@@ -178,6 +207,10 @@ impl SqlArg for i16 {
 
     fn sql_arg(&self, alloc: Global) -> Result<String, SqlBuilderError> {
         self.to_text(alloc)
+    }
+
+    fn push_sql_arg(&self, alloc: Global, out: &mut String) -> Result<(), SqlBuilderError> {
+        self.push_text(alloc, out)
     }
 }
 
@@ -187,6 +220,10 @@ impl SqlArg for i32 {
     fn sql_arg(&self, alloc: Global) -> Result<String, SqlBuilderError> {
         self.to_text(alloc)
     }
+
+    fn push_sql_arg(&self, alloc: Global, out: &mut String) -> Result<(), SqlBuilderError> {
+        self.push_text(alloc, out)
+    }
 }
 
 impl SqlArg for i64 {
@@ -194,6 +231,10 @@ impl SqlArg for i64 {
 
     fn sql_arg(&self, alloc: Global) -> Result<String, SqlBuilderError> {
         self.to_text(alloc)
+    }
+
+    fn push_sql_arg(&self, alloc: Global, out: &mut String) -> Result<(), SqlBuilderError> {
+        self.push_text(alloc, out)
     }
 }
 
@@ -203,6 +244,10 @@ impl SqlArg for i128 {
     fn sql_arg(&self, alloc: Global) -> Result<String, SqlBuilderError> {
         self.to_text(alloc)
     }
+
+    fn push_sql_arg(&self, alloc: Global, out: &mut String) -> Result<(), SqlBuilderError> {
+        self.push_text(alloc, out)
+    }
 }
 
 impl SqlArg for isize {
@@ -210,6 +255,10 @@ impl SqlArg for isize {
 
     fn sql_arg(&self, alloc: Global) -> Result<String, SqlBuilderError> {
         self.to_text(alloc)
+    }
+
+    fn push_sql_arg(&self, alloc: Global, out: &mut String) -> Result<(), SqlBuilderError> {
+        self.push_text(alloc, out)
     }
 }
 
@@ -241,6 +290,10 @@ impl ToText for Literal {
     fn to_text(&self, alloc: Global) -> Result<String, SqlBuilderError> {
         self.sql_arg(alloc)
     }
+
+    fn push_text(&self, alloc: Global, out: &mut String) -> Result<(), SqlBuilderError> {
+        self.push_sql_arg(alloc, out)
+    }
 }
 
 impl<A: SqlArg> ToText for Value<A> {
@@ -248,6 +301,10 @@ impl<A: SqlArg> ToText for Value<A> {
 
     fn to_text(&self, alloc: Global) -> Result<String, SqlBuilderError> {
         self.0.sql_arg(alloc)
+    }
+
+    fn push_text(&self, alloc: Global, out: &mut String) -> Result<(), SqlBuilderError> {
+        self.0.push_sql_arg(alloc, out)
     }
 }
 

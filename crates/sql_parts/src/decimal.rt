@@ -1,5 +1,5 @@
 //! Whole numbers in decimal.
-ghost use Rattle.std.specs.Prelude.{◌≡◌, ◌+◌, ◌/◌, ◌%◌, ◌^◌, ◌<◌, ◌≤◌, ◌∷◌, ◌++◌, IfOk, drop, length, string_bytes};
+ghost use Rattle.std.specs.Prelude.{◌≡◌, ◌+◌, ◌/◌, ◌%◌, ◌^◌, ◌<◌, ◌≤◌, ◌∷◌, ◌++◌, IfOk, OnErr, OnOk, drop, length, string_bytes, suc};
 ghost use Rattle.std.specs.Fmt.{decimal, signed_decimal};
 ghost use Rattle.std.specs.Str.{IsAscii};
 ghost use Rattle.sql_parts.specs.Decimal.{last_digits};
@@ -118,16 +118,16 @@ fn write_signed(number: i128, text: &mut [u8; LONGEST]) -> usize
     start - 1
 }
 
-// A copy of the end of a text of digits.
+// The end of a text of digits.
 #[inline(always)]
-fn copy(alloc: Global, text: &[u8; LONGEST], start: usize) -> Result<String, AllocError>
-    requires start { start ≤ 40 }
+fn written(text: &[u8], start: usize) -> &str
+    requires start { start ≤ length text.now }
     requires ascii { IsAscii (drop start text.now) }
-    ensures { IfOk result (λ s. string_bytes s ≡ drop start text.now) }
+    ensures { result.now ≡ drop start text.now }
 {
     let digits = &text[start..];
     // It is proved that they are ASCII, so no test looks at them again.
-    String::from_str(alloc, unsafe { str::from_utf8_unchecked(digits) })
+    unsafe { str::from_utf8_unchecked(digits) }
 }
 
 /// The text of a number. It takes the number by value, so that its range is known.
@@ -137,7 +137,7 @@ pub(crate) fn unsigned_text(alloc: Global, number: u128) -> Result<String, Alloc
 {
     let mut text = [0; LONGEST];
     let start = write_number(number, &mut text);
-    copy(alloc, &text, start)
+    String::from_str(alloc, written(&text, start))
 }
 
 /// The text of a number, with a minus before a negative one.
@@ -147,5 +147,80 @@ pub(crate) fn signed_text(alloc: Global, number: i128) -> Result<String, AllocEr
 {
     let mut text = [0; LONGEST];
     let start = write_signed(number, &mut text);
-    copy(alloc, &text, start)
+    String::from_str(alloc, written(&text, start))
+}
+
+/// Appends the text of a number.
+#[inline(always)]
+pub(crate) fn push_unsigned(out: &mut String, number: u128) -> Result<(), AllocError>
+    ensures text { OnOk result (string_bytes out.new ≡ string_bytes out.old ++ decimal_text number) }
+    ensures kept { OnErr result (string_bytes out.new ≡ string_bytes out.old) }
+{
+    let mut text = [0; LONGEST];
+    let start = write_number(number, &mut text);
+    out.push_str(written(&text, start))?;
+    Ok(())
+}
+
+/// Appends the text of a number, with a minus before a negative one.
+#[inline(always)]
+pub(crate) fn push_signed(out: &mut String, number: i128) -> Result<(), AllocError>
+    ensures text { OnOk result (string_bytes out.new ≡ string_bytes out.old ++ number_text number) }
+    ensures kept { OnErr result (string_bytes out.new ≡ string_bytes out.old) }
+{
+    let mut text = [0; LONGEST];
+    let start = write_signed(number, &mut text);
+    out.push_str(written(&text, start))?;
+    Ok(())
+}
+
+// Writes the digits of a number behind one byte, up to the end, and says where that is.
+#[inline(always)]
+fn write_prefixed(prefix: u8, number: u64, text: &mut [u8]) -> usize
+    requires { length (decimal number) < length text.old }
+    ensures start { result + suc (length (decimal number)) ≡ length text.old }
+    ensures written { drop result text.new ≡ prefix ∷ decimal number }
+{
+    let start = write_digits(number, text, text.len()) - 1;
+    text[start] = prefix;
+    start
+}
+
+/// The text of a number behind an ASCII byte.
+#[inline(always)]
+pub(crate) fn prefixed_text(alloc: Global, prefix: u8, number: u64) -> Result<String, AllocError>
+    requires ascii { prefix < 128 }
+    ensures { IfOk result (λ s. string_bytes s ≡ prefix ∷ decimal_text number) }
+{
+    let mut text = [0; LONGEST];
+    let start = write_prefixed(prefix, number, &mut text);
+    String::from_str(alloc, written(&text, start))
+}
+
+// Appends the text of a number behind an ASCII byte, written where there is room for it.
+#[inline(always)]
+fn push_by(out: &mut String, prefix: u8, number: u64, room: &mut [u8]) -> Result<(), AllocError>
+    requires ascii { prefix < 128 }
+    requires fits { length (decimal number) < length room.old }
+    ensures text { OnOk result (string_bytes out.new ≡ string_bytes out.old ++ prefix ∷ decimal_text number) }
+    ensures kept { OnErr result (string_bytes out.new ≡ string_bytes out.old) }
+{
+    let start = write_prefixed(prefix, number, room);
+    out.push_str(written(room, start))?;
+    Ok(())
+}
+
+/// Appends the text of a number behind an ASCII byte. A text whose length is known is copied at once.
+#[inline(always)]
+pub(crate) fn push_prefixed(out: &mut String, prefix: u8, number: u64) -> Result<(), AllocError>
+    requires ascii { prefix < 128 }
+    ensures text { OnOk result (string_bytes out.new ≡ string_bytes out.old ++ prefix ∷ decimal_text number) }
+    ensures kept { OnErr result (string_bytes out.new ≡ string_bytes out.old) }
+{
+    match number {
+        0..10 => push_by(out, prefix, number, &mut [0; 2]),
+        10..100 => push_by(out, prefix, number, &mut [0; 3]),
+        100..1000 => push_by(out, prefix, number, &mut [0; 4]),
+        _ => push_by(out, prefix, number, &mut [0; LONGEST]),
+    }
 }

@@ -1,7 +1,7 @@
 //! Texts whose types say that they fit where a statement takes a fragment or an operand.
 ghost use Rattle.std.specs.Prelude.{◌≡◌, is_ok, string_bytes, IfErr, IfOk, IsTrue, Some};
 ghost use Rattle.sql_parts.specs.Misfits.{misfit};
-ghost use Rattle.sql_parts.specs.Operands.{ServesAsOperand, is_bare_operand, is_fragment};
+ghost use Rattle.sql_parts.specs.Operands.{ServesAsOperand, is_fragment, is_typed_fragment, is_typed_operand};
 ghost use Rattle.sql_parts.specs.declared.misfits.Demand.TheVariants as demand;
 
 use crate::error::SqlBuilderError;
@@ -14,6 +14,7 @@ use std::borrow::CowStr;
 /// constant is one is proved where it is written, and costs nothing when the program runs.
 /// `Fragment::of("books AS b").text` → `books AS b`
 #[derive(Clone, Copy)]
+#[non_exhaustive]
 pub struct Fragment<'a> {
     /// The text.
     pub text: &'a str,
@@ -24,6 +25,7 @@ pub struct Fragment<'a> {
 /// constant is one is proved where it is written, and costs nothing when the program runs.
 /// `Operand::of("price").text` → `price`
 #[derive(Clone, Copy)]
+#[non_exhaustive]
 pub struct Operand<'a> {
     /// The text.
     pub text: &'a str,
@@ -33,6 +35,7 @@ pub struct Operand<'a> {
 /// A text of its own that is an operand without a top-level clause keyword: a name between quotes, or
 /// a query in brackets.
 #[derive(Drop)]
+#[non_exhaustive]
 pub struct OwnedOperand {
     /// The text.
     pub text: String,
@@ -40,25 +43,39 @@ pub struct OwnedOperand {
 }
 
 impl<'a> Fragment<'a> {
-    /// The fragment of this text, which fits: only a proof tests it, `rt try` doesn't. It can't fail.
+    /// The fragment of this text, which fits and has no top-level word that begins a clause in some
+    /// databases, as INTO: only a proof tests it, `rt try` doesn't, and `lex::misfit` says why one isn't.
+    /// It can't fail.
     /// `Fragment::of("books AS b").text` → `books AS b`
     pub fn of(text: &'a str) -> Fragment<'a>
+        requires fits { IsTrue (is_typed_fragment text.now) }
+        ensures { result.text ≡ text.entry }
+    {
+        Fragment::of_built(text)
+    }
+
+    /// A text that is proved to fit, as a fragment, without the further test of `of`: conditions are
+    /// borrowed so. For the crates here alone. It can't fail.
+    /// `Fragment::of_built("a = b").text` → `a = b`
+    pub fn of_built(text: &'a str) -> Fragment<'a>
         requires fits { IsTrue (is_fragment text.now) }
         ensures { result.text ≡ text.entry }
     {
         Fragment { text }
     }
 
-    /// The text as a fragment, or why it is none. It takes no memory, and reads a text that fits
-    /// once.
-    /// `Fragment::new("a UNION SELECT b")` fails with `ClauseWord`
-    pub fn new(text: &'a str) -> Result<Fragment<'a>, Misfit>
-        ensures fits { is_ok result ≡ is_fragment text.entry.now }
+    /// A text of the program's own as a fragment, with the test of `of`, or why it is none. It takes no
+    /// memory, and reads a text that fits once. Never give it untrusted text: what fits may still name
+    /// another table or be a query.
+    /// `Fragment::of_trusted("a UNION SELECT b")` fails with `ClauseWord`
+    /// `Fragment::of_trusted("books FOR SHARE")` fails with `DialectWord`
+    pub fn of_trusted(text: &'a str) -> Result<Fragment<'a>, Misfit>
+        ensures fits { is_ok result ≡ is_typed_fragment text.entry.now }
         ensures text { IfOk result (λ fragment. fragment.text ≡ text.entry) }
         ensures misfit { IfErr result (λ reason.
-            misfit demand.Fragment text.entry.now ≡ Some reason) }
+            misfit demand.TypedFragment text.entry.now ≡ Some reason) }
     {
-        match misfit(text, Demand::Fragment) {
+        match misfit(text, Demand::TypedFragment) {
             None => Ok(Fragment { text }),
             Some(reason) => Err(reason),
         }
@@ -66,25 +83,29 @@ impl<'a> Fragment<'a> {
 }
 
 impl<'a> Operand<'a> {
-    /// The operand of this text, which fits: only a proof tests it, `rt try` doesn't. It can't fail.
+    /// The operand of this text, which fits and has no top-level word that begins a clause in some
+    /// databases, as INTO: only a proof tests it, `rt try` doesn't, and `lex::misfit` says why one isn't.
+    /// It can't fail.
     /// `Operand::of("price").text` → `price`
     pub fn of(text: &'a str) -> Operand<'a>
-        requires fits { ServesAsOperand text.now }
+        requires fits { IsTrue (is_typed_operand text.now) }
         ensures { result.text ≡ text.entry }
     {
         Operand { text }
     }
 
-    /// The text as an operand without a top-level clause keyword, or why it is none. It takes no
-    /// memory, and reads a text that fits once.
-    /// `Operand::new("a OR 1=1")` fails with `Joined`
-    pub fn new(text: &'a str) -> Result<Operand<'a>, Misfit>
-        ensures fits { is_ok result ≡ is_bare_operand text.entry.now }
+    /// A text of the program's own as an operand, with the test of `of`, or why it is none. It takes no
+    /// memory, and reads a text that fits once. Never give it untrusted text: what fits may still name
+    /// another column or be a query.
+    /// `Operand::of_trusted("a OR 1=1")` fails with `Joined`
+    /// `Operand::of_trusted("a INTO b")` fails with `DialectWord`
+    pub fn of_trusted(text: &'a str) -> Result<Operand<'a>, Misfit>
+        ensures fits { is_ok result ≡ is_typed_operand text.entry.now }
         ensures text { IfOk result (λ operand. operand.text ≡ text.entry) }
         ensures misfit { IfErr result (λ reason.
-            misfit demand.Operand text.entry.now ≡ Some reason) }
+            misfit demand.TypedOperand text.entry.now ≡ Some reason) }
     {
-        match misfit(text, Demand::Operand) {
+        match misfit(text, Demand::TypedOperand) {
             None => Ok(Operand { text }),
             Some(reason) => Err(reason),
         }
@@ -100,6 +121,16 @@ impl<'a> Operand<'a> {
 }
 
 impl OwnedOperand {
+    /// A text that is proved to fit, as an operand, without the further test of `Operand::of`: queries
+    /// in brackets are made so. For the crates here alone. It can't fail.
+    /// `OwnedOperand::of_built(String::from_str(alloc, "(SELECT a)")?).text` → `(SELECT a)`
+    pub fn of_built(text: String) -> OwnedOperand
+        requires fits { ServesAsOperand (string_bytes text) }
+        ensures { result.text ≡ text }
+    {
+        OwnedOperand { text }
+    }
+
     /// The same operand, borrowed. It can't fail.
     /// `SqlName::new(alloc, "a")?.operand(Quotes::Double)?.as_operand().text` → `"a"`
     pub fn as_operand(&self) -> Operand<'_>

@@ -13,10 +13,13 @@ ghost use Rattle.sql_parts.specs.Quoting.{baquoted, brquoted, dquoted, escaped, 
 ghost use Rattle.sql_parts.specs.Literal.{LiteralValue, literal_text, words};
 ghost use Rattle.sql_parts.specs.Name.{Name, safe_text};
 ghost use Rattle.sql_parts.specs.Operands.{NamesAreOperands, ServesAsOperand, has_operand_parts, is_operand_alias};
-ghost use Rattle.sql_parts.specs.Text.{bool_text, number_text};
-ghost use Rattle.sql_parts.specs.Templates.{Cycle, First, Marks, Names, Nums, Value, bound, apart};
+ghost use Rattle.sql_parts.specs.NumberedTexts.{NumbersAreBound, PlaceholdersAreBound, TextsBindApart};
+ghost use Rattle.sql_parts.specs.Parameters.{placeholder_text, prefix};
+ghost use Rattle.sql_parts.specs.Text.{bool_text, decimal_text, number_text};
+ghost use Rattle.sql_parts.specs.Templates.{Cycle, First, Marks, Names, Nums, Value, bound, apart, literal_tokens};
 ghost use Rattle.sql_parts.specs.TokenReader.{HasNoBackslash, OpensEveryLiteral, OpensWithoutBackslashes, ReadsClosed};
-ghost use Rattle.sql_parts.specs.Tokens.{clean, closed, is_open, is_semicolon, tokens};
+ghost use Rattle.sql_parts.specs.Tokens.{Symbol, Word, clean, closed, is_open, is_semicolon, tokens};
+ghost use Rattle.sql_parts.specs.declared.parameter.Style.{Style};
 
 /// Two texts whose quoted texts are equal are equal, in each of the five forms of quoting.
 /// It does nothing when it runs.
@@ -100,6 +103,17 @@ pub fn bound_texts_keep_the_count()
         → token_count (bound template marks one) ≡ token_count (bound template marks other) }
 {}
 
+/// `bind_nums` goes part by part: a text before another that begins with neither a digit nor a `$`
+/// keeps its literals, a text without a `$` stays as it is, and the placeholder of a value becomes its
+/// literal. It does nothing when it runs.
+/// `"a = $1".bind_nums(alloc, &[Box::new(alloc, 7)?])?` → `a = 7`
+pub fn numbers_bind_part_by_part()
+    ensures bound { NumbersAreBound }
+    ensures parts { TextsBindApart }
+    ensures unmarked { (count : ℕ) → LeavesTextWithout dollar (Nums count) }
+    ensures placeholders { PlaceholdersAreBound }
+{}
+
 /// The text of each literal is an operand, balanced and closed, and has no top-level clause
 /// keyword; so is that of each number and truth value as `ToText` writes it, and so is what `quote`
 /// gives. It does nothing when it runs.
@@ -109,6 +123,24 @@ pub fn literals_are_operands()
     ensures numbers { (number : ℤ) → ServesAsOperand (number_text number) }
     ensures truths { (value : Bool) → ServesAsOperand (bool_text value) }
     ensures quote { (text : List ℕ) → ServesAsOperand (quoted text) }
+{}
+
+/// The text of each literal has the tokens of that literal and no other: NULL, TRUE and FALSE are a
+/// word, a number is one behind its minus, and a text is one string that stands for it. It does nothing
+/// when it runs.
+/// `quote(alloc, "it's; --")?` → `'it''s; --'`
+pub fn literals_have_their_tokens()
+    ensures tokens { (literal : LiteralValue)
+        → tokens (literal_text literal) ≡ literal_tokens literal }
+{}
+
+/// The text of each placeholder is such an operand too: a symbol and a number. It does nothing when
+/// it runs.
+/// `Placeholder { style: Style::Dollar, number: 12 }.to_text(alloc)?` → `$12`
+pub fn placeholders_are_operands()
+    ensures operands { (style : Style) (number : ℕ) → ServesAsOperand (placeholder_text style number) }
+    ensures tokens { (style : Style) (number : ℕ) → tokens (placeholder_text style number)
+        ≡ Symbol (prefix style) ∷ Word (decimal_text number) ∷ [] }
 {}
 
 /// A text between quotes is such an operand, in each of the four kinds of quotes, and so is a name
@@ -190,8 +222,8 @@ pub fn readers_ignore_bound_texts()
     ensures { ReadersIgnoreBoundTexts }
 {}
 
-/// The rules of tokens are such a reader: outside of literals and comments it opens a literal at each
-/// delimiter, and a text is closed where it ends outside of them. So are those by which a backslash
+/// The rules of tokens are such a reader: between two tokens it opens a literal at each delimiter, and
+/// a text is closed where it ends outside of literals and comments. So are those by which a backslash
 /// escapes: to them each byte but a backslash is plain. It does nothing when it runs.
 /// `is_closed("a = 'b")` → `false`
 pub fn rules_are_readers()

@@ -1,11 +1,11 @@
 //! Tests of fragments, which read a text as the tokens of SQL.
-ghost use Rattle.std.specs.Prelude.{◌≡◌, ◌&&◌, ◌||◌, IfErr, IfOk, codes, is_none, not, true};
+ghost use Rattle.std.specs.Prelude.{◌≡◌, ◌&&◌, IfErr, IfOk, codes, if◌then◌else◌, is_none, not, true};
 ghost use Rattle.sql_parts.specs.Backslash.{has_backslash};
 ghost use Rattle.sql_parts.specs.Error.{FailsOnlyByMemory};
-ghost use Rattle.sql_parts.specs.Fragments.{IsMemoryForNesting, balanced, dangling, has_clause_word, has_top_level, is_balanced, is_clause_word, is_joining, is_word, operand};
+ghost use Rattle.sql_parts.specs.Fragments.{IsMemoryForNesting, balanced, dangling, has_clause_word, encloses_clauses, has_dialect_word, has_top_level, is_balanced, is_clause_word, is_dialect_word, is_word, operand};
 ghost use Rattle.sql_parts.specs.Misfits.{meets, misfit};
 ghost use Rattle.sql_parts.specs.Placeholders.{marks_of};
-ghost use Rattle.sql_parts.specs.Roles.{HasRole};
+ghost use Rattle.sql_parts.specs.Roles.{HasRole, is_barred};
 ghost use Rattle.sql_parts.specs.Templates.{resolved_from, apart, segment_apart, segments_apart};
 ghost use Rattle.sql_parts.specs.Tokens as tokens;
 ghost use Rattle.sql_parts.specs.Tokens.{begins_with, ends_with, has_semicolon, is_empty, is_separator};
@@ -15,7 +15,7 @@ use crate::depth::Depth;
 use crate::error::SqlBuilderError;
 pub use crate::misfits::{Demand, Misfit};
 use crate::placeholders::{Marks, Place, first_place, prefix};
-use crate::roles::{Role, first_role};
+use crate::roles::{Role, first_role, starts_clause};
 use crate::search::{Front, find_byte};
 use crate::substitution::lacks_arguments;
 pub use crate::tokenizer::is_closed;
@@ -44,22 +44,22 @@ fn bars_first(operand: bool, role: Role) -> bool
     operand && role.is_not()
 }
 
-// Whether the token may not be at depth 0, where the text is to have no clause keyword there, or to
-// be an operand.
-fn bars_top_level(bare: bool, operand: bool, role: Role) -> bool
+// Whether the token may not be at depth 0, where the text is to have no clause keyword there, no word
+// that begins a clause in some databases, or to be an operand.
+fn bars_top_level(bare: bool, typed: bool, operand: bool, role: Role) -> bool
     ensures { (defined : tokens.Token) → HasRole role defined
-        → result ≡ ((bare && is_clause_word defined) || (operand && is_joining defined)) }
+        → result ≡ is_barred bare typed operand defined }
 {
-    bare && role.is_clause() || operand && role.joins()
+    bare && role.is_clause() || (typed && role.is_dialect() || operand && role.joins())
 }
 
-// Whether the text is balanced, has no clause keyword at depth 0 where it is to be bare, and, where
-// it is to be an operand, has no OR, AND or BETWEEN at depth 0 and doesn't begin with NOT.
+// Whether the text is balanced, has no clause keyword at depth 0 where it is to be bare, no word there
+// that begins a clause in some databases where it is to be typed, and, where it is to be an operand,
+// has no OR, AND or BETWEEN at depth 0 and doesn't begin with NOT.
 #[inline(always)]
-fn is_balanced_as(text: &str, bare: bool, operand: bool) -> bool
+fn is_balanced_as(text: &str, bare: bool, typed: bool, operand: bool) -> bool
     ensures { result ≡ (is_balanced (tokens.tokens text.now)
-        && not (has_top_level (λ token. (bare && is_clause_word token)
-        || (operand && is_joining token)) (tokens.tokens text.now))
+        && not (has_top_level (is_barred bare typed operand) (tokens.tokens text.now))
         && not (begins_with (λ token. operand && is_word (codes "NOT") token)
         (tokens.tokens text.now))) }
 {
@@ -68,7 +68,7 @@ fn is_balanced_as(text: &str, bare: bool, operand: bool) -> bool
     let mut rest = text;
     while let Some((role, behind)) = first_role(rest) {
         if is_empty && bars_first(operand, role)
-            || depth.is_top_level() && bars_top_level(bare, operand, role)
+            || depth.is_top_level() && bars_top_level(bare, typed, operand, role)
         {
             return false;
         }
@@ -89,7 +89,7 @@ fn is_balanced_as(text: &str, bare: bool, operand: bool) -> bool
 pub fn is_balanced(text: &str) -> bool
     ensures { result ≡ balanced text.now }
 {
-    is_balanced_as(text, false, false)
+    is_balanced_as(text, false, false, false)
 }
 
 /// Whether the text is balanced, has no OR, AND or BETWEEN at depth 0, and doesn't begin with NOT.
@@ -98,19 +98,31 @@ pub fn is_balanced(text: &str) -> bool
 pub fn is_operand(text: &str) -> bool
     ensures { result ≡ operand text.now }
 {
-    is_balanced_as(text, false, true)
+    is_balanced_as(text, false, false, true)
 }
 
-/// Whether a clause keyword is at depth 0 of the text: as many `(` and CASE precede it as `)` and
-/// END. It can't fail.
-/// `has_clause_word("a UNION SELECT b")` → `true`
-pub fn has_clause_word(text: &str) -> bool
-    ensures { result ≡ has_clause_word text.now }
+// Whether the token begins a clause: by the rules, or beyond them in some databases.
+fn begins_clause(dialect: bool, role: Role) -> bool
+    ensures { (defined : tokens.Token) → HasRole role defined
+        → result ≡ (if dialect then is_dialect_word defined else is_clause_word defined) }
+{
+    if dialect {
+        role.is_dialect()
+    } else {
+        role.is_clause()
+    }
+}
+
+// Whether such a token is at depth 0 of the text.
+#[inline(always)]
+fn has_clause(text: &str, dialect: bool) -> bool
+    ensures { result ≡ has_top_level (λ token.
+        if dialect then is_dialect_word token else is_clause_word token) (tokens.tokens text.now) }
 {
     let mut depth = Depth::start();
     let mut rest = text;
     while let Some((role, behind)) = first_role(rest) {
-        if depth.is_top_level() && role.is_clause() {
+        if depth.is_top_level() && begins_clause(dialect, role) {
             return true;
         }
         depth = depth.behind(role);
@@ -119,14 +131,56 @@ pub fn has_clause_word(text: &str) -> bool
     false
 }
 
-// Whether the text meets the demand, in one reading.
+/// Whether a clause keyword is at depth 0 of the text: as many `(` and CASE precede it as `)` and
+/// END. It can't fail.
+/// `has_clause_word("a UNION SELECT b")` → `true`
+pub fn has_clause_word(text: &str) -> bool
+    ensures { result ≡ has_clause_word text.now }
+{
+    has_clause(text, false)
+}
+
+/// Whether a word that is no clause keyword, but begins a clause in some databases, is at depth 0 of
+/// the text: INTO, INTERSECT, EXCEPT, MINUS, TABLE, FETCH, FOR, WITH or WINDOW. It can't fail.
+/// `has_dialect_word("a INTO b")` → `true`
+/// `has_dialect_word("substring(a FROM 1 FOR 2)")` → `false`
+pub fn has_dialect_word(text: &str) -> bool
+    ensures { result ≡ has_dialect_word text.now }
+{
+    has_clause(text, true)
+}
+
+// Whether brackets match and enclose each word that begins a clause, where CASE and END are names.
+fn encloses_clauses(text: &str) -> bool
+    ensures { result ≡ encloses_clauses 0 (tokens.tokens text.now) }
+{
+    let mut level = 0usize;
+    let mut rest = text;
+    while let Some((token, behind)) = first_token(rest) {
+        match token {
+            Token::Symbol(b'(') => level += 1,
+            Token::Symbol(b')') if level == 0 => return false,
+            Token::Symbol(b')') => level -= 1,
+            Token::Word(word) if level == 0 && starts_clause(word) => return false,
+            _ => {}
+        }
+        rest = behind;
+    }
+    level == 0
+}
+
+// Whether the text meets the demand.
 fn meets(text: &str, demand: Demand) -> bool
     ensures { result ≡ meets demand text.now }
 {
     match demand {
         Demand::Balanced => is_balanced(text),
-        Demand::Fragment => is_balanced_as(text, true, false),
-        Demand::Operand => is_balanced_as(text, true, true),
+        Demand::Fragment => is_balanced_as(text, true, false, false),
+        Demand::Operand => is_balanced_as(text, true, false, true),
+        Demand::TypedFragment => {
+            is_balanced_as(text, true, true, false) && encloses_clauses(text)
+        }
+        Demand::TypedOperand => is_balanced_as(text, true, true, true) && encloses_clauses(text),
     }
 }
 
@@ -155,16 +209,25 @@ fn reason(text: &str, demand: Demand) -> Option<Misfit>
         return Some(Misfit::Brackets);
     }
     match demand {
-        Demand::Fragment | Demand::Operand if has_clause_word(text) => Some(Misfit::ClauseWord),
-        Demand::Operand if !is_operand(text) => Some(Misfit::Joined),
+        Demand::Balanced => None,
+        _ if has_clause_word(text) => Some(Misfit::ClauseWord),
+        Demand::TypedFragment | Demand::TypedOperand if has_dialect_word(text) => {
+            Some(Misfit::DialectWord)
+        }
+        Demand::Operand | Demand::TypedOperand if !is_operand(text) => Some(Misfit::Joined),
+        Demand::TypedFragment | Demand::TypedOperand if !encloses_clauses(text) => {
+            Some(Misfit::CaseWord)
+        }
         _ => None,
     }
 }
 
 /// Why the text doesn't meet the demand, if it doesn't. It can't fail, takes no memory, and reads a
-/// text that fits once.
+/// text that fits once, or twice where the demand is of a type.
 /// `misfit("a UNION SELECT b", Demand::Fragment)` → `Some(ClauseWord)`
 /// `misfit("a OR 1=1", Demand::Operand)` → `Some(Joined)`
+/// `misfit("a INTO b", Demand::TypedOperand)` → `Some(DialectWord)`
+/// `misfit("@case UNION SELECT @end", Demand::TypedFragment)` → `Some(CaseWord)`
 pub fn misfit(text: &str, demand: Demand) -> Option<Misfit>
     ensures reason { result ≡ misfit demand text.now }
     ensures fits { is_none result ≡ meets demand text.now }
@@ -224,7 +287,7 @@ fn ends_apart(segment: &str) -> bool
     }
 }
 
-fn segment_apart(first: bool, last: bool, segment: &str) -> bool
+pub(crate) fn segment_apart(first: bool, last: bool, segment: &str) -> bool
     ensures { result ≡ segment_apart first last segment.now }
 {
     is_closed(segment)

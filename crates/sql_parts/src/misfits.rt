@@ -14,9 +14,14 @@ pub enum Demand {
     Fragment,
     /// That it is a fragment and an operand, as a field or a value is.
     Operand,
+    /// That it is a fragment, and has no top-level word that begins a clause in some databases, as
+    /// INTO: what the type `Fragment` takes.
+    TypedFragment,
+    /// The same of an operand: what the type `Operand` takes.
+    TypedOperand,
 }
 
-/// Why a text doesn't fit: the first of these that holds, up to the last that counts.
+/// Why a text doesn't fit: the first of these that holds and counts.
 #[derive(Clone, Copy, Debug, Drop)]
 pub enum Misfit {
     /// It has no token.
@@ -29,8 +34,14 @@ pub enum Misfit {
     Brackets,
     /// It has a top-level clause keyword, as FROM or UNION, and is to be a fragment or an operand.
     ClauseWord,
+    /// It has a top-level word that begins a clause in some databases (INTO, INTERSECT, EXCEPT, MINUS,
+    /// TABLE, FETCH, FOR, WITH or WINDOW), and is to be a `Fragment` or an `Operand` by its type.
+    DialectWord,
     /// It has a top-level OR, AND or BETWEEN, or begins with NOT, and is to be an operand.
     Joined,
+    /// A database that takes CASE and END for names would read a clause outside of brackets, or
+    /// brackets that don't match, and it is to be a `Fragment` or an `Operand` by its type.
+    CaseWord,
 }
 
 impl Misfit {
@@ -45,7 +56,9 @@ impl Misfit {
             Misfit::Semicolon => "A semicolon",
             Misfit::Brackets => "Brackets don't match",
             Misfit::ClauseWord => "A top-level clause keyword",
+            Misfit::DialectWord => "A top-level word that begins a clause in some databases",
             Misfit::Joined => "A top-level OR, AND or BETWEEN, or a leading NOT",
+            Misfit::CaseWord => "A clause keyword or an open bracket between CASE and END",
         }
     }
 }

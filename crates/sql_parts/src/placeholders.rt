@@ -106,7 +106,7 @@ fn with_digit(number: Option<usize>, digit: u8) -> Option<usize>
 }
 
 // The number that the digits at the front make, where it fits, and the text behind them.
-fn number(text: &str) -> (Option<usize>, &str)
+pub(crate) fn number(text: &str) -> (Option<usize>, &str)
     ensures number { IsNumber result.0
         (digits_value 10 (take (prefix_len is_ascii_digit text.now) text.now)) }
     ensures rest { result.1.now ≡ drop (prefix_len is_ascii_digit text.now) text.now }
@@ -152,7 +152,7 @@ fn named(behind: &str) -> (Place<'_>, &str)
     }
 }
 
-fn begins_with_digit(text: &str) -> bool
+pub(crate) fn begins_with_digit(text: &str) -> bool
     ensures { result ≡ not (prefix_len is_ascii_digit text.now == 0) }
 {
     match text.as_bytes().first() {

@@ -1,7 +1,7 @@
 //! What tokens mean to the tests of fragments.
 ghost use Rattle.std.specs.Prelude.{◌≡◌, ◌<◌, [], ◌∷◌, IfSome, MatchOption, codes, if◌then◌else◌, length};
 ghost use Rattle.std.specs.Str.{str_eq_ignore_ascii_case};
-ghost use Rattle.sql_parts.specs.Fragments.{is_clause_word, is_closing, is_joining, is_opening, is_whole, is_word, lowers, needs_left, needs_right, raises};
+ghost use Rattle.sql_parts.specs.Fragments.{starts_clause, is_clause_word, is_closing, is_dialect_word, is_joining, is_opening, is_whole, is_word, lowers, needs_left, needs_right, raises};
 ghost use Rattle.sql_parts.specs.Tokenizer.{Represents};
 ghost use Rattle.sql_parts.specs.Roles.{HasRole};
 ghost use Rattle.sql_parts.specs.Tokens.{Token, Symbol, Word, tokens};
@@ -23,6 +23,8 @@ pub(crate) enum Role {
     Not,
     /// A word that begins a clause.
     Clause,
+    /// A word that begins a clause in some databases.
+    Dialect,
     /// What no fragment has: `;`, and a quote or a comment that has no end.
     Breaks,
     /// Any other token.
@@ -92,6 +94,12 @@ impl Role {
         matches!(self, Role::Clause)
     }
 
+    pub(crate) fn is_dialect(self) -> bool
+        ensures { (defined : Token) → HasRole self defined → result ≡ is_dialect_word defined }
+    {
+        matches!(self, Role::Dialect)
+    }
+
     pub(crate) fn is_whole(self) -> bool
         ensures { (defined : Token) → HasRole self defined → result ≡ is_whole defined }
     {
@@ -126,14 +134,24 @@ fn word_role(word: &str) -> Role
         b'c' => named(word, "CASE", Role::Raises, plain),
         b'd' => named(word, "DELETE", Role::Clause, plain),
         b'e' => {
-            let other = named(word, "ELSE", Role::Parts, plain);
+            let other = named(word, "EXCEPT", Role::Dialect, plain);
+            let other = named(word, "ELSE", Role::Parts, other);
             named(word, "END", Role::Lowers, other)
         }
-        b'f' => named(word, "FROM", Role::Clause, plain),
+        b'f' => {
+            let other = named(word, "FETCH", Role::Dialect, plain);
+            let other = named(word, "FOR", Role::Dialect, other);
+            named(word, "FROM", Role::Clause, other)
+        }
         b'g' => named(word, "GROUP", Role::Clause, plain),
         b'h' => named(word, "HAVING", Role::Clause, plain),
-        b'i' => named(word, "INSERT", Role::Clause, plain),
+        b'i' => {
+            let other = named(word, "INTERSECT", Role::Dialect, plain);
+            let other = named(word, "INTO", Role::Dialect, other);
+            named(word, "INSERT", Role::Clause, other)
+        }
         b'l' => named(word, "LIMIT", Role::Clause, plain),
+        b'm' => named(word, "MINUS", Role::Dialect, plain),
         b'n' => named(word, "NOT", Role::Not, plain),
         b'o' => {
             let other = named(word, "OFFSET", Role::Clause, plain);
@@ -145,18 +163,31 @@ fn word_role(word: &str) -> Role
             let other = named(word, "SET", Role::Clause, plain);
             named(word, "SELECT", Role::Clause, other)
         }
-        b't' => named(word, "THEN", Role::Parts, plain),
+        b't' => {
+            let other = named(word, "TABLE", Role::Dialect, plain);
+            named(word, "THEN", Role::Parts, other)
+        }
         b'u' => {
             let other = named(word, "UPDATE", Role::Clause, plain);
             named(word, "UNION", Role::Clause, other)
         }
         b'v' => named(word, "VALUES", Role::Clause, plain),
         b'w' => {
-            let other = named(word, "WHERE", Role::Clause, plain);
+            let other = named(word, "WINDOW", Role::Dialect, plain);
+            let other = named(word, "WITH", Role::Dialect, other);
+            let other = named(word, "WHERE", Role::Clause, other);
             named(word, "WHEN", Role::Parts, other)
         }
         _ => plain,
     }
+}
+
+/// Whether a word begins a clause, in every database or in some.
+pub(crate) fn starts_clause(word: &str) -> bool
+    ensures { result ≡ starts_clause (Word word.now) }
+{
+    let role = word_role(word);
+    role.is_clause() || role.is_dialect()
 }
 
 fn symbol_role(sign: u8) -> Role

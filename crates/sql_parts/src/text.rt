@@ -1,13 +1,13 @@
 //! What can be written as a text.
 
-ghost use Rattle.std.specs.Prelude.{◌≡◌, [], ◌∷◌, ℕ, List, MatchOption, map, string_bytes, IfOk, OnErr};
+ghost use Rattle.std.specs.Prelude.{◌≡◌, ◌++◌, [], ◌∷◌, ℕ, List, MatchOption, map, string_bytes, IfOk, OnErr, OnOk};
 ghost use Rattle.std.specs.Char.{encode_utf8};
 ghost use Rattle.std.specs.Cow.{cow_str_bytes};
 ghost use Rattle.sql_parts.specs.Error.{FailsOnlyByMemory};
 ghost use Rattle.sql_parts.specs.Like.{escape_character, like_escaped};
 ghost use Rattle.sql_parts.specs.Text.{bool_text, decimal_text, has_byte, number_text, optional_text, texts};
 
-use crate::decimal::{signed_text, unsigned_text};
+use crate::decimal::{push_signed, push_unsigned, signed_text, unsigned_text};
 pub use crate::delimiters::Quotes;
 use crate::error::SqlBuilderError;
 pub use crate::fragment::{Fragment, Operand, OwnedOperand};
@@ -36,22 +36,38 @@ pub trait ToText: Drop {
     {
         Ok(CowStr::Owned(self.to_text(alloc)?))
     }
+
+    /// Appends the text to another. It fails only if memory runs out, and then the other is as it was.
+    /// ```
+    /// let mut text = String::from_str(alloc, "price = ")?;
+    /// 25.push_text(alloc, &mut text)?;
+    /// text; // price = 25
+    /// ```
+    fn push_text(&self, alloc: Global, out: &mut String) -> Result<(), SqlBuilderError>
+        ensures text { OnOk result (string_bytes out.new ≡ string_bytes out.old ++ text self.now) }
+        ensures kept { OnErr result (string_bytes out.new ≡ string_bytes out.old) }
+        ensures memory { FailsOnlyByMemory result }
+    {
+        let text = self.as_text(alloc)?;
+        Ok(out.push_str(text.as_str())?)
+    }
 }
 
 /// Texts that are taken one after another, so that a list of them need not be made. For the crates
 /// here alone.
 pub trait Texts<'a>: Drop {
+    /// What has one of the texts.
+    type Text: ToText;
+
     /// The texts that are left.
     ghost left: { Self → List (List ℕ) };
 
-    /// Takes the next text, if one is left. It fails only if memory runs out, and then takes none.
-    /// `Items { items: &["a"] }.next_text(alloc)?` → `Some(a)`
-    fn next_text(&mut self, alloc: Global) -> Result<Option<CowStr<'a>>, SqlBuilderError>
-        ensures next { IfOk result (λ next. MatchOption next
+    /// Takes the next text, if one is left. It can't fail.
+    /// `Items { items: &["a"] }.next_text().copied()` → `Some(a)`
+    fn next_text(&mut self) -> Option<Self::Text>
+        ensures next { MatchOption result
             ((left self.old ≡ []) × (left self.new ≡ []))
-            (λ text. left self.old ≡ cow_str_bytes text ∷ left self.new)) }
-        ensures kept { OnErr result (left self.new ≡ left self.old) }
-        ensures memory { FailsOnlyByMemory result };
+            (λ text. left self.old ≡ Self.Text.text text ∷ left self.new) };
 }
 
 /// The texts of a slice. For the crates here alone.
@@ -62,17 +78,14 @@ pub struct Items<'a, S> {
 }
 
 impl<'a, S: ToText> Texts<'a> for Items<'a, S> {
+    type Text = &'a S;
+
     ghost left = { λ it. map S.text it.items.now };
 
-    fn next_text(&mut self, alloc: Global) -> Result<Option<CowStr<'a>>, SqlBuilderError> {
-        match self.items {
-            [first, further @ ..] => {
-                let text = first.as_text(alloc)?;
-                self.items = further;
-                Ok(Some(text))
-            }
-            [] => Ok(None),
-        }
+    fn next_text(&mut self) -> Option<&'a S> {
+        let (first, further) = self.items.split_first()?;
+        self.items = further;
+        Some(first)
     }
 }
 
@@ -205,6 +218,10 @@ impl ToText for u8 {
     fn to_text(&self, alloc: Global) -> Result<String, SqlBuilderError> {
         Ok(unsigned_text(alloc, u128::from(*self))?)
     }
+
+    fn push_text(&self, _alloc: Global, out: &mut String) -> Result<(), SqlBuilderError> {
+        Ok(push_unsigned(out, u128::from(*self))?)
+    }
 }
 
 impl ToText for u16 {
@@ -212,6 +229,10 @@ impl ToText for u16 {
 
     fn to_text(&self, alloc: Global) -> Result<String, SqlBuilderError> {
         Ok(unsigned_text(alloc, u128::from(*self))?)
+    }
+
+    fn push_text(&self, _alloc: Global, out: &mut String) -> Result<(), SqlBuilderError> {
+        Ok(push_unsigned(out, u128::from(*self))?)
     }
 }
 
@@ -221,6 +242,10 @@ impl ToText for u32 {
     fn to_text(&self, alloc: Global) -> Result<String, SqlBuilderError> {
         Ok(unsigned_text(alloc, u128::from(*self))?)
     }
+
+    fn push_text(&self, _alloc: Global, out: &mut String) -> Result<(), SqlBuilderError> {
+        Ok(push_unsigned(out, u128::from(*self))?)
+    }
 }
 
 impl ToText for u64 {
@@ -228,6 +253,10 @@ impl ToText for u64 {
 
     fn to_text(&self, alloc: Global) -> Result<String, SqlBuilderError> {
         Ok(unsigned_text(alloc, u128::from(*self))?)
+    }
+
+    fn push_text(&self, _alloc: Global, out: &mut String) -> Result<(), SqlBuilderError> {
+        Ok(push_unsigned(out, u128::from(*self))?)
     }
 }
 
@@ -237,6 +266,10 @@ impl ToText for u128 {
     fn to_text(&self, alloc: Global) -> Result<String, SqlBuilderError> {
         Ok(unsigned_text(alloc, *self)?)
     }
+
+    fn push_text(&self, _alloc: Global, out: &mut String) -> Result<(), SqlBuilderError> {
+        Ok(push_unsigned(out, *self)?)
+    }
 }
 
 impl ToText for usize {
@@ -244,6 +277,10 @@ impl ToText for usize {
 
     fn to_text(&self, alloc: Global) -> Result<String, SqlBuilderError> {
         Ok(unsigned_text(alloc, *self as u128)?)
+    }
+
+    fn push_text(&self, _alloc: Global, out: &mut String) -> Result<(), SqlBuilderError> {
+        Ok(push_unsigned(out, *self as u128)?)
     }
 }
 
@@ -253,6 +290,10 @@ impl ToText for i8 {
     fn to_text(&self, alloc: Global) -> Result<String, SqlBuilderError> {
         Ok(signed_text(alloc, i128::from(*self))?)
     }
+
+    fn push_text(&self, _alloc: Global, out: &mut String) -> Result<(), SqlBuilderError> {
+        Ok(push_signed(out, i128::from(*self))?)
+    }
 }
 
 impl ToText for i16 {
@@ -260,6 +301,10 @@ impl ToText for i16 {
 
     fn to_text(&self, alloc: Global) -> Result<String, SqlBuilderError> {
         Ok(signed_text(alloc, i128::from(*self))?)
+    }
+
+    fn push_text(&self, _alloc: Global, out: &mut String) -> Result<(), SqlBuilderError> {
+        Ok(push_signed(out, i128::from(*self))?)
     }
 }
 
@@ -269,6 +314,10 @@ impl ToText for i32 {
     fn to_text(&self, alloc: Global) -> Result<String, SqlBuilderError> {
         Ok(signed_text(alloc, i128::from(*self))?)
     }
+
+    fn push_text(&self, _alloc: Global, out: &mut String) -> Result<(), SqlBuilderError> {
+        Ok(push_signed(out, i128::from(*self))?)
+    }
 }
 
 impl ToText for i64 {
@@ -276,6 +325,10 @@ impl ToText for i64 {
 
     fn to_text(&self, alloc: Global) -> Result<String, SqlBuilderError> {
         Ok(signed_text(alloc, i128::from(*self))?)
+    }
+
+    fn push_text(&self, _alloc: Global, out: &mut String) -> Result<(), SqlBuilderError> {
+        Ok(push_signed(out, i128::from(*self))?)
     }
 }
 
@@ -285,6 +338,10 @@ impl ToText for i128 {
     fn to_text(&self, alloc: Global) -> Result<String, SqlBuilderError> {
         Ok(signed_text(alloc, *self)?)
     }
+
+    fn push_text(&self, _alloc: Global, out: &mut String) -> Result<(), SqlBuilderError> {
+        Ok(push_signed(out, *self)?)
+    }
 }
 
 impl ToText for isize {
@@ -292,6 +349,10 @@ impl ToText for isize {
 
     fn to_text(&self, alloc: Global) -> Result<String, SqlBuilderError> {
         Ok(signed_text(alloc, *self as i128)?)
+    }
+
+    fn push_text(&self, _alloc: Global, out: &mut String) -> Result<(), SqlBuilderError> {
+        Ok(push_signed(out, *self as i128)?)
     }
 }
 
@@ -304,5 +365,9 @@ impl<T: ToText> ToText for &T {
 
     fn as_text(&self, alloc: Global) -> Result<CowStr<'_>, SqlBuilderError> {
         (**self).as_text(alloc)
+    }
+
+    fn push_text(&self, alloc: Global, out: &mut String) -> Result<(), SqlBuilderError> {
+        (**self).push_text(alloc, out)
     }
 }

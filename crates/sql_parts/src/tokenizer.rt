@@ -32,7 +32,7 @@ const WORD_BYTES: [u8; 256] = [
 ];
 
 #[inline(always)]
-fn is_word_byte(byte: u8) -> bool
+pub(crate) fn is_word_byte(byte: u8) -> bool
     ensures { result ≡ is_word_byte byte }
 {
     WORD_BYTES[usize::from(byte)] == 1
@@ -113,7 +113,7 @@ fn split_word(text: &str) -> (&str, &str)
 
 // What the first rule that fits reads at the front of a text, and the text behind it.
 #[inline(always)]
-fn read(first: u8, text: &str) -> (Option<Token<'_>>, &str)
+pub(crate) fn read(first: u8, text: &str) -> (Option<Token<'_>>, &str)
     requires first { text.now ≡ first ∷ drop 1 text.now }
     ensures { IsRead (drop 1 text.now) result (tokens.first first (drop 1 text.now)) }
 {

@@ -1,27 +1,29 @@
 -- Conditions, and what is known of their texts.
-use Rattle.std.proofs.Common.{◌≡◌, ◌∙◌, ◌++◌, ap, codes, refl, sym, subst, ℕ, Bool, true, List, [], ◌∷◌, map, length, ◌≤◌, arith}
+use Rattle.std.proofs.Common.{◌≡◌, ◌∙◌, ◌++◌, ap, append_assoc, codes, refl, sym, subst, ℕ, Bool, true, List, [], ◌∷◌, map, length, ◌≤◌, arith}
 use Rattle.std.specs.Prelude.{Err, IfOk, Ok, Result, string_bytes}
 use Rattle.std.specs.List.{list_all}
 use Rattle.std.proofs.lemmas.Bool.{and_from, false≢true}
 use Rattle.sql_parts.specs.Operands.{ServesAsOperand, is_fragment}
+use Rattle.sql_parts.specs.Tokens.{tokens}
 use Rattle.sql_parts.specs.declared.error.SqlBuilderError.{SqlBuilderError}
 use Rattle.sql_parts.proofs.fragments.OperandFacts.{is-fragment}
 use Rattle.sql_builder.specs.Condition.{ConditionText, Raw, Compare, Like, IsNull, IsNotNull, InList, InQuoted, InQuery, Between}
-use Rattle.sql_builder.specs.Condition.{condition_bytes, condition_raw_texts, has_operands, mask_text}
 use Rattle.sql_builder.specs.Combined.{like_text}
+use Rattle.sql_builder.specs.Condition.{condition_bytes, condition_raw_texts, has_operands, not_text}
 use Rattle.sql_builder.specs.RawFragments.{is_fit}
-use Rattle.sql_builder.specs.declared.condition.Percent.{Percent}
+use Rattle.sql_builder.specs.Truths.{IsAtom}
 use Rattle.sql_builder.proofs.fragments.FitListLemmas.{row_fits}
-use Rattle.sql_builder.proofs.truth.CombinedLemmas.{like_text_is}
+use Rattle.sql_builder.proofs.truth.CombinedLemmas.{condition_fragment, condition_is_atom}
 use Rattle.sql_typed.specs.declared.texts.Condition.{Condition}
 use Rattle.sql_typed.specs.Conditions.{OperandsServe, list_text}
 use Rattle.sql_typed.specs.Results.{Prints}
 
--- where there are values
-pub list_given : {X : Type 0} (negated : Bool) (field : List ℕ) (text : X → List ℕ) (values : List X) → 1 ≤ length values
+-- where there are two values and more
+pub list_given : {X : Type 0} (negated : Bool) (field : List ℕ) (text : X → List ℕ) (values : List X) → 2 ≤ length values
     → list_text negated field (map text values) ≡ condition_bytes (InList negated field (map text values))
 list_given negated field text [] some = absurd (omega (arith, some))
-list_given negated field text (value ∷ values) some = refl
+list_given negated field text (value ∷ []) some = absurd (omega (arith, some))
+list_given negated field text (value ∷ next ∷ values) some = refl
 
 -- what holds of a text holds of a condition of this text
 pub printed-is : (P : List ℕ → Type 0) {text : List ℕ} (result : Result Condition SqlBuilderError) → Prints result text → P text
@@ -34,10 +36,13 @@ pub conditions_fit : (conditions : List Condition) → list_all is_fragment (map
 conditions_fit [] = refl
 conditions_fit (condition ∷ conditions) = and_from _ _ condition.fits (conditions_fit conditions)
 
--- a condition of LIKE, with its escape behind it
-pub escaped_is : {printed before : List ℕ} (negated : Bool) (percent : Percent) (field mask : List ℕ) → printed ≡ before ++ codes " ESCAPE '!'"
-    → before ≡ condition_bytes (Like negated percent field mask) → printed ≡ like_text negated field (mask_text percent mask)
-escaped_is negated percent field mask is like = is ∙ ap (λ text. text ++ codes " ESCAPE '!'") like ∙ like_text_is negated percent field mask
+-- a field, words and a mask, and an escape behind them
+pub like_printed : {words before after : List ℕ} (negated : Bool) (field mask : List ℕ) → words ≡ not_text negated ++ codes " LIKE "
+    → before ≡ field ++ (words ++ mask) → after ≡ before ++ codes " ESCAPE '!'" → after ≡ like_text negated field mask
+like_printed negated field mask is before after =
+    let words = not_text negated ++ codes " LIKE " in
+    rw (after, before, is)
+    (append_assoc field (words ++ mask) (codes " ESCAPE '!'") ∙ ap (λ text. field ++ text) (append_assoc words mask (codes " ESCAPE '!'")))
 
 -- ---- texts that serve as operands
 
@@ -66,3 +71,11 @@ operands_fit (Between negated field least greatest) serve =
     and_from _ _ (is-fragment serve.0) (and_from _ _ (is-fragment serve.1) (and_from _ _ (is-fragment serve.2) refl))
 operands_fit (Raw text) serve = absurd (false≢true serve)
 operands_fit (InQuoted negated field values) serve = absurd (false≢true serve)
+
+-- a condition of these texts fits, and is an atom
+pub condition_made : (condition : ConditionText) → OperandsServe condition → {text : List ℕ} → text ≡ condition_bytes condition
+    → (is_fragment text ≡ true) × IsAtom (tokens text)
+condition_made condition serve is = (
+  ap is_fragment is ∙ condition_fragment condition (operands_fit condition serve),
+  subst (λ text. IsAtom (tokens text)) (sym is) (condition_is_atom condition (operands_serve condition serve)),
+)

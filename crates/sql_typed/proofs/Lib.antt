@@ -1,3 +1,9 @@
+pub mod FilledLemmas
+pub mod FilledStatementLemmas
 pub mod FitLemmas
+pub mod FaultLemmas
 pub mod PrintLemmas
 pub mod ConditionLemmas
+pub mod WholeLemmas
+pub mod BracketLemmas
+pub mod rows

@@ -1,19 +1,19 @@
 -- What a statement prints whose texts all fit.
-use Rattle.std.proofs.Common.{◌≡◌, ◌&&◌, ◌++◌, ◌∙◌, ap, sym, refl, codes, not, ℕ, Option, None, Some, List, Ok, IfOk, Result, String, string_bytes, subst, true}
+use Rattle.std.proofs.Common.{◌≡◌, ◌&&◌, ◌++◌, ◌∙◌, ◌⊎◌, inl, inr, ap, sym, refl, codes, not, ℕ, Option, None, Some, List, Ok, IfOk, Result, String, string_bytes, subst, true}
 use Rattle.std.specs.List.{list_all}
-use Rattle.std.specs.Prelude.{IfSome, IsTrue, OnOk, Err, IsNone, IsOk, length, ◌+◌, ◌≤◌}
+use Rattle.std.specs.Prelude.{IfErr, IfSome, IsTrue, OnOk, Err, IsNone, IsOk, length, ◌+◌, ◌≤◌}
 use Rattle.std.specs.Result.{result_map_both}
 use Rattle.std.proofs.lemmas.Bool.{and_parts}
 use Rattle.std.proofs.lemmas.Result.{IfOk-weaker}
 use Rattle.sql_parts.specs.Fragments.{balanced, has_clause_word, has_top_level, is_joining, is_word, operand}
-use Rattle.sql_parts.specs.Error.{FailsOnlyByMemory}
+use Rattle.sql_parts.specs.Error.{FailsOnlyByMemory, IsMemory}
 use Rattle.sql_parts.specs.Operands.{ServesAsOperand, is_fragment}
 use Rattle.sql_parts.specs.Readers.{marks, outer_states}
 use Rattle.sql_parts.specs.StringTexts.{outline}
 use Rattle.sql_parts.specs.Tokens.{begins_with, closed, tokens}
 use Rattle.sql_parts.specs.declared.error.SqlBuilderError.{SqlBuilderError}
 use Rattle.sql_builder.specs.Builder.{ClauseTexts}
-use Rattle.sql_builder.specs.Calls.{FinishText, Sql, finish_raw_texts, kind_of}
+use Rattle.sql_builder.specs.Calls.{CallText, FinishText, Sql, StartText, finish_raw_texts, kind_of}
 use Rattle.sql_builder.specs.Meaning.{HasTruthOf, condition_groups, is_nested}
 use Rattle.sql_builder.specs.RawFragments.{has_fit_texts, is_fit}
 use Rattle.sql_builder.specs.Reading.{clause_list, read}
@@ -30,7 +30,7 @@ use Rattle.sql_builder.proofs.reading.SubqueryLemmas.{subqueries_nest}
 use Rattle.sql_builder.proofs.statements.StatementLawLemmas.{builders_print_statements, statements_are_closed, statements_have_truth, statements_keep_tokens}
 use Rattle.sql_builder.proofs.statements.StatementLawLemmas.{statements_nest, statements_read_back}
 use Rattle.sql_typed.specs.Fits.{IsFitBy, Made}
-use Rattle.sql_typed.specs.Printed.{FailsAs, FailsWith, IsPrinted, PrintsBehind}
+use Rattle.sql_typed.specs.Printed.{BuilderFailsAs, FailsWith, IsPrinted, PrintsBehind}
 use Rattle.sql_builder.proofs.fragments.UnfitLemmas.{ends_in_semicolon}
 use Rattle.sql_builder.proofs.reading.ReadBackLemmas.{where_unenclosed}
 use Rattle.sql_typed.proofs.FitLemmas.{texts_fit}
@@ -56,7 +56,7 @@ module _ (made : Made) (finish : FinishText) (r : ClauseTexts) (fit : IsFitBy ma
   texts : has_fit_texts made.start made.calls finish ≡ true
   texts = texts_fit made finish r fit name
 
-  is_printed : (text : List ℕ) → statement made.start made.calls finish ≡ Ok text → IsPrinted made finish text
+  pub is_printed : (text : List ℕ) → statement made.start made.calls finish ≡ Ok text → IsPrinted made finish text
   is_printed text is = record {
     is_statement = is;
     has_tokens = held (λ t. shape made.start made.calls finish ≡ Ok (tokens t)) is (statements_keep_tokens made.start made.calls finish (fit_texts_are_closed made.start made.calls finish texts));
@@ -124,7 +124,7 @@ printed_behind made r fit (Ok x) before after appended failed =
 
 -- how it fails, by what the builder's call says
 pub fails_as : {T : Type 0} (made : Made) (finish : FinishText) (r : ClauseTexts) (fit : IsFitBy made r) (result : Result T SqlBuilderError)
-    → IfSome (error_at finish r) (λ e. result ≡ Err e) → (IsNone (error_at finish r) → FailsOnlyByMemory result) → FailsAs made finish result
+    → IfSome (error_at finish r) (λ e. result ≡ Err e) → (IsNone (error_at finish r) → FailsOnlyByMemory result) → BuilderFailsAs made finish result
 fails_as made finish r fit result failed memory =
     subst (λ (k : ClauseTexts). FailsWith (error_at finish k) result) fit.is_made (by (error_at finish r) failed memory)
   where
@@ -144,3 +144,30 @@ pub has_room : {T : Type 0} (made : Made) (r : ClauseTexts) (fit : IsFitBy made 
     → IsNone (error_at Sql (made_by made.start made.calls)) → used + length (text_at Sql (made_by made.start made.calls)) ≤ most → IsOk result
 has_room made r fit result used most succeeds =
     subst (λ (k : ClauseTexts). IsNone (error_at Sql k) → used + length (text_at Sql k) ≤ most → IsOk result) fit.is_made succeeds
+
+-- what is printed without its `;` is the statement with it
+pub bare_statement : {X : Type 0} (start : StartText) (calls : List CallText) (r : ClauseTexts) (text : X → List ℕ) (result : Result X SqlBuilderError)
+    → r ≡ made_by start calls → IfOk result (λ x. text x ++ codes ";" ≡ text_at Sql r) → FailsWith (error_at Sql r) result
+    → IfOk result (λ x. statement start calls Sql ≡ Ok (text x ++ codes ";"))
+bare_statement start calls r text (Err error) made printed failed = tt
+bare_statement {X} start calls r text (Ok x) made printed failed =
+    sym (builders_print_statements start calls Sql) ∙ ap (λ (k : ClauseTexts). unless_error (error_at Sql k) (text_at Sql k)) (sym made)
+    ∙ by (error_at Sql r) failed ∙ ap Ok (sym printed)
+  where
+    by : (known : Option SqlBuilderError) → FailsWith {T = X} known (Ok x) → unless_error known (text_at Sql r) ≡ Ok (text_at Sql r)
+    by None failed = refl
+    by (Some wanted) failed = cc failed
+
+pub bare_printed : {X : Type 0} (made : Made) (r : ClauseTexts) (fit : IsFitBy made r) (text : X → List ℕ) (result : Result X SqlBuilderError)
+    → IfOk result (λ x. text x ++ codes ";" ≡ text_at Sql r) → FailsWith (error_at Sql r) result
+    → IfOk result (λ x. IsPrinted made Sql (text x ++ codes ";"))
+bare_printed made r fit text (Err error) printed failed = tt
+bare_printed made r fit text (Ok x) printed failed =
+    is_printed made Sql r fit refl (text x ++ codes ";") (bare_statement made.start made.calls r text (Ok x) fit.is_made printed failed)
+
+-- it fails because memory runs out, or with the known error
+pub may_fail : {X : Type 0} (known : Option SqlBuilderError) (result : Result X SqlBuilderError) → FailsWith known result
+    → IfErr result (λ e. IsMemory e ⊎ (known ≡ Some e))
+may_fail known (Ok x) failed = tt
+may_fail None (Err error) failed = inl failed
+may_fail (Some wanted) (Err error) failed = inr (cc failed)

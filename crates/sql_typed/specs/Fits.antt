@@ -1,5 +1,5 @@
 -- Statements whose texts all fit, by their types.
-use Rattle.std.specs.Prelude.{◌≡◌, IsTrue, List, [], ◌∷◌, ◌++◌}
+use Rattle.std.specs.Prelude.{◌≡◌, Bool, true, false, IsTrue, List, [], ◌∷◌, ◌++◌}
 use Rattle.std.specs.List.{list_all}
 use Rattle.sql_builder.specs.Builder.{ClauseTexts}
 use Rattle.sql_builder.specs.Calls.{CallText, StartText, start_raw_texts}
@@ -7,18 +7,23 @@ use Rattle.sql_builder.specs.FitCalls.{call_fits}
 use Rattle.sql_builder.specs.RawFragments.{is_fit}
 use Rattle.sql_builder.specs.StatementLaws.{made_by}
 
--- What has made a statement: its start, and the calls that were made after it.
+-- What has made a statement: its start, the calls that were made after it, and whether one said that all rows are meant.
 pub record Made : Type 0 where
   pub start : StartText
   pub calls : List CallText
+  pub all_rows : Bool
 
 -- a start, and no call
 abbrev pub beginning : StartText → Made
-beginning start = record { start = start; calls = [] }
+beginning start = record { start = start; calls = []; all_rows = false }
 
 -- one more call
 abbrev pub adding : CallText → Made → Made
-adding call made = record { start = made.start; calls = made.calls ++ call ∷ [] }
+adding call made = record { start = made.start; calls = made.calls ++ call ∷ []; all_rows = made.all_rows }
+
+-- with every row meant
+abbrev pub meaning_all_rows : Made → Made
+meaning_all_rows made = record { start = made.start; calls = made.calls; all_rows = true }
 
 -- these clauses are what a start and calls make, and the texts of all fit
 pub record IsFitBy (made : Made) (r : ClauseTexts) : Type 0 where

@@ -1,5 +1,10 @@
 pub mod Conditions
+pub mod Counts
+pub mod Faults
+pub mod Filled
 pub mod Fits
 pub mod Printed
 pub mod Results
 pub mod Steps
+pub mod Unions
+pub mod Whole

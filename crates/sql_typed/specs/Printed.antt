@@ -56,14 +56,14 @@ pub record IsPrinted (made : Made) (finish : FinishText) (text : List ℕ) : Typ
   -- nor does any reader, as a database's lexer, read it otherwise
   pub readers_ignore_texts : ReadersIgnoreTexts made finish text
 
--- how a call fails: with this error where there is one, and else only if memory runs out
+-- how a call of the builder fails: with this error where there is one, and else only if memory runs out
 abbrev pub FailsWith : {T : Type 0} → Option SqlBuilderError → Result T SqlBuilderError → Type 0
 FailsWith None result = FailsOnlyByMemory result
 FailsWith (Some error) result = result ≡ Err error
 
--- printing fails with the error of the calls where they have one, and else only if memory runs out
-abbrev pub FailsAs : {T : Type 0} → Made → FinishText → Result T SqlBuilderError → Type 0
-FailsAs made finish result = FailsWith (error_at finish (made_by made.start made.calls)) result
+-- the builder prints, or fails with the error of the calls where they have one
+abbrev pub BuilderFailsAs : {T : Type 0} → Made → FinishText → Result T SqlBuilderError → Type 0
+BuilderFailsAs made finish result = FailsWith (error_at finish (made_by made.start made.calls)) result
 
 -- a text with what `sql` prints behind it
 abbrev pub PrintsBehind : Made → List ℕ → List ℕ → Type 0

@@ -4,7 +4,7 @@ use Rattle.sql_parts.specs.Error.{IsMemory}
 use Rattle.sql_parts.specs.declared.error.SqlBuilderError.{SqlBuilderError}
 use Rattle.sql_builder.specs.Builder.{IsNullaryError}
 use Rattle.sql_builder.specs.Calls as call
-use Rattle.sql_builder.specs.Calls.{CallText, Cond, binary_call, nullary_call, unary_call}
+use Rattle.sql_builder.specs.Calls.{CallText, Cond, Values, binary_call, nullary_call, unary_call}
 use Rattle.sql_builder.specs.Condition.{Raw}
 use Rattle.sql_typed.specs.declared.select.JoinKind.{JoinKind}
 use Rattle.sql_typed.specs.declared.select.JoinKind.TheVariants as kind
@@ -17,6 +17,7 @@ step_call (step.Unary clause text) = unary_call clause text.now
 step_call (step.Binary clause first second) = binary_call clause first.now second.now
 step_call (step.Condition family condition) = Cond family (Raw (string_bytes condition))
 step_call (step.Nullary clause) = nullary_call clause
+step_call (step.Row values) = Values values
 
 -- how a step fails: most of the calls without a text take no memory
 abbrev pub IsStepError : Step → SqlBuilderError → Type 0

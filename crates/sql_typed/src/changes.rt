@@ -1,6 +1,5 @@
 //! The calls of INSERT, UPDATE and DELETE. Each call fails only if memory runs out.
 ghost use Rattle.std.specs.Prelude.{◌≡◌, ◌++◌, [], ◌∷◌, map, string_bytes};
-ghost use Rattle.sql_parts.specs.Text.{texts};
 ghost use Rattle.sql_builder.specs.Calls.{DeleteFrom, Field, InsertInto, SetStr, SetTo, UpdateTable, Values};
 ghost use Rattle.sql_typed.specs.Fits.{adding, beginning};
 ghost use Rattle.sql_typed.specs.Results.{Gives};
@@ -16,10 +15,10 @@ use std::alloc::Global;
 /// An INSERT into a table.
 pub type Insert = Statement<InsertKind>;
 
-/// An UPDATE of a table: of every row, without a condition.
+/// An UPDATE of a table. It needs a condition, or `all_rows`.
 pub type Update = Statement<UpdateKind>;
 
-/// A DELETE from a table: of every row, without a condition.
+/// A DELETE from a table. It needs a condition, or `all_rows`.
 pub type Delete = Statement<DeleteKind>;
 
 impl Statement<InsertKind> {
@@ -43,9 +42,9 @@ impl Statement<InsertKind> {
     /// `Insert::into(alloc, Fragment::of("t"))?.field(Operand::of("a"))?.row(Row::new(alloc).value(Value("it's"))?)?.sql()?` →
     /// `INSERT INTO t (a) VALUES ('it''s');`
     pub fn row(self, row: Row) -> Result<Insert>
-        ensures made { Gives result (adding (Values (texts row.values.items)) self) }
+        ensures made { Gives result (adding (Values row.values) self) }
     {
-        self.with_values(row.values.as_slice())
+        self.add(Step::Row(row.values))
     }
 
     /// One more row, whose values are of one type, such as `Literal`.
@@ -59,7 +58,7 @@ impl Statement<InsertKind> {
 
 impl Statement<UpdateKind> {
     /// An UPDATE of this table.
-    /// `Update::table(alloc, Fragment::of("t"))?.set(Operand::of("a"), Value("b"))?.sql()?` → `UPDATE t SET a = 'b';`
+    /// `Update::table(alloc, Fragment::of("t"))?.set(Operand::of("a"), Value("b"))?.all_rows().sql()?` → `UPDATE t SET a = 'b';`
     pub fn table<T: FragmentText>(alloc: Global, table: T) -> Result<Update>
         ensures made { Gives result (beginning (UpdateTable (T.text table))) }
     {
@@ -67,7 +66,7 @@ impl Statement<UpdateKind> {
     }
 
     /// Sets a field to a value.
-    /// `Update::table(alloc, Fragment::of("t"))?.set(Operand::of("a"), Value("b"))?.sql()?` → `UPDATE t SET a = 'b';`
+    /// `Update::table(alloc, Fragment::of("t"))?.set(Operand::of("a"), Value("b"))?.all_rows().sql()?` → `UPDATE t SET a = 'b';`
     pub fn set<F: OperandText, V: OperandText>(self, field: F, value: V) -> Result<Update>
         ensures made { Gives result (adding (SetTo (F.text field) (V.text value)) self) }
     {
@@ -75,7 +74,7 @@ impl Statement<UpdateKind> {
     }
 
     /// Sets a field to a text, which is quoted in place.
-    /// `Update::table(alloc, Fragment::of("t"))?.set_str(Operand::of("a"), Value("it's"))?.sql()?` → `UPDATE t SET a = 'it''s';`
+    /// `Update::table(alloc, Fragment::of("t"))?.set_str(Operand::of("a"), Value("it's"))?.all_rows().sql()?` → `UPDATE t SET a = 'it''s';`
     pub fn set_str<F: OperandText>(self, field: F, value: Value<&str>) -> Result<Update>
         ensures made { Gives result (adding (SetStr (F.text field) value.entry.0.now) self) }
     {
@@ -86,7 +85,7 @@ impl Statement<UpdateKind> {
 
 impl Statement<DeleteKind> {
     /// A DELETE from this table.
-    /// `Delete::from(alloc, Fragment::of("t"))?.sql()?` → `DELETE FROM t;`
+    /// `Delete::from(alloc, Fragment::of("t"))?.all_rows().sql()?` → `DELETE FROM t;`
     pub fn from<T: FragmentText>(alloc: Global, table: T) -> Result<Delete>
         ensures made { Gives result (beginning (DeleteFrom (T.text table))) }
     {

@@ -1,26 +1,32 @@
 //! Conditions as values, whose types say that their texts fit. Each function fails only if memory runs out.
-ghost use Rattle.std.specs.Prelude.{◌≡◌, ◌++◌, [], ◌∷◌, IfOk, IsTrue, OnOk, false, map, option_map, string_bytes, true};
+ghost use Rattle.std.specs.Prelude.{◌≡◌, ◌++◌, [], ◌∷◌, IfOk, IsTrue, OnOk, codes, false, map, option_map, string_bytes, true};
 ghost use Rattle.sql_parts.specs.Error.{FailsOnlyByMemory};
-ghost use Rattle.sql_parts.specs.Tokens.{tokens};
-ghost use Rattle.sql_builder.specs.Combined.{IsCombined, combined_text, constant_text, like_text, negation_text};
-ghost use Rattle.sql_builder.specs.Condition.{Between, Compare, InList, InQuery, IsNotNull, IsNull, Like, borrowed_view, condition_bytes};
+ghost use Rattle.sql_parts.specs.Fragments.{balanced, is_symbol};
+ghost use Rattle.sql_parts.specs.Quoting.{quoted};
+ghost use Rattle.sql_parts.specs.Tokens.{begins_with, is_one_of, tokens};
+ghost use Rattle.sql_builder.specs.Combined.{IsCombined, combined_text, constant_text, exists_text, like_text, negation_text};
+ghost use Rattle.sql_builder.specs.Condition.{Between, Compare, InList, InQuery, IsNotNull, IsNull, Like, borrowed_view, condition_bytes, not_text};
 ghost use Rattle.sql_builder.specs.Layout.{byte_units};
 ghost use Rattle.sql_builder.specs.Phrases.{in_brackets};
 ghost use Rattle.sql_builder.specs.Truths.{IsAtom, Valuation, and_all, not3, or_all, truth};
 ghost use Rattle.sql_builder.specs.declared.condition.Percent.TheVariants as percent;
 ghost use Rattle.sql_builder.specs.declared.condition.Relation.TheVariants.{Eq, Ge, Gt, Le, Lt, Ne};
-ghost use Rattle.sql_typed.specs.Conditions.{OperandsServe, equal_or_null, escaped_mask, list_text};
+ghost use Rattle.sql_typed.specs.Conditions.{OperandsServe, bracket_fronts, equal_or_null, escaped_mask, list_text, may_begin_bracketed};
 ghost use Rattle.sql_typed.specs.Results.{Prints};
 
+use crate::mask::{containing, ending_with, starting_with};
 use crate::operand_text::OperandText;
 pub use crate::texts::Condition;
 use crate::texts::Query;
 use sql_builder::calls::{BorrowedCondition, Percent, Relation, condition_text};
 use sql_parts::Value;
-use sql_parts::text::{Fragment, Items, LikeEscape, Texts, ToText, escape_like};
+use sql_parts::text::{Fragment, Items, OwnedOperand, Texts, ToText};
 use std::alloc::{AllocError, Global};
 
 type Result = crate::Result<Condition>;
+
+// How many bytes are asked for at first, so that a short condition takes one allocation.
+const FIRST_ROOM: usize = 64;
 
 // A condition without a list.
 type Plain<'a> = BorrowedCondition<'a, Items<'a, String>>;
@@ -36,6 +42,23 @@ fn made<'a, T: Texts<'a>>(alloc: Global, condition: BorrowedCondition<'a, T>) ->
     Ok(Condition { text })
 }
 
+// Two operands with words between them.
+fn phrase<F: OperandText, V: OperandText>(
+    alloc: Global,
+    field: F,
+    words: &str,
+    value: V,
+) -> crate::Result<String>
+    ensures text { IfOk result (λ s. string_bytes s ≡ F.text field ++ (words.now ++ V.text value)) }
+    ensures memory { FailsOnlyByMemory result }
+{
+    let mut text = String::with_capacity(alloc, FIRST_ROOM)?;
+    field.push_text(alloc, &mut text)?;
+    text.push_str(words)?;
+    value.push_text(alloc, &mut text)?;
+    Ok(text)
+}
+
 #[inline(always)]
 fn compare<F: OperandText, V: OperandText>(
     alloc: Global,
@@ -46,10 +69,8 @@ fn compare<F: OperandText, V: OperandText>(
     ensures text { Prints result (condition_bytes (Compare relation (F.text field) (V.text value))) }
     ensures atom { IfOk result (λ c. IsAtom (tokens (string_bytes c.text))) }
 {
-    let field = field.as_text(alloc)?;
-    let value = value.as_text(alloc)?;
-    let condition = Plain::Compare(relation, field.as_str(), value.as_str());
-    made(alloc, condition)
+    let text = phrase(alloc, field, relation.sign(), value)?;
+    Ok(Condition { text })
 }
 
 /// `field = value`.
@@ -70,8 +91,10 @@ pub fn ne<F: OperandText, V: OperandText>(alloc: Global, field: F, value: V) -> 
     compare(alloc, Relation::Ne, field, value)
 }
 
-/// `field > value`.
-/// `gt(alloc, Operand::of("a"), Value("it's"))?.text` → `a > 'it''s'`
+/// `field > value`. A query that has one value is an operand, as `subquery` prints it.
+/// `gt(alloc, Operand::of("a"), Value("it's"))?.text` → `a > 'it''s'`,
+/// `gt(alloc, Operand::of("a"), Select::from(alloc, Fragment::of("t"))?.field(Operand::of("AVG(a)"))?.subquery()?)?.text` →
+/// `a > (SELECT AVG(a) FROM t)`
 pub fn gt<F: OperandText, V: OperandText>(alloc: Global, field: F, value: V) -> Result
     ensures text { Prints result (condition_bytes (Compare Gt (F.text field) (V.text value))) }
     ensures atom { IfOk result (λ c. IsAtom (tokens (string_bytes c.text))) }
@@ -126,7 +149,8 @@ pub fn is_not_null<F: OperandText>(alloc: Global, field: F) -> Result
     made(alloc, Plain::IsNotNull(field.as_str()))
 }
 
-/// `field = value`, and `field IS NULL` without a value.
+/// `field = value`, and `field IS NULL` without a value. `Some(Value(None))` is a value: of `= NULL` no row is found.
+/// A plain `None` is of no type: write `is_null` for it.
 /// `eq_or_null(alloc, Operand::of("a"), None::<i64>)?.text` → `a IS NULL`
 pub fn eq_or_null<F: OperandText, V: OperandText>(
     alloc: Global,
@@ -190,74 +214,170 @@ pub fn not_like<F: OperandText>(
     masked(alloc, true, percent, field, mask)
 }
 
-fn like_escaped<F: OperandText>(
+// What is printed between a field and a mask.
+fn like_words(negated: bool) -> &'static str
+    ensures { result.now ≡ not_text negated ++ codes " LIKE " }
+{
+    if negated { " NOT LIKE " } else { " LIKE " }
+}
+
+fn like_escaped<F: OperandText, M: OperandText>(
     alloc: Global,
     negated: bool,
-    percent: Percent,
     field: F,
-    word: Value<&str>,
+    mask: M,
 ) -> Result
-    ensures text { Prints result (like_text negated (F.text field) (escaped_mask percent word.entry.0.now)) }
+    ensures text { Prints result (like_text negated (F.text field) (M.text mask)) }
     ensures atom { IfOk result (λ c. IsAtom (tokens (string_bytes c.text))) }
 {
-    let mask = escape_like(alloc, word.0, LikeEscape::Exclamation)?;
-    let Condition { mut text } = masked(alloc, negated, percent, field, Value(mask.as_str()))?;
+    let mut text = phrase(alloc, field, like_words(negated), mask)?;
     text.push_str(" ESCAPE '!'")?;
     Ok(Condition { text })
+}
+
+/// `field LIKE mask ESCAPE '!'`, where the mask is any operand, as a parameter of a mask that `mask::containing` makes.
+/// `like_mask(alloc, Operand::of("a"), Operand::of("?1"))?.text` → `a LIKE ?1 ESCAPE '!'`
+pub fn like_mask<F: OperandText, M: OperandText>(alloc: Global, field: F, mask: M) -> Result
+    ensures text { Prints result (like_text false (F.text field) (M.text mask)) }
+    ensures atom { IfOk result (λ c. IsAtom (tokens (string_bytes c.text))) }
+{
+    like_escaped(alloc, false, field, mask)
+}
+
+/// `field NOT LIKE mask ESCAPE '!'`, where the mask is any operand, as a parameter of a mask that `mask::containing` makes.
+/// `not_like_mask(alloc, Operand::of("a"), Operand::of("?1"))?.text` → `a NOT LIKE ?1 ESCAPE '!'`
+pub fn not_like_mask<F: OperandText, M: OperandText>(alloc: Global, field: F, mask: M) -> Result
+    ensures text { Prints result (like_text true (F.text field) (M.text mask)) }
+    ensures atom { IfOk result (λ c. IsAtom (tokens (string_bytes c.text))) }
+{
+    like_escaped(alloc, true, field, mask)
 }
 
 /// Whether the field contains this text, whose wildcards are escaped.
 /// `contains(alloc, Operand::of("a"), Value("50%"))?.text` → `a LIKE '%50!%%' ESCAPE '!'`
 pub fn contains<F: OperandText>(alloc: Global, field: F, word: Value<&str>) -> Result
-    ensures text { Prints result (like_text false (F.text field) (escaped_mask percent.Any word.entry.0.now)) }
+    ensures text { Prints result (like_text false (F.text field) (quoted (escaped_mask percent.Any word.entry.0.now))) }
     ensures atom { IfOk result (λ c. IsAtom (tokens (string_bytes c.text))) }
 {
-    like_escaped(alloc, false, Percent::Any, field, word)
+    let mask = containing(alloc, word.0)?;
+    like_escaped(alloc, false, field, Value(mask))
 }
 
 /// Whether the field does not contain this text, whose wildcards are escaped.
 /// `not_contains(alloc, Operand::of("a"), Value("50%"))?.text` → `a NOT LIKE '%50!%%' ESCAPE '!'`
 pub fn not_contains<F: OperandText>(alloc: Global, field: F, word: Value<&str>) -> Result
-    ensures text { Prints result (like_text true (F.text field) (escaped_mask percent.Any word.entry.0.now)) }
+    ensures text { Prints result (like_text true (F.text field) (quoted (escaped_mask percent.Any word.entry.0.now))) }
     ensures atom { IfOk result (λ c. IsAtom (tokens (string_bytes c.text))) }
 {
-    like_escaped(alloc, true, Percent::Any, field, word)
+    let mask = containing(alloc, word.0)?;
+    like_escaped(alloc, true, field, Value(mask))
 }
 
 /// Whether the field starts with this text, whose wildcards are escaped.
 /// `starts_with(alloc, Operand::of("a"), Value("50%"))?.text` → `a LIKE '50!%%' ESCAPE '!'`
 pub fn starts_with<F: OperandText>(alloc: Global, field: F, word: Value<&str>) -> Result
-    ensures text { Prints result (like_text false (F.text field) (escaped_mask percent.Left word.entry.0.now)) }
+    ensures text { Prints result (like_text false (F.text field) (quoted (escaped_mask percent.Left word.entry.0.now))) }
     ensures atom { IfOk result (λ c. IsAtom (tokens (string_bytes c.text))) }
 {
-    like_escaped(alloc, false, Percent::Left, field, word)
+    let mask = starting_with(alloc, word.0)?;
+    like_escaped(alloc, false, field, Value(mask))
 }
 
 /// Whether the field does not start with this text, whose wildcards are escaped.
 /// `not_starts_with(alloc, Operand::of("a"), Value("50%"))?.text` → `a NOT LIKE '50!%%' ESCAPE '!'`
 pub fn not_starts_with<F: OperandText>(alloc: Global, field: F, word: Value<&str>) -> Result
-    ensures text { Prints result (like_text true (F.text field) (escaped_mask percent.Left word.entry.0.now)) }
+    ensures text { Prints result (like_text true (F.text field) (quoted (escaped_mask percent.Left word.entry.0.now))) }
     ensures atom { IfOk result (λ c. IsAtom (tokens (string_bytes c.text))) }
 {
-    like_escaped(alloc, true, Percent::Left, field, word)
+    let mask = starting_with(alloc, word.0)?;
+    like_escaped(alloc, true, field, Value(mask))
 }
 
 /// Whether the field ends with this text, whose wildcards are escaped.
 /// `ends_with(alloc, Operand::of("a"), Value("50%"))?.text` → `a LIKE '%50!%' ESCAPE '!'`
 pub fn ends_with<F: OperandText>(alloc: Global, field: F, word: Value<&str>) -> Result
-    ensures text { Prints result (like_text false (F.text field) (escaped_mask percent.Right word.entry.0.now)) }
+    ensures text { Prints result (like_text false (F.text field) (quoted (escaped_mask percent.Right word.entry.0.now))) }
     ensures atom { IfOk result (λ c. IsAtom (tokens (string_bytes c.text))) }
 {
-    like_escaped(alloc, false, Percent::Right, field, word)
+    let mask = ending_with(alloc, word.0)?;
+    like_escaped(alloc, false, field, Value(mask))
 }
 
 /// Whether the field does not end with this text, whose wildcards are escaped.
 /// `not_ends_with(alloc, Operand::of("a"), Value("50%"))?.text` → `a NOT LIKE '%50!%' ESCAPE '!'`
 pub fn not_ends_with<F: OperandText>(alloc: Global, field: F, word: Value<&str>) -> Result
-    ensures text { Prints result (like_text true (F.text field) (escaped_mask percent.Right word.entry.0.now)) }
+    ensures text { Prints result (like_text true (F.text field) (quoted (escaped_mask percent.Right word.entry.0.now))) }
     ensures atom { IfOk result (λ c. IsAtom (tokens (string_bytes c.text))) }
 {
-    like_escaped(alloc, true, Percent::Right, field, word)
+    let mask = ending_with(alloc, word.0)?;
+    like_escaped(alloc, true, field, Value(mask))
+}
+
+fn in_list<F: OperandText, V: OperandText>(
+    alloc: Global,
+    negated: bool,
+    field: F,
+    values: &[V],
+) -> Result
+    ensures text { Prints result (condition_bytes (InList negated (F.text field) (map V.text values.now))) }
+    ensures atom { IfOk result (λ c. IsAtom (tokens (string_bytes c.text))) }
+{
+    let field = field.as_text(alloc)?;
+    let values = Items { items: values };
+    made(
+        alloc,
+        BorrowedCondition::InList(negated, field.as_str(), values),
+    )
+}
+
+// Whether the first byte is `(`, or one that databases skip before it.
+fn begins_at_front(text: &str) -> bool
+    ensures { result ≡ begins_with (is_one_of bracket_fronts) text.now }
+{
+    match text.as_bytes().first() {
+        // The last two are the vertical TAB and the form feed.
+        Some(b'(' | b' ' | b'\t' | b'\n' | b'\r' | b'/' | b'#' | 11 | 12) => true,
+        _ => false,
+    }
+}
+
+// Whether the text may begin with `(`, which is then one value where a list takes it.
+fn may_begin_bracketed(text: &str) -> bool
+    ensures text { result ≡ may_begin_bracketed text.now }
+    ensures found { IsTrue (begins_with (is_symbol 40) (tokens text.now)) → IsTrue result }
+{
+    let dashes = text.starts_with("--");
+    begins_at_front(text) || dashes
+}
+
+// An operand in brackets.
+pub(crate) fn bracketed(alloc: Global, operand: &str) -> crate::Result<OwnedOperand>
+    requires balanced { IsTrue (balanced operand.now) }
+    ensures text { IfOk result (λ o. string_bytes o.text ≡ in_brackets byte_units operand.now) }
+    ensures memory { FailsOnlyByMemory result }
+{
+    let mut text = String::new(alloc);
+    push_bracketed(&mut text, operand)?;
+    Ok(OwnedOperand::of_built(text))
+}
+
+fn in_one<F: OperandText, V: OperandText>(
+    alloc: Global,
+    negated: bool,
+    field: F,
+    value: &V,
+) -> Result
+    ensures text { Prints result (list_text negated (F.text field) (V.text value.now ∷ [])) }
+    ensures atom { IfOk result (λ c. IsAtom (tokens (string_bytes c.text))) }
+{
+    let text = value.as_text(alloc)?;
+    if may_begin_bracketed(text.as_str()) {
+        let relation = if negated { Relation::Ne } else { Relation::Eq };
+        let value = bracketed(alloc, text.as_str())?;
+        compare(alloc, relation, field, value)
+    } else {
+        in_list(alloc, negated, field, &[value])
+    }
 }
 
 fn listed<F: OperandText, V: OperandText>(
@@ -271,16 +391,13 @@ fn listed<F: OperandText, V: OperandText>(
 {
     match values {
         [] => constant(alloc, negated),
-        [_, ..] => {
-            let field = field.as_text(alloc)?;
-            let values = Items { items: values };
-            let condition = BorrowedCondition::InList(negated, field.as_str(), values);
-            made(alloc, condition)
-        }
+        [value] => in_one(alloc, negated, field, value),
+        [_, _, ..] => in_list(alloc, negated, field, values),
     }
 }
 
-/// `field IN (values)`. Of no values it is `1 = 0`, which is false.
+/// `field IN (values)`. Of no values it is `1 = 0`, which is false. A query in brackets is one value among them, and
+/// `field = ((query))` alone; `in_query` is for its rows.
 /// `in_values(alloc, Operand::of("a"), &[1, 2])?.text` → `a IN (1, 2)`
 pub fn in_values<F: OperandText, V: OperandText>(alloc: Global, field: F, values: &[V]) -> Result
     ensures text { Prints result (list_text false (F.text field) (map V.text values.now)) }
@@ -289,7 +406,8 @@ pub fn in_values<F: OperandText, V: OperandText>(alloc: Global, field: F, values
     listed(alloc, false, field, values)
 }
 
-/// `field NOT IN (values)`. Of no values it is `1 = 1`, which is true; with a NULL among them it is true of no row.
+/// `field NOT IN (values)`. Of no values it is `1 = 1`, which is true; with a NULL among them it is true of no row. A query
+/// in brackets is one value among them, and `field <> ((query))` alone; `not_in_query` is for its rows.
 /// `not_in_values(alloc, Operand::of("a"), &[1, 2])?.text` → `a NOT IN (1, 2)`
 pub fn not_in_values<F: OperandText, V: OperandText>(
     alloc: Global,
@@ -311,7 +429,7 @@ fn queried<F: OperandText>(alloc: Global, negated: bool, field: F, query: &Query
     made(alloc, condition)
 }
 
-/// `field IN (query)`.
+/// `field IN (query)`: whether the field is in a row of the query.
 /// `in_query(alloc, Operand::of("a"), &query)?.text` → `a IN (SELECT b FROM t)`
 pub fn in_query<F: OperandText>(alloc: Global, field: F, query: &Query) -> Result
     ensures text { Prints result (condition_bytes (InQuery false (F.text field) (string_bytes query.now.text))) }
@@ -320,13 +438,47 @@ pub fn in_query<F: OperandText>(alloc: Global, field: F, query: &Query) -> Resul
     queried(alloc, false, field, query)
 }
 
-/// `field NOT IN (query)`.
+/// `field NOT IN (query)`: whether the field is in no row of the query.
 /// `not_in_query(alloc, Operand::of("a"), &query)?.text` → `a NOT IN (SELECT b FROM t)`
 pub fn not_in_query<F: OperandText>(alloc: Global, field: F, query: &Query) -> Result
     ensures text { Prints result (condition_bytes (InQuery true (F.text field) (string_bytes query.now.text))) }
     ensures atom { IfOk result (λ c. IsAtom (tokens (string_bytes c.text))) }
 {
     queried(alloc, true, field, query)
+}
+
+// Words that open brackets, a text in them, and the bracket that closes them.
+fn opened(alloc: Global, words: &str, text: &str) -> crate::Result<String>
+    ensures text { IfOk result (λ s. string_bytes s ≡ words.now ++ (text.now ++ codes ")")) }
+    ensures memory { FailsOnlyByMemory result }
+{
+    let room = words.len().saturating_add(text.len()).saturating_add(1);
+    let mut opened = String::with_capacity(alloc, room)?;
+    opened.push_str(words)?;
+    opened.push_str(text)?;
+    opened.push_str(")")?;
+    Ok(opened)
+}
+
+/// `EXISTS (query)`: whether the query has a row.
+/// `exists(alloc, &query)?.text` → `EXISTS (SELECT b FROM t)`
+pub fn exists(alloc: Global, query: &Query) -> Result
+    ensures text { Prints result (exists_text false (string_bytes query.now.text)) }
+    ensures atom { IfOk result (λ c. IsAtom (tokens (string_bytes c.text))) }
+{
+    let text = opened(alloc, "EXISTS (", query.text.as_str())?;
+    Ok(Condition { text })
+}
+
+/// `NOT EXISTS (query)`: whether the query has no row.
+/// `not_exists(alloc, &query)?.text` → `NOT EXISTS (SELECT b FROM t)`
+pub fn not_exists(alloc: Global, query: &Query) -> Result
+    ensures text { Prints result (exists_text true (string_bytes query.now.text)) }
+    ensures truth { IfOk result (λ c. (facts : Valuation) → truth facts (tokens (string_bytes c.text))
+        ≡ not3 (truth facts (tokens (exists_text false (string_bytes query.now.text))))) }
+{
+    let text = opened(alloc, "NOT EXISTS (", query.text.as_str())?;
+    Ok(Condition { text })
 }
 
 fn ranged<F: OperandText, L: OperandText, G: OperandText>(
@@ -382,13 +534,22 @@ fn constant(alloc: Global, holds: bool) -> Result
     Ok(Condition { text })
 }
 
-fn push_bracketed(out: &mut String, text: &str) -> std::result::Result<(), AllocError>
+pub(crate) fn push_bracketed(out: &mut String, text: &str) -> std::result::Result<(), AllocError>
     ensures { OnOk result (string_bytes out.new
         ≡ string_bytes out.old ++ in_brackets byte_units text.now) }
 {
     out.push_str("(")?;
     out.push_str(text)?;
     out.push_str(")")
+}
+
+// How much room `joined` asks for.
+fn joined_room(first: &Condition, further: &[Condition]) -> usize {
+    let room = first.text.len().saturating_add("(())".len());
+    further.iter().fold(room, |room, condition| {
+        room.saturating_add(condition.text.len())
+            .saturating_add(" AND ()".len())
+    })
 }
 
 // The text of conditions, each in brackets, joined by AND or OR, in brackets.
@@ -403,7 +564,8 @@ fn joined(
     ensures memory { FailsOnlyByMemory result }
 {
     let word = if conjunction { " AND " } else { " OR " };
-    let mut text = String::from_str(alloc, "(")?;
+    let mut text = String::with_capacity(alloc, joined_room(first, further))?;
+    text.push_str("(")?;
     push_bracketed(&mut text, first.text.as_str())?;
     for condition in further {
         text.push_str(word)?;
@@ -450,7 +612,6 @@ pub fn not(alloc: Global, condition: &Condition) -> Result
     ensures truth { IfOk result (λ c. (facts : Valuation) → truth facts (tokens (string_bytes c.text))
         ≡ not3 (truth facts (tokens (string_bytes condition.now.text)))) }
 {
-    let mut text = String::from_str(alloc, "NOT ")?;
-    push_bracketed(&mut text, condition.text.as_str())?;
+    let text = opened(alloc, "NOT (", condition.text.as_str())?;
     Ok(Condition { text })
 }

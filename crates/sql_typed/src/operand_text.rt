@@ -1,18 +1,21 @@
 //! Types all of whose texts fit where a statement takes an operand, or a fragment: by their types
 //! alone.
 ghost use Rattle.std.specs.Prelude.{◌≡◌, pos, IfOk, IsTrue, string_bytes};
+ghost use Rattle.std.proofs.Common.{inl, inr, refl};
 ghost use Rattle.sql_parts.specs.Error.{FailsOnlyByMemory};
 ghost use Rattle.sql_parts.specs.Literal.{literal_value, whole};
 ghost use Rattle.sql_parts.specs.Operands.{ServesAsOperand, is_fragment};
 ghost use Rattle.sql_parts.proofs.fragments.OperandFacts.{bool-serves, is-fragment, literal-serves};
+ghost use Rattle.sql_parts.proofs.fragments.PlaceholderFacts.{placeholder-serves};
+ghost use Rattle.sql_typed.specs.Counts.{IsCount};
 
 use crate::Result;
 use sql_parts::text::{Fragment, Operand, OwnedOperand, ToText};
-use sql_parts::{Literal, SqlArg, Value};
+use sql_parts::{Literal, Placeholder, SqlArg, Value};
 use std::alloc::Global;
 
-/// A type each of whose texts is an operand without a top-level clause keyword. Implement it for types
-/// of your own; no `&str` is one, so untrusted text goes in as a `Value`.
+/// Write `Value(text)` where the compiler says "the trait bound `&str: OperandText` is not satisfied". A type each
+/// of whose texts is an operand without a top-level clause keyword; implement it for types of your own.
 pub trait OperandText: ToText {
     /// Each text of the type is one.
     ghost serves_as_operand: { (x : Self) → ServesAsOperand (Self.text x) };
@@ -24,6 +27,20 @@ pub trait FragmentText: ToText {
     ghost fits_as_fragment: { (x : Self) → IsTrue (is_fragment (Self.text x)) };
 }
 
+/// A type each of whose texts is a number of rows, as LIMIT and OFFSET take it: `u64`, and a placeholder.
+pub trait CountText: OperandText {
+    /// Each text of the type is a number in decimal, or a placeholder.
+    ghost is_count: { (x : Self) → IsCount (Self.text x) };
+}
+
+impl CountText for u64 {
+    ghost is_count = { λ n. inl (n, refl) };
+}
+
+impl CountText for Placeholder {
+    ghost is_count = { λ placeholder. inr (placeholder.style, placeholder.number, refl) };
+}
+
 /// The text of an operand, made: values of different types become a row of one type so. It fails only
 /// if memory runs out.
 /// `Insert::into(alloc, Fragment::of("t"))?.field(Operand::of("a"))?.values(&[operand(alloc, Value("b"))?])?.sql()?` →
@@ -33,7 +50,7 @@ pub fn operand<V: OperandText>(alloc: Global, value: V) -> Result<OwnedOperand>
     ensures memory { FailsOnlyByMemory result }
 {
     let text = value.to_text(alloc)?;
-    Ok(OwnedOperand { text })
+    Ok(OwnedOperand::of_built(text))
 }
 
 impl<A: SqlArg> OperandText for Value<A> {
@@ -50,6 +67,10 @@ impl OperandText for Operand<'_> {
 
 impl OperandText for OwnedOperand {
     ghost serves_as_operand = { λ operand. operand.fits };
+}
+
+impl OperandText for Placeholder {
+    ghost serves_as_operand = { λ placeholder. placeholder-serves placeholder.style placeholder.number };
 }
 
 impl OperandText for bool {

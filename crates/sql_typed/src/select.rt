@@ -1,19 +1,25 @@
 //! The calls of SELECT, each of which fails only if memory runs out, and what it prints as a query.
 ghost use Rattle.std.specs.Prelude.{◌≡◌, IfOk, IsOk, string_bytes};
-ghost use Rattle.sql_parts.specs.Text.{decimal_text};
 ghost use Rattle.sql_builder.specs.Calls.{AndTable, Count, CountAs, Distinct, Field, GroupBy, Having, Join, Limit, Natural, Offset, On, OnEq, OrderAsc, OrderDesc, SelectFrom, Subquery, SubqueryAs, Union, UnionAll, nullary_call};
 ghost use Rattle.sql_builder.specs.Calls as finish;
+ghost use Rattle.sql_builder.specs.StatementLaws.{made_by};
+ghost use Rattle.sql_builder.specs.Unions.{needs_brackets};
 ghost use Rattle.sql_typed.specs.Fits.{adding, beginning};
-ghost use Rattle.sql_typed.specs.Printed.{FailsAs, IsPrinted};
+ghost use Rattle.sql_typed.specs.Faults.{FailsAs};
+ghost use Rattle.sql_typed.specs.Printed.{BuilderFailsAs, IsPrinted};
 ghost use Rattle.sql_typed.specs.Results.{Gives};
 ghost use Rattle.sql_typed.specs.Steps.{operator_call};
+ghost use Rattle.sql_typed.specs.Unions.{united_text};
 
 use crate::Result;
 use crate::condition::Condition;
-use crate::operand_text::{FragmentText, OperandText};
+use crate::error::Error;
+use crate::operand_text::{CountText, FragmentText, OperandText};
 use crate::statement::{SelectKind, Statement, Step};
 use crate::texts::{Query, TableQuery};
-use sql_builder::calls::{BinaryClause, Finish, NullaryClause, TableStart, UnaryClause};
+use sql_builder::calls::{
+    BinaryClause, Finish, NullaryClause, TableStart, UnaryClause, needs_brackets,
+};
 use sql_parts::text::OwnedOperand;
 use std::alloc::Global;
 
@@ -118,7 +124,8 @@ impl Statement<SelectKind> {
         statement.with_fragment(UnaryClause::Join, table)
     }
 
-    /// A constraint of the last join; without a join it does nothing.
+    /// The constraint of the last join; before the first join, printing fails with `NoJoin`. Of several make one by `all`: a
+    /// database may give a second one to the join before.
     /// `Select::from(alloc, Fragment::of("t"))?.join(JoinKind::Cross, Fragment::of("u"))?.on(&is_null(alloc, Operand::of("a"))?)?.sql()?` →
     /// `SELECT * FROM t CROSS JOIN u ON a IS NULL;`
     pub fn on(self, condition: &Condition) -> Result<Select>
@@ -127,7 +134,7 @@ impl Statement<SelectKind> {
         self.with_fragment(UnaryClause::On, condition.as_fragment())
     }
 
-    /// The constraint `left = right` of the last join; without a join it does nothing.
+    /// The constraint `left = right` of the last join, which has no other; before the first join, printing fails with `NoJoin`.
     /// `Select::from(alloc, Fragment::of("t"))?.join(JoinKind::Inner, Fragment::of("u"))?.on_eq(Operand::of("t.a"), Operand::of("u.b"))?.sql()?` →
     /// `SELECT * FROM t INNER JOIN u ON t.a = u.b;`
     pub fn on_eq<L: OperandText, R: OperandText>(self, left: L, right: R) -> Result<Select>
@@ -154,7 +161,7 @@ impl Statement<SelectKind> {
         self.with_fragment(UnaryClause::Having, condition.as_fragment())
     }
 
-    /// One more field of ORDER BY, which is left out beside a union.
+    /// One more field of ORDER BY. Beside a union, printing fails with `OrderBesideUnion`.
     /// `Select::from(alloc, Fragment::of("t"))?.order_asc(Operand::of("a"))?.sql()?` → `SELECT * FROM t ORDER BY a;`
     pub fn order_asc<F: OperandText>(self, field: F) -> Result<Select>
         ensures made { Gives result (adding (OrderAsc (F.text field)) self) }
@@ -170,64 +177,85 @@ impl Statement<SelectKind> {
         self.with_operand(UnaryClause::OrderDesc, field)
     }
 
-    /// LIMIT; the last call counts.
+    /// LIMIT; the last call counts. Beside a union it is of the whole.
     /// `Select::from(alloc, Fragment::of("t"))?.limit(3)?.sql()?` → `SELECT * FROM t LIMIT 3;`
-    pub fn limit(self, most: u64) -> Result<Select>
-        ensures made { Gives result (adding (Limit (decimal_text most)) self) }
+    pub fn limit<N: CountText>(self, most: N) -> Result<Select>
+        ensures made { Gives result (adding (Limit (N.text most)) self) }
     {
         self.with_operand(UnaryClause::Limit, most)
     }
 
-    /// OFFSET; the last call counts.
+    /// OFFSET; the last call counts. Beside a union it is of the whole. SQLite, MySQL and MariaDB take it behind a LIMIT alone.
     /// `Select::from(alloc, Fragment::of("t"))?.limit(3)?.offset(2)?.sql()?` → `SELECT * FROM t LIMIT 3 OFFSET 2;`
-    pub fn offset(self, skipped: u64) -> Result<Select>
-        ensures made { Gives result (adding (Offset (decimal_text skipped)) self) }
+    pub fn offset<N: CountText>(self, skipped: N) -> Result<Select>
+        ensures made { Gives result (adding (Offset (N.text skipped)) self) }
     {
         self.with_operand(UnaryClause::Offset, skipped)
     }
 
-    /// UNION and a query.
-    /// `Select::from(alloc, Fragment::of("t"))?.union(&query)?.sql()?` → `SELECT * FROM t UNION SELECT b FROM t;`
+    /// UNION and a query. One that has a UNION, an ORDER BY, a LIMIT or an OFFSET is a table there, since these would be of the whole.
+    /// `Select::from(alloc, Fragment::of("t"))?.union(&query)?.sql()?` → `SELECT * FROM t UNION SELECT b FROM t;`,
+    /// or of a query with a LIMIT `SELECT * FROM t UNION SELECT * FROM (SELECT b FROM t LIMIT 1) AS u;`
     pub fn union(self, query: &Query) -> Result<Select>
-        ensures made { Gives result (adding (Union (string_bytes query.now.text)) self) }
+        ensures made { Gives result (adding
+            (Union (united_text query.now.needs_brackets (string_bytes query.now.text))) self) }
     {
-        self.add(Step::Unary(UnaryClause::Union, query.text.as_str()))
+        let query = query.united(self.alloc)?;
+        self.add(Step::Unary(UnaryClause::Union, query.as_str()))
     }
 
-    /// UNION ALL and a query.
+    /// UNION ALL and a query, which is a table there where `union` makes it one.
     /// `Select::from(alloc, Fragment::of("t"))?.union_all(&query)?.sql()?` → `SELECT * FROM t UNION ALL SELECT b FROM t;`
     pub fn union_all(self, query: &Query) -> Result<Select>
-        ensures made { Gives result (adding (UnionAll (string_bytes query.now.text)) self) }
+        ensures made { Gives result (adding
+            (UnionAll (united_text query.now.needs_brackets (string_bytes query.now.text))) self) }
     {
-        self.add(Step::Unary(UnaryClause::UnionAll, query.text.as_str()))
+        let query = query.united(self.alloc)?;
+        self.add(Step::Unary(UnaryClause::UnionAll, query.as_str()))
     }
 
     /// The query, as a type that says that it is balanced. It fails as `sql` does.
     /// `Select::from(alloc, Fragment::of("t"))?.query()?.text` → `SELECT * FROM t`
-    pub fn query(&self) -> Result<Query>
+    pub fn query(&self) -> Result<Query, Error>
         ensures printed { IfOk result (λ q. IsPrinted self.now finish.Query (string_bytes q.text)) }
+        ensures united { IfOk result (λ q.
+            q.needs_brackets ≡ needs_brackets (made_by self.now.start self.now.calls)) }
         ensures error { FailsAs self.now finish.Query result }
     {
+        let needs_brackets = needs_brackets(&self.builder);
         let text = self.print(&Finish::Query)?;
-        Ok(Query { text })
+        Ok(Query {
+            text,
+            needs_brackets,
+        })
     }
 
     /// The query in brackets, as an operand or a table. It fails as `sql` does.
     /// `Select::from(alloc, Fragment::of("t"))?.subquery()?.text` → `(SELECT * FROM t)`
-    pub fn subquery(&self) -> Result<OwnedOperand>
+    pub fn subquery(&self) -> Result<OwnedOperand, Error>
         ensures printed { IfOk result (λ q. IsPrinted self.now Subquery (string_bytes q.text)) }
         ensures error { FailsAs self.now Subquery result }
     {
         let text = self.print(&Finish::Subquery)?;
-        Ok(OwnedOperand { text })
+        Ok(OwnedOperand::of_built(text))
     }
 
     /// The query in brackets under a name, as a table. It fails as `sql` does.
     /// `Select::from(alloc, Fragment::of("t"))?.subquery_as(Operand::of("s"))?.text` → `(SELECT * FROM t) AS s`
-    pub fn subquery_as<N: OperandText>(&self, name: N) -> Result<TableQuery>
+    pub fn subquery_as<N: OperandText>(&self, name: N) -> Result<TableQuery, Error>
         ensures printed { IfOk result (λ q.
             IsPrinted self.now (SubqueryAs (N.text name)) (string_bytes q.text)) }
         ensures error { FailsAs self.now (SubqueryAs (N.text name)) result }
+    {
+        self.check()?;
+        let table = self.table_of_clauses(name)?;
+        Ok(table)
+    }
+
+    fn table_of_clauses<N: OperandText>(&self, name: N) -> Result<TableQuery>
+        ensures printed { IfOk result (λ q.
+            IsPrinted self.now (SubqueryAs (N.text name)) (string_bytes q.text)) }
+        ensures error { BuilderFailsAs self.now (SubqueryAs (N.text name)) result }
     {
         let text = self.builder.subquery_as(name)?;
         Ok(TableQuery { text })

@@ -1,5 +1,5 @@
 //! A statement by value.
-ghost use Rattle.std.specs.Prelude.{◌≡◌, ◌+◌, ◌≤◌, [], IfErr, IfOk, IsNone, IsOk, length, string_capacity, string_len, IsTrue, List, Ok, map, OnErr, OnOk, ℕ, string_bytes};
+ghost use Rattle.std.specs.Prelude.{◌≡◌, ◌+◌, ◌≤◌, [], IfErr, IfOk, IsNone, IsOk, length, string_capacity, string_len, IsTrue, List, MatchResult, None, Ok, Some, map, OnErr, OnOk, ℕ, string_bytes};
 ghost use Rattle.std.specs.List.{list_all};
 ghost use Rattle.sql_parts.specs.Error.{FailsOnlyByMemory};
 ghost use Rattle.sql_parts.specs.Fragments.{balanced};
@@ -17,19 +17,22 @@ ghost use Rattle.sql_builder.specs.Shape.{EndsInOneSemicolon, shape};
 ghost use Rattle.sql_builder.specs.Statement.{error_at, statement, text_at};
 ghost use Rattle.sql_builder.specs.StatementLaws.{made_by};
 ghost use Rattle.sql_builder.specs.declared.condition.Family.TheVariants.{And, Or};
-ghost use Rattle.sql_typed.specs.Fits.{Made, adding, beginning};
-ghost use Rattle.sql_typed.specs.Printed.{DifferInStrings, FailsAs, IsPrinted, PrintsBehind, ReadersIgnoreTexts};
+ghost use Rattle.sql_typed.specs.Faults.{FailsAs, fault_of};
+ghost use Rattle.sql_typed.specs.Fits.{Made, adding, beginning, meaning_all_rows};
+ghost use Rattle.sql_typed.specs.Printed.{BuilderFailsAs, DifferInStrings, IsPrinted, PrintsBehind, ReadersIgnoreTexts};
 ghost use Rattle.sql_typed.specs.Results.{Gives};
 ghost use Rattle.sql_typed.specs.Steps.{IsStepError, step_call};
 
 use crate::Result;
 use crate::condition::Condition;
+use crate::error::Error;
 use crate::ghost_value::GhostValue;
+use crate::marks::Marks;
 use crate::operand_text::{FragmentText, OperandText};
 use sql_builder::SqlBuilder;
 use sql_builder::calls::{
-    BinaryClause, Family, Finish, NullaryClause, TableStart, UnaryClause, VariadicClause,
-    add_condition, make_binary, make_nullary, make_unary, make_variadic, print, print_to,
+    BinaryClause, Family, Finish, NullaryClause, TableStart, TextList, UnaryClause, VariadicClause,
+    add_condition, add_row, make_binary, make_nullary, make_unary, make_variadic, print, print_to,
 };
 use sql_parts::text::{Items, ToText};
 use std::alloc::Global;
@@ -60,6 +63,13 @@ impl Filters for UpdateKind {}
 
 impl Filters for DeleteKind {}
 
+/// The kinds of statements that change the rows of a table.
+pub trait Changes {}
+
+impl Changes for UpdateKind {}
+
+impl Changes for DeleteKind {}
+
 /// The kinds of statements that have a RETURNING.
 pub trait Returns {}
 
@@ -89,18 +99,21 @@ pub struct Statement<K> {
     pub(crate) alloc: Global,
     // in a box, since a call moves its statement
     pub(crate) builder: Box<SqlBuilder>,
-    made: GhostValue<MadeOf>,
-    kind: PhantomData<K>,
+    pub(crate) marks: Marks,
+    pub(crate) made: GhostValue<MadeOf>,
+    pub(crate) kind: PhantomData<K>,
 }
 
 impl<K> Model for Statement<K> {
+    ghost use Rattle.std.specs.Prelude.{◌≡◌};
+    ghost use Rattle.sql_typed.specs.Faults.{marks_of};
     ghost use Rattle.sql_typed.specs.Fits.{IsFitBy, Made};
 
     ghost Value = { Made };
 
     ghost view = { λ s. s.made.value };
 
-    ghost invariant = { λ s. IsFitBy s.made.value s.builder.value };
+    ghost invariant = { λ s. IsFitBy s.made.value s.builder.value × (s.marks ≡ marks_of s.made.value) };
 }
 
 /// A call of a statement.
@@ -110,6 +123,7 @@ pub(crate) enum Step<'a> {
     Binary(BinaryClause, &'a str, &'a str),
     Condition(Family, String),
     Nullary(NullaryClause),
+    Row(TextList),
 }
 
 #[inline(always)]
@@ -123,6 +137,7 @@ fn make_step(builder: &mut SqlBuilder, step: Step<'_>) -> Result<()>
         Step::Binary(clause, first, second) => make_binary(builder, clause, first, second),
         Step::Condition(family, condition) => add_condition(builder, family, condition),
         Step::Nullary(clause) => make_nullary(builder, clause),
+        Step::Row(values) => add_row(builder, &values),
     }
 }
 
@@ -144,6 +159,7 @@ impl<K> Statement<K> {
         Ok(Statement {
             alloc,
             builder: Box::new(alloc, builder)?,
+            marks: Marks::of(start),
             made,
             kind: PhantomData,
         })
@@ -159,15 +175,18 @@ impl<K> Statement<K> {
         let Statement {
             alloc,
             mut builder,
+            marks,
             made,
             kind,
         } = self;
         let call: GhostValue<MadeOf> = GhostValue::of(&step);
         let made = GhostValue::of(&(made, call));
+        let marks = marks.with(&step);
         make_step(&mut builder, step)?;
         Ok(Statement {
             alloc,
             builder,
+            marks,
             made,
             kind,
         })
@@ -181,6 +200,7 @@ impl<K> Statement<K> {
         let Statement {
             alloc,
             mut builder,
+            marks,
             made,
             kind,
         } = self;
@@ -191,6 +211,7 @@ impl<K> Statement<K> {
         Ok(Statement {
             alloc,
             builder,
+            marks,
             made,
             kind,
         })
@@ -243,21 +264,74 @@ impl<K> Statement<K> {
         self.add(Step::Nullary(clause))
     }
 
+    // Why it isn't printed, whatever the builder says.
+    pub(crate) fn check(&self) -> Result<(), Error>
+        ensures { MatchResult result (λ _. fault_of self.now ≡ None) (λ e. fault_of self.now ≡ Some e) }
+    {
+        match self.marks.fault() {
+            Some(fault) => Err(fault),
+            None => Ok(()),
+        }
+    }
+
     // What a finish prints, whose name, if it has one, fits.
-    pub(crate) fn print(&self, finish: &Finish) -> Result<String>
+    fn print_clauses(&self, finish: &Finish) -> Result<String>
+        requires fits { IsTrue (list_all is_fit (finish_raw_texts (finish_view finish.now))) }
+        ensures printed { IfOk result (λ s.
+            IsPrinted self.now (finish_view finish.now) (string_bytes s)) }
+        ensures error { BuilderFailsAs self.now (finish_view finish.now) result }
+    {
+        print(&self.builder, finish)
+    }
+
+    // The same, where it has no fault.
+    pub(crate) fn print(&self, finish: &Finish) -> Result<String, Error>
         requires fits { IsTrue (list_all is_fit (finish_raw_texts (finish_view finish.now))) }
         ensures printed { IfOk result (λ s.
             IsPrinted self.now (finish_view finish.now) (string_bytes s)) }
         ensures error { FailsAs self.now (finish_view finish.now) result }
     {
-        print(&self.builder, finish)
+        self.check()?;
+        let text = self.print_clauses(finish)?;
+        Ok(text)
     }
 
-    /// The statement. It fails with `NoValues` for an INSERT without a row, `NoSetFields` for an UPDATE
-    /// that sets nothing, `NoGroupBy` for a HAVING without a GROUP BY, and else only if memory runs
-    /// out. Nothing is asked of any text.
+    fn append_clauses(&self, out: &mut String) -> Result<()>
+        ensures appended { OnOk result
+            (PrintsBehind self.now (string_bytes out.old) (string_bytes out.new)) }
+        ensures unchanged { OnErr result (string_bytes out.new ≡ string_bytes out.old) }
+        ensures error { BuilderFailsAs self.now Sql result }
+        ensures succeeds { let clauses = made_by self.now.start self.now.calls in
+            IsNone (error_at Sql clauses) → string_len out.old + length (text_at Sql clauses)
+            ≤ string_capacity out.old → IsOk result }
+    {
+        print_to(&self.builder, &Finish::Sql, out)
+    }
+
+    /// An equal statement, as a count and a page of one search are made of. It fails only if memory runs
+    /// out.
+    /// `Select::from(alloc, Fragment::of("t"))?.clone()?.sql()?` → `SELECT * FROM t;`
+    pub fn clone(&self) -> Result<Statement<K>>
+        ensures equal { Gives result self.now }
+    {
+        let made = GhostValue::of(&self.made);
+        let builder = self.builder.clone()?;
+        Ok(Statement {
+            alloc: self.alloc,
+            builder: Box::new(self.alloc, builder)?,
+            marks: self.marks,
+            made,
+            kind: PhantomData,
+        })
+    }
+
+    /// The statement. It fails with `NoCondition` for an UPDATE or a DELETE that has neither a condition
+    /// nor `all_rows`, `NoJoin` for a constraint before the first join, `OrderBesideUnion` for an ORDER
+    /// BY beside a union; then with the builder's `NoValues` for an INSERT without a row, `NoSetFields`
+    /// for an UPDATE that sets nothing, `NoGroupBy` for a HAVING without a GROUP BY; and else only if
+    /// memory runs out. Nothing is asked of any text.
     /// `Select::from(alloc, Fragment::of("t"))?.and_where(eq(alloc, Operand::of("a"), Value("it's"))?)?.sql()?` → `SELECT * FROM t WHERE a = 'it''s';`
-    pub fn sql(&self) -> Result<String>
+    pub fn sql(&self) -> Result<String, Error>
         ensures statement { IfOk result (λ s.
             statement self.now.start self.now.calls Sql ≡ Ok (string_bytes s)) }
         ensures error { FailsAs self.now Sql result }
@@ -285,16 +359,19 @@ impl<K> Statement<K> {
     /// Select::from(alloc, Fragment::of("t"))?.print_to(&mut s)?;
     /// s; // -- SELECT * FROM t;
     /// ```
-    pub fn print_to(&self, out: &mut String) -> Result<()>
+    pub fn print_to(&self, out: &mut String) -> Result<(), Error>
         ensures appended { OnOk result
             (PrintsBehind self.now (string_bytes out.old) (string_bytes out.new)) }
         ensures unchanged { OnErr result (string_bytes out.new ≡ string_bytes out.old) }
         ensures error { FailsAs self.now Sql result }
         ensures succeeds { let clauses = made_by self.now.start self.now.calls in
-            IsNone (error_at Sql clauses) → string_len out.old + length (text_at Sql clauses)
-            ≤ string_capacity out.old → IsOk result }
+            IsNone (fault_of self.now) → IsNone (error_at Sql clauses)
+            → string_len out.old + length (text_at Sql clauses) ≤ string_capacity out.old
+            → IsOk result }
     {
-        print_to(&self.builder, &Finish::Sql, out)
+        self.check()?;
+        self.append_clauses(out)?;
+        Ok(())
     }
 }
 
@@ -320,9 +397,36 @@ impl<K: Filters> Statement<K> {
     }
 }
 
+impl<K: Changes> Statement<K> {
+    /// Every row is meant: without this call, or a condition, printing fails with `NoCondition`. It can't
+    /// fail.
+    /// `Delete::from(alloc, Fragment::of("t"))?.all_rows().sql()?` → `DELETE FROM t;`
+    pub fn all_rows(self) -> Statement<K>
+        ensures made { result ≡ meaning_all_rows self }
+    {
+        let Statement {
+            alloc,
+            builder,
+            marks,
+            made,
+            kind,
+        } = self;
+        Statement {
+            alloc,
+            builder,
+            marks: Marks {
+                needs_condition: false,
+                ..marks
+            },
+            made: GhostValue::of(&made),
+            kind,
+        }
+    }
+}
+
 impl<K: Returns> Statement<K> {
     /// What RETURNING returns; the last call counts.
-    /// `Delete::from(alloc, Fragment::of("t"))?.returning(Operand::of("id"))?.sql()?` → `DELETE FROM t RETURNING id;`
+    /// `Delete::from(alloc, Fragment::of("t"))?.all_rows().returning(Operand::of("id"))?.sql()?` → `DELETE FROM t RETURNING id;`
     pub fn returning<F: OperandText>(self, field: F) -> Result<Statement<K>>
         ensures made { Gives result (adding (Returning (F.text field)) self) }
     {
@@ -330,7 +434,7 @@ impl<K: Returns> Statement<K> {
     }
 
     /// RETURNING id; the last call counts.
-    /// `Delete::from(alloc, Fragment::of("t"))?.returning_id()?.sql()?` → `DELETE FROM t RETURNING id;`
+    /// `Delete::from(alloc, Fragment::of("t"))?.all_rows().returning_id()?.sql()?` → `DELETE FROM t RETURNING id;`
     pub fn returning_id(self) -> Result<Statement<K>>
         ensures made { Gives result (adding ReturningId self) }
     {

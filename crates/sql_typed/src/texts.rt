@@ -1,13 +1,16 @@
 //! Texts of their own, whose types say where they fit.
 ghost use Rattle.std.specs.Prelude.{◌≡◌, ◌++◌, [], ◌∷◌, IfOk, IsTrue, List, map, string_bytes};
+ghost use Rattle.std.specs.Cow.{cow_str_bytes};
 ghost use Rattle.std.specs.List.{list_all};
 ghost use Rattle.sql_parts.specs.Error.{FailsOnlyByMemory};
 ghost use Rattle.sql_parts.specs.Fragments.{balanced};
 ghost use Rattle.sql_parts.specs.Operands.{is_fragment};
 ghost use Rattle.sql_parts.specs.Text.{texts};
+ghost use Rattle.sql_typed.specs.Unions.{united_text};
 
 use crate::Result;
 use crate::operand_text::{FragmentText, OperandText};
+use sql_builder::calls::TextList;
 use sql_parts::ToText;
 use sql_parts::text::Fragment;
 use std::alloc::Global;
@@ -15,6 +18,7 @@ use std::borrow::CowStr;
 
 /// A condition: its text is balanced and has no top-level clause keyword.
 #[derive(Drop)]
+#[non_exhaustive]
 pub struct Condition {
     /// The text.
     pub text: String,
@@ -27,22 +31,52 @@ impl Condition {
     pub fn as_fragment(&self) -> Fragment<'_>
         ensures { result.text.now ≡ string_bytes self.now.text }
     {
-        Fragment {
-            text: self.text.as_str(),
-        }
+        Fragment::of_built(self.text.as_str())
+    }
+
+    /// A condition of the same text. It fails only if memory runs out.
+    /// `is_null(alloc, Operand::of("a"))?.clone()?.text` → `a IS NULL`
+    pub fn clone(&self) -> Result<Condition>
+        ensures text { IfOk result (λ c. string_bytes c.text ≡ string_bytes self.now.text) }
+        ensures memory { FailsOnlyByMemory result }
+    {
+        let text = self.text.clone()?;
+        Ok(Condition { text })
     }
 }
 
 /// A printed query: its text is balanced.
 #[derive(Drop)]
+#[non_exhaustive]
 pub struct Query {
     /// The text.
     pub text: String,
+    /// Whether it has a UNION, an ORDER BY, a LIMIT or an OFFSET: `union` makes a table of it then. `query` sets it.
+    pub needs_brackets: bool,
     pub ghost fits: { IsTrue (balanced (string_bytes text)) },
+}
+
+impl Query {
+    // No form of brackets works on every database, so a query that needs them becomes a table.
+    pub(crate) fn united(&self, alloc: Global) -> Result<CowStr<'_>>
+        ensures text { IfOk result (λ s.
+            cow_str_bytes s ≡ united_text self.now.needs_brackets (string_bytes self.now.text)) }
+        ensures memory { FailsOnlyByMemory result }
+    {
+        let query = self.text.as_str();
+        if !self.needs_brackets {
+            return Ok(CowStr::Borrowed(query));
+        }
+        let mut text = String::from_str(alloc, "SELECT * FROM (")?;
+        text.push_str(query)?;
+        text.push_str(") AS u")?;
+        Ok(CowStr::Owned(text))
+    }
 }
 
 /// A printed query in brackets with a name, as a table.
 #[derive(Drop)]
+#[non_exhaustive]
 pub struct TableQuery {
     /// The text.
     pub text: String,
@@ -70,29 +104,28 @@ impl FragmentText for TableQuery {
 pub struct Row {
     alloc: Global,
     /// The texts of the values.
-    pub values: Vec<String>,
-    pub ghost fits: { IsTrue (list_all balanced (texts values.items)) },
+    pub values: TextList,
+    pub ghost fits: { IsTrue (list_all balanced values) },
 }
 
 impl Row {
     /// A row without values. It can't fail.
-    /// `Row::new(alloc).values.len()` → `0`
+    /// `Row::new(alloc).values.as_str().len()` → `0`
     pub fn new(alloc: Global) -> Row
-        ensures { result.values.items ≡ [] }
+        ensures { result.values ≡ [] }
     {
-        let values = Vec::new(alloc);
+        let values = TextList::new(alloc);
         Row { alloc, values }
     }
 
     /// The row with one more value. It fails only if memory runs out.
-    /// `Row::new(alloc).value(Value("it's"))?.value(Literal::Null)?.values` → `['it''s', NULL]`
-    pub fn value<V: OperandText>(mut self, value: V) -> Result<Row>
-        ensures values { IfOk result (λ row. texts row.values.items
-            ≡ texts self.values.items ++ V.text value ∷ []) }
+    /// `Row::new(alloc).value(Value("it's"))?.value(Literal::Null)?.values.as_str()` → `'it''s', NULL`
+    pub fn value<V: OperandText>(self, value: V) -> Result<Row>
+        ensures values { IfOk result (λ row. row.values ≡ self.values ++ V.text value ∷ []) }
         ensures memory { FailsOnlyByMemory result }
     {
-        let value = value.to_text(self.alloc)?;
-        self.values.push(value)?;
-        Ok(self)
+        let Row { alloc, mut values } = self;
+        values.push_text(alloc, &value)?;
+        Ok(Row { alloc, values })
     }
 }

@@ -5,10 +5,7 @@ ghost use Rattle.sqlb.specs.Script.{Checks};
 
 use crate::fault::Reason;
 use crate::scan::end_of_part;
-use sql_builder::SqlBuilderError;
 use sql_builder::text::Texts;
-use std::alloc::Global;
-use std::borrow::CowStr;
 use std::marker::Model;
 
 /// A text that is read line by line, part by part. The first part of a line is its name. Contracts see
@@ -152,12 +149,11 @@ impl<'a> Arguments<'a> {
 }
 
 impl<'a> Texts<'a> for Arguments<'a> {
+    type Text = &'a str;
+
     ghost left = { λ arguments. arguments.parts };
 
-    fn next_text(&mut self, _alloc: Global) -> Result<Option<CowStr<'a>>, SqlBuilderError> {
-        match self.next() {
-            Some(part) => Ok(Some(CowStr::Borrowed(part))),
-            None => Ok(None),
-        }
+    fn next_text(&mut self) -> Option<&'a str> {
+        self.next()
     }
 }

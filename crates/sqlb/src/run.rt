@@ -115,13 +115,14 @@ pub fn run_input<R: Read, W: Write>(
 pub(crate) fn run_flushed<R: Read, W: Write + Drop>(
     alloc: Global,
     reader: &mut Watched<R>,
-    writer: BufWriter<W>,
+    mut writer: Watched<BufWriter<W>>,
 ) -> (Watched<W>, Result<(), Fault>)
     requires reader_not_failed { reader.old.failed ≡ false }
     requires reader_not_ended { reader.old.ended ≡ false }
+    requires writer_not_failed { writer.failed ≡ false }
 
     ensures ran { RunsBuffered result.1 (R.remaining reader.old.inner) (R.remaining reader.new.inner)
-        reader.new.ended (writer_contents W.contents writer) (W.contents result.0.inner)
+        reader.new.ended (writer_contents W.contents writer.inner) (W.contents result.0.inner)
         result.0.failed }
     ensures read { IsErrOf result.1 Fault.Read ↔ (reader.new.failed ≡ true) }
 
@@ -129,12 +130,12 @@ pub(crate) fn run_flushed<R: Read, W: Write + Drop>(
     ensures write { reader.new.failed ≡ false
         → (IsErrOf result.1 Fault.Write ↔ (result.0.failed ≡ true)) }
 
-    // Nothing is called after it has failed, nor read after its end.
+    // Nothing is called after it has failed, nor read after its end. A new watch of the writer
+    // would not have the value of the one that was given.
     ensures reads { reader.new.retried ≡ reader.old.retried }
-    ensures writes { result.0.retried ≡ false }
+    ensures writes { result.0.retried ≡ writer.retried }
     ensures no_memory { IfErr result.1 NamesNoMemory }
 {
-    let mut writer = Watched::new(writer);
     let answer = run_input(alloc, reader, &mut writer);
     // Dropped whole, a buffered writer would try once more to write what it holds.
     if writer.failed() {

@@ -1,5 +1,6 @@
 //! Runs the program over its three streams.
-ghost use Rattle.std.specs.Prelude.{◌≡◌, ◌↔◌, ◌++◌, ℕ, List, Err, codes, false, true, IfErr, IfSome, IsErrOf, IsNone, IsSomeAnd, OnOk};
+ghost use Rattle.std.specs.Prelude.{◌≡◌, ◌↔◌, ◌++◌, ℕ, List, Err, codes, false, true, IfErr, IfSome, IsErrOf, IsNone, IsSomeAnd, OnOk, is_some};
+ghost use Rattle.std.specs.Io.Buffered.{writer_contents};
 ghost use Rattle.std.specs.Io.KnownBytes.{Appends};
 ghost use Rattle.sqlb.specs.Streams.{IsWrittenUnless};
 ghost use Rattle.sqlb.specs.Fault.{fault_text};
@@ -12,13 +13,10 @@ use crate::watched::Watched;
 use std::alloc::Global;
 use std::io::{BufWriter, Read, Write};
 
-/// How much output is buffered before it is written.
-const BUFFER_SIZE: usize = 65536;
-
 /// How a run of the program has ended.
 #[derive(Drop)]
 pub(crate) struct Ended<W> {
-    /// The writer; none where there was no memory for its buffer.
+    /// The writer below the buffer; none where none was given.
     pub(crate) writer: Option<Watched<W>>,
     /// Nothing, or the fault.
     pub(crate) answer: Result<(), Fault>,
@@ -47,19 +45,23 @@ fn report<E: Write>(answer: &Result<(), Fault>, errors: &mut Watched<E>) -> u8
 }
 
 /// Runs what the reader gives, writes the statements to the writer and then the fault, if there is
-/// one, to `errors`, and gives the exit status.
+/// one, to `errors`, and gives the exit status. No writer stands for no memory for its buffer, which
+/// is the fault `Memory`.
 pub(crate) fn run_streams<R: Read, W: Write + Drop, E: Write>(
     alloc: Global,
     reader: &mut Watched<R>,
-    writer: W,
+    writer: Option<Watched<BufWriter<W>>>,
     errors: &mut Watched<E>,
 ) -> Ended<W>
     requires reader_not_failed { reader.old.failed ≡ false }
     requires reader_not_ended { reader.old.ended ≡ false }
+    requires writer_not_failed { IfSome writer (λ buffered. buffered.failed ≡ false) }
     requires errors_not_failed { errors.old.failed ≡ false }
-    ensures ran { IfSome result.writer (λ below. RunsBuffered result.answer
-        (R.remaining reader.old.inner) (R.remaining reader.new.inner) reader.new.ended
-        (W.contents writer) (W.contents below.inner) below.failed) }
+    ensures ran { IfSome writer (λ buffered. IfSome result.writer (λ below.
+        RunsBuffered result.answer (R.remaining reader.old.inner) (R.remaining reader.new.inner)
+        reader.new.ended (writer_contents W.contents buffered.inner) (W.contents below.inner)
+        below.failed)) }
+    ensures returned { is_some result.writer ≡ is_some writer }
     ensures not_run { IsNone result.writer
         → (result.answer ≡ Err Fault.Memory) × (reader.new ≡ reader.old) }
     ensures read { IsErrOf result.answer Fault.Read ↔ (reader.new.failed ≡ true) }
@@ -68,9 +70,11 @@ pub(crate) fn run_streams<R: Read, W: Write + Drop, E: Write>(
     ensures write { reader.new.failed ≡ false → (IsErrOf result.answer Fault.Write
         ↔ IsSomeAnd result.writer (λ below. below.failed ≡ true)) }
 
-    // Nothing is called after it has failed, nor read after its end.
+    // Nothing is called after it has failed, nor read after its end. A new watch of the writer
+    // would not have the value of the one that was given.
     ensures reads { reader.new.retried ≡ reader.old.retried }
-    ensures writes { IfSome result.writer (λ below. below.retried ≡ false) }
+    ensures writes { IfSome writer (λ buffered. IfSome result.writer (λ below.
+        below.retried ≡ buffered.retried)) }
     ensures reports { errors.new.retried ≡ errors.old.retried }
     ensures no_memory { IfErr result.answer NamesNoMemory }
 
@@ -81,12 +85,12 @@ pub(crate) fn run_streams<R: Read, W: Write + Drop, E: Write>(
         × IsWrittenUnless errors.new.failed (fault_text fault ++ codes "\n") written) }
     ensures status { result.status ≡ status_of result.answer }
 {
-    let (writer, answer) = match BufWriter::with_capacity(alloc, BUFFER_SIZE, writer) {
-        Ok(writer) => {
+    let (writer, answer) = match writer {
+        Some(writer) => {
             let (below, answer) = run_flushed(alloc, reader, writer);
             (Some(below), answer)
         }
-        Err(_) => (None, Err(Fault::Memory)),
+        None => (None, Err(Fault::Memory)),
     };
     let status = report(&answer, errors);
     Ended {

@@ -357,7 +357,7 @@ fn run_buffered<R: Read + Drop>(
 ) -> Result<(Small, Vec<u8>), Fail> {
     let mut reader = Watched::new(reader);
     let writer = BufWriter::with_capacity(alloc, 24, writer)?;
-    let (writer, answer) = run_flushed(alloc, &mut reader, writer);
+    let (writer, answer) = run_flushed(alloc, &mut reader, Watched::new(writer));
     let (line, _) = fault_line(alloc, answer);
     Ok((writer.into_inner(), line))
 }
@@ -397,7 +397,8 @@ fn faults_go_to_the_error_writer(rt: HostRuntime) -> Result<(), Fail> {
     for (row, (input, prints, fault, status)) in ROWS.iter().enumerate() {
         let mut reader = Watched::new(*input);
         let mut errors = Watched::new(Small::new(HELD, HELD, 0));
-        let writer = Small::new(HELD, HELD, 0);
+        let writer = BufWriter::with_capacity(rt.alloc(), HELD, Small::new(HELD, HELD, 0))?;
+        let writer = Some(Watched::new(writer));
         let ended = run_streams(rt.alloc(), &mut reader, writer, &mut errors);
         let status_given = ended.status;
         let written = below(ended);
@@ -408,6 +409,20 @@ fn faults_go_to_the_error_writer(rt: HostRuntime) -> Result<(), Fail> {
             "row {row}"
         );
     }
+    Ok(())
+}
+
+#[test]
+fn a_writer_without_a_buffer_is_out_of_memory(rt: HostRuntime) -> Result<(), Fail> {
+    let mut reader = Watched::new(Slow::new(TWO, 7, 0));
+    let mut errors = Watched::new(Small::new(HELD, HELD, 0));
+    let writer: Option<Watched<BufWriter<Small>>> = None;
+    let ended = run_streams(rt.alloc(), &mut reader, writer, &mut errors);
+    let errors = errors.into_inner();
+    assert_eq!(rt;
+        (reader.into_inner().calls, errors.held(), ended.status),
+        (0, b"Out of memory\n".as_slice(), 1)
+    );
     Ok(())
 }
 

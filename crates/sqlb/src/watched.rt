@@ -35,7 +35,8 @@ impl<T> Model for Watched<T> {
 }
 
 impl<T> Watched<T> {
-    /// Watches a reader or a writer that has neither failed nor ended.
+    /// Watches a reader or a writer that has neither failed nor ended. From then on only the watch
+    /// calls it.
     pub fn new(inner: T) -> Self
         ensures inner { result.inner ≡ inner }
         ensures failed { result.failed ≡ false }
@@ -50,8 +51,9 @@ impl<T> Watched<T> {
         }
     }
 
-    /// The reader or the writer that it holds.
-    pub fn into_inner(self) -> T
+    // For tests alone: who has what it holds could call that unseen.
+    #[cfg(test)]
+    pub(crate) fn into_inner(self) -> T
         ensures inner { result ≡ self.inner }
     {
         self.inner

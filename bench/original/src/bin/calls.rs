@@ -9,12 +9,17 @@ use std::{env, io};
 /// What a turn makes of the text and its number.
 type Step = fn(&str, u64) -> String;
 
-const STEPS: [(&str, Step); 25] = [
+const STEPS: [(&str, Step); 30] = [
     ("select", select),
     ("nested", nested),
     ("update", update),
     ("restart", update),
     ("insert", insert),
+    ("built_none", |_, _| SqlBuilder::select_from("books").sql().expect("a statement")),
+    ("or_where", or_where),
+    ("set_str", set_str),
+    ("safe", |text, _| SqlName::new(text).safe()),
+    ("arg_none", |_, _| None::<u64>.sql_arg()),
     ("name", |_, _| name!("public", "BOOKS"; "b")),
     ("qname", |_, _| qname!("public", "BOOKS"; "b")),
     ("baname", |_, _| baname!("public", "BOOKS"; "b")),
@@ -90,6 +95,21 @@ fn insert(text: &str, _: u64) -> String {
     builder.sql().expect("a statement")
 }
 
+fn or_where(text: &str, _: u64) -> String {
+    let mut builder = SqlBuilder::select_from("books");
+    for _condition in 0..text.len() {
+        builder.or_where("price > 100");
+    }
+    builder.sql().expect("a statement")
+}
+
+fn set_str(text: &str, _: u64) -> String {
+    SqlBuilder::update_table("books")
+        .set_str("title", text)
+        .sql()
+        .expect("a statement")
+}
+
 fn large_builder(items: usize) -> SqlBuilder {
     let mut builder = SqlBuilder::select_from("books");
     for item in 0..items {
@@ -110,6 +130,15 @@ fn filtered_builder(conditions: usize) -> SqlBuilder {
     let mut builder = SqlBuilder::select_from("books");
     for condition in 0..conditions {
         builder.and_where_eq("price", condition);
+    }
+    builder
+}
+
+/// A builder with so many conditions of one group.
+fn joined_builder(conditions: usize) -> SqlBuilder {
+    let mut builder = SqlBuilder::select_from("books");
+    for condition in 0..conditions {
+        builder.or_where_eq("price", condition);
     }
     builder
 }
@@ -190,6 +219,7 @@ fn work(name: &str, text: &str, turns: u64) -> (usize, String) {
     match name {
         "clone" => return repeat_clone(large_builder(text.len()), turns),
         "clone_conditions" => return repeat_clone(filtered_builder(text.len()), turns),
+        "clone_ors" => return repeat_clone(joined_builder(text.len()), turns),
         _ => {}
     }
     let count = text.len() as u64;

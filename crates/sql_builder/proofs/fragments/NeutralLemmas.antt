@@ -30,7 +30,7 @@ neutral-in false x neutral = let made = neutral-brackets x neutral in record { e
 abbrev pub any : RawText → Bool
 any text = true
 
-by_any : {P Q : Pieces → Type 0} → PreservedByWords P Q → ((text : List ℕ) → P (raw_piece text)) → ((text : List ℕ) → P (quoted_piece text))
+pub by_any : {P Q : Pieces → Type 0} → PreservedByWords P Q → ((text : List ℕ) → P (raw_piece text)) → ((text : List ℕ) → P (quoted_piece text))
     → ((x : Pieces) → P x → P (in_brackets fixed_piece x))
     → ((negated : Bool) (x : Pieces) → P x → Q (fixed_piece (not_text negated ++ codes " IN (") ++ (x ++ fixed_piece (codes ")"))))
     → ((field : List ℕ) → P (count fixed_piece (raw_piece field))) → ((field name : List ℕ) → P (count_as fixed_piece (raw_piece field) (raw_piece name)))
@@ -61,11 +61,11 @@ calls-any [] = refl
 calls-any (c ∷ calls) = and_from _ _ (all-any (call_raw_texts false c)) (calls-any calls)
 
 module _ {P Q : Pieces → Type 0} (preserved : PreservedByCalls false any whatever P Q P P) where
-  condition-any : (condition : ConditionText) → P (condition_pieces condition)
+  pub condition-any : (condition : ConditionText) → P (condition_pieces condition)
   condition-any condition = condition-preserved preserved condition
       (all-whatever (condition_quoted_texts condition)) (all-any (condition_raw_texts condition))
 
-  clauses-any : (start : StartText) (calls : List CallText) → PartsAre P P P (clauses start calls)
+  pub clauses-any : (start : StartText) (calls : List CallText) → PartsAre P P P (clauses start calls)
   clauses-any start calls = clauses-preserved preserved start calls (calls-whatever calls) (all-any (start_raw_texts start))
       (all-any (call_raw_texts false (call.SetFields (start_fields start)))) (calls-any calls)
 

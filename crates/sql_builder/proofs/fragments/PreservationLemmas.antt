@@ -25,7 +25,7 @@ use Rattle.sql_builder.specs.Calls as call
 use Rattle.sql_builder.specs.declared.clauses.JoinOperator.TheVariants as operator
 
 -- the words of a join, and that they end at an edge
-join-words : (natural : Bool) (chosen : Option JoinOperator)
+pub join-words : (natural : Bool) (chosen : Option JoinOperator)
     → (are_own (join_words natural chosen) ≡ true) × (ends_with is_edge (join_words natural chosen) ≡ true)
 join-words true None = (refl, refl)
 join-words true (Some operator.Left) = (refl, refl)

@@ -1,6 +1,6 @@
 -- What calls may do with the texts that they are given, for any property of pieces that each step preserves.
 use Rattle.std.proofs.Common.{◌≡◌, ◌∙◌, ap, ℕ, Bool, true, ◌&&◌, not, List, [], ◌∷◌, ◌++◌, map, codes, refl}
-use Rattle.std.specs.Prelude.{flat_map}
+use Rattle.std.specs.Prelude.{◌==◌, flat_map}
 use Rattle.std.specs.List.{AllByRecursion, list_all, list_any}
 use Rattle.std.proofs.lemmas.Bool.{and_from, and_parts, not-true, or_from}
 use Rattle.std.proofs.lemmas.List.Folds.{list_all-append, list_any-append}
@@ -24,10 +24,15 @@ use Rattle.sql_builder.proofs.reading.SectionLemmas.{Neutral}
 use Rattle.sql_builder.proofs.tokens.BalancedFacts.{is_even-append, is_even-brackets}
 use Rattle.sql_builder.proofs.lists.AllFacts.{tested-all}
 
--- words of the builder's own: whole tokens without `;`, brackets that close, and no clause word
+-- no byte is a `$`
+abbrev pub lacks_dollar : List ℕ → Bool
+lacks_dollar words = list_all (λ byte. not (byte == 36)) words
+
+-- words of the builder's own: whole tokens without `;`, brackets that close, no clause word, and no `$`
 abbrev pub are_own : List ℕ → Bool
 are_own words =
-    (closed words && not (has_semicolon words)) && (is_even (own (fixed_piece words)) && not (list_any is_clause_word (own (fixed_piece words))))
+    (closed words && not (has_semicolon words))
+    && (is_even (own (fixed_piece words)) && (not (list_any is_clause_word (own (fixed_piece words))) && lacks_dollar words))
 
 -- such words with an edge at both ends
 abbrev pub are_between : List ℕ → Bool
@@ -41,7 +46,12 @@ own-whole words is =
 own-neutral : (words : List ℕ) → are_own words ≡ true → Neutral (fixed_piece words)
 own-neutral words is =
     let both = and_parts (is_even (own (fixed_piece words))) _ (and_parts (closed words && not (has_semicolon words)) _ is).1 in
-    record { even = both.0; no_word = not-true _ both.1 }
+    record { even = both.0; no_word = not-true _ (and_parts (not (list_any is_clause_word (own (fixed_piece words)))) _ both.1).0 }
+
+pub own-unmarked : (words : List ℕ) → are_own words ≡ true → lacks_dollar words ≡ true
+own-unmarked words is =
+    let both = and_parts (is_even (own (fixed_piece words))) _ (and_parts (closed words && not (has_semicolon words)) _ is).1 in
+    (and_parts (not (list_any is_clause_word (own (fixed_piece words)))) _ both.1).1
 
 -- P of pieces, and Q of what may follow some, which the builder's own words keep
 pub record PreservedByWords (P Q : Pieces → Type 0) : Type 0 where

@@ -44,7 +44,7 @@ module _ {T U V : Type 0} (f : U → V) (g : T → U) where
   maps-unions [] = refl
   maps-unions (union ∷ unions) = ap (λ more. (union.0, f (g union.1)) ∷ more) (maps-unions unions)
 
-  maps-clauses : (r : Clauses T) → map_clauses f (map_clauses g r) ≡ map_clauses (λ t. f (g t)) r
+  pub maps-clauses : (r : Clauses T) → map_clauses f (map_clauses g r) ≡ map_clauses (λ t. f (g t)) r
   maps-clauses r = λ i. record {
     kind = r.kind;
     table = f (g r.table);

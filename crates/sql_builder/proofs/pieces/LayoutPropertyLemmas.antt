@@ -18,13 +18,14 @@ use Rattle.sql_builder.specs.Shape.{pieces_tokens}
 use Rattle.sql_builder.specs.declared.clauses.Kind.{Kind}
 use Rattle.sql_builder.specs.declared.clauses.Kind.TheVariants.{SelectFrom, SelectValues, InsertInto, UpdateTable, DeleteFrom}
 use Rattle.sql_builder.proofs.fragments.ClauseFacts.{PartsAre}
-use Rattle.sql_builder.proofs.fragments.PropertyLemmas.{Each, PreservedByWords, before-each, joined, listed}
+use Rattle.sql_builder.proofs.fragments.PropertyLemmas.{Each, PreservedByWords, before-each, joined, lacks_dollar, listed}
 use Rattle.sql_builder.proofs.pieces.ShapeLemmas.{Whole}
 use Rattle.sql_builder.proofs.reading.ClauseWordLemmas.{laid_from}
 use Rattle.sql_builder.proofs.reading.SectionLemmas.{Front, opening_clauses, with_last}
 
 -- words that open a clause, or two, and none of them WHERE
 pub record Opening (words : List ℕ) : Type 0 where
+  pub unmarked : lacks_dollar words ≡ true
   pub whole : Whole words
   pub ends : ends_with is_edge words ≡ true
   pub front : Front (tokens words)
@@ -34,19 +35,21 @@ pub record Opening (words : List ℕ) : Type 0 where
 -- all that is asked of the words but what they give to WHERE
 abbrev opens : List ℕ → Bool
 opens words =
-    closed words && (not (has_semicolon words) && (ends_with is_edge words
-    && (laid_from (pos 0) (tokens words) && (is_even (tokens words) && (not (list_any is_union (tokens words)) && begins_with is_clause_word (tokens words))))))
+    lacks_dollar words && (closed words && (not (has_semicolon words) && (ends_with is_edge words
+    && (laid_from (pos 0) (tokens words) && (is_even (tokens words) && (not (list_any is_union (tokens words)) && begins_with is_clause_word (tokens words)))))))
 
 opening : {words : List ℕ} → opens words ≡ true → ((ts : List Token) → clause_bodies (codes "WHERE") (with_last ts (opening_clauses words)) ≡ [])
     → Opening words
 opening {words = words} all elsewhere =
-    let is = and_parts (closed words) _ all in
+    let own = and_parts (lacks_dollar words) _ all in
+    let is = and_parts (closed words) _ own.1 in
     let plain = and_parts (not (has_semicolon words)) _ is.1 in
     let ends = and_parts (ends_with is_edge words) _ plain.1 in
     let laid = and_parts (laid_from (pos 0) (tokens words)) _ ends.1 in
     let even = and_parts (is_even (tokens words)) _ laid.1 in
     let last = and_parts (not (list_any is_union (tokens words))) (begins_with is_clause_word (tokens words)) even.1 in
     record {
+      unmarked = own.0;
       whole = record { is_closed = is.0; plain = not-true _ plain.0 };
       ends = ends.0;
       front = record { laid = laid.0; even = even.0; no_union = not-true _ last.0 };

@@ -1,40 +1,44 @@
 -- The texts of conditions are fragments, and what is true of those that are made of others.
-use Rattle.std.proofs.Common.{◌≡◌, refl, sym, ◌∙◌, ap, subst, ℕ, Bool, true, false, not, ◌&&◌, List, [], ◌∷◌, ◌++◌, map, pos, codes, append-nil, append_assoc}
+use Rattle.std.proofs.Common.{◌≡◌, refl, sym, ◌∙◌, ap, subst, ℕ, Bool, true, false, not, ◌&&◌, List, [], ◌∷◌, ◌++◌, map, pos, codes, append-nil}
 use Rattle.std.specs.List.{AllByRecursion, list_all}
-use Rattle.std.proofs.lemmas.Bool.{and_from, and_parts, not_from_false}
+use Rattle.std.proofs.lemmas.Bool.{and_from, and_parts, not-true, not_from_false, or_from}
 use Rattle.sql_parts.specs.Fragments.{balanced, is_clause_word, is_joining, operand}
+use Rattle.sql_parts.specs.Literal as literal
 use Rattle.sql_parts.specs.Operands.{ServesAsOperand, is_fragment}
 use Rattle.sql_parts.specs.Quoting.{quoted}
 use Rattle.sql_parts.specs.Text.{join_with}
-use Rattle.sql_parts.specs.Tokens.{Token, Str, Word, tokens, closed}
-use Rattle.sql_parts.proofs.fragments.DepthFacts.{has_top_level-is, is_balanced, is_balanced-is, is_operand-is}
+use Rattle.sql_parts.specs.Tokens.{Token, Str, Word, closed, ends_with, is_edge, tokens}
+use Rattle.sql_parts.proofs.fragments.DepthFacts.{has_top_level, has_top_level-is, is_balanced, is_balanced-is, is_even, is_operand-is}
+use Rattle.sql_parts.proofs.fragments.OperandFacts.{literal-serves}
+use Rattle.sql_parts.proofs.tokens.TokenFacts.{between-tokens}
+use Rattle.sql_parts.specs.declared.delimiters.Quotes.TheVariants.{Single}
 use Rattle.sql_builder.specs.Calls.{Cond, SelectFrom, Sql}
-use Rattle.sql_builder.specs.Condition.{ConditionText, Compare, Like, condition_bytes, condition_pieces, condition_raw_texts, has_operands, mask_text, not_text}
+use Rattle.sql_builder.specs.Condition.{ConditionText, Compare, condition_bytes, condition_pieces, condition_raw_texts, has_operands, not_text}
 use Rattle.sql_builder.specs.Layout.{byte_units}
 use Rattle.sql_builder.specs.Phrases as phrase
-use Rattle.sql_builder.specs.Pieces.{Pieces, fixed_piece, pieces_text, quoted_piece, raw_piece}
+use Rattle.sql_builder.specs.Pieces.{Pieces, fixed_piece, pieces_text, raw_piece}
 use Rattle.sql_builder.specs.RawFragments.{are_fit, has_closed_fragments, is_fit}
 use Rattle.sql_builder.specs.Shape.{pieces_tokens}
 use Rattle.sql_builder.specs.Truths.{Valuation, and_all, not3, or_all, truth, IsAtom}
 use Rattle.sql_builder.specs.WhereTokens.{in_brackets, joined}
 use Rattle.sql_builder.specs.declared.condition.Family.TheVariants.{And}
-use Rattle.sql_builder.specs.declared.condition.Percent.{Percent}
 use Rattle.sql_builder.specs.declared.condition.Relation.TheVariants.{Eq}
 use Rattle.sql_builder.proofs.fragments.FitLemmas.{fit_conditions}
 use Rattle.sql_builder.proofs.pieces.ClauseShapeLemmas.{condition_keeps}
-use Rattle.sql_builder.proofs.pieces.ShapeLemmas.{Inside, brackets-inside, pieces_tokens-brackets, quoted-inside, raw-inside, shaped, text-append}
+use Rattle.sql_builder.proofs.pieces.ShapeLemmas.{Inside, Whole, brackets-inside, pieces_tokens-brackets, raw-inside, shaped, text-append}
 use Rattle.sql_builder.proofs.pieces.ShapeLemmas.{closing-last, words-first}
 use Rattle.sql_builder.proofs.reading.ClauseWordLemmas.{are_fit-is, fit-balanced, fragments_closed}
-use Rattle.sql_builder.proofs.tokens.BalancedFacts.{IsPlain, balanced_closed, balanced_even, is_balanced-brackets, is_condition-append, is_condition-joined, is_even-brackets, no_clause-brackets}
-use Rattle.sql_builder.proofs.tokens.WhereTokenFacts.{and_word, is_condition, is_group, not_word, or_word, like_word}
-use Rattle.sql_builder.proofs.truth.AtomLemmas.{atom_plain}
+use Rattle.sql_builder.proofs.tokens.BalancedFacts.{IsPlain, balanced_closed, balanced_even, even_closes, even_text, has_top_level-append, is_balanced-brackets, is_condition-append, is_condition-joined}
+use Rattle.sql_builder.proofs.tokens.BalancedFacts.{is_even-append, is_even-brackets, no_clause-brackets}
+use Rattle.sql_builder.proofs.tokens.WhereTokenFacts.{and_word, has_clause, is_condition, is_group, left_bracket, like_word, not_word, or_word, right_bracket}
+use Rattle.sql_builder.proofs.truth.AtomLemmas.{atom_plain, operand_plain}
 use Rattle.sql_builder.proofs.truth.ConditionGroupLemmas.{condition-fit, pieces_tokens-joined}
 use Rattle.sql_builder.proofs.truth.ConnectiveLemmas.{none-brackets, or3-False, truth_brackets}
 use Rattle.sql_builder.proofs.truth.TruthLemmas.{of_not}
 use Rattle.sql_builder.proofs.truth.WhereLemmas.{bracketed_groups, condition_closes, condition_no_clause, truth_group, truth_joined}
 use Rattle.sql_parts.specs.StringTexts.{blank, outline}
-use Rattle.sql_builder.specs.Combined.{CombinedFollowTheirParts, ConditionsFollowTheirPieces, IsCombined, MasksFollowTheirField, NegationsFollowTheirPart}
-use Rattle.sql_builder.specs.Combined.{combined_text, constant_text, joined_text, like_text, negation_text}
+use Rattle.sql_builder.specs.Combined.{CombinedFollowTheirParts, ConditionsFollowTheirPieces, ExistsFollowsItsQuery, IsCombined, MasksFollowTheirField, NegationsFollowTheirPart}
+use Rattle.sql_builder.specs.Combined.{combined_text, constant_text, exists_text, joined_text, like_text, negation_text}
 use Rattle.sql_builder.specs.Interference.{piece_outline}
 use Rattle.sql_builder.proofs.conditions.ConditionLemmas as conditions
 use Rattle.sql_builder.proofs.conditions.ConditionLemmas.{condition_printed, like-between, condition_atom}
@@ -54,8 +58,11 @@ fragment-is text i = is_balanced-is (tokens text) i && not (has_top_level-is is_
 pub condition-of : (text : List ℕ) → is_fragment text ≡ true → is_condition (tokens text) ≡ true
 condition-of text is = sym (fragment-is text) ∙ is
 
+text_closed : (text : List ℕ) → is_fragment text ≡ true → closed text ≡ true
+text_closed text is = balanced_closed text (and_parts (balanced text) _ is).0
+
 pub fragment_closed : (text : List ℕ) → is_fragment text ≡ true → has_closed_fragments (raw_piece text) ≡ true
-fragment_closed text is = and_from _ _ (balanced_closed text (and_parts (balanced text) _ is).0) refl
+fragment_closed text is = and_from _ _ (text_closed text is) refl
 
 -- pieces whose tokens are a condition
 from-pieces : (ps : Pieces) → Inside ps → has_closed_fragments ps ≡ true → is_condition (pieces_tokens ps) ≡ true → is_fragment (pieces_text ps) ≡ true
@@ -82,33 +89,54 @@ operands_balanced text serves (value ∷ values) = and_from _ _ (serves value).i
 
 -- ---- a mask in which `!` escapes
 
+abbrev escape : Pieces
+escape = fixed_piece (codes " ESCAPE '!'")
+
 like-pieces : Bool → List ℕ → List ℕ → Pieces
-like-pieces negated field mask = raw_piece field ++ (fixed_piece (not_text negated ++ codes " LIKE ") ++ (quoted_piece mask ++ fixed_piece (codes " ESCAPE '!'")))
+like-pieces negated field mask = raw_piece field ++ (fixed_piece (not_text negated ++ codes " LIKE ") ++ (raw_piece mask ++ escape))
 
 like-inside : (negated : Bool) (field mask : List ℕ) → Inside (like-pieces negated field mask)
 unfolding like-pieces
 like-inside negated field mask =
-    between inside-joins (not_text negated ++ codes " LIKE ") (raw_piece field) (quoted_piece mask ++ fixed_piece (codes " ESCAPE '!'")) (like-between negated)
-    (raw-inside field)
-    (inside-joins.append (quoted_piece mask) (fixed_piece (codes " ESCAPE '!'")) (quoted-inside mask) (inside-joins.ending (codes " ESCAPE '!'") refl refl))
+    between inside-joins (not_text negated ++ codes " LIKE ") (raw_piece field) (raw_piece mask ++ escape) (like-between negated) (raw-inside field)
+    (inside-joins.append (raw_piece mask) escape (raw-inside mask) (inside-joins.ending (codes " ESCAPE '!'") refl refl))
 
-like-condition : (negated : Bool) (field mask : List ℕ) → is_condition (tokens field) ≡ true → is_condition (pieces_tokens (like-pieces negated field mask)) ≡ true
+like-closed : (negated : Bool) (field mask : List ℕ) → is_fragment field ≡ true → is_fragment mask ≡ true
+    → has_closed_fragments (like-pieces negated field mask) ≡ true
 unfolding like-pieces
-like-condition true field mask is = is_condition-append (tokens field) (Word (codes "NOT") ∷ Word (codes "LIKE") ∷ Str mask ∷ Word (codes "ESCAPE") ∷ Str (codes "!") ∷ []) is refl refl
-like-condition false field mask is = is_condition-append (tokens field) (Word (codes "LIKE") ∷ Str mask ∷ Word (codes "ESCAPE") ∷ Str (codes "!") ∷ []) is refl refl
+like-closed negated field mask is masks =
+    and_from _ _ (text_closed field is) (and_from _ _ (text_closed mask masks) refl)
 
--- the text of a condition with ESCAPE behind it
-pub like_text_is : (negated : Bool) (percent : Percent) (field mask : List ℕ) → condition_bytes (Like negated percent field mask) ++ codes " ESCAPE '!'"
-    ≡ like_text negated field (mask_text percent mask)
-like_text_is negated percent field mask =
-    let words = not_text negated ++ codes " LIKE " in
-    append_assoc field (words ++ quoted (mask_text percent mask)) (codes " ESCAPE '!'")
-    ∙ ap (λ rest. field ++ rest) (append_assoc words (quoted (mask_text percent mask)) (codes " ESCAPE '!'"))
+-- what is behind a mask
+abbrev ending : List Token
+ending = Word (codes "ESCAPE") ∷ Str (codes "!") ∷ []
 
-pub like_fragment : (negated : Bool) (field mask : List ℕ) → is_fragment field ≡ true → is_fragment (like_text negated field mask) ≡ true
+-- a mask and what is behind it, between which no test finds another top-level token
+masked : (test : Token → Bool) (mask : List ℕ) → is_fragment mask ≡ true → has_top_level test (tokens mask) ≡ false → has_top_level test ending ≡ false
+    → has_top_level test (tokens mask ++ ending) ≡ false
+masked test mask is none last = has_top_level-append test (tokens mask) ending (even_text mask (and_parts (balanced mask) _ is).0) ∙ or_from _ _ none last
+
+like-condition : (negated : Bool) (field mask : List ℕ) → is_condition (tokens field) ≡ true → is_fragment mask ≡ true
+    → is_condition (pieces_tokens (like-pieces negated field mask)) ≡ true
 unfolding like-pieces
-like_fragment negated field mask is =
-    from-pieces (like-pieces negated field mask) (like-inside negated field mask) (fragment_closed field is) (like-condition negated field mask (condition-of field is))
+like-condition negated field mask is masks = by negated
+  where
+    even : is_even (tokens mask ++ ending) ≡ true
+    even = is_even-append (tokens mask) ending (even_text mask (and_parts (balanced mask) _ masks).0) refl
+
+    plain : has_clause (tokens mask ++ ending) ≡ false
+    plain = masked is_clause_word mask masks (not-true _ (and_parts (is_balanced (tokens mask)) _ (condition-of mask masks)).1) refl
+
+    by : (negated : Bool) → is_condition (pieces_tokens (like-pieces negated field mask)) ≡ true
+    by true = is_condition-append (tokens field) (not_word ∷ like_word ∷ (tokens mask ++ ending)) is even plain
+    by false = is_condition-append (tokens field) (like_word ∷ (tokens mask ++ ending)) is even plain
+
+pub like_fragment : (negated : Bool) (field mask : List ℕ) → is_fragment field ≡ true → is_fragment mask ≡ true
+    → is_fragment (like_text negated field mask) ≡ true
+unfolding like-pieces
+like_fragment negated field mask is masks =
+    from-pieces (like-pieces negated field mask) (like-inside negated field mask) (like-closed negated field mask is masks)
+    (like-condition negated field mask (condition-of field is) masks)
 
 -- ---- atoms
 
@@ -122,18 +150,24 @@ pub constant_is_atom : (holds : Bool) → IsAtom (tokens (constant_text holds))
 constant_is_atom true = condition_is_atom (Compare Eq (codes "1") (codes "1")) refl
 constant_is_atom false = condition_is_atom (Compare Eq (codes "1") (codes "0")) refl
 
-like-atom : (negated : Bool) (field mask : List ℕ) → operand field ≡ true → IsAtom (pieces_tokens (like-pieces negated field mask))
+like-atom : (negated : Bool) (field mask : List ℕ) → operand field ≡ true → ServesAsOperand mask → IsAtom (pieces_tokens (like-pieces negated field mask))
 unfolding like-pieces
-like-atom true field mask is =
-    atom_plain (tokens field) not_word (like_word ∷ Str mask ∷ Word (codes "ESCAPE") ∷ Str (codes "!") ∷ []) (sym (is_operand-is (tokens field)) ∙ is) refl
-like-atom false field mask is =
-    atom_plain (tokens field) like_word (Str mask ∷ Word (codes "ESCAPE") ∷ Str (codes "!") ∷ []) (sym (is_operand-is (tokens field)) ∙ is) refl
+like-atom negated field mask is serves = by negated
+  where
+    plain : has_top_level is_joining (tokens mask ++ ending) ≡ false
+    plain = masked is_joining mask (fits_as refl serves) (operand_plain (tokens mask) (sym (is_operand-is (tokens mask)) ∙ serves.is_operand)) refl
 
-pub like_is_atom : (negated : Bool) (field mask : List ℕ) → ServesAsOperand field → IsAtom (tokens (like_text negated field mask))
+    by : (negated : Bool) → IsAtom (pieces_tokens (like-pieces negated field mask))
+    by true = atom_plain (tokens field) not_word (like_word ∷ (tokens mask ++ ending)) (sym (is_operand-is (tokens field)) ∙ is) plain
+    by false = atom_plain (tokens field) like_word (tokens mask ++ ending) (sym (is_operand-is (tokens field)) ∙ is) plain
+
+pub like_is_atom : (negated : Bool) (field mask : List ℕ) → ServesAsOperand field → ServesAsOperand mask → IsAtom (tokens (like_text negated field mask))
 unfolding like-pieces
-like_is_atom negated field mask serves =
-    subst IsAtom (sym ((shaped (like-pieces negated field mask) (like-inside negated field mask)).shape_is (fragment_closed field (fits_as refl serves))))
-    (like-atom negated field mask serves.is_operand)
+like_is_atom negated field mask serves masks =
+    subst IsAtom
+    (sym ((shaped (like-pieces negated field mask) (like-inside negated field mask)).shape_is
+    (like-closed negated field mask (fits_as refl serves) (fits_as refl masks))))
+    (like-atom negated field mask serves.is_operand masks)
 
 -- ---- conditions joined by a word
 
@@ -292,42 +326,7 @@ all_combined (t ∷ texts) all = λ facts.
     ∙ truth_joined facts (alone t) (map alone texts) (groups-fit (t ∷ texts) all)
     ∙ ap and_all (truths-alone facts (t ∷ texts))
 
--- ---- NOT
-
-negation-pieces : List ℕ → Pieces
-negation-pieces text = fixed_piece (codes "NOT (") ++ (raw_piece text ++ fixed_piece (codes ")"))
-
-negation-inside : (text : List ℕ) → Inside (negation-pieces text)
-unfolding negation-pieces
-negation-inside text =
-    words-first (codes "NOT (") (raw_piece text ++ fixed_piece (codes ")")) (record { is_closed = refl; plain = refl }) refl
-    (closing-last (raw_piece text) (raw-inside text))
-
-negation-are : (text : List ℕ) → pieces_tokens (negation-pieces text) ≡ not_word ∷ in_brackets (tokens text)
-unfolding negation-pieces in_brackets
-negation-are text = refl
-
-not-condition : (ts : List Token) → is_condition ts ≡ true → is_condition (not_word ∷ in_brackets ts) ≡ true
-not-condition ts is =
-    let even = balanced_even ts (and_parts (is_balanced ts) _ is).0 in
-    and_from _ _ (is_even-brackets ts even) (not_from_false _ (no_clause-brackets ts even))
-
-pub negation_fragment : (text : List ℕ) → is_fragment text ≡ true → is_fragment (negation_text text) ≡ true
-unfolding negation-pieces
-negation_fragment text is =
-    from-pieces (negation-pieces text) (negation-inside text) (fragment_closed text is)
-    (ap is_condition (negation-are text) ∙ not-condition (tokens text) (condition-of text is))
-
-pub negation_truth : (text : List ℕ) → is_fragment text ≡ true → (facts : Valuation) → truth facts (tokens (negation_text text)) ≡ not3 (truth facts (tokens text))
-unfolding negation-pieces
-negation_truth text is facts =
-    let ts = tokens text in
-    let here = condition-of text is in
-    ap (truth facts) ((shaped (negation-pieces text) (negation-inside text)).shape_is (fragment_closed text is) ∙ negation-are text)
-    ∙ of_not facts (in_brackets ts) (not_from_false _ (has_top_level-is is_joining (in_brackets ts) ∙ none-brackets is_joining ts refl (condition_closes ts here)))
-    ∙ ap not3 (truth-in facts ts here)
-
--- ---- texts of strings
+-- ---- pieces whose tokens are the same but for the texts of strings
 
 abbrev outlines : Pieces → List (List Token)
 outlines ps = map piece_outline ps
@@ -335,6 +334,91 @@ outlines ps = map piece_outline ps
 alike : (one other : Pieces) → outlines one ≡ outlines other → Inside one → Inside other → has_closed_fragments one ≡ true
     → outline (pieces_text one) ≡ outline (pieces_text other)
 alike one other same inside also shut = pieces-outline one other same (shaped one inside) (shaped other also) shut
+
+-- ---- NOT and EXISTS
+
+opened : List ℕ → List ℕ → Pieces
+opened words text = fixed_piece words ++ (raw_piece text ++ fixed_piece (codes ")"))
+
+opened-inside : (words text : List ℕ) → Whole words → ends_with is_edge words ≡ true → Inside (opened words text)
+unfolding opened
+opened-inside words text is ends = words-first words (raw_piece text ++ fixed_piece (codes ")")) is ends (closing-last (raw_piece text) (raw-inside text))
+
+opened-alike : (words one other : List ℕ) → Whole words → ends_with is_edge words ≡ true → outline one ≡ outline other → closed one ≡ true
+    → outline (words ++ (one ++ codes ")")) ≡ outline (words ++ (other ++ codes ")"))
+unfolding opened
+opened-alike words one other is ends same shut =
+    alike (opened words one) (opened words other)
+    (ap (λ (text : List Token). outlines (fixed_piece words) ++ (text ∷ outlines (fixed_piece (codes ")")))) same)
+    (opened-inside words one is ends) (opened-inside words other is ends) (and_from _ _ shut refl)
+
+front-condition : (front ts : List Token) → is_condition front ≡ true → is_even ts ≡ true → is_condition (front ++ in_brackets ts) ≡ true
+front-condition front ts is even = is_condition-append front (in_brackets ts) is (is_even-brackets ts even) (no_clause-brackets ts even)
+
+negation-inside : (text : List ℕ) → Inside (opened (codes "NOT (") text)
+negation-inside text = opened-inside (codes "NOT (") text (record { is_closed = refl; plain = refl }) refl
+
+negation-are : (text : List ℕ) → pieces_tokens (opened (codes "NOT (") text) ≡ not_word ∷ in_brackets (tokens text)
+unfolding opened in_brackets
+negation-are text = refl
+
+pub negation_fragment : (text : List ℕ) → is_fragment text ≡ true → is_fragment (negation_text text) ≡ true
+unfolding opened
+negation_fragment text is =
+    from-pieces (opened (codes "NOT (") text) (negation-inside text) (fragment_closed text is)
+    (ap is_condition (negation-are text) ∙ front-condition (not_word ∷ []) (tokens text) refl (even_text text (and_parts (balanced text) _ is).0))
+
+pub negation_truth : (text : List ℕ) → is_fragment text ≡ true → (facts : Valuation) → truth facts (tokens (negation_text text)) ≡ not3 (truth facts (tokens text))
+unfolding opened
+negation_truth text is facts =
+    let ts = tokens text in
+    let here = condition-of text is in
+    ap (truth facts) ((shaped (opened (codes "NOT (") text) (negation-inside text)).shape_is (fragment_closed text is) ∙ negation-are text)
+    ∙ of_not facts (in_brackets ts) (not_from_false _ (has_top_level-is is_joining (in_brackets ts) ∙ none-brackets is_joining ts refl (condition_closes ts here)))
+    ∙ ap not3 (truth-in facts ts here)
+
+exists_word : Token
+exists_word = Word (codes "EXISTS")
+
+exists-tokens : (query : List ℕ) → balanced query ≡ true → tokens (exists_text false query) ≡ exists_word ∷ in_brackets (tokens query)
+unfolding opened in_brackets exists_word
+exists-tokens query is =
+    (shaped (opened (codes "EXISTS (") query) (opened-inside (codes "EXISTS (") query (record { is_closed = refl; plain = refl }) refl)).shape_is
+    (and_from _ _ (balanced_closed query is) refl)
+
+not-exists-tokens : (query : List ℕ) → balanced query ≡ true → tokens (exists_text true query) ≡ not_word ∷ exists_word ∷ in_brackets (tokens query)
+unfolding opened in_brackets exists_word
+not-exists-tokens query is =
+    (shaped (opened (codes "NOT EXISTS (") query) (opened-inside (codes "NOT EXISTS (") query (record { is_closed = refl; plain = refl }) refl)).shape_is
+    (and_from _ _ (balanced_closed query is) refl)
+
+pub exists_fragment : (negated : Bool) (query : List ℕ) → balanced query ≡ true → is_fragment (exists_text negated query) ≡ true
+unfolding exists_word
+exists_fragment false query is =
+    fragment-is (exists_text false query) ∙ ap is_condition (exists-tokens query is)
+    ∙ front-condition (exists_word ∷ []) (tokens query) refl (even_text query is)
+exists_fragment true query is =
+    fragment-is (exists_text true query) ∙ ap is_condition (not-exists-tokens query is)
+    ∙ front-condition (not_word ∷ exists_word ∷ []) (tokens query) refl (even_text query is)
+
+joins-none : (query : List ℕ) → balanced query ≡ true → has_top_level is_joining (in_brackets (tokens query)) ≡ false
+joins-none query is = none-brackets is_joining (tokens query) refl (even_closes (tokens query) (even_text query is))
+
+pub exists_is_atom : (query : List ℕ) → balanced query ≡ true → IsAtom (tokens (exists_text false query))
+unfolding in_brackets exists_word
+exists_is_atom query is =
+    subst IsAtom (sym (exists-tokens query is)) (atom_plain (exists_word ∷ []) left_bracket (tokens query ++ right_bracket ∷ []) refl (joins-none query is))
+
+pub not_exists_truth : (query : List ℕ) → balanced query ≡ true → (facts : Valuation)
+    → truth facts (tokens (exists_text true query)) ≡ not3 (truth facts (tokens (exists_text false query)))
+unfolding exists_word
+not_exists_truth query is facts =
+    ap (truth facts) (not-exists-tokens query is)
+    ∙ of_not facts (exists_word ∷ in_brackets (tokens query))
+    (not_from_false _ (has_top_level-is is_joining (exists_word ∷ in_brackets (tokens query)) ∙ joins-none query is))
+    ∙ ap (λ ts. not3 (truth facts ts)) (sym (exists-tokens query is))
+
+-- ---- texts of strings
 
 pub condition_outline : ConditionsFollowTheirPieces
 condition_outline one other same shut =
@@ -345,9 +429,13 @@ condition_outline one other same shut =
 pub mask_outline : MasksFollowTheirField
 unfolding like-pieces
 mask_outline negated one other mask other_mask same is =
-    alike (like-pieces negated one mask) (like-pieces negated other other_mask)
-    (ap (λ (field : List Token). field ∷ outlines (fixed_piece (not_text negated ++ codes " LIKE ") ++ (quoted_piece mask ++ fixed_piece (codes " ESCAPE '!'")))) same)
-    (like-inside negated one mask) (like-inside negated other other_mask) (fragment_closed one is)
+    alike (like-pieces negated one (quoted mask)) (like-pieces negated other (quoted other_mask))
+    (λ i. same i ∷ blank (tokens (not_text negated ++ codes " LIKE ")) ∷ quotes i ∷ blank (tokens (codes " ESCAPE '!'")) ∷ [])
+    (like-inside negated one (quoted mask)) (like-inside negated other (quoted other_mask))
+    (like-closed negated one (quoted mask) is (fits_as refl (literal-serves (literal.words mask))))
+  where
+    quotes : outline (quoted mask) ≡ outline (quoted other_mask)
+    quotes = ap blank (between-tokens Single mask) ∙ sym (ap blank (between-tokens Single other_mask))
 
 bracketed-outlines : (one other : List (List ℕ)) → map outline one ≡ map outline other
     → map outlines (map bracketed one) ≡ map outlines (map bracketed other)
@@ -390,8 +478,10 @@ combined_outline true (t ∷ ts) (u ∷ us) same all = joined-alike and_joins t 
 combined_outline false (t ∷ ts) (u ∷ us) same all = joined-alike or_joins t ts (u ∷ us) same all
 
 pub negation_outline : NegationsFollowTheirPart
-unfolding negation-pieces
-negation_outline one other same is =
-    alike (negation-pieces one) (negation-pieces other)
-    (ap (λ (text : List Token). outlines (fixed_piece (codes "NOT (")) ++ (text ∷ outlines (fixed_piece (codes ")")))) same)
-    (negation-inside one) (negation-inside other) (fragment_closed one is)
+negation_outline one other same is = opened-alike (codes "NOT (") one other (record { is_closed = refl; plain = refl }) refl same (text_closed one is)
+
+pub exists_outline : ExistsFollowsItsQuery
+exists_outline true one other same is =
+    opened-alike (codes "NOT EXISTS (") one other (record { is_closed = refl; plain = refl }) refl same (balanced_closed one is)
+exists_outline false one other same is =
+    opened-alike (codes "EXISTS (") one other (record { is_closed = refl; plain = refl }) refl same (balanced_closed one is)

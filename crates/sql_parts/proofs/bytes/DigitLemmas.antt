@@ -115,3 +115,6 @@ minus-first (negsuc n) e = refl
 pub ascii-signed : (z : ℤ) → FitsSigned w128 z → IsAscii (signed_decimal z)
 ascii-signed (pos n) h = let fits = h.sfits in IsAscii-decimal_wide n (omega arith)
 ascii-signed (negsuc n) h = let fits = h.sfits in IsAscii-cons 45 _ (omega arith) (IsAscii-decimal_wide (suc n) (omega arith))
+
+pub ascii-prefixed : (prefix n : ℕ) → prefix < 128 → n < 2 ^ 128 → IsAscii (prefix ∷ decimal n)
+ascii-prefixed prefix n ascii fits = IsAscii-cons prefix _ ascii (IsAscii-decimal_wide n (omega arith))

@@ -1,12 +1,12 @@
 -- The roles of tokens, looked up among the keywords.
-use Rattle.std.proofs.Common.{◌≡◌, ◌≢◌, ◌∙◌, ℕ, Bool, true, false, cond, ◌&&◌, List, [], ◌∷◌, ap, refl, sym, arith, length, eqb, get_or, codes, drop, ne_eqb}
+use Rattle.std.proofs.Common.{◌≡◌, ◌≢◌, ◌∙◌, ℕ, ◌<◌, Bool, true, false, cond, ◌&&◌, List, [], ◌∷◌, ap, refl, sym, arith, length, eqb, get_or, codes, drop, ne_eqb}
 use Rattle.std.proofs.Common.{inl, inr, map}
 use Rattle.std.specs.Char.{to_ascii_lowercase}
 use Rattle.std.specs.List.{list_any}
 use Rattle.std.specs.Str.{bytes_eq, str_eq_ignore_ascii_case, str_to_ascii_lowercase}
 use Rattle.std.proofs.lemmas.Bool.{cases_Bool, false≢true, or_cases, or_from, or_parts}
 use Rattle.std.proofs.lemmas.Slice.Eq.{bytes_eq-Decides}
-use Rattle.sql_parts.specs.Fragments.{is_clause_word, is_closing, is_joining, is_opening, is_whole, is_word, lowers, needs_left, needs_right, raises}
+use Rattle.sql_parts.specs.Fragments.{is_clause_word, is_closing, is_dialect_word, is_joining, is_opening, is_whole, is_word, lowers, needs_left, needs_right, raises}
 use Rattle.sql_parts.specs.Roles.{HasRole, sample}
 use Rattle.sql_parts.specs.Tokens.{Token, Word, Str, Symbol}
 use Rattle.sql_parts.specs.declared.roles.Role.{Role}
@@ -16,7 +16,7 @@ use Rattle.sql_parts.specs.declared.roles.Role.TheVariants as role
 abbrev pub answers : Token → List Bool
 answers token =
     raises token ∷ lowers token ∷ is_opening token ∷ is_closing token ∷ needs_left token ∷ needs_right token ∷ is_joining token ∷ is_word (codes "AND") token
-    ∷ is_word (codes "BETWEEN") token ∷ is_word (codes "NOT") token ∷ is_clause_word token ∷ is_whole token ∷ []
+    ∷ is_word (codes "BETWEEN") token ∷ is_word (codes "NOT") token ∷ is_clause_word token ∷ is_dialect_word token ∷ is_whole token ∷ []
 
 abbrev nth : ℕ → List Bool → Bool
 nth i found = get_or found i false
@@ -34,7 +34,8 @@ has-role role token same = record {
   between = ap (nth 8) same;
   not = ap (nth 9) same;
   clause = ap (nth 10) same;
-  whole = ap (nth 11) same;
+  dialect = ap (nth 11) same;
+  whole = ap (nth 12) same;
 }
 
 abbrev Entry : Type 0
@@ -43,11 +44,14 @@ Entry = List ℕ × Role
 -- the keywords, those with the same first letter in the order in which the code asks for them
 abbrev keywords : List Entry
 keywords =
-    (codes "AND", role.And) ∷ (codes "BETWEEN", role.Between) ∷ (codes "CASE", role.Raises) ∷ (codes "DELETE", role.Clause) ∷ (codes "END", role.Lowers)
-    ∷ (codes "ELSE", role.Parts) ∷ (codes "FROM", role.Clause) ∷ (codes "GROUP", role.Clause) ∷ (codes "HAVING", role.Clause) ∷ (codes "INSERT", role.Clause)
-    ∷ (codes "LIMIT", role.Clause) ∷ (codes "NOT", role.Not) ∷ (codes "OR", role.Or) ∷ (codes "ORDER", role.Clause) ∷ (codes "OFFSET", role.Clause)
-    ∷ (codes "RETURNING", role.Clause) ∷ (codes "SELECT", role.Clause) ∷ (codes "SET", role.Clause) ∷ (codes "THEN", role.Parts) ∷ (codes "UNION", role.Clause)
-    ∷ (codes "UPDATE", role.Clause) ∷ (codes "VALUES", role.Clause) ∷ (codes "WHEN", role.Parts) ∷ (codes "WHERE", role.Clause) ∷ []
+    (codes "AND", role.And) ∷ (codes "BETWEEN", role.Between) ∷ (codes "CASE", role.Raises) ∷ (codes "DELETE", role.Clause)
+    ∷ (codes "END", role.Lowers) ∷ (codes "ELSE", role.Parts) ∷ (codes "EXCEPT", role.Dialect) ∷ (codes "FROM", role.Clause)
+    ∷ (codes "FOR", role.Dialect) ∷ (codes "FETCH", role.Dialect) ∷ (codes "GROUP", role.Clause) ∷ (codes "HAVING", role.Clause)
+    ∷ (codes "INSERT", role.Clause) ∷ (codes "INTO", role.Dialect) ∷ (codes "INTERSECT", role.Dialect) ∷ (codes "LIMIT", role.Clause)
+    ∷ (codes "MINUS", role.Dialect) ∷ (codes "NOT", role.Not) ∷ (codes "OR", role.Or) ∷ (codes "ORDER", role.Clause) ∷ (codes "OFFSET", role.Clause)
+    ∷ (codes "RETURNING", role.Clause) ∷ (codes "SELECT", role.Clause) ∷ (codes "SET", role.Clause) ∷ (codes "THEN", role.Parts)
+    ∷ (codes "TABLE", role.Dialect) ∷ (codes "UNION", role.Clause) ∷ (codes "UPDATE", role.Clause) ∷ (codes "VALUES", role.Clause)
+    ∷ (codes "WHEN", role.Parts) ∷ (codes "WHERE", role.Clause) ∷ (codes "WITH", role.Dialect) ∷ (codes "WINDOW", role.Dialect) ∷ []
 
 -- the role of the first of them that a word is
 abbrev pub role_among : List ℕ → List Entry → Role
@@ -95,10 +99,12 @@ none-plain : (word : List ℕ) → is_among word keywords ≡ false → answers 
 none-plain word none =
     let isnt = λ (keyword : List ℕ). none-among word keyword keywords none in
     rw (isnt (codes "AND") refl, isnt (codes "BETWEEN") refl, isnt (codes "CASE") refl, isnt (codes "DELETE") refl, isnt (codes "END") refl)
-    (rw (isnt (codes "ELSE") refl, isnt (codes "FROM") refl, isnt (codes "GROUP") refl, isnt (codes "HAVING") refl, isnt (codes "INSERT") refl)
-    (rw (isnt (codes "LIMIT") refl, isnt (codes "NOT") refl, isnt (codes "OR") refl, isnt (codes "ORDER") refl, isnt (codes "OFFSET") refl)
-    (rw (isnt (codes "RETURNING") refl, isnt (codes "SELECT") refl, isnt (codes "SET") refl, isnt (codes "THEN") refl, isnt (codes "UNION") refl)
-    (rw (isnt (codes "UPDATE") refl, isnt (codes "VALUES") refl, isnt (codes "WHEN") refl, isnt (codes "WHERE") refl) refl))))
+    (rw (isnt (codes "ELSE") refl, isnt (codes "EXCEPT") refl, isnt (codes "FROM") refl, isnt (codes "FOR") refl, isnt (codes "FETCH") refl)
+    (rw (isnt (codes "GROUP") refl, isnt (codes "HAVING") refl, isnt (codes "INSERT") refl, isnt (codes "INTO") refl, isnt (codes "INTERSECT") refl)
+    (rw (isnt (codes "LIMIT") refl, isnt (codes "MINUS") refl, isnt (codes "NOT") refl, isnt (codes "OR") refl, isnt (codes "ORDER") refl)
+    (rw (isnt (codes "OFFSET") refl, isnt (codes "RETURNING") refl, isnt (codes "SELECT") refl, isnt (codes "SET") refl, isnt (codes "THEN") refl)
+    (rw (isnt (codes "TABLE") refl, isnt (codes "UNION") refl, isnt (codes "UPDATE") refl, isnt (codes "VALUES") refl, isnt (codes "WHEN") refl)
+    (rw (isnt (codes "WHERE") refl, isnt (codes "WITH") refl, isnt (codes "WINDOW") refl) refl))))))
 
 -- the first letter of a keyword
 abbrev initial : List ℕ → ℕ
@@ -132,6 +138,11 @@ by-letter letter byte text role front is found =
     ∙ narrowed byte (drop 1 text) keywords ∙ ap (λ t. role_among t keywords) (sym front) in
     has-role role (Word text) (among-from text keywords right (none-plain text) ∙ ap (λ r. answers (sample r)) (sym (found ∙ all)))
 
+-- a text by its first byte
+pub front : (text bytes : List ℕ) (byte : ℕ) → bytes ≡ text → 0 < length bytes → byte ≡ get_or bytes 0 0 → text ≡ byte ∷ drop 1 text
+front text [] byte same some is = absurd (omega (arith, some))
+front text (first ∷ rest) byte same some is = sym same ∙ ap (λ b. b ∷ rest) (sym is) ∙ ap (λ t. byte ∷ drop 1 t) same
+
 pub empty-plain : (text : List ℕ) → length text ≡ 0 → HasRole role.Plain (Word text)
 empty-plain [] none = has-role role.Plain (Word []) refl
 empty-plain (byte ∷ text) none = absurd (omega (arith, none))
@@ -155,7 +166,8 @@ none-begins letter (entry ∷ entries) none =
 -- the first letters of the keywords
 abbrev pub initials : List ℕ
 initials =
-    97 ∷ 98 ∷ 99 ∷ 100 ∷ 101 ∷ 101 ∷ 102 ∷ 103 ∷ 104 ∷ 105 ∷ 108 ∷ 110 ∷ 111 ∷ 111 ∷ 111 ∷ 114 ∷ 115 ∷ 115 ∷ 116 ∷ 117 ∷ 117 ∷ 118 ∷ 119 ∷ 119 ∷ []
+    97 ∷ 98 ∷ 99 ∷ 100 ∷ 101 ∷ 101 ∷ 101 ∷ 102 ∷ 102 ∷ 102 ∷ 103 ∷ 104 ∷ 105 ∷ 105 ∷ 105 ∷ 108 ∷ 109 ∷ 110 ∷ 111 ∷ 111 ∷ 111 ∷ 114 ∷ 115 ∷ 115 ∷ 116
+    ∷ 116 ∷ 117 ∷ 117 ∷ 118 ∷ 119 ∷ 119 ∷ 119 ∷ 119 ∷ []
 
 -- a word with another first letter
 pub other-plain : (letter byte : ℕ) (text : List ℕ) → text ≡ byte ∷ drop 1 text → to_ascii_lowercase byte ≡ letter

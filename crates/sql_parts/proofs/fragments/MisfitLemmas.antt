@@ -4,10 +4,10 @@ use Rattle.std.specs.Prelude.{find, is_none, if◌then◌else◌}
 use Rattle.std.specs.List.{list_all, list_any}
 use Rattle.std.proofs.lemmas.Bool.{and_parts}
 use Rattle.std.proofs.Math.Bool.{and-true, not-not, or-false}
-use Rattle.sql_parts.specs.Fragments.{balanced, brackets_match, has_clause_word, has_top_level, is_balanced, is_clause_word, is_joining, is_whole, is_word}
-use Rattle.sql_parts.specs.Fragments.{lowers, operand, raises, weight}
+use Rattle.sql_parts.specs.Fragments.{balanced, brackets_match, encloses_clauses, has_clause_word, has_dialect_word, has_top_level, is_balanced, is_clause_word}
+use Rattle.sql_parts.specs.Fragments.{is_dialect_word, is_joining, is_whole, is_word, lowers, operand, raises, weight}
 use Rattle.sql_parts.specs.Misfits.{holds_of, meets, misfit, reasons}
-use Rattle.sql_parts.specs.Operands.{ServesAsOperand, is_bare_operand, is_fragment}
+use Rattle.sql_parts.specs.Operands.{ServesAsOperand, has_no_clause, is_bare_operand, is_fragment, is_typed_fragment, is_typed_operand}
 use Rattle.sql_parts.specs.Tokens.{Token, begins_with, closed, has_semicolon, is_empty, is_open, is_semicolon, tokens}
 use Rattle.sql_parts.specs.declared.misfits.Demand.{Demand}
 use Rattle.sql_parts.specs.declared.misfits.Demand.TheVariants as demand
@@ -44,18 +44,18 @@ either_top_level one other ts =
     has_top_level-is (λ token. one token || other token) ts ∙ any_of one other 0 0 ts
     ∙ (λ i. sym (has_top_level-is one ts) i || sym (has_top_level-is other ts) i)
 
+never_first : (ts : List Token) → begins_with (λ token. false) ts ≡ false
+never_first [] = refl
+never_first (token ∷ ts) = refl
+
 -- what one reading says of a fragment, and of an operand without a top-level clause keyword
 pub fragment_read : (text : List ℕ)
     → (is_balanced (tokens text) && not (has_top_level (λ token. is_clause_word token || false) (tokens text))
     && not (begins_with (λ token. false) (tokens text)))
     ≡ is_fragment text
 fragment_read text =
-    (λ i. is_balanced (tokens text) && not (has_top_level (λ token. or-false (is_clause_word token) i) (tokens text)) && not (never-first (tokens text) i))
+    (λ i. is_balanced (tokens text) && not (has_top_level (λ token. or-false (is_clause_word token) i) (tokens text)) && not (never_first (tokens text) i))
     ∙ and-true _
-  where
-    never-first : (ts : List Token) → begins_with (λ token. false) ts ≡ false
-    never-first [] = refl
-    never-first (token ∷ ts) = refl
 
 pub operand_read : (text : List ℕ)
     → (is_balanced (tokens text) && not (has_top_level (λ token. is_clause_word token || is_joining token) (tokens text))
@@ -67,6 +67,34 @@ operand_read text =
   where
     spread : (balance word joins first : Bool) → (balance && not (word || joins) && not first) ≡ ((balance && not joins && not first) && not word)
     spread balance word joins first = grind arith
+
+-- and of those by their types, without a top-level word that begins a clause in some databases
+pub typed_fragment_read : (text : List ℕ)
+    → ((is_balanced (tokens text) && not (has_top_level (λ token. is_clause_word token || (is_dialect_word token || false)) (tokens text))
+    && not (begins_with (λ token. false) (tokens text))) && encloses_clauses 0 (tokens text))
+    ≡ is_typed_fragment text
+typed_fragment_read text =
+    (λ i. (is_balanced (tokens text) && not (has_top_level (λ token. is_clause_word token || or-false (is_dialect_word token) i) (tokens text))
+    && not (never_first (tokens text) i)) && encloses_clauses 0 (tokens text))
+    ∙ ap (λ b. (is_balanced (tokens text) && not b && true) && encloses_clauses 0 (tokens text)) (either_top_level is_clause_word is_dialect_word (tokens text))
+    ∙ spread (balanced text) (has_clause_word text) (has_dialect_word text) (encloses_clauses 0 (tokens text))
+  where
+    spread : (balance word dialect kept : Bool) → ((balance && not (word || dialect) && true) && kept) ≡ ((balance && not word) && (not dialect && kept))
+    spread balance word dialect kept = grind arith
+
+pub typed_operand_read : (text : List ℕ)
+    → ((is_balanced (tokens text) && not (has_top_level (λ token. is_clause_word token || (is_dialect_word token || is_joining token)) (tokens text))
+    && not (begins_with (is_word (codes "NOT")) (tokens text))) && encloses_clauses 0 (tokens text)) ≡ is_typed_operand text
+typed_operand_read text =
+    ap (λ b. (is_balanced (tokens text) && not b && not (begins_with (is_word (codes "NOT")) (tokens text))) && encloses_clauses 0 (tokens text))
+    (either_top_level is_clause_word (λ token. is_dialect_word token || is_joining token) (tokens text)
+    ∙ ap (λ b. has_clause_word text || b) (either_top_level is_dialect_word is_joining (tokens text)))
+    ∙ spread (balanced text) (has_clause_word text) (has_dialect_word text) (has_top_level is_joining (tokens text))
+    (begins_with (is_word (codes "NOT")) (tokens text)) (encloses_clauses 0 (tokens text))
+  where
+    spread : (balance word dialect joins first kept : Bool) → ((balance && not (word || (dialect || joins)) && not first) && kept)
+        ≡ (((balance && not joins && not first) && not word) && (not dialect && kept))
+    spread balance word dialect joins first kept = grind arith
 
 -- none is found where none passes
 cond_none : {X : Type 0} (passes : Bool) (x : X) (later : Option X) (none : Bool) → is_none later ≡ none
@@ -102,6 +130,14 @@ met asked text = none_found (holds_of text) (reasons asked) ∙ by_demand asked
     regroup : (balance word joins first : Bool) → (balance && not (word || ((joins || first) || false))) ≡ ((balance && not joins && not first) && not word)
     regroup balance word joins first = grind arith
 
+    split : (balance word dialect kept : Bool)
+        → (balance && not (word || (dialect || (not kept || false)))) ≡ ((balance && not word) && (not dialect && kept))
+    split balance word dialect kept = grind arith
+
+    regroup_typed : (balance word dialect joins first kept : Bool) → (balance && not (word || (dialect || ((joins || first) || (not kept || false)))))
+        ≡ (((balance && not joins && not first) && not word) && (not dialect && kept))
+    regroup_typed balance word dialect joins first kept = grind arith
+
     by_demand : (asked : Demand) → not (list_any (holds_of text) (reasons asked)) ≡ meets asked text
     by_demand demand.Balanced = spread false ∙ and-true (balanced text)
     by_demand demand.Fragment = spread (has_clause_word text || false) ∙ ap (λ b. balanced text && not b) (or-false (has_clause_word text))
@@ -109,6 +145,16 @@ met asked text = none_found (holds_of text) (reasons asked) ∙ by_demand asked
         let joins = has_top_level is_joining (tokens text) in
         let first = begins_with (is_word (codes "NOT")) (tokens text) in
         spread (has_clause_word text || ((joins || first) || false)) ∙ regroup (balanced text) (has_clause_word text) joins first
+    by_demand demand.TypedFragment =
+        let kept = encloses_clauses 0 (tokens text) in
+        spread (has_clause_word text || (has_dialect_word text || (not kept || false)))
+        ∙ split (balanced text) (has_clause_word text) (has_dialect_word text) kept
+    by_demand demand.TypedOperand =
+        let joins = has_top_level is_joining (tokens text) in
+        let first = begins_with (is_word (codes "NOT")) (tokens text) in
+        let kept = encloses_clauses 0 (tokens text) in
+        spread (has_clause_word text || (has_dialect_word text || ((joins || first) || (not kept || false))))
+        ∙ regroup_typed (balanced text) (has_clause_word text) (has_dialect_word text) joins first kept
 
 -- what is left where a text has a token, is closed and has no `;`, and isn't balanced
 pub unmatched : (text : List ℕ) → is_empty (tokens text) ≡ false → closed text ≡ true → has_semicolon text ≡ false → balanced text ≡ false
@@ -144,3 +190,10 @@ serves text is =
     let front = and_parts (balanced text && not (has_top_level is_joining ts)) (not (begins_with (is_word (codes "NOT")) ts)) both.0 in
     let balance = and_parts (balanced text) (not (has_top_level is_joining ts)) front.0 in
     record { is_operand = both.0; is_balanced = balance.0; is_closed = (balanced_whole text balance.0).0; no_clause_word = both.1 }
+
+-- what fits by its type fits, and serves
+pub fragment_of_typed : (text : List ℕ) → is_typed_fragment text ≡ true → is_fragment text ≡ true
+fragment_of_typed text is = (and_parts (is_fragment text) (has_no_clause text) is).0
+
+pub typed_serves : (text : List ℕ) → is_typed_operand text ≡ true → ServesAsOperand text
+typed_serves text is = serves text (and_parts (is_bare_operand text) (has_no_clause text) is).0

@@ -239,6 +239,8 @@ unmoved waits outside role.Parts token ts has up down and or between = all-other
 unmoved waits outside role.Not token ts has up down and or between = all-other waits outside token ts has.raising has.lowering has.and has.joining has.between
 unmoved waits outside role.Clause token ts has up down and or between =
     all-other waits outside token ts has.raising has.lowering has.and has.joining has.between
+unmoved waits outside role.Dialect token ts has up down and or between =
+    all-other waits outside token ts has.raising has.lowering has.and has.joining has.between
 unmoved waits outside role.Breaks token ts has up down and or between =
     all-other waits outside token ts has.raising has.lowering has.and has.joining has.between
 unmoved waits outside role.Plain token ts has up down and or between = all-other waits outside token ts has.raising has.lowering has.and has.joining has.between

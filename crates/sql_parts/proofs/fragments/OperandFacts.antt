@@ -110,7 +110,7 @@ plain-inert t plain = record {
   whole = plain.whole;
 }
 
-inert : (t : Token) → answers t ≡ answers (Str []) → Inert t
+pub inert : (t : Token) → answers t ≡ answers (Str []) → Inert t
 inert t same = plain-inert t (has-role role.Plain t same)
 
 none-below : (n least : ℕ) (others : List ℕ) → n < least → list_all (leb least) others ≡ true → list_any (eqb n) others ≡ false
@@ -150,7 +150,7 @@ decimal-low n =
 low-inert : (text : List ℕ) → BeginsLow text → Inert (Word text)
 low-inert text low = subst (λ t. Inert (Word t)) (sym low.2) (digit-inert low.0 low.1 low.3)
 
-decimal-inert : (n : ℕ) → Inert (Word (decimal_text n))
+pub decimal-inert : (n : ℕ) → Inert (Word (decimal_text n))
 decimal-inert zero = digit-inert 48 [] (omega arith)
 decimal-inert (suc n) = low-inert (decimal_text (suc n)) (decimal-low n)
 

@@ -1,14 +1,19 @@
 -- Worked rows of misfits: the first reason that holds, by computing.
 use Rattle.std.specs.Prelude.{◌≡◌, ℕ, List, Option, None, Some, codes, refl}
 use Rattle.sql_parts.specs.Misfits.{misfit}
-use Rattle.sql_parts.specs.declared.misfits.Demand.TheVariants.{Balanced, Fragment, Operand}
+use Rattle.sql_parts.specs.declared.misfits.Demand.TheVariants.{Balanced, Fragment, Operand, TypedFragment, TypedOperand}
 use Rattle.sql_parts.specs.declared.misfits.Misfit.{Misfit}
-use Rattle.sql_parts.specs.declared.misfits.Misfit.TheVariants.{Blank, Open, Semicolon, Brackets, ClauseWord, Joined}
+use Rattle.sql_parts.specs.declared.misfits.Misfit.TheVariants.{Blank, Open, Semicolon, Brackets, ClauseWord, DialectWord, Joined, CaseWord}
 
 -- why a text is not balanced, no fragment and no operand
 abbrev why : List ℕ → Option Misfit × Option Misfit × Option Misfit
 unfolding misfit
 why text = (misfit Balanced text, misfit Fragment text, misfit Operand text)
+
+-- why it is none by its type
+abbrev why_typed : List ℕ → Option Misfit × Option Misfit
+unfolding misfit
+why_typed text = (misfit TypedFragment text, misfit TypedOperand text)
 
 column : why (codes "a") ≡ (None, None, None)
 unfolding misfit
@@ -61,3 +66,135 @@ in_brackets = refl
 quoted : why (codes "'a; b) FROM c OR d'") ≡ (None, None, None)
 unfolding misfit
 quoted = refl
+
+-- ---- words that begin a clause in some databases
+
+into : why (codes "a INTO evil") ≡ (None, None, None)
+unfolding misfit
+into = refl
+
+-- each of them
+
+typed_into : why_typed (codes "a INTO evil") ≡ (Some DialectWord, Some DialectWord)
+unfolding misfit
+typed_into = refl
+
+typed_intersect : why_typed (codes "true INTERSECT (SELECT b FROM secrets)") ≡ (Some DialectWord, Some DialectWord)
+unfolding misfit
+typed_intersect = refl
+
+typed_except : why_typed (codes "a EXCEPT (SELECT b)") ≡ (Some DialectWord, Some DialectWord)
+unfolding misfit
+typed_except = refl
+
+typed_minus : why_typed (codes "a MINUS (SELECT b)") ≡ (Some DialectWord, Some DialectWord)
+unfolding misfit
+typed_minus = refl
+
+typed_table : why_typed (codes "TABLE secrets") ≡ (Some DialectWord, Some DialectWord)
+unfolding misfit
+typed_table = refl
+
+typed_fetch : why_typed (codes "a FETCH FIRST ROW ONLY") ≡ (Some DialectWord, Some DialectWord)
+unfolding misfit
+typed_fetch = refl
+
+typed_for : why_typed (codes "a FOR SHARE") ≡ (Some DialectWord, Some DialectWord)
+unfolding misfit
+typed_for = refl
+
+typed_with : why_typed (codes "a WITH TIES") ≡ (Some DialectWord, Some DialectWord)
+unfolding misfit
+typed_with = refl
+
+typed_window : why_typed (codes "a WINDOW b AS (c)") ≡ (Some DialectWord, Some DialectWord)
+unfolding misfit
+typed_window = refl
+
+-- in small letters, and behind a bracket that is closed
+
+small_letters : why_typed (codes "a into evil") ≡ (Some DialectWord, Some DialectWord)
+unfolding misfit
+small_letters = refl
+
+behind_brackets : why_typed (codes "count(a) window b AS (c)") ≡ (Some DialectWord, Some DialectWord)
+unfolding misfit
+behind_brackets = refl
+
+-- in brackets
+
+nested_for : why_typed (codes "(a FOR 2)") ≡ (None, None)
+unfolding misfit
+nested_for = refl
+
+nested_with : why_typed (codes "CAST(a AS timestamp with time zone)") ≡ (None, None)
+unfolding misfit
+nested_with = refl
+
+nested_queries : why_typed (codes "(a INTO b INTERSECT c EXCEPT d MINUS TABLE e FETCH f WINDOW g)") ≡ (None, None)
+unfolding misfit
+nested_queries = refl
+
+-- FROM and FOR in the brackets of a call
+
+substring : why_typed (codes "substring(a FROM 1 FOR 2)") ≡ (None, None)
+unfolding misfit
+substring = refl
+
+-- in longer words, names between quotes and texts
+
+longer_words : why_typed (codes "format + into_x + within + tables + minus1 + prefetch") ≡ (None, None)
+unfolding misfit
+longer_words = refl
+
+quoted_names : why_typed (codes "\"into\" + `for` + [with]") ≡ (None, None)
+unfolding misfit
+quoted_names = refl
+
+string : why_typed (codes "'a INTO b'") ≡ (None, None)
+unfolding misfit
+string = refl
+
+-- the order of the reasons
+
+clause_first : why_typed (codes "a INTO b FROM c") ≡ (Some ClauseWord, Some ClauseWord)
+unfolding misfit
+clause_first = refl
+
+dialect_first : why_typed (codes "a OR b INTO c") ≡ (Some DialectWord, Some DialectWord)
+unfolding misfit
+dialect_first = refl
+
+only_joined : why_typed (codes "a OR b") ≡ (None, Some Joined)
+unfolding misfit
+only_joined = refl
+
+brackets_first : why_typed (codes "a) INTO (b") ≡ (Some Brackets, Some Brackets)
+unfolding misfit
+brackets_first = refl
+
+-- ---- CASE and END, which a database may read as names
+
+case_union : why_typed (codes ":case IS NULL UNION SELECT b FROM secrets WHERE :end IS NULL") ≡ (Some CaseWord, Some CaseWord)
+unfolding misfit
+case_union = refl
+
+case_into : why_typed (codes "b AS case INTO evil FROM secrets UNION SELECT a AS end") ≡ (Some CaseWord, Some CaseWord)
+unfolding misfit
+case_into = refl
+
+case_returning : why_typed (codes "@case IS NULL RETURNING (SELECT max(b) FROM secrets WHERE @end IS NULL)") ≡ (Some CaseWord, Some CaseWord)
+unfolding misfit
+case_returning = refl
+
+case_brackets : why_typed (codes "@case) OR 1=1 OR a IN (@end") ≡ (Some CaseWord, Some Joined)
+unfolding misfit
+case_brackets = refl
+
+query_in_case : why_typed (codes "CASE WHEN a IN (SELECT b FROM c) THEN d ELSE e END") ≡ (None, None)
+unfolding misfit
+query_in_case = refl
+
+or_in_case : why_typed (codes "@case OR @end") ≡ (None, None)
+unfolding misfit
+or_in_case = refl

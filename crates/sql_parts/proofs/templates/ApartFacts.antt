@@ -2,15 +2,15 @@
 use Rattle.std.proofs.Common.{◌≡◌, ℕ, Bool, true, false, not, ◌||◌, ◌⊎◌, List, [], ◌∷◌, ◌++◌, Option, Some, None, option_map, refl, sym, ap, ◌∙◌, subst, inl}
 use Rattle.std.proofs.Common.{inr, append_assoc, append-nil}
 use Rattle.std.specs.Prelude.{◌&&◌, ◌==◌, codes, flat_map}
-use Rattle.std.specs.List.{list_any}
-use Rattle.std.proofs.lemmas.Bool.{and_parts, false≢true, or_cases, or_from, or_left, or_right}
+use Rattle.std.specs.List.{AllByRecursion, list_any}
+use Rattle.std.proofs.lemmas.Bool.{and_parts, false≢true, not_from_false, or_cases, or_from, or_left, or_right}
 use Rattle.std.proofs.lemmas.List.Folds.{list_any-append}
-use Rattle.sql_parts.specs.Templates.{HasBoundTokens, IsClosedIfApart, IsSupplied, apart, bound_tokens, literal_tokens, segment_apart, segments_apart}
+use Rattle.sql_parts.specs.Templates.{HasBoundTokens, IsClosedIfApart, IsSupplied, apart, bound_tokens, segment_apart, segments_apart}
 use Rattle.sql_parts.specs.Literal.{LiteralValue, literal_text}
 use Rattle.sql_parts.specs.Templates.{Marks, Resolved, Value, bound, resolve, resolved_from, written, resolved_apart}
 use Rattle.sql_parts.specs.Tokens.{Token, begins_with, clean, closed, ends_with, is_edge, is_empty, is_open, is_separator, tokens}
 use Rattle.sql_parts.proofs.tokens.TokenFacts.{closed-shut, seam}
-use Rattle.sql_parts.proofs.tokens.LiteralFacts.{literal-closed, literal-is, literal-shut}
+use Rattle.sql_parts.proofs.tokens.LiteralFacts.{literal-closed, literal-is}
 
 -- separators are edges
 separator-edge : (byte : ℕ) → is_separator byte ≡ true → is_edge byte ≡ true
@@ -56,69 +56,84 @@ segment-clean : (segment rest : List ℕ) → (is_empty segment ≡ true) ⊎ (e
 segment-clean segment rest (inl empty) = or_left _ _ (or_left _ _ (or_left _ _ empty))
 segment-clean segment rest (inr ends) = or_left _ _ (or_right (is_empty segment || is_empty rest) _ (ends-edge segment ends))
 
--- the values and the segments behind them
-abbrev Parts : Type 0
-Parts = List (Value × List ℕ)
+-- values that have closed texts, and the segments behind them
+module _ {V : Type 0} (text : V → List ℕ) where
+  abbrev part_texts : List (V × List ℕ) → List ℕ
+  part_texts parts = flat_map (λ part. text part.0 ++ part.1) parts
 
-abbrev part_texts : (Value → LiteralValue) → Parts → List ℕ
-part_texts literals parts = flat_map (λ part. literal_text (literals part.0) ++ part.1) parts
+  abbrev pub part_tokens : List (V × List ℕ) → List Token
+  part_tokens parts = flat_map (λ part. tokens (text part.0) ++ tokens part.1) parts
 
-abbrev part_tokens : (Value → LiteralValue) → Parts → List Token
-part_tokens literals parts = flat_map (λ part. literal_tokens (literals part.0) ++ tokens part.1) parts
+  abbrev AllClosed : List (V × List ℕ) → Type 0
+  AllClosed parts = AllByRecursion (λ part. closed (text part.0) ≡ true) parts
 
--- what follows a value
-behind-value : (literals : Value → LiteralValue) (before segment : List ℕ) (parts : Parts) → segments_apart false segment parts ≡ true
-    → clean before (segment ++ part_texts literals parts) ≡ true
-behind-value literals before segment [] is =
-    value-clean before segment [] (λ empty. refl) (elim ((fits false true segment is).before refl) [ inl last ↦ inl last.1 | inr begins ↦ inr begins ])
-behind-value literals before segment (part ∷ parts) is =
-    let begins : begins_with is_separator segment ≡ true =
-    elim ((fits false false segment (and_parts (segment_apart false false segment) _ is).0).before refl)
-    [ inl last ↦ absurd (false≢true last.0) | inr begins ↦ begins ] in
-    value-clean before segment (part_texts literals (part ∷ parts)) (λ empty. absurd (some segment empty begins)) (inr begins)
-  where
-    some : (text : List ℕ) → is_empty text ≡ true → begins_with is_separator text ≡ true → ⊥
-    some [] empty begins = false≢true begins
-    some (byte ∷ text) empty begins = false≢true empty
+  -- what follows a value
+  behind-value : (before segment : List ℕ) (parts : List (V × List ℕ)) → segments_apart false segment parts ≡ true
+      → clean before (segment ++ part_texts parts) ≡ true
+  behind-value before segment [] is =
+      value-clean before segment [] (λ empty. refl) (elim ((fits false true segment is).before refl) [ inl last ↦ inl last.1 | inr begins ↦ inr begins ])
+  behind-value before segment (part ∷ parts) is =
+      let begins : begins_with is_separator segment ≡ true =
+      elim ((fits false false segment (and_parts (segment_apart false false segment) _ is).0).before refl)
+      [ inl last ↦ absurd (false≢true last.0) | inr begins ↦ begins ] in
+      value-clean before segment (part_texts (part ∷ parts)) (λ empty. absurd (some segment empty begins)) (inr begins)
+    where
+      some : (text : List ℕ) → is_empty text ≡ true → begins_with is_separator text ≡ true → ⊥
+      some [] empty begins = false≢true begins
+      some (byte ∷ text) empty begins = false≢true empty
 
-segments-tokens : (literals : Value → LiteralValue) (first : Bool) (segment : List ℕ) (parts : Parts) → segments_apart first segment parts ≡ true
-    → tokens (segment ++ part_texts literals parts) ≡ tokens segment ++ part_tokens literals parts
-segments-tokens literals first segment [] is = ap tokens (append-nil segment) ∙ sym (append-nil (tokens segment))
-segments-tokens literals first segment (part ∷ parts) is =
-    let both = and_parts (segment_apart first false segment) _ is in
-    let here = fits first false segment both.0 in
-    let text = literal_text (literals part.0) in
-    let rest = part.1 ++ part_texts literals parts in
-    ap (λ more. tokens (segment ++ more)) (append_assoc text part.1 (part_texts literals parts))
-    ∙ seam segment (text ++ rest) here.is_closed (segment-clean segment (text ++ rest) (here.behind refl))
-    ∙ ap (λ more. tokens segment ++ more)
-    (seam text rest (literal-closed (literals part.0)) (behind-value literals text part.1 parts both.1)
-    ∙ ap (λ value. value ++ tokens rest) (literal-is (literals part.0))
-    ∙ ap (λ more. literal_tokens (literals part.0) ++ more) (segments-tokens literals false part.1 parts both.1)
-    ∙ sym (append_assoc (literal_tokens (literals part.0)) (tokens part.1) (part_tokens literals parts)))
+  pub segments-tokens : (first : Bool) (segment : List ℕ) (parts : List (V × List ℕ)) → AllClosed parts → segments_apart first segment parts ≡ true
+      → tokens (segment ++ part_texts parts) ≡ tokens segment ++ part_tokens parts
+  segments-tokens first segment [] shut is = ap tokens (append-nil segment) ∙ sym (append-nil (tokens segment))
+  segments-tokens first segment (part ∷ parts) shut is =
+      let both = and_parts (segment_apart first false segment) _ is in
+      let here = fits first false segment both.0 in
+      let value = text part.0 in
+      let rest = part.1 ++ part_texts parts in
+      ap (λ more. tokens (segment ++ more)) (append_assoc value part.1 (part_texts parts))
+      ∙ seam segment (value ++ rest) here.is_closed (segment-clean segment (value ++ rest) (here.behind refl))
+      ∙ ap (λ more. tokens segment ++ more)
+      (seam value rest shut.0 (behind-value value part.1 parts both.1)
+      ∙ ap (λ more. tokens value ++ more) (segments-tokens false part.1 parts shut.1 both.1)
+      ∙ sym (append_assoc (tokens value) (tokens part.1) (part_tokens parts)))
+
+  -- none of them is open
+  pub segments-shut : (first : Bool) (segment : List ℕ) (parts : List (V × List ℕ)) → AllClosed parts → segments_apart first segment parts ≡ true
+      → closed (segment ++ part_texts parts) ≡ true
+  segments-shut first segment parts shut is =
+      ap (λ ts. not (list_any is_open ts)) (segments-tokens first segment parts shut is) ∙ not_from_false _ (none-open first segment parts shut is)
+    where
+      none-open : (first : Bool) (segment : List ℕ) (parts : List (V × List ℕ)) → AllClosed parts → segments_apart first segment parts ≡ true
+          → list_any is_open (tokens segment ++ part_tokens parts) ≡ false
+      none-open first segment [] shut is =
+          ap (list_any is_open) (append-nil (tokens segment)) ∙ closed-shut segment (fits first true segment is).is_closed
+      none-open first segment (part ∷ parts) shut is =
+          let both = and_parts (segment_apart first false segment) _ is in
+          let value = tokens (text part.0) in
+          let more = part_tokens parts in
+          list_any-append is_open (tokens segment) ((value ++ tokens part.1) ++ more)
+          ∙ or_from _ _ (closed-shut segment (fits first false segment both.0).is_closed)
+          (ap (list_any is_open) (append_assoc value (tokens part.1) more) ∙ list_any-append is_open value (tokens part.1 ++ more)
+          ∙ or_from _ _ (closed-shut (text part.0) shut.0) (none-open false part.1 parts shut.1 both.1))
+
+-- ---- literals
+
+literals-closed : (literals : Value → LiteralValue) (parts : List (Value × List ℕ))
+    → AllByRecursion (λ (part : Value × List ℕ). closed (literal_text (literals part.0)) ≡ true) parts
+literals-closed literals [] = tt
+literals-closed literals (part ∷ parts) = (literal-closed (literals part.0), literals-closed literals parts)
 
 resolved-tokens : (literals : Value → LiteralValue) (resolved : Option Resolved) → resolved_apart resolved ≡ true
     → option_map tokens (option_map (written literals) resolved) ≡ option_map (bound_tokens literals) resolved
 resolved-tokens literals None is = refl
-resolved-tokens literals (Some resolved) is = ap Some (segments-tokens literals true resolved.0 resolved.1 is)
+resolved-tokens literals (Some resolved) is =
+    ap Some (segments-tokens (λ value. literal_text (literals value)) true resolved.0 resolved.1 (literals-closed literals resolved.1) is
+    ∙ (λ i. tokens resolved.0 ++ flat_map (λ part. literal-is (literals part.0) i ++ tokens part.1) resolved.1))
 
 -- the tokens of a bound text
 pub bound-is : (template : List ℕ) (marks : Marks) (literals : Value → LiteralValue) → apart template marks ≡ true
     → option_map tokens (bound template marks literals) ≡ option_map (bound_tokens literals) (resolve template marks)
 bound-is template marks literals is = resolved-tokens literals (resolve template marks) is
-
--- none of them is open
-segments-shut : (literals : Value → LiteralValue) (first : Bool) (segment : List ℕ) (parts : Parts) → segments_apart first segment parts ≡ true
-    → list_any is_open (tokens segment ++ part_tokens literals parts) ≡ false
-segments-shut literals first segment [] is = ap (list_any is_open) (append-nil (tokens segment)) ∙ closed-shut segment (fits first true segment is).is_closed
-segments-shut literals first segment (part ∷ parts) is =
-    let both = and_parts (segment_apart first false segment) _ is in
-    let value = literal_tokens (literals part.0) in
-    let more = part_tokens literals parts in
-    list_any-append is_open (tokens segment) ((value ++ tokens part.1) ++ more)
-    ∙ or_from _ _ (closed-shut segment (fits first false segment both.0).is_closed)
-    (ap (list_any is_open) (append_assoc value (tokens part.1) more) ∙ list_any-append is_open value (tokens part.1 ++ more)
-    ∙ or_from _ _ (literal-shut (literals part.0)) (segments-shut literals false part.1 parts both.1))
 
 resolved-closed : (literals : Value → LiteralValue) (text : List ℕ) (resolved : Option Resolved) → resolved_apart resolved ≡ true
     → option_map (written literals) resolved ≡ Some text → closed text ≡ true
@@ -126,8 +141,7 @@ resolved-closed literals text None is written_is = absurd (false≢true is)
 resolved-closed literals text (Some resolved) is written_is =
     let same : written literals resolved ≡ text = cc written_is in
     subst (λ t. closed t ≡ true) same
-    (ap (λ all. not (list_any is_open all)) (segments-tokens literals true resolved.0 resolved.1 is)
-    ∙ ap not (segments-shut literals true resolved.0 resolved.1 is))
+    (segments-shut (λ value. literal_text (literals value)) true resolved.0 resolved.1 (literals-closed literals resolved.1) is)
 
 -- a bound text is closed
 pub bound-closed : (template text : List ℕ) (marks : Marks) (literals : Value → LiteralValue) → apart template marks ≡ true

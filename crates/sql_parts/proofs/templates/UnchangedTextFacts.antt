@@ -12,7 +12,7 @@ use Rattle.sql_parts.specs.Templates.{place_behind, supplied}
 use Rattle.sql_parts.proofs.templates.ResolveLemmas.{resolved_from-prefix, resolved_from-text}
 
 -- a prefix of one byte doesn't begin where another byte is
-lacks-byte : (byte other : ℕ) (text : List ℕ) → other ≢ byte → LacksTextAt (byte ∷ []) (other ∷ text) 0
+pub lacks-byte : (byte other : ℕ) (text : List ℕ) → other ≢ byte → LacksTextAt (byte ∷ []) (other ∷ text) 0
 lacks-byte byte other text differs rest is = differs cc
 
 -- Each byte that is doubled is read as an escape, where a sign at once behind its like is one.

@@ -98,7 +98,7 @@ literal-is (whole (negsuc n)) = minus-tokens (decimal_text (suc n)) (decimal-beg
 literal-is (words text) = between-tokens Single text
 
 -- none of them is open
-pub literal-shut : (literal : LiteralValue) → list_any is_open (literal_tokens literal) ≡ false
+literal-shut : (literal : LiteralValue) → list_any is_open (literal_tokens literal) ≡ false
 literal-shut null = refl
 literal-shut (truth value) = refl
 literal-shut (whole (pos n)) = refl

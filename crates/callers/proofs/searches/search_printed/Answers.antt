@@ -7,7 +7,7 @@ use Rattle.sql_builder.proofs.for_callers.ChainLemmas.{made_statement}
 use Rattle.sql_builder.proofs.for_callers.SoundCallLemmas.{Sound, asked_sound, compared_sound, given_sound, one_sound, sound_allowed, sound_closed, sound_ends}
 use Rattle.sql_builder.proofs.for_callers.SoundCallLemmas.{sound_truth, then_sound}
 use Rattle.sql_builder.proofs.statements.StatementLawLemmas.{of_statement, statements_are_closed}
-use Rattle.callers.specs.Searches.{calls, priced_from, stocked, titled, written_by}
+use Rattle.callers.specs.Searches.{calls, ordered, priced_from, stocked, titled, written_by}
 use Rattle.callers.specs.declared.searches.Search.{Search}
 use Rattle.callers.proofs.searches.search_printed.Goals as goal
 
@@ -17,11 +17,13 @@ all-sound search =
     then_sound
     (then_sound
     (then_sound
+    (then_sound
     (then_sound (one_sound (Field (codes "title")) refl)
     (given_sound (λ title. Cond And (titled title.now)) (λ title. refl) search.title))
     (given_sound (λ author. Cond And (written_by author.now)) (λ author. compared_sound And Eq (codes "author") (words author.now) refl refl) search.author))
     (given_sound (λ price. Cond And (priced_from price)) (λ price. compared_sound And Ge (codes "price") (whole (pos price)) refl refl) search.least_price))
-    (asked_sound (Cond And stocked) refl search.in_stock)
+    (asked_sound (Cond And stocked) refl search.in_stock))
+    (one_sound ordered refl)
 
 pub returns-clause-statement : goal.returns-clause-statement
 returns-clause-statement c =

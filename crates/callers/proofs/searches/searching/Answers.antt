@@ -5,7 +5,7 @@ use Rattle.sql_builder.specs.declared.condition.Family.TheVariants.{And}
 use Rattle.sql_builder.specs.declared.condition.Relation.TheVariants.{Eq}
 use Rattle.sql_builder.proofs.for_callers.ChainLemmas.{Chain, chain_call, chain_start, with_calls-read}
 use Rattle.sql_builder.proofs.for_callers.SoundCallLemmas.{chain_calls}
-use Rattle.callers.specs.Searches.{by_author, by_price, by_stock, by_title, calls, priced_from, stocked, titled}
+use Rattle.callers.specs.Searches.{by_author, by_price, by_stock, by_title, calls, ordered, priced_from, stocked, titled}
 use Rattle.callers.proofs.searches.searching.Goals as goal
 use Rattle.callers.proofs.searches.searching.Goals.{in-Some+in_ok-and_where_like_any, in_default, in-Some-author+in_ok-quote+in_ok-and_where_eq}
 use Rattle.callers.proofs.searches.searching.Goals.{in_default-author, in-Some-least_price+in_ok-and_where_ge, in_default-least_price}
@@ -37,10 +37,11 @@ returns-clause-made c =
           chain_calls third (by_price wanted) (Cond And (priced_from w.in-Some-least_price.price) ∷ []) (rw w.in-Some-least_price.is refl) (search rules)
       | in_default-least_price w ↦ chain_calls third (by_price wanted) [] (rw w.in_default-least_price.is refl) (search rules)
     ] in
-    let last : Chain books (calls wanted) c.if-search.builder =
+    let fifth : Chain books ((field ∷ []) ++ by_title wanted ++ by_author wanted ++ by_price wanted ++ by_stock wanted) c.if-search.builder =
     elim c.if-search.branch [
       | then-search+in_ok-and_where_gt w ↦
           chain_calls fourth (by_stock wanted) (Cond And stocked ∷ []) (rw w.if-search.true refl) (search rules)
       | else-search w ↦ chain_calls fourth (by_stock wanted) [] (rw w.if-search.false refl) (search rules)
     ] in
+    let last : Chain books (calls wanted) c.builder-in_ok-order_asc-1.given.0 = chain_calls fifth (ordered ∷ []) (ordered ∷ []) refl (search rules) in
     last.is ∙ with_calls-read books (calls wanted)

@@ -2,10 +2,10 @@ use Rattle.std.proofs.Common.{◌≡◌, ◌++◌, codes, flat_map, length, map,
 use Rattle.sql_parts.specs.Quoting.{quoted}
 use Rattle.sql_builder.proofs.phrases.push_further_quoted.Given as goal
 
-abbrev pub invariant-loop-texts : goal.invariant-loop-texts
-invariant-loop-texts g l =
+abbrev pub invariant-loop-text : goal.invariant-loop-text
+invariant-loop-text g l =
     string_bytes l.out ++ flat_map (λ item. codes ", " ++ item) (map quoted (g.T.Texts.left l.texts))
     ≡ string_bytes l.initial.out ++ flat_map (λ item. codes ", " ++ item) (map quoted (g.T.Texts.left l.initial.texts))
 
-abbrev pub decreases-loop-texts : goal.decreases-loop-texts
-decreases-loop-texts g l = length (g.T.Texts.left l.texts)
+abbrev pub decreases-loop-text : goal.decreases-loop-text
+decreases-loop-text g l = length (g.T.Texts.left l.texts)

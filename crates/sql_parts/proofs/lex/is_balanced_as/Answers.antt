@@ -1,5 +1,6 @@
-use Rattle.std.proofs.Common.{◌≡◌, ◌∙◌, ◌&&◌, ◌||◌, Bool, codes, eqb, ltb, false, rules, sym}
-use Rattle.sql_parts.specs.Fragments.{is_clause_word, is_joining, is_word}
+use Rattle.std.proofs.Common.{◌≡◌, ◌∙◌, ◌&&◌, Bool, codes, eqb, ltb, false, rules, sym}
+use Rattle.sql_parts.specs.Fragments.{is_word}
+use Rattle.sql_parts.specs.Roles.{is_barred}
 use Rattle.sql_parts.specs.Tokens.{Token, tokens}
 use Rattle.sql_parts.proofs.fragments.DepthCountLemmas.{balances-is, balances-step, balances_from}
 use Rattle.sql_parts.proofs.lex.is_balanced_as.Goals as goal
@@ -7,7 +8,7 @@ use Rattle.sql_parts.proofs.lex.is_balanced_as.Goals.{then-is_empty, else-is_emp
 
 pub loop-role-init : goal.loop-role-init
 loop-role-init c =
-    let barred : Token → Bool = λ token. (c.args.bare && is_clause_word token) || (c.args.operand && is_joining token) in
+    let barred : Token → Bool = is_barred c.args.bare c.args.typed c.args.operand in
     let first : Token → Bool = λ token. c.args.operand && is_word (codes "NOT") token in
     record {
       text = search rules;
@@ -18,7 +19,7 @@ loop-role-init c =
 
 pub loop-role-preserved : goal.loop-role-preserved
 loop-role-preserved c =
-    let barred : Token → Bool = λ token. (c.args.bare && is_clause_word token) || (c.args.operand && is_joining token) in
+    let barred : Token → Bool = is_barred c.args.bare c.args.typed c.args.operand in
     let first : Token → Bool = λ token. c.args.operand && is_word (codes "NOT") token in
     let old = c.loop-role.depth in
     let found = c.in-Some.ensures.token in

@@ -1,3 +1,8 @@
+use Rattle.sql_builder.specs.Calls.{Query}
+use Rattle.sql_builder.specs.Statement.{error_at}
+use Rattle.sql_builder.specs.StatementLaws.{made_by}
+use Rattle.sql_typed.specs.Faults.{fault_of}
+use Rattle.sql_typed.proofs.FaultLemmas.{passed}
 use Rattle.sql_typed.proofs.select.Statement+SelectKind.query.Goals as goal
 
 pub invariant_of-result : goal.invariant_of-result
@@ -5,3 +10,8 @@ invariant_of-result c = record { fits = c.in_ok-text.ensures.printed.nests }
 
 pub returns-clause-printed : goal.returns-clause-printed
 returns-clause-printed c = c.in_ok-text.ensures.printed
+
+pub returns-in_err-text-clause-error : goal.returns-in_err-text-clause-error
+returns-in_err-text-clause-error c =
+    let made = c.args.self.now in
+    passed _ (fault_of made) (error_at Query (made_by made.start made.calls)) c.in_err-text.field-0.0 _ c.from_residual.ensures.1 c.in_err-text.ensures.error

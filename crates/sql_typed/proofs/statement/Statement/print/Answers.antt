@@ -1,13 +1,18 @@
 use Rattle.sql_builder.specs.Calls.{finish_view}
-use Rattle.sql_typed.proofs.PrintLemmas.{all_printed, borrowed, fails_as}
+use Rattle.sql_builder.specs.Statement.{error_at}
+use Rattle.sql_builder.specs.StatementLaws.{made_by}
+use Rattle.sql_typed.specs.Faults.{fault_of}
+use Rattle.sql_typed.proofs.FaultLemmas.{failed, succeeded}
 use Rattle.sql_typed.proofs.statement.Statement.print.Goals as goal
 
-pub returns-clause-printed : goal.returns-clause-printed
-returns-clause-printed g c =
-    all_printed c.args.self.now (finish_view c.args.finish.now) c.deref.result.now (borrowed c.self.view_is c.deref.ensures c.self.invariant) c.requires.fits
-    c.print.result c.print.ensures.text c.print.ensures.error
+pub returns-in_err-text-clause-error : goal.returns-in_err-text-clause-error
+returns-in_err-text-clause-error g c =
+    let made = c.args.self.now in
+    failed _ (fault_of made) (error_at (finish_view c.args.finish.now) (made_by made.start made.calls)) c.in_err-text.field-0.0 _
+    c.from_residual-in_err-text.ensures.1 c.in_ok-check.ensures c.in_err-text.ensures.error
 
 pub returns-clause-error : goal.returns-clause-error
 returns-clause-error g c =
-    fails_as c.args.self.now (finish_view c.args.finish.now) c.deref.result.now (borrowed c.self.view_is c.deref.ensures c.self.invariant) c.print.result
-    c.print.ensures.error c.print.ensures.memory
+    let made = c.args.self.now in
+    succeeded (fault_of made) (error_at (finish_view c.args.finish.now) (made_by made.start made.calls)) c.in_ok-text.text _ c.in_ok-check.ensures
+    c.in_ok-text.ensures.error

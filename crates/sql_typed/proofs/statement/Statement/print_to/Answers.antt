@@ -1,20 +1,12 @@
-use Rattle.std.proofs.Common.{string_bytes}
-use Rattle.std.specs.Prelude.{string_capacity, string_len}
 use Rattle.sql_builder.specs.Calls.{Sql}
-use Rattle.sql_typed.proofs.PrintLemmas.{borrowed, fails_as, has_room, printed_behind}
+use Rattle.sql_builder.specs.Statement.{error_at}
+use Rattle.sql_builder.specs.StatementLaws.{made_by}
+use Rattle.sql_typed.specs.Faults.{fault_of}
+use Rattle.sql_typed.proofs.FaultLemmas.{failed}
 use Rattle.sql_typed.proofs.statement.Statement.print_to.Goals as goal
 
-pub returns-clause-appended : goal.returns-clause-appended
-returns-clause-appended g c =
-    printed_behind c.args.self.now c.deref.result.now (borrowed c.self.view_is c.deref.ensures c.self.invariant) c.print_to.result (string_bytes c.args.out.now)
-    (string_bytes c.print_to.new.out) c.print_to.ensures.appended c.print_to.ensures.error
-
-pub returns-clause-error : goal.returns-clause-error
-returns-clause-error g c =
-    fails_as c.args.self.now Sql c.deref.result.now (borrowed c.self.view_is c.deref.ensures c.self.invariant) c.print_to.result c.print_to.ensures.error
-    c.print_to.ensures.memory
-
-pub returns-clause-succeeds : goal.returns-clause-succeeds
-returns-clause-succeeds g c =
-    has_room c.args.self.now c.deref.result.now (borrowed c.self.view_is c.deref.ensures c.self.invariant) c.print_to.result (string_len c.args.out.now)
-    (string_capacity c.args.out.now) c.print_to.ensures.succeeds
+pub returns-in_err-append_clauses-clause-error : goal.returns-in_err-append_clauses-clause-error
+returns-in_err-append_clauses-clause-error g c =
+    let made = c.args.self.now in
+    failed _ (fault_of made) (error_at Sql (made_by made.start made.calls)) c.in_err-append_clauses.field-0.0 _
+    c.from_residual-in_err-append_clauses.ensures.1 c.in_ok-check.ensures c.in_err-append_clauses.ensures.error

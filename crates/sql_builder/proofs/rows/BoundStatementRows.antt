@@ -1,0 +1,63 @@
+-- Worked rows of values that are bound to a statement, or beside it: what the definitions give, by computing.
+use Rattle.std.specs.Prelude.{◌≡◌, List, [], ◌∷◌, ◌++◌, Ok, Some, codes, map, pos, refl, true}
+use Rattle.sql_parts.specs.Literal.{LiteralValue, whole, words}
+use Rattle.sql_parts.specs.NumberedTexts.{with_values}
+use Rattle.sql_parts.specs.Templates.{Nums, Value, bound, listed}
+use Rattle.sql_parts.specs.declared.parameter.Style.TheVariants.{Question, Dollar}
+use Rattle.sql_builder.specs.BesideStatements.{placeholders}
+use Rattle.sql_builder.specs.BoundStatements.{call_with_values, pieces_with_values, start_with_values}
+use Rattle.sql_builder.specs.Calls.{CallText, Cond, GroupBy, Having, SelectFrom, Sql}
+use Rattle.sql_builder.specs.Combined.{combined_text, exists_text, like_text, negation_text}
+use Rattle.sql_builder.specs.Condition.{Compare}
+use Rattle.sql_builder.specs.Pieces.{fixed_piece, quoted_piece, raw_piece}
+use Rattle.sql_builder.specs.Statement.{statement, text_at}
+use Rattle.sql_builder.specs.StatementLaws.{made_by}
+use Rattle.sql_builder.specs.declared.condition.Family.TheVariants.{And}
+use Rattle.sql_builder.specs.declared.condition.Relation.TheVariants.{Eq}
+
+placeholders-two : placeholders Dollar (codes "ab") ≡ (record { style = Dollar; number = 1 }) ∷ (record { style = Dollar; number = 2 }) ∷ []
+placeholders-two = refl
+
+placeholders-other : placeholders Question (codes "ab") ≡ placeholders Question (codes "'\\")
+placeholders-other = refl
+
+placeholders-of_texts : placeholders Question (codes "ab") ≡ placeholders Question (codes "it's" ∷ [] ∷ [])
+placeholders-of_texts = refl
+
+abbrev values : Value → LiteralValue
+values = listed (words (codes "it's") ∷ whole (pos 7) ∷ [])
+
+with_values-two : with_values 2 values (codes "a = $1 AND b = $2") ≡ codes "a = 'it''s' AND b = 7"
+with_values-two = refl
+
+with_values-two_digits : with_values 2 values (codes "$1,$12") ≡ codes "'it''s',"
+with_values-two_digits = refl
+
+combined-with_values : with_values 2 values (combined_text true (codes "a = $2" ∷ codes "b" ∷ [])) ≡ codes "((a = 7) AND (b))"
+combined-with_values = refl
+
+negation-with_values : with_values 2 values (negation_text (codes "a = $2")) ≡ codes "NOT (a = 7)"
+negation-with_values = refl
+
+exists-with_values : with_values 2 values (exists_text true (codes "SELECT $1")) ≡ codes "NOT EXISTS (SELECT 'it''s')"
+exists-with_values = refl
+
+like-with_values : with_values 2 values (like_text true (codes "a") (codes "$1")) ≡ codes "a NOT LIKE 'it''s' ESCAPE '!'"
+like-with_values = refl
+
+pieces-quoted : pieces_with_values 2 values (raw_piece (codes "a$2") ++ (fixed_piece (codes " = ") ++ quoted_piece (codes "$2"))) ≡ codes "a7 = '7'"
+pieces-quoted = refl
+
+abbrev calls : List CallText
+calls = Cond And (Compare Eq (codes "a") (codes "$2")) ∷ GroupBy (codes "b") ∷ Having (codes "c > $1") ∷ []
+
+statement-numbered : statement (SelectFrom (codes "t")) calls Sql ≡ Ok (codes "SELECT * FROM t WHERE a = $2 GROUP BY b HAVING c > $1;")
+statement-numbered = refl
+
+statement-bound : bound (codes "SELECT * FROM t WHERE a = $2 GROUP BY b HAVING c > $1;") (Nums 2) values
+    ≡ Some (codes "SELECT * FROM t WHERE a = 7 GROUP BY b HAVING c > 'it''s';")
+statement-bound = refl
+
+statement-with_values : text_at Sql (made_by (start_with_values 2 values (SelectFrom (codes "t"))) (map (call_with_values 2 values) calls))
+    ≡ codes "SELECT * FROM t WHERE a = 7 GROUP BY b HAVING c > 'it''s';"
+statement-with_values = refl

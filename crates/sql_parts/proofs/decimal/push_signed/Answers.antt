@@ -1,0 +1,15 @@
+use Rattle.std.proofs.Common.{◌∙◌, ◌++◌, ap, subst, string_bytes, sym, to_z-of_z}
+use Rattle.std.specs.Str.{IsAscii}
+use Rattle.sql_parts.proofs.bytes.DecimalFacts.{signed_text}
+use Rattle.sql_parts.proofs.bytes.DigitLemmas.{ascii-signed}
+use Rattle.sql_parts.proofs.decimal.push_signed.Goals as goal
+
+pub written-requires-clause-ascii : goal.written-requires-clause-ascii
+written-requires-clause-ascii c =
+    let written = rw (to_z-of_z c.ranges.number) at c.write_signed-start.ensures.written in subst IsAscii (sym written) (ascii-signed c.args.number c.ranges.number)
+
+pub returns-clause-text : goal.returns-clause-text
+returns-clause-text c =
+    let written = rw (to_z-of_z c.ranges.number) at c.write_signed-start.ensures.written in
+    c.in_ok-push_str.ensures.bytes
+    ∙ ap (λ text. string_bytes c.args.out.now ++ text) (c.written.ensures ∙ written ∙ signed_text c.args.number c.ranges.number)

@@ -1,7 +1,0 @@
-use Rattle.std.proofs.Common.{◌∙◌, ap, sym}
-use Rattle.std.specs.Prelude.{is_none}
-use Rattle.sql_parts.proofs.fragments.MisfitLemmas.{serves}
-use Rattle.sql_parts.proofs.fragment.Operand.new.Goals as goal
-
-pub invariant_of-result : goal.invariant_of-result
-invariant_of-result c = record { fits = serves c.args.text.now (sym c.misfit.ensures.fits ∙ ap is_none c.in-None.is) }

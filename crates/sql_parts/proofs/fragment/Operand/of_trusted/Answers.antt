@@ -1,0 +1,7 @@
+use Rattle.std.proofs.Common.{◌∙◌, ap, sym}
+use Rattle.std.specs.Prelude.{is_none}
+use Rattle.sql_parts.proofs.fragments.MisfitLemmas.{typed_serves}
+use Rattle.sql_parts.proofs.fragment.Operand.of_trusted.Goals as goal
+
+pub invariant_of-result : goal.invariant_of-result
+invariant_of-result c = record { fits = typed_serves c.args.text.now (sym c.misfit.ensures.fits ∙ ap is_none c.in-None.is) }

@@ -1,0 +1,26 @@
+use Rattle.std.proofs.Common.{◌∙◌, None, Some, ap, arith, false, rules, sym}
+use Rattle.std.specs.Prelude.{◌&&◌}
+use Rattle.std.proofs.lemmas.Str.Pattern.{split_parts}
+use Rattle.sql_parts.proofs.templates.HoleFacts.{apart-hole, apart-none, rest_apart}
+use Rattle.sql_parts.proofs.holes.holes_apart.Goals as goal
+
+pub returns-then-not-segment_apart : goal.returns-then-not-segment_apart
+returns-then-not-segment_apart c =
+    let cut = split_parts 63 c.loop-segment.rest.now (Some (c.in-Some.segment, c.in-Some.behind)) c.in-Some.ensures.cases (omega arith) in
+    ap (λ test. test && rest_apart false c.in-Some.behind.now) (sym c.if-not-segment_apart.true ∙ c.segment_apart.ensures)
+    ∙ sym (apart-hole c.loop-segment.first c.loop-segment.rest.now c.in-Some.segment.now c.in-Some.behind.now cut.0 cut.1)
+    ∙ c.loop-segment.invariant.1
+
+pub loop-segment-preserved : goal.loop-segment-preserved
+loop-segment-preserved c =
+    let cut = split_parts 63 c.loop-segment.rest.now (Some (c.in-Some.segment, c.in-Some.behind)) c.in-Some.ensures.cases (omega arith) in (
+      search rules,
+      ap (λ test. test && rest_apart false c.in-Some.behind.now) (sym c.if-not-segment_apart.false ∙ c.segment_apart.ensures)
+          ∙ sym (apart-hole c.loop-segment.first c.loop-segment.rest.now c.in-Some.segment.now c.in-Some.behind.now cut.0 cut.1)
+          ∙ c.loop-segment.invariant.1,
+    )
+
+pub returns : goal.returns
+returns c =
+    let none = split_parts 63 c.loop-segment.rest.now None c.in_default.ensures.cases (omega arith) in
+    c.segment_apart-2.ensures ∙ sym (apart-none c.loop-segment.first c.loop-segment.rest.now none) ∙ c.loop-segment.invariant.1

@@ -1,0 +1,39 @@
+use Rattle.std.proofs.Common.{◌≡◌, ◌∙◌, ◌+◌, ◌&&◌, ◌||◌, Bool, ap, eqb, false, rules, sym}
+use Rattle.std.proofs.Math.Bool.{and-false}
+use Rattle.std.specs.Prelude.{if◌then◌else◌}
+use Rattle.sql_parts.specs.Fragments.{is_clause_word, is_dialect_word, lowers, raises, weight}
+use Rattle.sql_parts.specs.Tokens.{Token, tokens}
+use Rattle.sql_parts.proofs.fragments.DepthCountLemmas.{has_top_level-is, top_level_from}
+use Rattle.sql_parts.proofs.lex.has_clause.Goals as goal
+use Rattle.sql_parts.proofs.lex.has_clause.Goals.{else-is_top_level-via-then-is_top_level+else-begins_clause, else-is_top_level-via-else-is_top_level}
+
+pub loop-role-init : goal.loop-role-init
+loop-role-init c = record {
+  text = search rules;
+  raised = search rules;
+  lowered = search rules;
+  same = rw c.start-depth.ensures
+      (sym (has_top_level-is (λ token. if c.args.dialect then is_dialect_word token else is_clause_word token) (tokens c.args.text.now)));
+}
+
+pub loop-role-preserved : goal.loop-role-preserved
+loop-role-preserved c =
+    let test : Token → Bool = λ token. if c.args.dialect then is_dialect_word token else is_clause_word token in
+    let old = c.loop-role.depth in
+    let found = c.in-Some.ensures.token in
+    let depth = c.behind-depth.ensures found.0 found.1 in
+    let plain : (test found.0 && eqb old.raised old.lowered) ≡ false = elim c.else-is_top_level.branch [
+      | else-is_top_level-via-then-is_top_level+else-begins_clause w ↦ ap (λ b. b && eqb old.raised old.lowered)
+          (sym (w.begins_clause.ensures found.0 found.1) ∙ w.if-begins_clause.false)
+      | else-is_top_level-via-else-is_top_level w ↦ ap (λ b. test found.0 && b) (sym c.is_top_level.ensures ∙ w.if-is_top_level.false) ∙ and-false (test found.0)
+    ] in
+    record {
+      text = search rules;
+      raised = search rules;
+      lowered = search rules;
+      same = (λ i. top_level_from test (depth i).raised (depth i).lowered (tokens c.in-Some.behind.now))
+          ∙ ap (λ b. b || top_level_from test (old.raised + weight raises found.0) (old.lowered + weight lowers found.0) (tokens c.in-Some.behind.now))
+          (sym plain)
+          ∙ ap (top_level_from test old.raised old.lowered) (sym found.2)
+          ∙ c.loop-role.invariant.same;
+    }

@@ -1,0 +1,217 @@
+-- A template with operands in its holes serves as one does with a word in each.
+use Rattle.std.proofs.Common.{◌≡◌, ◌≢◌, ◌<◌, ◌∙◌, ap, arith, codes, refl, sym, subst, ℕ, suc, Bool, true, false, not, cond, eqb-true, ne_eqb, get_or, length, take, ◌-◌, List, [], ◌∷◌, ◌++◌, append_assoc, append-nil}
+use Rattle.std.specs.Prelude.{◌&&◌, ◌==◌, flat_map}
+use Rattle.std.specs.List.{AllByRecursion}
+use Rattle.std.proofs.lemmas.Bool.{and_from, and_parts}
+use Rattle.std.proofs.lemmas.Grind.{common_steps}
+use Rattle.sql_parts.specs.Fragments.{balanced, has_clause_word, is_clause_word, operand}
+use Rattle.sql_parts.specs.Holes.{cut, filled, holding, holes_apart, in_hole, is_bracketed, is_unit, unsigned}
+use Rattle.sql_parts.specs.Templates.{segment_apart, segments_apart}
+use Rattle.sql_parts.specs.Tokens.{Token, Symbol, closed, ends_with, tokens}
+use Rattle.sql_parts.specs.Operands.{ServesAsOperand, is_bare_operand, is_fragment}
+use Rattle.sql_parts.proofs.fragments.DepthFacts.{has_top_level-is, is_balanced-is, is_operand, is_operand-is}
+use Rattle.sql_parts.proofs.fragments.HoleLemmas.{fits, fragment-filled, operand-filled}
+use Rattle.sql_parts.proofs.fragments.MisfitLemmas.{serves}
+use Rattle.sql_parts.proofs.fragments.OperandFacts.{Inert, inert, is-fragment}
+use Rattle.sql_parts.proofs.templates.ApartFacts.{part_tokens, segments-shut, segments-tokens}
+
+-- ---- the code's loop
+
+-- whether the segments of what is left are apart
+abbrev pub rest_apart : Bool → List ℕ → Bool
+rest_apart first rest = segments_apart first (cut rest).0 (holding [] (cut rest).1)
+
+abbrev pub LacksHole : List ℕ → Type 0
+LacksHole text = (i : ℕ) → i < length text → get_or text i 0 ≢ 63
+
+lacks-behind : (byte : ℕ) (text : List ℕ) → LacksHole (byte ∷ text) → LacksHole text
+lacks-behind byte text lacks = λ i less. lacks (suc i) (omega (arith, less))
+
+no-hole : (byte : ℕ) (text : List ℕ) → LacksHole (byte ∷ text) → (byte == 63) ≡ false
+no-hole byte text lacks = ne_eqb byte 63 (lacks 0 (omega arith))
+
+-- a text without a hole is before the first one
+pub cut-behind : (front rest : List ℕ) → LacksHole front → cut (front ++ rest) ≡ (front ++ (cut rest).0, (cut rest).1)
+cut-behind [] rest lacks = refl
+cut-behind (byte ∷ front) rest lacks =
+    rw (no-hole byte front lacks) (ap (λ (found : List ℕ × List (List ℕ)). (byte ∷ found.0, found.1)) (cut-behind front rest (lacks-behind byte front lacks)))
+
+-- up to the first hole
+pub cut-hole : (text front behind : List ℕ) → text ≡ front ++ 63 ∷ behind → LacksHole front → cut text ≡ (front, (cut behind).0 ∷ (cut behind).1)
+cut-hole text front behind is lacks =
+    ap cut is ∙ cut-behind front (63 ∷ behind) lacks ∙ ap (λ (segment : List ℕ). (segment, (cut behind).0 ∷ (cut behind).1)) (append-nil front)
+
+-- without one
+pub cut-none : (text : List ℕ) → LacksHole text → cut text ≡ (text, [])
+cut-none text lacks = ap cut (sym (append-nil text)) ∙ cut-behind text [] lacks ∙ ap (λ (segment : List ℕ). (segment, [])) (append-nil text)
+
+-- whether they are apart, up to the first hole
+pub apart-hole : (first : Bool) (text front behind : List ℕ) → text ≡ front ++ 63 ∷ behind → LacksHole front
+    → rest_apart first text ≡ (segment_apart first false front && rest_apart false behind)
+apart-hole first text front behind is lacks =
+    ap (λ (found : List ℕ × List (List ℕ)). segments_apart first found.0 (holding [] found.1)) (cut-hole text front behind is lacks)
+
+pub apart-none : (first : Bool) (text : List ℕ) → LacksHole text → rest_apart first text ≡ segment_apart first true text
+apart-none first text lacks = ap (λ (found : List ℕ × List (List ℕ)). segments_apart first found.0 (holding [] found.1)) (cut-none text lacks)
+
+-- ---- how an operand is written in a hole
+
+-- no sign of a placeholder is at the front
+pub no-sign : (text : List ℕ) → ((behind : List ℕ) → text ≢ 63 ∷ behind) → ((behind : List ℕ) → text ≢ 36 ∷ behind) → text ≡ unsigned text
+no-sign [] question dollar = refl
+no-sign (byte ∷ text) question dollar =
+    rw (ne_eqb byte 63 (λ is. question text (ap (λ (b : ℕ). b ∷ text) is)), ne_eqb byte 36 (λ is. dollar text (ap (λ (b : ℕ). b ∷ text) is))) refl
+
+end-none : (text : List ℕ) → ((front : List ℕ) → text ≢ front ++ 41 ∷ []) → ends_with (λ byte. byte == 41) text ≡ false
+end-none [] none = refl
+end-none (byte ∷ []) none = ne_eqb byte 41 (λ is. none [] (ap (λ (b : ℕ). b ∷ []) is))
+end-none (byte ∷ next ∷ text) none = end-none (next ∷ text) (λ front is. none (byte ∷ front) (ap (λ (t : List ℕ). byte ∷ t) is))
+
+end-some : (front : List ℕ) → ends_with (λ byte. byte == 41) (front ++ 41 ∷ []) ≡ true
+end-some [] = refl
+end-some (byte ∷ []) = refl
+end-some (byte ∷ next ∷ front) = end-some (next ∷ front)
+
+but_last-is : (inner : List ℕ) → take (length (inner ++ 41 ∷ []) - 1) (inner ++ 41 ∷ []) ≡ inner
+but_last-is inner = grind (arith, common_steps)
+
+pub unbracketed-front : (text : List ℕ) → ((behind : List ℕ) → text ≢ 40 ∷ behind) → is_bracketed text ≡ false
+unbracketed-front [] none = refl
+unbracketed-front (byte ∷ text) none = rw (ne_eqb byte 40 (λ is. none text (ap (λ (b : ℕ). b ∷ text) is))) refl
+
+pub unbracketed-end : (text behind : List ℕ) → text ≡ 40 ∷ behind → ((front : List ℕ) → behind ≢ front ++ 41 ∷ []) → is_bracketed text ≡ false
+unbracketed-end text behind is none = ap is_bracketed is ∙ rw (end-none behind none) refl
+
+pub bracketed : (text behind inner : List ℕ) → text ≡ 40 ∷ behind → behind ≡ inner ++ 41 ∷ [] → is_bracketed text ≡ balanced inner
+bracketed text behind inner is ends = ap is_bracketed is ∙ ap (λ t. is_bracketed (40 ∷ t)) ends ∙ rw (end-some inner, but_last-is inner) refl
+
+-- ---- what the tests of fragments ask for
+
+abbrev Parts : Type 0
+Parts = List (List ℕ × List ℕ)
+
+-- a template is itself, with a `?` in each hole
+pub uncut : (template : List ℕ) → filled [] template ≡ template
+uncut [] = refl
+uncut (byte ∷ behind) = by (uncut behind) (byte == 63) refl
+  where
+    by : filled [] behind ≡ behind → (is : Bool) → (byte == 63) ≡ is
+        → (let rest = cut behind in
+        let found : List ℕ × List (List ℕ) = cond is ([], rest.0 ∷ rest.1) (byte ∷ rest.0, rest.1) in
+        found.0 ++ flat_map (λ (part : List ℕ × List ℕ). part.0 ++ part.1) (holding [] found.1)) ≡ byte ∷ behind
+    by more true is = ap (λ (t : List ℕ). 63 ∷ t) more ∙ ap (λ (b : ℕ). b ∷ behind) (sym (eqb-true byte 63 is))
+    by more false is = ap (λ (t : List ℕ). byte ∷ t) more
+
+-- a text in the first hole, and the rest behind it
+pub filled-hole : (text : List ℕ) (texts : List (List ℕ)) (rest front behind : List ℕ) → rest ≡ front ++ 63 ∷ behind → LacksHole front
+    → filled (text ∷ texts) rest ≡ front ++ (text ++ filled texts behind)
+filled-hole text texts rest front behind is lacks =
+    ap (λ (found : List ℕ × List (List ℕ)). found.0 ++ flat_map (λ (part : List ℕ × List ℕ). part.0 ++ part.1) (holding (text ∷ texts) found.1))
+    (cut-hole rest front behind is lacks)
+    ∙ ap (λ (t : List ℕ). front ++ t)
+    (append_assoc text (cut behind).0 (flat_map (λ (part : List ℕ × List ℕ). part.0 ++ part.1) (holding texts (cut behind).1)))
+
+pub filled-none : (texts : List (List ℕ)) (rest : List ℕ) → LacksHole rest → filled texts rest ≡ rest
+filled-none texts rest lacks =
+    ap (λ (found : List ℕ × List (List ℕ)). found.0 ++ flat_map (λ (part : List ℕ × List ℕ). part.0 ++ part.1) (holding texts found.1)) (cut-none rest lacks)
+    ∙ append-nil rest
+
+-- texts in holes are between the same segments
+same-apart : (first : Bool) (segment : List ℕ) (texts segments : List (List ℕ))
+    → segments_apart first segment (holding texts segments) ≡ segments_apart first segment (holding [] segments)
+same-apart first segment texts [] = refl
+same-apart first segment [] (next ∷ segments) = refl
+same-apart first segment (text ∷ texts) (next ∷ segments) = ap (λ test. segment_apart first false segment && test) (same-apart false next texts segments)
+
+-- they are closed
+all-closed : (texts segments : List (List ℕ)) → AllByRecursion (λ text. closed text ≡ true) texts
+    → AllByRecursion (λ (part : List ℕ × List ℕ). closed part.0 ≡ true) (holding texts segments)
+all-closed texts [] all = tt
+all-closed [] (segment ∷ segments) all = (refl, all-closed [] segments tt)
+all-closed (text ∷ texts) (segment ∷ segments) all = (all.0, all-closed texts segments all.1)
+
+-- the tokens of a template, with those of the texts in its holes
+abbrev filled_tokens : List (List ℕ) → List ℕ × List (List ℕ) → List Token
+filled_tokens texts cut = tokens cut.0 ++ part_tokens (λ text. text) (holding texts cut.1)
+
+all-shut : (texts : List (List ℕ)) → AllByRecursion ServesAsOperand texts → AllByRecursion (λ text. closed text ≡ true) texts
+all-shut [] all = tt
+all-shut (text ∷ texts) all = (all.0.is_closed, all-shut texts all.1)
+
+filled-tokens : (texts : List (List ℕ)) (template : List ℕ) → holes_apart template ≡ true → AllByRecursion (λ text. closed text ≡ true) texts
+    → tokens (filled texts template) ≡ filled_tokens texts (cut template)
+filled-tokens texts template is all =
+    segments-tokens (λ text. text) true (cut template).0 (holding texts (cut template).1) (all-closed texts (cut template).1 all)
+    (same-apart true (cut template).0 texts (cut template).1 ∙ is)
+
+pub filled-closed : (texts : List (List ℕ)) (template : List ℕ) → holes_apart template ≡ true → AllByRecursion ServesAsOperand texts
+    → closed (filled texts template) ≡ true
+filled-closed texts template is all =
+    segments-shut (λ text. text) true (cut template).0 (holding texts (cut template).1) (all-closed texts (cut template).1 (all-shut texts all))
+    (same-apart true (cut template).0 texts (cut template).1 ∙ is)
+
+-- What holds of tokens with a `?`, and with an operand in its place, holds with operands in all holes.
+module _ (P : List Token → Bool)
+    (one : (front rest : List Token) (text : List ℕ) → ServesAsOperand text → P (front ++ Symbol 63 ∷ rest) ≡ true → P (front ++ (tokens text ++ rest)) ≡ true) where
+  all-filled : (front : List Token) (texts : List (List ℕ)) (segment : List ℕ) (segments : List (List ℕ)) → AllByRecursion ServesAsOperand texts
+      → P (front ++ filled_tokens [] (segment, segments)) ≡ true → P (front ++ filled_tokens texts (segment, segments)) ≡ true
+  all-filled front texts segment [] all given = given
+  all-filled front [] segment (next ∷ segments) all given = given
+  all-filled front (text ∷ texts) segment (next ∷ segments) all given =
+      let more : List Token = part_tokens (λ t. t) (holding [] segments) in
+      let filled_more : List Token = part_tokens (λ t. t) (holding texts segments) in
+      let behind : List Token = front ++ tokens segment in
+      let here = one behind (tokens next ++ more) text all.0
+      (ap P (append_assoc front (tokens segment) (Symbol 63 ∷ (tokens next ++ more))) ∙ given) in
+      let rest = all-filled (behind ++ tokens text) texts next segments all.1 (ap P (append_assoc behind (tokens text) (tokens next ++ more)) ∙ here) in
+      ap P (ap (λ ts. front ++ (tokens segment ++ ts)) (append_assoc (tokens text) (tokens next) filled_more)
+      ∙ sym (append_assoc front (tokens segment) (tokens text ++ (tokens next ++ filled_more)))
+      ∙ sym (append_assoc behind (tokens text) (tokens next ++ filled_more)))
+      ∙ rest
+
+  pub filled-keeps : (texts : List (List ℕ)) (template : List ℕ) → holes_apart template ≡ true → AllByRecursion ServesAsOperand texts
+      → P (tokens template) ≡ true → P (tokens (filled texts template)) ≡ true
+  filled-keeps texts template is all given =
+      ap P (filled-tokens texts template is (all-shut texts all))
+      ∙ all-filled [] texts (cut template).0 (cut template).1 all
+      (ap P (sym (filled-tokens [] template is tt) ∙ ap tokens (uncut template)) ∙ given)
+
+hole-inert : Inert (Symbol 63)
+hole-inert = inert _ refl
+
+fits-is : (text : List ℕ) → is_fragment text ≡ fits (tokens text)
+fits-is text = λ i. is_balanced-is (tokens text) i && not (has_top_level-is is_clause_word (tokens text) i)
+
+-- a fragment
+pub filled-fragment : (texts : List (List ℕ)) (template : List ℕ) → holes_apart template ≡ true → AllByRecursion ServesAsOperand texts
+    → is_fragment template ≡ true → is_fragment (filled texts template) ≡ true
+filled-fragment texts template is all given =
+    fits-is (filled texts template)
+    ∙ filled-keeps fits (λ front rest text op. fragment-filled front (tokens text) rest (Symbol 63) hole-inert (sym (fits-is text) ∙ is-fragment op))
+    texts template is all (sym (fits-is template) ∙ given)
+
+-- an operand
+filled-operand : (texts : List (List ℕ)) (template : List ℕ) → holes_apart template ≡ true → AllByRecursion ServesAsOperand texts
+    → operand template ≡ true → operand (filled texts template) ≡ true
+filled-operand texts template is all given =
+    is_operand-is (tokens (filled texts template))
+    ∙ filled-keeps is_operand (λ front rest text op. operand-filled front (tokens text) rest (Symbol 63) hole-inert
+    (sym (is_operand-is (tokens text)) ∙ op.is_operand))
+    texts template is all (sym (is_operand-is (tokens template)) ∙ given)
+
+pub filled-serves : (texts : List (List ℕ)) (template : List ℕ) → holes_apart template ≡ true → AllByRecursion ServesAsOperand texts
+    → is_bare_operand template ≡ true → ServesAsOperand (filled texts template)
+filled-serves texts template is all given =
+    let whole = filled-fragment texts template is all (is-fragment (serves template given)) in
+    serves (filled texts template)
+    (and_from _ _ (filled-operand texts template is all (and_parts (operand template) (not (has_clause_word template)) given).0)
+    (and_parts (balanced (filled texts template)) (not (has_clause_word (filled texts template))) whole).1)
+
+-- an operand as it is written in a hole
+pub in_hole-serves : (text : List ℕ) → ServesAsOperand text → ServesAsOperand (in_hole text)
+in_hole-serves text op = by (is_unit text)
+  where
+    by : (unit : Bool) → ServesAsOperand (cond unit text (codes "(" ++ (text ++ codes ")")))
+    by true = op
+    by false = subst ServesAsOperand (ap (λ (t : List ℕ). codes "(" ++ t) (append-nil (text ++ codes ")")))
+        (filled-serves (text ∷ []) (codes "(?)") refl (op, tt) refl)

@@ -1,0 +1,144 @@
+//! Values beside a statement: its text has a placeholder for each of them, and no byte of theirs.
+ghost use Rattle.std.specs.Prelude.{◌≡◌, ◌++◌, suc, [], ◌∷◌, length, string_bytes, vec_capacity, IfOk, OnErr, OnOk};
+ghost use Rattle.sql_parts.specs.Error.{FailsOnlyByMemory};
+ghost use Rattle.sql_parts.specs.Parameters.{placeholder_text, placeholders_behind, prefix};
+
+use crate::decimal::{prefixed_text, push_prefixed};
+use crate::error::SqlBuilderError;
+use crate::text::ToText;
+use std::alloc::Global;
+
+/// How a database writes placeholders.
+#[derive(Clone, Copy, Debug, PartialEq, Eq)]
+pub enum Style {
+    /// `?1`: SQLite.
+    Question,
+    /// `$1`: PostgreSQL.
+    Dollar,
+}
+
+/// The placeholder of a value, which `Parameters` gives.
+#[derive(Clone, Copy, Debug, PartialEq, Eq)]
+pub struct Placeholder {
+    /// How it is written.
+    pub style: Style,
+    /// The number of the value: the first one has 1.
+    pub number: usize,
+}
+
+/// The values of a statement, in the order of their numbers. A value is of the type that the
+/// database's driver takes. Use one list for all parts of a statement, inner queries too: two lists
+/// have the same numbers.
+#[derive(Drop)]
+pub struct Parameters<V: Drop> {
+    /// How their placeholders are written: set it once.
+    pub style: Style,
+    /// The values: the first one has the number 1.
+    pub values: Vec<V>,
+}
+
+/// The first value asks for room for this many, so that most statements allocate once.
+const FIRST_ROOM: usize = 8;
+
+pub(crate) fn prefix_of(style: Style) -> u8
+    ensures { result ≡ prefix style }
+{
+    match style {
+        Style::Question => b'?',
+        Style::Dollar => b'$',
+    }
+}
+
+impl ToText for Placeholder {
+    ghost text = { λ placeholder. placeholder_text placeholder.style placeholder.number };
+
+    fn to_text(&self, alloc: Global) -> Result<String, SqlBuilderError> {
+        let Placeholder { style, number } = *self;
+        Ok(prefixed_text(alloc, prefix_of(style), number as u64)?)
+    }
+
+    #[inline(always)]
+    fn push_text(&self, _alloc: Global, out: &mut String) -> Result<(), SqlBuilderError> {
+        let Placeholder { style, number } = *self;
+        Ok(push_prefixed(out, prefix_of(style), number as u64)?)
+    }
+}
+
+impl<V: Drop> Parameters<V> {
+    /// No values yet. It can't fail.
+    /// `Parameters::<i64>::new(alloc, Style::Dollar).values.len()` → `0`
+    pub fn new(alloc: Global, style: Style) -> Parameters<V>
+        ensures values { result.values.items ≡ [] }
+        ensures style { result.style ≡ style }
+    {
+        Parameters {
+            style,
+            values: Vec::new(alloc),
+        }
+    }
+
+    /// Takes one more value behind the others, and returns its placeholder. It fails only if memory
+    /// runs out, and then the values are as they were.
+    /// `Parameters::new(alloc, Style::Dollar).bind("it's")?.to_text(alloc)?` → `$1`
+    #[inline(always)]
+    pub fn bind(&mut self, value: V) -> Result<Placeholder, SqlBuilderError>
+        ensures placeholder { IfOk result (λ placeholder. placeholder
+            ≡ record { style = self.old.style; number = suc (length self.old.values.items) }) }
+        ensures values { OnOk result (self.new.values.items ≡ self.old.values.items ++ value ∷ []) }
+        ensures kept { OnErr result (self.new.values.items ≡ self.old.values.items) }
+        ensures style { self.new.style ≡ self.old.style }
+        ensures memory { FailsOnlyByMemory result }
+    {
+        if self.values.capacity() == 0 {
+            self.values.reserve(FIRST_ROOM)?;
+        }
+        self.values.push(value)?;
+        Ok(Placeholder {
+            style: self.style,
+            number: self.values.len(),
+        })
+    }
+
+    /// Drops the values and keeps their memory, so that others take their numbers: a statement is
+    /// printed once and run with each. It can't fail.
+    /// ```
+    /// let mut values = Parameters::new(alloc, Style::Dollar);
+    /// values.bind(7)?;
+    /// values.clear();
+    /// values.bind(8)?.to_text(alloc)?; // $1
+    /// ```
+    pub fn clear(&mut self)
+        ensures values { self.new.values.items ≡ [] }
+        ensures style { self.new.style ≡ self.old.style }
+        ensures capacity { vec_capacity self.new.values ≡ vec_capacity self.old.values }
+    {
+        self.values.clear();
+    }
+}
+
+impl<V: Copy + Drop> Parameters<V> {
+    /// Takes each of the values, as `bind` does, and returns their placeholders, as for an IN. It
+    /// fails only if memory runs out, and then the values are as they were.
+    /// `Parameters::new(alloc, Style::Dollar).bind_all(alloc, &[7, 9])?[1].to_text(alloc)?` → `$2`
+    pub fn bind_all(
+        &mut self,
+        alloc: Global,
+        given: &[V],
+    ) -> Result<Vec<Placeholder>, SqlBuilderError>
+        ensures placeholders { IfOk result (λ places. places.items
+            ≡ placeholders_behind self.old.style (length self.old.values.items) given.now) }
+        ensures values { OnOk result (self.new.values.items ≡ self.old.values.items ++ given.now) }
+        ensures kept { OnErr result (self.new.values.items ≡ self.old.values.items) }
+        ensures style { self.new.style ≡ self.old.style }
+        ensures memory { FailsOnlyByMemory result }
+    {
+        let mut places = Vec::with_capacity(alloc, given.len())?;
+        self.values.reserve(given.len())?;
+        for value in given {
+            self.values.push_reserved(*value);
+            let (style, number) = (self.style, self.values.len());
+            places.push_reserved(Placeholder { style, number });
+        }
+        Ok(places)
+    }
+}

@@ -1,0 +1,68 @@
+-- The loop that fills the holes of a template, and what is made of it.
+use Rattle.std.proofs.Common.{◌≡◌, ◌∙◌, ◌+◌, ◌<◌, ◌++◌, add-one, ap, append_assoc, drop, drop-cons, get_or, length, suc, ◌≤◌, List, [], ◌∷◌, ℕ, sym, refl, true, false}
+use Rattle.std.specs.Prelude.{String, string_bytes, not}
+use Rattle.std.specs.List.{AllByRecursion, list_all}
+use Rattle.std.proofs.Math.ListN.{drop_of_length-le}
+use Rattle.std.proofs.lemmas.Bool.{and_from, and_parts, or_right}
+use Rattle.std.proofs.lemmas.List.Folds.{list_all-append}
+use Rattle.sql_parts.specs.Fragments.{balanced, has_clause_word}
+use Rattle.sql_parts.specs.Holes.{filled, holes_apart, in_hole, is_dotted, is_unit, unsigned}
+use Rattle.sql_parts.specs.Tokens.{tokens}
+use Rattle.sql_parts.specs.Operands.{ServesAsOperand, has_no_clause, is_bare_operand, is_fragment, is_typed_fragment, is_typed_operand}
+use Rattle.sql_parts.specs.Text.{texts}
+use Rattle.sql_parts.proofs.templates.HoleFacts.{LacksHole, bracketed, filled-fragment, filled-hole, filled-serves, in_hole-serves}
+use Rattle.sql_builder.specs.Layout.{byte_units}
+use Rattle.sql_builder.specs.Phrases.{in_brackets}
+use Rattle.sql_parts.proofs.fragments.MisfitLemmas.{serves}
+use Rattle.sql_typed.proofs.ConditionLemmas.{serves_as}
+
+pub one_left : {Z : Type 0} (operands : List (String Z)) (i : ℕ) (operand : String Z) → i < length operands → operand ≡ get_or operands i operand
+    → texts (drop i operands) ≡ string_bytes operand ∷ texts (drop (i + 1) operands)
+one_left operands i operand less is =
+    rw (add-one, drop-cons operands i operand less) (ap (λ o. string_bytes o ∷ texts (drop (suc i) operands)) (sym is))
+
+pub none_left : {Z : Type 0} (operands : List (String Z)) (i : ℕ) → length operands ≤ i → texts (drop i operands) ≡ []
+none_left operands i past = ap texts (drop_of_length-le operands past)
+
+-- one more hole is filled
+pub filled_more : {left : List (List ℕ)} {after : List ℕ} (before segment operand behind rest : List ℕ) (texts : List (List ℕ))
+    → after ≡ (before ++ segment) ++ operand → left ≡ operand ∷ texts → rest ≡ segment ++ 63 ∷ behind → LacksHole segment
+    → after ++ filled texts behind ≡ before ++ filled left rest
+filled_more before segment operand behind rest texts is one cut lacks =
+    ap (λ t. t ++ filled texts behind) is ∙ append_assoc (before ++ segment) operand (filled texts behind)
+    ∙ append_assoc before segment (operand ++ filled texts behind)
+    ∙ ap (λ t. before ++ t) (sym (filled-hole operand texts rest segment behind cut lacks) ∙ ap (λ ts. filled ts rest) (sym one))
+
+-- ---- operands in holes
+
+pub all_serve : (operands : List (List ℕ)) → list_all is_bare_operand operands ≡ true → AllByRecursion ServesAsOperand operands
+all_serve [] all = tt
+all_serve (operand ∷ operands) all =
+    let both = and_parts (is_bare_operand operand) (list_all is_bare_operand operands) all in (serves operand both.0, all_serve operands both.1)
+
+pub all_more : (operands : List (List ℕ)) (operand : List ℕ) → list_all is_bare_operand operands ≡ true → ServesAsOperand operand
+    → list_all is_bare_operand (operands ++ in_hole operand ∷ []) ≡ true
+all_more operands operand all one =
+    let held = in_hole-serves operand one in
+    list_all-append is_bare_operand operands (in_hole operand ∷ []) ∙ and_from _ _ all (and_from _ _ (and_from _ _ held.is_operand held.no_clause_word) refl)
+
+pub held_is : (text written : List ℕ) → is_unit text ≡ false → written ≡ in_brackets byte_units text → written ≡ in_hole text
+held_is text written isnt is = rw isnt is
+
+pub bracketed_held : (text : List ℕ) → balanced text ≡ true → in_hole (in_brackets byte_units text) ≡ in_brackets byte_units text
+bracketed_held text is =
+    rw (or_right (is_dotted (tokens (unsigned (in_brackets byte_units text)))) _ (bracketed (in_brackets byte_units text) _ text refl refl ∙ is)) refl
+
+pub condition_balanced : (text : List ℕ) → is_fragment text ≡ true → balanced text ≡ true
+condition_balanced text fits = (and_parts (balanced text) (not (has_clause_word text)) fits).0
+
+-- with operands in its holes a template is what it is with a word in each
+pub operand_filled : {text : List ℕ} (template : List ℕ) (operands : List (List ℕ)) → text ≡ filled operands template → holes_apart template ≡ true
+    → list_all is_bare_operand operands ≡ true → is_typed_operand template ≡ true → ServesAsOperand text
+operand_filled template operands is apart all fits =
+    serves_as is (filled-serves operands template apart (all_serve operands all) (and_parts (is_bare_operand template) (has_no_clause template) fits).0)
+
+pub fragment_filled : {text : List ℕ} (template : List ℕ) (operands : List (List ℕ)) → text ≡ filled operands template → holes_apart template ≡ true
+    → list_all is_bare_operand operands ≡ true → is_typed_fragment template ≡ true → is_fragment text ≡ true
+fragment_filled template operands is apart all fits =
+    ap is_fragment is ∙ filled-fragment operands template apart (all_serve operands all) (and_parts (is_fragment template) (has_no_clause template) fits).0

@@ -1,0 +1,33 @@
+use Rattle.std.proofs.Common.{◌≡◌, ◌⊎◌, refl, rules, string_bytes, subst, sym}
+use Rattle.std.specs.Prelude.{IfErr, Some}
+use Rattle.sql_parts.specs.Error.{IsMemory}
+use Rattle.sql_builder.specs.Builder.{ClauseTexts}
+use Rattle.sql_builder.specs.Calls.{Sql}
+use Rattle.sql_builder.specs.Statement.{error_at}
+use Rattle.sql_typed.specs.Whole.{HasWholeFront, asking}
+use Rattle.sql_typed.proofs.PrintLemmas.{bare_statement, borrowed, may_fail}
+use Rattle.sql_typed.proofs.WholeLemmas.{asked_is, asking_whole}
+use Rattle.sql_typed.proofs.clauses.Statement+InsertKind.asking.Goals as goal
+
+pub bare-requires : goal.bare-requires
+bare-requires c =
+    let query = c.args.query.now in
+    let fit = borrowed c.self.view_is refl c.self.invariant.0 in
+    record {
+      front = subst HasWholeFront (sym (asked_is c.args.self c.self.inside.builder.value c.deref.result.now (string_bytes query.text) fit (search rules)))
+          (asking_whole c.args.self c.self.inside.builder.value (string_bytes query.text) fit query.fits);
+    }
+
+pub returns-clause-statement : goal.returns-clause-statement
+returns-clause-statement c =
+    let query = string_bytes c.args.query.now.text in
+    bare_statement c.args.self.start (asking query c.args.self.calls) c.deref.result.now (λ p. string_bytes p.text) c.bare.result
+    (asked_is c.args.self c.self.inside.builder.value c.deref.result.now query (borrowed c.self.view_is refl c.self.invariant.0) (search rules)) c.bare.ensures.text
+    c.bare.ensures.error
+
+pub returns-clause-error : goal.returns-clause-error
+returns-clause-error c =
+    let query = string_bytes c.args.query.now.text in
+    subst (λ (r : ClauseTexts). IfErr c.bare.result (λ e. IsMemory e ⊎ (error_at Sql r ≡ Some e)))
+    (asked_is c.args.self c.self.inside.builder.value c.deref.result.now query (borrowed c.self.view_is refl c.self.invariant.0) (search rules))
+    (may_fail (error_at Sql c.deref.result.now) c.bare.result c.bare.ensures.error)

@@ -1,0 +1,12 @@
+use Rattle.std.proofs.Common.{◌∙◌, ap, string_bytes, subst, sym}
+use Rattle.sql_parts.specs.Tokens.{closed, tokens}
+use Rattle.sql_builder.specs.Shape.{EndsInOneSemicolon}
+use Rattle.sql_typed.proofs.WholeLemmas.{whole_closed, whole_ends}
+use Rattle.sql_typed.proofs.printed.Printed.sql.Goals as goal
+
+pub returns-clause-closed : goal.returns-clause-closed
+returns-clause-closed g c = ap closed c.in_ok-push_str.ensures.bytes ∙ whole_closed (string_bytes c.args.self.text) c.args.self.whole
+
+pub returns-clause-semicolon : goal.returns-clause-semicolon
+returns-clause-semicolon g c =
+    subst (λ text. EndsInOneSemicolon (tokens text)) (sym c.in_ok-push_str.ensures.bytes) (whole_ends (string_bytes c.args.self.text) c.args.self.whole)

@@ -1,0 +1,4 @@
+pub mod ConditionRows
+pub mod UnionRows
+pub mod FaultRows
+pub mod WholeRows

@@ -1,0 +1,42 @@
+-- Worked rows of clauses behind a text: what the definitions give, by computing.
+use Rattle.std.specs.Prelude.{◌≡◌, [], ◌∷◌, codes, refl, true, false}
+use Rattle.sql_typed.specs.Whole.{combined_text, conflict_text, inserted_text, is_whole, lock_text, may_follow, may_join, named_text}
+use Rattle.sql_typed.specs.declared.printed.Lock.TheVariants.{Update, Share}
+use Rattle.sql_typed.specs.declared.printed.Wait.TheVariants.{NoWait, SkipLocked}
+
+closed : is_whole (codes "SELECT 'a;b'") ≡ true
+closed = refl
+
+not_closed : is_whole (codes "SELECT 'a") ≡ false
+not_closed = refl
+
+two_statements : is_whole (codes "SELECT a; DROP TABLE t") ≡ false
+two_statements = refl
+
+behind_a_word : may_follow (codes "AND") ≡ false
+behind_a_word = refl
+
+before_a_word : may_join (codes " SET") ≡ false
+before_a_word = refl
+
+of_columns : conflict_text (codes "a" ∷ codes "b" ∷ []) ≡ codes " ON CONFLICT (a, b)"
+of_columns = refl
+
+of_any : conflict_text [] ≡ codes " ON CONFLICT"
+of_any = refl
+
+inserted : inserted_text (codes ", ") (codes "a") ≡ codes ", a = VALUES(a)"
+inserted = refl
+
+named : named_text (codes "WITH ") (codes "q") (codes "SELECT 1") ≡ codes "WITH q AS (SELECT 1)"
+named = refl
+
+skipping : lock_text Update SkipLocked ≡ codes " FOR UPDATE SKIP LOCKED"
+skipping = refl
+
+failing : lock_text Share NoWait ≡ codes " FOR SHARE NOWAIT"
+failing = refl
+
+except : combined_text (codes " EXCEPT ") false (codes "SELECT 1") true (codes "SELECT a FROM t LIMIT 1")
+    ≡ codes "SELECT 1 EXCEPT SELECT * FROM (SELECT a FROM t LIMIT 1) AS u"
+except = refl

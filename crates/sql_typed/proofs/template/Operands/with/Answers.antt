@@ -1,0 +1,23 @@
+use Rattle.std.proofs.Common.{◌∙◌, ◌++◌, ◌∷◌, [], ap, string_bytes}
+use Rattle.std.proofs.lemmas.List.{map-append}
+use Rattle.std.specs.List.{list_all}
+use Rattle.sql_parts.specs.Holes.{in_hole}
+use Rattle.sql_parts.specs.Operands.{is_bare_operand}
+use Rattle.sql_parts.specs.Text.{texts}
+use Rattle.sql_typed.proofs.FilledLemmas.{all_more}
+use Rattle.sql_typed.proofs.template.Operands.with.Goals as goal
+
+pub invariant_of-self : goal.invariant_of-self
+invariant_of-self g c =
+    let text = g.V.ToText.text c.args.operand in
+    record {
+      serve = ap (λ items. list_all is_bare_operand (texts items)) c.in_ok-push.ensures.items
+          ∙ ap (list_all is_bare_operand) (map-append string_bytes c.args.self.written.items (c.in_ok-text.text ∷ []))
+          ∙ ap (λ held. list_all is_bare_operand (texts c.args.self.written.items ++ held ∷ [])) (c.in_ok-text.ensures.text ∙ ap in_hole c.in_ok-to_text.ensures.text)
+          ∙ all_more (texts c.args.self.written.items) text c.args.self.serve (g.met.V.OperandText.serves_as_operand c.args.operand);
+    }
+
+pub returns-clause-texts : goal.returns-clause-texts
+returns-clause-texts g c =
+    ap texts c.in_ok-push.ensures.items ∙ map-append string_bytes c.args.self.written.items (c.in_ok-text.text ∷ [])
+    ∙ ap (λ held. texts c.args.self.written.items ++ held ∷ []) (c.in_ok-text.ensures.text ∙ ap in_hole c.in_ok-to_text.ensures.text)

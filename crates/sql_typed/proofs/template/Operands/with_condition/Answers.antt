@@ -1,0 +1,20 @@
+use Rattle.std.proofs.Common.{◌∙◌, ◌++◌, ◌∷◌, [], ap, string_bytes}
+use Rattle.sql_builder.specs.Layout.{byte_units}
+use Rattle.sql_builder.specs.Phrases.{in_brackets}
+use Rattle.sql_parts.specs.Fragments.{balanced}
+use Rattle.sql_parts.specs.Holes.{in_hole}
+use Rattle.sql_parts.specs.Text.{texts}
+use Rattle.sql_typed.proofs.FilledLemmas.{bracketed_held, condition_balanced}
+use Rattle.sql_typed.proofs.template.Operands.with_condition.Goals as goal
+
+pub bracketed-requires : goal.bracketed-requires
+bracketed-requires c =
+    record { balanced = ap balanced c.as_str.ensures.value ∙ condition_balanced (string_bytes c.args.condition.now.text) c.args.condition.now.fits }
+
+pub returns-clause-texts : goal.returns-clause-texts
+returns-clause-texts c =
+    let text = string_bytes c.args.condition.now.text in
+    c.in_ok-operands.ensures.texts
+    ∙ ap (λ operand. texts c.args.self.written.items ++ operand ∷ [])
+    (ap in_hole (c.in_ok-operand.ensures.text ∙ ap (in_brackets byte_units) c.as_str.ensures.value)
+    ∙ bracketed_held text (condition_balanced text c.args.condition.now.fits))

@@ -1,0 +1,122 @@
+-- Which statements aren't printed, and why.
+use Rattle.std.specs.Prelude.{◌≡◌, ℕ, ◌&&◌, ◌||◌, ◌⊎◌, Bool, true, false, not, if◌then◌else◌, List, Option, None, Some, Result, Err, IfErr, codes, is_some, option_map}
+use Rattle.std.specs.List.{fold}
+use Rattle.sql_parts.specs.Error as builder
+use Rattle.sql_parts.specs.Misfits.{misfit_text}
+use Rattle.sql_parts.specs.declared.error.SqlBuilderError.{SqlBuilderError}
+use Rattle.sql_builder.specs.Calls as call
+use Rattle.sql_builder.specs.Calls.{CallText, FinishText, StartText, condition_in, is_join, kind_of, returning_in}
+use Rattle.sql_builder.specs.Statement.{error_at}
+use Rattle.sql_builder.specs.StatementLaws.{made_by}
+use Rattle.sql_typed.specs.Filled as template
+use Rattle.sql_typed.specs.Fits.{Made}
+use Rattle.sql_typed.specs.declared.error.Error.{Error}
+use Rattle.sql_typed.specs.declared.error.Error.TheVariants.{Builder, Misfit, Template, NoCondition, NoJoin, OrderBesideUnion, ReturningFirst}
+use Rattle.sql_typed.specs.declared.marks.Marks.{Marks}
+
+-- the message of an error
+abbrev pub message_text : Error → List ℕ
+message_text (Builder error) = builder.message_text error
+message_text (Misfit misfit) = misfit_text misfit
+message_text (Template error) = template.message_text error
+message_text NoCondition = codes "No condition: say all_rows where every row is meant"
+message_text NoJoin = codes "A constraint before the first join"
+message_text OrderBesideUnion = codes "An ORDER BY beside a union"
+message_text ReturningFirst = codes "A RETURNING before a clause"
+
+-- a statement that changes the rows of a table
+abbrev pub changes_rows : StartText → Bool
+changes_rows (call.UpdateTable table) = true
+changes_rows (call.DeleteFrom table) = true
+changes_rows _ = false
+
+-- a call that adds a condition of WHERE
+abbrev pub is_condition : CallText → Bool
+is_condition c = is_some (condition_in c)
+
+-- a call that adds a constraint of a join
+abbrev pub is_constraint : CallText → Bool
+is_constraint (call.On constraint) = true
+is_constraint (call.OnEq left right) = true
+is_constraint _ = false
+
+-- a call that adds a union
+abbrev pub is_union : CallText → Bool
+is_union (call.Union query) = true
+is_union (call.UnionAll query) = true
+is_union _ = false
+
+-- a call that adds a field of ORDER BY
+abbrev pub is_order : CallText → Bool
+is_order (call.OrderBy field descending) = true
+is_order (call.OrderAsc field) = true
+is_order (call.OrderDesc field) = true
+is_order _ = false
+
+-- a call that says what is returned
+abbrev pub is_returning : CallText → Bool
+is_returning c = is_some (returning_in c)
+
+-- what a statement has before its calls
+abbrev pub started : Made → Marks
+started made = record {
+  needs_condition = not made.all_rows && changes_rows made.start;
+  has_condition = false;
+  has_join = false;
+  has_stray_constraint = false;
+  has_union = false;
+  has_order = false;
+  has_returning = false;
+}
+
+-- what it has after one more call
+abbrev pub noted : CallText → Marks → Marks
+noted c m = record {
+  needs_condition = m.needs_condition;
+  has_condition = is_condition c || m.has_condition;
+  has_join = is_join c || m.has_join;
+  has_stray_constraint = (is_constraint c && not m.has_join) || m.has_stray_constraint;
+  has_union = is_union c || m.has_union;
+  has_order = is_order c || m.has_order;
+  has_returning = is_returning c || m.has_returning;
+}
+
+-- and after all
+abbrev pub marks_of : Made → Marks
+marks_of made = fold (λ m c. noted c m) (started made) made.calls
+
+-- why what has this isn't printed
+abbrev pub fault : Marks → Option Error
+fault m =
+    if m.needs_condition && not m.has_condition then Some NoCondition
+    else if m.has_stray_constraint then Some NoJoin
+    else if m.has_union && m.has_order then Some OrderBesideUnion else None
+
+-- Why a statement isn't printed, whatever the builder says: an UPDATE or a DELETE without a condition, where no call says that all rows
+-- are meant; a constraint before the first join; an ORDER BY beside a union.
+abbrev pub fault_of : Made → Option Error
+fault_of made = fault (marks_of made)
+
+-- nor can a clause follow what has a RETURNING
+abbrev pub following_fault_of : Made → Option Error
+following_fault_of made = if (marks_of made).has_returning then Some ReturningFirst else fault_of made
+
+-- memory ran out
+abbrev pub IsMemory : Error → Type 0
+IsMemory (Builder error) = builder.IsMemory error
+IsMemory _ = ⊥
+
+-- a call fails with this fault where there is one, else with this error of the builder, and else only if memory runs out
+abbrev pub FailsBy : {T : Type 0} → Option Error → Option SqlBuilderError → Result T Error → Type 0
+FailsBy (Some fault) error result = result ≡ Err fault
+FailsBy None (Some error) result = result ≡ Err (Builder error)
+FailsBy None None result = IfErr result IsMemory
+
+-- the same, where memory may run out before the builder is asked
+abbrev pub MayFailBy : {T : Type 0} → Option Error → Option SqlBuilderError → Result T Error → Type 0
+MayFailBy (Some fault) error result = result ≡ Err fault
+MayFailBy None error result = IfErr result (λ e. IsMemory e ⊎ (option_map Builder error ≡ Some e))
+
+-- printing fails with the fault of the statement where it has one, then with the error of the calls, and else only if memory runs out
+abbrev pub FailsAs : {T : Type 0} → Made → FinishText → Result T Error → Type 0
+FailsAs made finish result = FailsBy (fault_of made) (error_at finish (made_by made.start made.calls)) result

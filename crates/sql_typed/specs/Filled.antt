@@ -1,0 +1,48 @@
+-- When a template with operands is what it is to be.
+use Rattle.std.specs.Prelude.{◌≡◌, ℕ, ◌==◌, ◌&&◌, ◌++◌, Bool, IsTrue, List, [], ◌∷◌, Option, None, Some, codes, map}
+use Rattle.std.specs.List.{list_all}
+use Rattle.sql_parts.specs.Error as builder
+use Rattle.sql_parts.specs.Holes.{cut, filled, hole_count}
+use Rattle.sql_parts.specs.Misfits.{meets, misfit_text}
+use Rattle.sql_parts.specs.Readers.{Part, Constant, Reader, IsInsideAtEach, emptied, has_plain_text, marks, outer_states, parts_bytes}
+use Rattle.sql_parts.specs.declared.misfits.Demand.{Demand}
+use Rattle.sql_parts.specs.declared.misfits.Misfit as misfits
+use Rattle.sql_typed.specs.declared.template.TemplateError.{TemplateError}
+use Rattle.sql_typed.specs.declared.template.TemplateError.TheVariants.{HolesTouch, OperandCount, Misfit, Builder}
+
+-- it meets what is asked, and has a hole for each of so many operands
+abbrev pub takes : Demand → List ℕ → ℕ → Bool
+takes demand template count = meets demand template && hole_count template == count
+
+-- why it doesn't fit, where it doesn't, and else that the counts differ
+abbrev pub fault : Option misfits.Misfit → TemplateError
+fault None = OperandCount
+fault (Some reason) = Misfit reason
+
+-- the message of an error
+abbrev pub message_text : TemplateError → List ℕ
+message_text HolesTouch = codes "A ? is in a literal, a name or a comment, or has no separator beside it"
+message_text OperandCount = codes "Not one operand for each ?"
+message_text (Misfit reason) = misfit_text reason
+message_text (Builder error) = builder.message_text error
+
+-- the segments behind holes, with operands of these parts in them
+abbrev pub held_parts : List (List Part) → List (List ℕ) → List Part
+held_parts held [] = []
+held_parts [] (segment ∷ segments) = Constant (codes "?" ++ segment) ∷ held_parts [] segments
+held_parts (parts ∷ held) (segment ∷ segments) = parts ++ Constant segment ∷ held_parts held segments
+
+-- the parts of a template with such operands in its holes
+abbrev pub filled_parts : List (List Part) → List ℕ → List Part
+filled_parts held template = Constant (cut template).0 ∷ held_parts held (cut template).1
+
+-- Where operands are cut into parts, and others differ from them only in texts of plain bytes whose delimiters are doubled, any reader
+-- that is inside of a literal at each of these is so in the others, and goes through the same states outside of them.
+abbrev pub ReadersIgnoreHeldTexts : List (List ℕ) → List ℕ → Type 0
+ReadersIgnoreHeldTexts operands template = (next : Reader) (plain : ℕ → Bool) (state : ℕ) (one other : List (List Part))
+    → map parts_bytes one ≡ operands → map (map emptied) one ≡ map (map emptied) other
+    → IsTrue (list_all (has_plain_text plain) (filled_parts one template)) → IsTrue (list_all (has_plain_text plain) (filled_parts other template))
+    → IsInsideAtEach next plain state (filled_parts one template)
+    → IsInsideAtEach next plain state (filled_parts other template)
+    × (outer_states next state (marks (filled_parts one template)) (filled operands template)
+    ≡ outer_states next state (marks (filled_parts other template)) (filled (map parts_bytes other) template))

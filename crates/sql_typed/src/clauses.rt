@@ -1,0 +1,446 @@
+//! Clauses that the builder hasn't: upserts, INSERT of a query, locks, INTERSECT, EXCEPT and WITH. Each is
+//! printed behind a text that is printed already, so types say what may follow what.
+ghost use Rattle.std.specs.Prelude.{◌≡◌, ◌++◌, ◌⊎◌, codes, IfErr, IfOk, IsTrue, MatchResult, None, Ok, Some, map, string_bytes, true};
+ghost use Rattle.sql_parts.specs.Error.{FailsOnlyByMemory, IsMemory};
+ghost use Rattle.sql_parts.specs.Fragments.{balanced};
+ghost use Rattle.sql_parts.specs.Tokens.{closed, tokens};
+ghost use Rattle.sql_builder.specs.Calls.{Sql};
+ghost use Rattle.sql_builder.specs.Shape.{EndsInOneSemicolon};
+ghost use Rattle.sql_builder.specs.Statement.{error_at, statement, text_at};
+ghost use Rattle.sql_builder.specs.StatementLaws.{made_by};
+ghost use Rattle.sql_typed.specs.Faults.{FailsAs, FailsBy, MayFailBy, following_fault_of};
+ghost use Rattle.sql_typed.specs.Printed.{BuilderFailsAs, FailsWith, IsPrinted};
+ghost use Rattle.sql_typed.specs.Results.{Continues};
+ghost use Rattle.sql_typed.specs.Whole.{HasWholeFront, asking, combined_text, conflict_text, inserted_text, is_whole, lock_text, may_follow, may_join, named_text, set_text};
+
+use crate::Result;
+use crate::error::Error;
+use crate::operand_text::OperandText;
+use crate::printed::{
+    Complete, Conflict, DoNothing, DoUpdate, DuplicateKey, Lock, Named, Printed, Rows, Selected,
+    Sets, Wait, Whole, With,
+};
+use crate::statement::{InsertKind, Returns, Statement};
+use crate::texts::Query;
+use sql_builder::SqlBuilder;
+use sql_builder::calls::{Finish, TextList, UnaryClause, make_unary, print};
+use std::alloc::Global;
+use std::marker::PhantomData;
+
+// What `sql` prints of the builder, without the `;`.
+fn bare<K>(alloc: Global, builder: &SqlBuilder) -> Result<Printed<K>>
+    requires front { HasWholeFront builder.now }
+    ensures text { IfOk result (λ p. string_bytes p.text ++ codes ";" ≡ text_at Sql builder.now) }
+    ensures error { FailsWith (error_at Sql builder.now) result }
+{
+    let mut text = print(builder, &Finish::Sql)?;
+    text.pop();
+    Ok(Printed {
+        alloc,
+        text,
+        kind: PhantomData,
+    })
+}
+
+impl<K> Printed<K> {
+    // Words and a text behind it.
+    fn followed<L>(self, words: &str, text: &str) -> Result<Printed<L>>
+        requires words { IsTrue (may_join words.now) }
+        requires text { IsTrue (is_whole text.now) }
+        ensures text { Continues result (string_bytes self.text ++ (words.now ++ text.now)) }
+    {
+        let Printed {
+            alloc,
+            text: mut out,
+            kind: _,
+        } = self;
+        out.push_str(words)?;
+        out.push_str(text)?;
+        Ok(Printed {
+            alloc,
+            text: out,
+            kind: PhantomData,
+        })
+    }
+
+    // Words behind it.
+    fn ended<L>(self, words: &str) -> Result<Printed<L>>
+        requires words { IsTrue (may_follow words.now) }
+        ensures text { Continues result (string_bytes self.text ++ words.now) }
+    {
+        let Printed {
+            alloc,
+            text: mut out,
+            kind: _,
+        } = self;
+        out.push_str(words)?;
+        Ok(Printed {
+            alloc,
+            text: out,
+            kind: PhantomData,
+        })
+    }
+
+    // Words and an operand behind it.
+    fn with<L, F: OperandText>(self, words: &str, operand: F) -> Result<Printed<L>>
+        requires words { IsTrue (may_join words.now) }
+        ensures text { Continues result (string_bytes self.text ++ (words.now ++ F.text operand)) }
+    {
+        let operand = operand.as_text(self.alloc)?;
+        self.followed(words, operand.as_str())
+    }
+
+    // A field that is set to a value, with words between them.
+    fn set_to<L, F: OperandText, V: OperandText>(
+        self,
+        words: &str,
+        field: F,
+        value: V,
+    ) -> Result<Printed<L>>
+        requires words { IsTrue (may_join words.now) }
+        ensures text { Continues result (string_bytes self.text ++ set_text words.now (F.text field) (V.text value)) }
+    {
+        let printed: Printed<L> = self.with(words, field)?;
+        printed.with(" = ", value)
+    }
+
+    // A query under a name.
+    fn named<N: OperandText>(self, words: &str, name: N, query: &Query) -> Result<With>
+        requires words { IsTrue (may_join words.now) }
+        ensures text { Continues result (string_bytes self.text ++ named_text words.now (N.text name) (string_bytes query.now.text)) }
+    {
+        let printed: With = self.with(words, name)?;
+        let printed: With = printed.followed(" AS (", query.text.as_str())?;
+        printed.ended(")")
+    }
+}
+
+impl<K: Complete> Printed<K> {
+    /// The statement. It fails only if memory runs out.
+    /// `Select::from(alloc, Fragment::of("t"))?.printed()?.sql()?` → `SELECT * FROM t;`
+    pub fn sql(self) -> Result<String>
+        ensures text { IfOk result (λ s. string_bytes s ≡ string_bytes self.text ++ codes ";") }
+        ensures closed { IfOk result (λ s. IsTrue (closed (string_bytes s))) }
+        ensures semicolon { IfOk result (λ s. EndsInOneSemicolon (tokens (string_bytes s))) }
+        ensures memory { FailsOnlyByMemory result }
+    {
+        let Printed {
+            alloc: _,
+            mut text,
+            kind: _,
+        } = self;
+        text.push_str(";")?;
+        Ok(text)
+    }
+}
+
+impl<K: Returns> Printed<K> {
+    /// RETURNING of a field, as the last clause. It fails only if memory runs out.
+    /// `Insert::into(alloc, Fragment::of("t"))?.values(&[1])?.rows()?.returning(Operand::of("id"))?.sql()?` →
+    /// `INSERT INTO t () VALUES (1) RETURNING id;`
+    pub fn returning<F: OperandText>(self, field: F) -> Result<Printed<Whole>>
+        ensures text { Continues result (string_bytes self.text ++ (codes " RETURNING " ++ F.text field)) }
+    {
+        self.with(" RETURNING ", field)
+    }
+}
+
+impl Printed<Rows> {
+    /// ON CONFLICT of these columns; of none, of any conflict. It fails only if memory runs out.
+    /// `Insert::into(alloc, Fragment::of("t"))?.field(Operand::of("id"))?.values(&[1])?.rows()?.on_conflict(&[Operand::of("id")])?.do_nothing()?.sql()?` →
+    /// `INSERT INTO t (id) VALUES (1) ON CONFLICT (id) DO NOTHING;`
+    pub fn on_conflict<F: OperandText>(self, columns: &[F]) -> Result<Printed<Conflict>>
+        ensures text { Continues result (string_bytes self.text ++ conflict_text (map F.text columns.now)) }
+    {
+        if columns.is_empty() {
+            return self.ended(" ON CONFLICT");
+        }
+        let list = listed(self.alloc, columns)?;
+        let printed: Printed<Conflict> = self.followed(" ON CONFLICT (", list.as_str())?;
+        printed.ended(")")
+    }
+
+    /// MySQL's ON DUPLICATE KEY UPDATE of a field to a value. It fails only if memory runs out.
+    /// `Insert::into(alloc, Fragment::of("t"))?.field(Operand::of("id"))?.values(&[1])?.rows()?.on_duplicate_key(Operand::of("n"), 2)?.sql()?` →
+    /// `INSERT INTO t (id) VALUES (1) ON DUPLICATE KEY UPDATE n = 2;`
+    pub fn on_duplicate_key<F: OperandText, V: OperandText>(
+        self,
+        field: F,
+        value: V,
+    ) -> Result<Printed<DuplicateKey>>
+        ensures text { Continues result (string_bytes self.text
+            ++ set_text (codes " ON DUPLICATE KEY UPDATE ") (F.text field) (V.text value)) }
+    {
+        self.set_to(" ON DUPLICATE KEY UPDATE ", field, value)
+    }
+}
+
+// Operands with commas between them.
+fn listed<F: OperandText>(alloc: Global, operands: &[F]) -> Result<TextList>
+    ensures list { IfOk result (λ list. list ≡ map F.text operands.now) }
+    ensures memory { FailsOnlyByMemory result }
+{
+    let mut list = TextList::new(alloc);
+    for operand in operands {
+        list.push_text(alloc, operand)?;
+    }
+    Ok(list)
+}
+
+impl Printed<Conflict> {
+    /// DO NOTHING. It fails only if memory runs out, as the call below does.
+    /// `Insert::into(alloc, Fragment::of("t"))?.field(Operand::of("id"))?.values(&[1])?.rows()?.on_conflict(&[Operand::of("id")])?.do_nothing()?.sql()?` →
+    /// `INSERT INTO t (id) VALUES (1) ON CONFLICT (id) DO NOTHING;`
+    pub fn do_nothing(self) -> Result<Printed<DoNothing>>
+        ensures text { Continues result (string_bytes self.text ++ codes " DO NOTHING") }
+    {
+        self.ended(" DO NOTHING")
+    }
+
+    /// DO UPDATE, which sets a field to a value, as to `Operand::of("excluded.n")`, which was to be inserted.
+    /// `Insert::into(alloc, Fragment::of("t"))?.field(Operand::of("id"))?.values(&[1])?.rows()?.on_conflict(&[Operand::of("id")])?.do_update(Operand::of("n"), Value("it's"))?.sql()?` →
+    /// `INSERT INTO t (id) VALUES (1) ON CONFLICT (id) DO UPDATE SET n = 'it''s';`
+    pub fn do_update<F: OperandText, V: OperandText>(
+        self,
+        field: F,
+        value: V,
+    ) -> Result<Printed<DoUpdate>>
+        ensures text { Continues result (string_bytes self.text
+            ++ set_text (codes " DO UPDATE SET ") (F.text field) (V.text value)) }
+    {
+        self.set_to(" DO UPDATE SET ", field, value)
+    }
+}
+
+impl<K: Sets> Printed<K> {
+    /// Sets one more field to a value. It fails only if memory runs out.
+    /// `Insert::into(alloc, Fragment::of("t"))?.field(Operand::of("id"))?.values(&[1])?.rows()?.on_conflict(&[Operand::of("id")])?.do_update(Operand::of("n"), 2)?.set(Operand::of("m"), Operand::of("excluded.m"))?.sql()?` →
+    /// `INSERT INTO t (id) VALUES (1) ON CONFLICT (id) DO UPDATE SET n = 2, m = excluded.m;`
+    pub fn set<F: OperandText, V: OperandText>(self, field: F, value: V) -> Result<Printed<K>>
+        ensures text { Continues result (string_bytes self.text
+            ++ set_text (codes ", ") (F.text field) (V.text value)) }
+    {
+        self.set_to(", ", field, value)
+    }
+}
+
+impl Printed<DuplicateKey> {
+    /// Sets one more field to the value that was to be inserted. It fails only if memory runs out.
+    /// `Insert::into(alloc, Fragment::of("t"))?.field(Operand::of("id"))?.values(&[1])?.rows()?.on_duplicate_key(Operand::of("n"), 2)?.set_inserted(Operand::of("m"))?.sql()?` →
+    /// `INSERT INTO t (id) VALUES (1) ON DUPLICATE KEY UPDATE n = 2, m = VALUES(m);`
+    pub fn set_inserted<F: OperandText>(self, field: F) -> Result<Printed<DuplicateKey>>
+        ensures text { Continues result (string_bytes self.text
+            ++ inserted_text (codes ", ") (F.text field)) }
+    {
+        let printed: Printed<DuplicateKey> = self.with(", ", &field)?;
+        let printed: Printed<DuplicateKey> = printed.with(" = VALUES(", field)?;
+        printed.ended(")")
+    }
+}
+
+impl Printed<Named> {
+    /// WITH a query under a name, which may begin with RECURSIVE. It fails only if memory runs out, as the two calls below do.
+    /// `With::of(alloc, Operand::of("q"), &query)?.before(&Select::from(alloc, Fragment::of("q"))?.printed()?)?.sql()?` →
+    /// `WITH q AS (SELECT b FROM t) SELECT * FROM q;`
+    pub fn of<N: OperandText>(alloc: Global, name: N, query: &Query) -> Result<With>
+        ensures text { Continues result (named_text (codes "WITH ") (N.text name) (string_bytes query.now.text)) }
+    {
+        opened(alloc)?.named(" ", name, query)
+    }
+
+    /// One more query under a name.
+    /// `With::of(alloc, Operand::of("q"), &query)?.and(Operand::of("r"), &query)?.before(&Select::from(alloc, Fragment::of("r"))?.printed()?)?.sql()?` →
+    /// `WITH q AS (SELECT b FROM t), r AS (SELECT b FROM t) SELECT * FROM r;`
+    pub fn and<N: OperandText>(self, name: N, query: &Query) -> Result<With>
+        ensures text { Continues result (string_bytes self.text
+            ++ named_text (codes ", ") (N.text name) (string_bytes query.now.text)) }
+    {
+        self.named(", ", name, query)
+    }
+
+    /// The statement that these queries are for.
+    /// `With::of(alloc, Operand::of("q"), &query)?.before(&Select::from(alloc, Fragment::of("q"))?.printed()?)?.text` →
+    /// `WITH q AS (SELECT b FROM t) SELECT * FROM q`
+    pub fn before<K: Complete>(self, statement: &Printed<K>) -> Result<Printed<Whole>>
+        ensures text { Continues result (string_bytes self.text ++ (codes " " ++ string_bytes statement.now.text)) }
+    {
+        self.followed(" ", statement.text.as_str())
+    }
+}
+
+fn opened(alloc: Global) -> Result<With>
+    ensures text { Continues result (codes "WITH") }
+{
+    let text = String::from_str(alloc, "WITH")?;
+    Ok(Printed {
+        alloc,
+        text,
+        kind: PhantomData,
+    })
+}
+
+impl<K> Statement<K> {
+    /// The statement without its `;`, for clauses that follow it. It fails as `sql` does.
+    /// `Select::from(alloc, Fragment::of("t"))?.printed()?.text` → `SELECT * FROM t`
+    pub fn printed(&self) -> Result<Printed<Whole>, Error>
+        ensures printed { IfOk result (λ p.
+            IsPrinted self.now Sql (string_bytes p.text ++ codes ";")) }
+        ensures error { FailsAs self.now Sql result }
+    {
+        self.check()?;
+        let printed = self.bare()?;
+        Ok(printed)
+    }
+
+    fn bare<L>(&self) -> Result<Printed<L>>
+        ensures printed { IfOk result (λ p.
+            IsPrinted self.now Sql (string_bytes p.text ++ codes ";")) }
+        ensures error { BuilderFailsAs self.now Sql result }
+    {
+        bare(self.alloc, &self.builder)
+    }
+}
+
+fn lock_words(lock: Lock, wait: Wait) -> &'static str
+    ensures text { result.now ≡ lock_text lock wait }
+    ensures follows { IsTrue (may_follow result.now) }
+{
+    match (lock, wait) {
+        (Lock::Update, Wait::Block) => " FOR UPDATE",
+        (Lock::Update, Wait::SkipLocked) => " FOR UPDATE SKIP LOCKED",
+        (Lock::Update, Wait::NoWait) => " FOR UPDATE NOWAIT",
+        (Lock::Share, Wait::Block) => " FOR SHARE",
+        (Lock::Share, Wait::SkipLocked) => " FOR SHARE SKIP LOCKED",
+        (Lock::Share, Wait::NoWait) => " FOR SHARE NOWAIT",
+    }
+}
+
+impl Printed<Selected> {
+    /// With a lock on its rows. It fails only if memory runs out.
+    /// `Select::from(alloc, Fragment::of("t"))?.query()?.printed(alloc)?.locked(Lock::Update, Wait::SkipLocked)?.sql()?` →
+    /// `SELECT * FROM t FOR UPDATE SKIP LOCKED;`
+    pub fn locked(self, lock: Lock, wait: Wait) -> Result<Printed<Whole>>
+        ensures text { Continues result (string_bytes self.text ++ lock_text lock wait) }
+    {
+        self.ended(lock_words(lock, wait))
+    }
+}
+
+impl Statement<InsertKind> {
+    /// The INSERT, for clauses behind its rows. It fails with `ReturningFirst` where it has a RETURNING,
+    /// which comes last: call that of what is printed. Else it fails as `sql` does.
+    /// `Insert::into(alloc, Fragment::of("t"))?.values(&[1])?.rows()?.text` → `INSERT INTO t () VALUES (1)`
+    pub fn rows(&self) -> Result<Printed<Rows>, Error>
+        ensures printed { IfOk result (λ p.
+            IsPrinted self.now Sql (string_bytes p.text ++ codes ";")) }
+        ensures error { FailsBy (following_fault_of self.now)
+            (error_at Sql (made_by self.now.start self.now.calls)) result }
+    {
+        self.check_following()?;
+        let printed = self.bare()?;
+        Ok(printed)
+    }
+
+    /// INSERT of the rows of a query, in place of rows of its own. It fails with `ReturningFirst` where it
+    /// has a RETURNING, else with the builder's `NoTableName`, or because memory runs out.
+    /// `Insert::into(alloc, Fragment::of("u"))?.field(Operand::of("a"))?.rows_of(&query)?.sql()?` → `INSERT INTO u (a) SELECT b FROM t;`
+    pub fn rows_of(self, query: &Query) -> Result<Printed<Rows>, Error>
+        ensures statement { IfOk result (λ p.
+            statement self.start (asking (string_bytes query.now.text) self.calls) Sql
+            ≡ Ok (string_bytes p.text ++ codes ";")) }
+        ensures error { MayFailBy (following_fault_of self)
+            (error_at Sql (made_by self.start (asking (string_bytes query.now.text) self.calls))) result }
+    {
+        self.check_following()?;
+        let printed = self.asking(query)?;
+        Ok(printed)
+    }
+
+    fn check_following(&self) -> Result<(), Error>
+        ensures { MatchResult result (λ _. following_fault_of self.now ≡ None)
+            (λ e. following_fault_of self.now ≡ Some e) }
+    {
+        if self.marks.has_returning {
+            return Err(Error::ReturningFirst);
+        }
+        self.check()
+    }
+
+    fn asking(self, query: &Query) -> Result<Printed<Rows>>
+        ensures statement { IfOk result (λ p.
+            statement self.start (asking (string_bytes query.now.text) self.calls) Sql
+            ≡ Ok (string_bytes p.text ++ codes ";")) }
+        ensures error { IfErr result (λ e. IsMemory e
+            ⊎ (error_at Sql (made_by self.start (asking (string_bytes query.now.text) self.calls)) ≡ Some e)) }
+    {
+        let Statement {
+            alloc,
+            mut builder,
+            marks: _,
+            made: _,
+            kind: _,
+        } = self;
+        make_unary(&mut builder, UnaryClause::Select, query.text.as_str())?;
+        bare(alloc, &builder)
+    }
+}
+
+impl Query {
+    /// The rows that both queries have, as INTERSECT gives them. A query that `union` would make a table is
+    /// one here. It fails only if memory runs out, as the two calls below do.
+    /// `query.intersect(alloc, &query)?.text` → `SELECT b FROM t INTERSECT SELECT b FROM t`
+    pub fn intersect(&self, alloc: Global, other: &Query) -> Result<Query>
+        ensures text { IfOk result (λ q. string_bytes q.text ≡ combined_text (codes " INTERSECT ")
+            self.now.needs_brackets (string_bytes self.now.text)
+            other.now.needs_brackets (string_bytes other.now.text)) }
+        ensures united { IfOk result (λ q. q.needs_brackets ≡ true) }
+        ensures memory { FailsOnlyByMemory result }
+    {
+        self.combined(alloc, " INTERSECT ", other)
+    }
+
+    /// The rows that the other query hasn't, as EXCEPT gives them.
+    /// `query.except(alloc, &query)?.text` → `SELECT b FROM t EXCEPT SELECT b FROM t`
+    pub fn except(&self, alloc: Global, other: &Query) -> Result<Query>
+        ensures text { IfOk result (λ q. string_bytes q.text ≡ combined_text (codes " EXCEPT ")
+            self.now.needs_brackets (string_bytes self.now.text)
+            other.now.needs_brackets (string_bytes other.now.text)) }
+        ensures united { IfOk result (λ q. q.needs_brackets ≡ true) }
+        ensures memory { FailsOnlyByMemory result }
+    {
+        self.combined(alloc, " EXCEPT ", other)
+    }
+
+    fn combined(&self, alloc: Global, words: &str, other: &Query) -> Result<Query>
+        requires words { IsTrue (may_join words.now) }
+        requires even { IsTrue (balanced words.now) }
+        ensures text { IfOk result (λ q. string_bytes q.text ≡ combined_text words.now
+            self.now.needs_brackets (string_bytes self.now.text)
+            other.now.needs_brackets (string_bytes other.now.text)) }
+        ensures united { IfOk result (λ q. q.needs_brackets ≡ true) }
+        ensures memory { FailsOnlyByMemory result }
+    {
+        let one = self.united(alloc)?;
+        let other = other.united(alloc)?;
+        let mut text = String::from_str(alloc, one.as_str())?;
+        text.push_str(words)?;
+        text.push_str(other.as_str())?;
+        Ok(Query {
+            text,
+            needs_brackets: true,
+        })
+    }
+
+    /// The query as a statement, which may have a lock.
+    /// `query.except(alloc, &query)?.printed(alloc)?.sql()?` → `SELECT b FROM t EXCEPT SELECT b FROM t;`
+    pub fn printed(&self, alloc: Global) -> Result<Printed<Selected>>
+        ensures text { Continues result (string_bytes self.now.text) }
+    {
+        let text = String::from_str(alloc, self.text.as_str())?;
+        Ok(Printed {
+            alloc,
+            text,
+            kind: PhantomData,
+        })
+    }
+}

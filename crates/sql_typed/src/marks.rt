@@ -1,0 +1,119 @@
+//! What a statement has, as far as it decides whether it is printed.
+ghost use Rattle.std.specs.Prelude.{◌≡◌, ◌||◌, not, List, ℕ};
+ghost use Rattle.sql_builder.specs.Calls.{start_on, unary_call};
+ghost use Rattle.sql_typed.specs.Faults.{fault, marks_of, noted};
+ghost use Rattle.sql_typed.specs.Fits.{beginning};
+ghost use Rattle.sql_typed.specs.Steps.{step_call};
+
+use crate::error::Error;
+use crate::statement::Step;
+use sql_builder::calls::{BinaryClause, NullaryClause, TableStart, UnaryClause};
+
+/// What a statement has.
+#[derive(Clone, Copy)]
+pub(crate) struct Marks {
+    /// It changes rows, and no call has said that all are meant.
+    pub(crate) needs_condition: bool,
+    pub(crate) has_condition: bool,
+    pub(crate) has_join: bool,
+    /// A constraint came before the first join.
+    pub(crate) has_stray_constraint: bool,
+    pub(crate) has_union: bool,
+    pub(crate) has_order: bool,
+    pub(crate) has_returning: bool,
+}
+
+impl Marks {
+    pub(crate) fn of(start: TableStart) -> Marks
+        ensures { (table : List ℕ) → result ≡ marks_of (beginning (start_on start table)) }
+    {
+        Marks {
+            needs_condition: match start {
+                TableStart::SelectFrom | TableStart::InsertInto => false,
+                TableStart::UpdateTable | TableStart::DeleteFrom => true,
+            },
+            has_condition: false,
+            has_join: false,
+            has_stray_constraint: false,
+            has_union: false,
+            has_order: false,
+            has_returning: false,
+        }
+    }
+
+    // With one more call.
+    pub(crate) fn with(self, step: &Step<'_>) -> Marks
+        ensures { result ≡ noted (step_call step.now) self }
+    {
+        match step {
+            Step::Unary(clause, _) => self.with_unary(*clause),
+            Step::Binary(BinaryClause::OnEq, _, _) => self.with_constraint(),
+            Step::Condition(_, _) => Marks {
+                has_condition: true,
+                ..self
+            },
+            Step::Nullary(NullaryClause::ReturningId) => Marks {
+                has_returning: true,
+                ..self
+            },
+            Step::Binary(_, _, _) | Step::Nullary(_) | Step::Row(_) => self,
+        }
+    }
+
+    fn with_unary(self, clause: UnaryClause) -> Marks
+        ensures { (text : List ℕ) → result ≡ noted (unary_call clause text) self }
+    {
+        match clause {
+            UnaryClause::Join => Marks {
+                has_join: true,
+                ..self
+            },
+            UnaryClause::On => self.with_constraint(),
+            UnaryClause::Union | UnaryClause::UnionAll => Marks {
+                has_union: true,
+                ..self
+            },
+            UnaryClause::OrderAsc | UnaryClause::OrderDesc => Marks {
+                has_order: true,
+                ..self
+            },
+            UnaryClause::Returning => Marks {
+                has_returning: true,
+                ..self
+            },
+            UnaryClause::AndTable
+            | UnaryClause::Field
+            | UnaryClause::SetField
+            | UnaryClause::Count
+            | UnaryClause::Select
+            | UnaryClause::GroupBy
+            | UnaryClause::Having
+            | UnaryClause::Limit
+            | UnaryClause::Offset => self,
+        }
+    }
+
+    fn with_constraint(self) -> Marks
+        ensures { result ≡ record self { has_stray_constraint = not self.has_join || self.has_stray_constraint } }
+    {
+        Marks {
+            has_stray_constraint: !self.has_join || self.has_stray_constraint,
+            ..self
+        }
+    }
+
+    // Why a statement isn't printed.
+    pub(crate) fn fault(self) -> Option<Error>
+        ensures { result ≡ fault self }
+    {
+        if self.needs_condition && !self.has_condition {
+            Some(Error::NoCondition)
+        } else if self.has_stray_constraint {
+            Some(Error::NoJoin)
+        } else if self.has_union && self.has_order {
+            Some(Error::OrderBesideUnion)
+        } else {
+            None
+        }
+    }
+}

@@ -1,0 +1,285 @@
+//! Templates: texts of the program's own with a `?`, a hole, for each operand.
+ghost use Rattle.std.specs.Prelude.{◌≡◌, ◌+◌, ◌++◌, [], ◌∷◌, IfErr, IfOk, IsTrue, is_ok, length, string_bytes};
+ghost use Rattle.std.specs.List.{list_all};
+ghost use Rattle.sql_parts.specs.Error.{FailsOnlyByMemory};
+ghost use Rattle.sql_parts.specs.Holes.{filled, hole_count, holes_apart, in_hole};
+ghost use Rattle.sql_parts.specs.Misfits.{misfit};
+ghost use Rattle.sql_parts.specs.Operands.{is_bare_operand, is_typed_fragment, is_typed_operand};
+ghost use Rattle.sql_parts.specs.Text.{texts};
+ghost use Rattle.sql_parts.specs.Tokens.{closed, tokens};
+ghost use Rattle.sql_builder.specs.Layout.{byte_units};
+ghost use Rattle.sql_builder.specs.Phrases.{in_brackets};
+ghost use Rattle.sql_builder.specs.Shape.{EndsInOneSemicolon};
+ghost use Rattle.sql_typed.specs.Filled.{ReadersIgnoreHeldTexts, fault, message_text, takes};
+ghost use Rattle.sql_typed.specs.Results.{Prints};
+ghost use Rattle.sql_typed.specs.declared.template.TemplateError.TheVariants.{HolesTouch};
+
+use crate::Result;
+use crate::condition::{bracketed, push_bracketed};
+use crate::operand_text::OperandText;
+use crate::texts::Condition;
+use sql_parts::SqlBuilderError;
+use sql_parts::holes::{hole_count, holes_apart, is_unit};
+use sql_parts::lex::{Demand, Misfit, misfit};
+use sql_parts::text::OwnedOperand;
+use std::alloc::Global;
+use std::error::Error;
+use std::fmt;
+
+/// Why a template, or one with these operands, is none of what it is to be.
+#[derive(Debug, Drop)]
+pub enum TemplateError {
+    /// A `?` is in a literal, a name or a comment, or something else than a separator is beside it.
+    HolesTouch,
+    /// There is not one operand for each `?`.
+    OperandCount,
+    /// Why its text is no condition or no operand, whatever is in its holes.
+    Misfit(Misfit),
+    /// Why another call fails.
+    Builder(SqlBuilderError),
+}
+
+impl TemplateError {
+    /// The error's message, which Display prints too. It can't fail.
+    /// `TemplateError::OperandCount.message()` → `Not one operand for each ?`
+    pub fn message(&self) -> &'static str
+        ensures text { result.now ≡ message_text self.now }
+    {
+        match self {
+            TemplateError::HolesTouch => {
+                "A ? is in a literal, a name or a comment, or has no separator beside it"
+            }
+            TemplateError::OperandCount => "Not one operand for each ?",
+            TemplateError::Misfit(reason) => reason.message(),
+            TemplateError::Builder(error) => error.message(),
+        }
+    }
+}
+
+impl fmt::Display for TemplateError {
+    ghost use Rattle.std.specs.Prelude.{Some};
+    ghost use Rattle.sql_typed.specs.Filled.{message_text};
+
+    ghost output = { λ e. Some (message_text e) };
+
+    ghost styled_output = { λ e _. Some (message_text e) };
+
+    fn fmt<W: fmt::Write>(&self, f: &mut fmt::Formatter<W>) -> fmt::Result {
+        f.write_str(self.message())
+    }
+}
+
+impl Error for TemplateError {}
+
+impl From<SqlBuilderError> for TemplateError {
+    ghost use Rattle.std.specs.Prelude.{◌≡◌};
+    ghost use Rattle.sql_typed.specs.declared.template.TemplateError.TheVariants.{Builder};
+
+    ghost from_gives = { λ failed error. error ≡ Builder failed };
+
+    fn from(error: SqlBuilderError) -> TemplateError {
+        TemplateError::Builder(error)
+    }
+}
+
+/// Operands for the holes of a template, in their order. They may be of different types.
+#[derive(Drop)]
+pub struct Operands {
+    alloc: Global,
+    /// The operands as they are written in holes: in brackets, but for literals that aren't negative,
+    /// placeholders, names and texts in brackets.
+    pub written: Vec<String>,
+    pub ghost serve: { IsTrue (list_all is_bare_operand (texts written.items)) },
+}
+
+impl Operands {
+    /// No operand. It can't fail.
+    /// `Operands::new(alloc).written.len()` → `0`
+    pub fn new(alloc: Global) -> Operands
+        ensures { result.written.items ≡ [] }
+    {
+        let written = Vec::new(alloc);
+        Operands { alloc, written }
+    }
+
+    /// One more operand. It fails only if memory runs out.
+    /// `Operands::new(alloc).with(Value("it's"))?.with(Operand::of("a + b"))?.written` → `['it''s', (a + b)]`
+    pub fn with<V: OperandText>(mut self, operand: V) -> Result<Operands>
+        ensures texts { IfOk result (λ operands. texts operands.written.items
+            ≡ texts self.written.items ++ in_hole (V.text operand) ∷ []) }
+        ensures count { IfOk result (λ operands. length operands.written.items
+            ≡ length self.written.items + 1) }
+        ensures memory { FailsOnlyByMemory result }
+    {
+        let text = held(self.alloc, operand.to_text(self.alloc)?)?;
+        self.written.push(text)?;
+        Ok(self)
+    }
+
+    /// One more operand: a condition, in brackets. It fails only if memory runs out.
+    /// `Operands::new(alloc).with_condition(&is_null(alloc, Operand::of("a"))?)?.written` → `[(a IS NULL)]`
+    pub fn with_condition(self, condition: &Condition) -> Result<Operands>
+        ensures texts { IfOk result (λ operands. texts operands.written.items
+            ≡ texts self.written.items ++ in_brackets byte_units (string_bytes condition.now.text) ∷ []) }
+        ensures count { IfOk result (λ operands. length operands.written.items
+            ≡ length self.written.items + 1) }
+        ensures memory { FailsOnlyByMemory result }
+    {
+        let operand = bracketed(self.alloc, condition.text.as_str())?;
+        let operands = self.with(operand)?;
+        Ok(operands)
+    }
+}
+
+// The text of an operand as it is written in a hole.
+fn held(alloc: Global, text: String) -> Result<String>
+    ensures text { IfOk result (λ s. string_bytes s ≡ in_hole (string_bytes text)) }
+    ensures memory { FailsOnlyByMemory result }
+{
+    if is_unit(text.as_str()) {
+        return Ok(text);
+    }
+    let mut held = String::with_capacity(alloc, text.len().saturating_add(2))?;
+    push_bracketed(&mut held, text.as_str())?;
+    Ok(held)
+}
+
+/// A text of the program's own with a hole for each operand, a `?` with a separator or an end of the
+/// text at both sides. An operator of the database's own can't be written so: for `data ? 'key'` take
+/// `jsonb_exists(data, ?)`.
+#[derive(Clone, Copy)]
+#[non_exhaustive]
+pub struct Template<'a> {
+    /// The text.
+    pub text: &'a str,
+    pub ghost apart: { IsTrue (holes_apart text.now) },
+}
+
+impl<'a> Template<'a> {
+    /// The template of this text, whose holes stand apart: only a proof tests it, `rt try` doesn't. It
+    /// can't fail.
+    /// `Template::of("price * ? > ?").text` → `price * ? > ?`
+    pub fn of(text: &'a str) -> Template<'a>
+        requires apart { IsTrue (holes_apart text.now) }
+        ensures text { result.text ≡ text.entry }
+        ensures operand { IsTrue (is_typed_operand text.entry.now)
+            → IsTrue (is_typed_operand result.text.now) }
+        ensures condition { IsTrue (is_typed_fragment text.entry.now)
+            → IsTrue (is_typed_fragment result.text.now) }
+    {
+        Template { text }
+    }
+
+    /// A text of the program's own as a template, or `HolesTouch`. It takes no memory. Never give it
+    /// untrusted text.
+    /// `Template::of_trusted("title = '?'")` fails with `HolesTouch`
+    pub fn of_trusted(text: &'a str) -> std::result::Result<Template<'a>, TemplateError>
+        ensures apart { is_ok result ≡ holes_apart text.entry.now }
+        ensures text { IfOk result (λ template. template.text ≡ text.entry) }
+        ensures error { IfErr result (λ error. error ≡ HolesTouch) }
+    {
+        if holes_apart(text) {
+            Ok(Template { text })
+        } else {
+            Err(TemplateError::HolesTouch)
+        }
+    }
+
+    /// Tests what the calls below require, where the text or the operands aren't known before the
+    /// program runs. It fails with why the text doesn't meet the demand, and else with `OperandCount`.
+    /// It takes no memory.
+    /// `Template::of("a OR ?").check(Demand::TypedOperand, &Operands::new(alloc))` fails with `Misfit(Joined)`
+    pub fn check(
+        self,
+        demand: Demand,
+        operands: &Operands,
+    ) -> std::result::Result<(), TemplateError>
+        ensures takes { is_ok result
+            ≡ takes demand self.entry.text.now (length operands.now.written.items) }
+        ensures error { IfErr result (λ error. error ≡ fault (misfit demand self.entry.text.now)) }
+    {
+        if let Some(reason) = misfit(self.text, demand) {
+            return Err(TemplateError::Misfit(reason));
+        }
+        if hole_count(self.text) != operands.written.len() {
+            return Err(TemplateError::OperandCount);
+        }
+        Ok(())
+    }
+
+    /// The template with these operands in its holes, as an operand: the text with a word in each hole
+    /// is one. It fails only if memory runs out.
+    /// `Template::of("lower(?)").operand(alloc, &Operands::new(alloc).with(Value("It's"))?)?.text` → `lower('It''s')`
+    pub fn operand(self, alloc: Global, operands: &Operands) -> Result<OwnedOperand>
+        requires fits { IsTrue (is_typed_operand self.text.now) }
+        requires count { hole_count self.text.now ≡ length operands.now.written.items }
+        ensures text { IfOk result (λ owned. string_bytes owned.text
+            ≡ filled (texts operands.now.written.items) self.entry.text.now) }
+        ensures memory { FailsOnlyByMemory result }
+    {
+        let text = filled(alloc, self.text, &operands.written)?;
+        Ok(OwnedOperand::of_built(text))
+    }
+
+    /// The template with these operands in its holes, as a condition, which `as_fragment` borrows as a
+    /// fragment. It fails only if memory runs out.
+    /// `Template::of("instr(title, ?) > 0").condition(alloc, &Operands::new(alloc).with(Value("it's"))?)?.text` →
+    /// `instr(title, 'it''s') > 0`
+    pub fn condition(self, alloc: Global, operands: &Operands) -> Result<Condition>
+        requires fits { IsTrue (is_typed_fragment self.text.now) }
+        requires count { hole_count self.text.now ≡ length operands.now.written.items }
+        ensures text { Prints result (filled (texts operands.now.written.items) self.entry.text.now) }
+    {
+        let text = filled(alloc, self.text, &operands.written)?;
+        Ok(Condition { text })
+    }
+
+    /// The template with these operands in its holes, as a statement of any kind: no test of a fragment
+    /// reads it. No operand ends a literal or a comment, or has a `;`. It fails only if memory runs out.
+    /// ```
+    /// let name = Operands::new(alloc).with(Value("it's"))?;
+    /// let upsert = Template::of("INSERT INTO t (a) VALUES (?) ON CONFLICT DO NOTHING;");
+    /// upsert.sql(alloc, &name)?; // INSERT INTO t (a) VALUES ('it''s') ON CONFLICT DO NOTHING;
+    /// ```
+    pub fn sql(self, alloc: Global, operands: &Operands) -> Result<String>
+        requires count { hole_count self.text.now ≡ length operands.now.written.items }
+        ensures text { IfOk result (λ s. string_bytes s
+            ≡ filled (texts operands.now.written.items) self.entry.text.now) }
+        ensures closed { IfOk result (λ s. IsTrue (closed (string_bytes s))) }
+        ensures semicolon { EndsInOneSemicolon (tokens self.entry.text.now)
+            → IfOk result (λ s. EndsInOneSemicolon (tokens (string_bytes s))) }
+        ensures readers { IfOk result (λ s.
+            ReadersIgnoreHeldTexts (texts operands.now.written.items) self.entry.text.now) }
+        ensures memory { FailsOnlyByMemory result }
+    {
+        let statement = filled(alloc, self.text, &operands.written)?;
+        Ok(statement)
+    }
+}
+
+// How much room `filled` asks for: an operand is in the place of each `?`.
+fn filled_room(template: &str, operands: &[String]) -> usize {
+    let words = template.len().saturating_sub(operands.len());
+    operands
+        .iter()
+        .fold(words, |room, operand| room.saturating_add(operand.len()))
+}
+
+// The template with these texts in its holes.
+fn filled(alloc: Global, template: &str, operands: &[String]) -> Result<String>
+    ensures text { IfOk result (λ s. string_bytes s ≡ filled (texts operands.now) template.now) }
+    ensures memory { FailsOnlyByMemory result }
+{
+    let mut text = String::with_capacity(alloc, filled_room(template, operands))?;
+    let mut rest = template;
+    for operand in operands {
+        let Some((segment, behind)) = rest.split_once('?') else {
+            break;
+        };
+        text.push_str(segment)?;
+        text.push_str(operand.as_str())?;
+        rest = behind;
+    }
+    text.push_str(rest)?;
+    Ok(text)
+}

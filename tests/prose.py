@@ -1,0 +1,70 @@
+"""Counts the words of pages, and of their sentences: README.md, CONTRIBUTING.md, CHANGELOG.md and docs/*.md, without generated ones.
+
+A sentence is read without code, of which each piece is one word, as a link is its text. Tables are taken cell by cell."""
+
+import re
+
+from blocks import cells, split_spans
+
+# How many words all pages may have, how many words and lines README.md, and how many words a sentence.
+ALL_WORDS, README_WORDS, README_LINES, SENTENCE_WORDS = 12_000, 900, 110, 30
+# A list's item, a heading or a quotation: its text begins behind the mark.
+MARK = re.compile(r"\s*(?:[-*] |\d+\. |#+ |> )")
+# A sentence ends here. (`..` ends none)
+END = re.compile(r"(?<=[.?!])(?<!\.\.)[)\"*]*\s+")
+
+
+def is_counted(page):
+    return bool(re.fullmatch(r"(README|CONTRIBUTING|CHANGELOG|docs/\w+)\.md", page))
+
+
+def without_code(text):
+    """The text with one word for each piece of code, and of a link what is shown."""
+    spans = split_spans(text)
+    spans[1::2] = ["CODE"] * len(spans[1::2])
+    return re.sub(r"!?\[([^]]*)\]\([^)]*\)", r"\1", "".join(spans))
+
+
+def parts(text):
+    """The paragraphs, items, headings and cells of a page, each with its first line, without blocks of code."""
+    found, begins, is_code, is_list = [], True, False, False
+    for number, line in enumerate(text.split("\n"), 1):
+        if re.match(r"\s*```", line):
+            begins, is_code = True, not is_code
+        elif is_code or not line.strip() or line.startswith("<!--") or begins and not is_list and line.startswith("    "):
+            begins = True
+        elif line.startswith("|"):
+            found += [(number, it) for it in cells(line)]
+        else:
+            mark = MARK.match(line)
+            is_list = bool(mark) or is_list and line.startswith(" ")
+            if begins or mark:
+                found.append((number, line[mark.end() if mark else 0 :]))
+            else:
+                found[-1] = (found[-1][0], f"{found[-1][1]} {line}")
+            begins = False
+    return found
+
+
+def sentences(text):
+    """The sentences of a page, each with the line where its part begins."""
+    return [(number, it) for number, part in parts(text) for it in END.split(without_code(part))]
+
+
+def word_count(sentence):
+    return sum(bool(re.search(r"\w", it)) for it in sentence.split())
+
+
+def too_long(texts):
+    """What is too long of pages, by their names, and where; README.md is among them only where they are all."""
+    for page, text in texts.items():
+        for number, sentence in sentences(text):
+            if (words := word_count(sentence)) > SENTENCE_WORDS:
+                yield f"{page}:{number}", f"a sentence of {words} words: {sentence}"
+    if readme := texts.get("README.md"):
+        if (words := sum(len(it.split()) for it in texts.values())) > ALL_WORDS and len(texts) > 1:
+            yield "the pages", f"{words} words, and {ALL_WORDS} are the most"
+        if (words := len(readme.split())) > README_WORDS:
+            yield "README.md", f"{words} words, and {README_WORDS} are the most"
+        if (lines := readme.count("\n")) > README_LINES:
+            yield "README.md", f"{lines} lines, and {README_LINES} are the most"
