@@ -178,10 +178,7 @@ const SEVEN: asked::Given<'static> = asked::Given::Number(7);
 
 const NINE: asked::Given<'static> = asked::Given::Number(9);
 
-fn asks_without_texts(
-    alloc: Global,
-    ids: Option<&[asked::Given<'_>]>,
-) -> Result<bool, Error> {
+fn asks_without_texts(alloc: Global, ids: Option<&[asked::Given<'_>]>) -> Result<bool, Error> {
     let form = Wanted {
         title: None,
         mask: None,
