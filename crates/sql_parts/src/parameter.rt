@@ -1,5 +1,5 @@
 //! Values beside a statement: its text has a placeholder for each of them, and no byte of theirs.
-ghost use Rattle.std.specs.Prelude.{◌≡◌, ◌++◌, suc, [], ◌∷◌, length, string_bytes, vec_capacity, IfOk, OnErr, OnOk};
+ghost use Rattle.std.specs.Prelude.{◌≡◌, ◌<◌, ◌++◌, suc, [], ◌∷◌, length, string_bytes, vec_capacity, vec_len, IfOk, IsOk, OnErr, OnOk};
 ghost use Rattle.sql_parts.specs.Error.{FailsOnlyByMemory};
 ghost use Rattle.sql_parts.specs.Parameters.{placeholder_text, placeholders_behind, prefix};
 
@@ -78,7 +78,7 @@ impl<V: Drop> Parameters<V> {
     }
 
     /// Takes one more value behind the others, and returns its placeholder. It fails only if memory
-    /// runs out, and then the values are as they were.
+    /// runs out, and then the values are as they were. While `values` has room, it can't fail.
     /// `Parameters::new(alloc, Style::Dollar).bind("it's")?.to_text(alloc)?` → `$1`
     #[inline(always)]
     pub fn bind(&mut self, value: V) -> Result<Placeholder, SqlBuilderError>
@@ -87,6 +87,7 @@ impl<V: Drop> Parameters<V> {
         ensures values { OnOk result (self.new.values.items ≡ self.old.values.items ++ value ∷ []) }
         ensures kept { OnErr result (self.new.values.items ≡ self.old.values.items) }
         ensures style { self.new.style ≡ self.old.style }
+        ensures room { vec_len self.old.values < vec_capacity self.old.values → IsOk result }
         ensures memory { FailsOnlyByMemory result }
     {
         if self.values.capacity() == 0 {

@@ -1,5 +1,5 @@
 //! Values by their order in a statement's text, for databases whose placeholders have no numbers.
-ghost use Rattle.std.specs.Prelude.{◌≡◌, ◌++◌, IfErr, IfOk, IfSome, MatchResult, None, Some, flat_map, is_none, map, string_bytes};
+ghost use Rattle.std.specs.Prelude.{◌≡◌, ◌++◌, IfErr, IfOk, IfSome, MatchResult, None, Some, flat_map, is_none, length, map, string_bytes};
 ghost use Rattle.sql_parts.specs.Marks.{IsMark};
 ghost use Rattle.sql_parts.specs.Positional as positional;
 ghost use Rattle.sql_parts.specs.Positional.{IsMemory, error_of, first_error, marks, message_text, positional_text, value_of};
@@ -102,7 +102,7 @@ fn value_of<V>(values: &[V], mark: Mark) -> Result<&V, PositionalError>
 
 // How many marks the text has, each with a value.
 fn count_marks<V>(style: Style, values: &[V], sql: &str) -> Result<usize, PositionalError>
-    ensures { MatchResult result (λ count. first_error values.now (marks style sql.now) ≡ None)
+    ensures { MatchResult result (λ count. (first_error values.now (marks style sql.now) ≡ None) × (count ≡ length (marks style sql.now)))
         (λ error. first_error values.now (marks style sql.now) ≡ Some error) }
 {
     let mut count = 0;

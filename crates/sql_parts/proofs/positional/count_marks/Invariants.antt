@@ -8,6 +8,7 @@ abbrev pub invariant-loop-found : goal.invariant-loop-found
 invariant-loop-found g l = record {
   utf8 : shadow (Utf8 l.rest);
   within : l.count + length l.rest ≤ length l.fn.sql;
+  count : l.count + length (marks l.style l.rest) ≡ length (marks l.style l.fn.sql);
   same : first_error l.values (marks l.style l.rest) ≡ first_error l.values (marks l.style l.fn.sql);
 }
 
