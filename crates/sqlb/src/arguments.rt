@@ -8,8 +8,8 @@ use crate::scan::end_of_part;
 use sql_builder::text::Texts;
 use std::marker::Model;
 
-/// A text that is read line by line, part by part. The first part of a line is its name. Contracts see
-/// what is left of the text.
+/// A text that is read line by line, part by part. The first part of a line is its name. Contracts
+/// see what is left of the text.
 #[derive(Drop)]
 pub(crate) struct Arguments<'a> {
     text: &'a str,
@@ -33,7 +33,7 @@ impl<'a> Model for Arguments<'a> {
 }
 
 impl<'a> Arguments<'a> {
-    /// A text of which no line is read yet.
+    /// Returns the lines of a text, none of which is read yet. Never fails.
     pub(crate) fn of(text: &'a str) -> Arguments<'a>
         ensures parts { result.parts ≡ [] }
         ensures behind { result.behind ≡ text.now }
@@ -45,7 +45,8 @@ impl<'a> Arguments<'a> {
         }
     }
 
-    /// Goes on to the next line, if there is one. The parts of the line before are taken.
+    /// Goes on to the next line, and returns whether there is one. All parts of the line before
+    /// have to be taken.
     pub(crate) fn next_line(&mut self) -> bool
         requires taken { self.old.parts ≡ [] }
         ensures line { IsTrue result → IsNextLine self.old.behind self.new }
@@ -55,7 +56,7 @@ impl<'a> Arguments<'a> {
         self.in_line
     }
 
-    /// The next part of the line, which is taken.
+    /// Takes the next part of the line, if there is one.
     pub(crate) fn next(&mut self) -> Option<&'a str>
         ensures next { MatchOption result ((self.old.parts ≡ []) × (self.new.parts ≡ []))
             (λ part. self.old.parts ≡ part.now ∷ self.new.parts) }
@@ -77,7 +78,7 @@ impl<'a> Arguments<'a> {
         Some(part)
     }
 
-    /// The next part, which is taken, if there is one.
+    /// Takes the next part. Fails with `WrongArguments` if there is none.
     pub(crate) fn first(&mut self) -> Result<&'a str, Reason>
         ensures first { Checks (λ part. (part.now, self.new.parts)) result
             (first_of self.old.parts) }
@@ -89,7 +90,7 @@ impl<'a> Arguments<'a> {
         }
     }
 
-    /// Nothing, if there is no part.
+    /// Checks that no part is left. Fails with `WrongArguments` if one is.
     pub(crate) fn none(&mut self) -> Result<(), Reason>
         ensures none { Checks (λ done. done) result (none_of self.old.parts) }
         ensures taken { OnOk result (IsTaken self.old self.new) }
@@ -100,7 +101,7 @@ impl<'a> Arguments<'a> {
         }
     }
 
-    /// The one part, if there are no others.
+    /// Takes the only part. Fails with `WrongArguments` if there is none or more than one.
     #[inline(always)]
     pub(crate) fn one(&mut self) -> Result<&'a str, Reason>
         ensures one { Checks (λ part. part.now) result (one_of self.old.parts) }
@@ -111,7 +112,7 @@ impl<'a> Arguments<'a> {
         Ok(part)
     }
 
-    /// The two parts, if there are no others.
+    /// Takes the only two parts. Fails with `WrongArguments` if there are fewer or more.
     #[inline(always)]
     pub(crate) fn two(&mut self) -> Result<(&'a str, &'a str), Reason>
         ensures two { Checks (λ parts. (parts.0.now, parts.1.now)) result
@@ -122,7 +123,7 @@ impl<'a> Arguments<'a> {
         Ok((first, self.one()?))
     }
 
-    /// The three parts, if there are no others.
+    /// Takes the only three parts. Fails with `WrongArguments` if there are fewer or more.
     pub(crate) fn three(&mut self) -> Result<(&'a str, &'a str, &'a str), Reason>
         ensures three { Checks (λ parts. (parts.0.now, parts.1.now, parts.2.now)) result
             (three_of self.old.parts) }
@@ -133,7 +134,7 @@ impl<'a> Arguments<'a> {
         Ok((first, second, third))
     }
 
-    /// The parts that are left, all of which are taken.
+    /// Takes all parts that are left.
     pub(crate) fn others(&mut self) -> Arguments<'a>
         ensures others { result.parts ≡ self.old.parts }
         ensures taken { IsTaken self.old self.new }

@@ -1,46 +1,46 @@
-//! What stops a run.
+//! The faults that stop a run.
 ghost use Rattle.std.specs.Prelude.{◌≡◌};
 ghost use Rattle.sqlb.specs.Fault.{fault_status, reason_text};
 
 use sql_builder::SqlBuilderError;
 use std::alloc::AllocError;
 
-/// Why a line is not accepted.
+/// The reason why a line is not accepted.
 #[derive(Debug, Drop)]
 pub enum Reason {
-    /// Its name is none that is known.
+    /// The line begins with no known name.
     UnknownCall,
-    /// Its arguments don't fit its name.
+    /// The arguments don't fit the name.
     WrongArguments,
-    /// It is a call or a finish, and no statement is open.
+    /// The line is a call or a finish, and no statement is open.
     NoStatement,
-    /// It is a start, and a statement is open.
+    /// The line is a start, and a statement is open.
     StatementOpen,
-    /// It is the last line, and a statement is open after it.
+    /// The line is the last one, and leaves a statement open.
     NoEnd,
-    /// It is not UTF-8.
+    /// The line is not UTF-8.
     NotUtf8,
-    /// It is a finish, and the builder fails with this error; never out of memory.
+    /// The line is a finish, and the builder fails with this error. It is never out of memory.
     Builder(SqlBuilderError),
 }
 
-/// What stops a run.
+/// The fault that stops a run.
 #[derive(Debug, Drop)]
 pub enum Fault {
-    /// The line of this number, counted from 1, is not accepted.
+    /// The line of this number is not accepted. The first line has the number 1.
     At(usize, Reason),
     /// Memory ran out.
     Memory,
-    /// A read answered an error.
+    /// A read returned an error.
     Read,
-    /// A write answered an error, or took no byte.
+    /// A write returned an error, or took no byte.
     Write,
 }
 
-/// Why a line is not run.
+/// The reason why a line is not run.
 #[derive(Drop)]
 pub(crate) enum LineError {
-    /// It is not accepted.
+    /// The line is not accepted.
     Rejected(Reason),
     /// Memory ran out.
     Memory,
@@ -83,7 +83,7 @@ impl From<SqlBuilderError> for LineError {
 }
 
 impl Reason {
-    /// The reason's text.
+    /// Returns the reason's text. Never fails.
     pub fn message(&self) -> &'static str
         ensures text { result.now ≡ reason_text self.now }
     {
@@ -100,7 +100,8 @@ impl Reason {
 }
 
 impl Fault {
-    /// The exit status: 1 for a line or for memory, 2 for a reader or a writer that failed.
+    /// Returns the exit status: 1 for a line or for memory, 2 for a failed reader or writer. Never
+    /// fails.
     pub fn status(&self) -> u8
         ensures status { result ≡ fault_status self.now }
     {

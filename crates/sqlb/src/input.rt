@@ -26,7 +26,8 @@ fn make_room(buffer: &mut Vec<u8>, filled: usize) -> Result<(), AllocError>
     Ok(())
 }
 
-/// Reads to the end, and gives every byte. A reader that never ends is answered `Memory`.
+/// Reads to the end, and returns every byte. Fails with `Read` if a read fails. Fails with `Memory`
+/// if memory runs out, as it does for a reader that never ends.
 pub(crate) fn read_all<R: Read>(alloc: Global, reader: &mut Watched<R>) -> Result<Vec<u8>, Fault>
     requires not_failed { reader.old.failed ≡ false }
     requires not_ended { reader.old.ended ≡ false }

@@ -22,8 +22,8 @@ fn read_flag(text: &str) -> Result<bool, Reason>
 }
 
 impl Script {
-    /// Runs a line, and returns whether it finished a statement. Where it fails a check, or memory
-    /// runs out in it, the same statement stays open.
+    /// Runs a line, and returns whether it finished a statement. On failure the same statement
+    /// stays open.
     pub(crate) fn take_line(
         &mut self,
         arguments: &mut Arguments<'_>,

@@ -14,32 +14,32 @@ use sql_builder::calls::{
     UnaryClause, VariadicClause,
 };
 
-/// What a name means, by how many arguments it takes.
+/// The meaning of a name, by how many arguments it takes.
 #[derive(Clone, Copy)]
 pub(crate) enum Meaning {
-    /// It takes none.
+    /// A call without arguments.
     Nullary(NullaryClause),
-    /// It prints the statement, and takes none.
+    /// A finish without arguments, which prints the statement.
     Prints(Printing),
-    /// It opens a statement on one table.
+    /// A start on one table.
     Start(TableStart),
-    /// It opens a statement of any number of values.
+    /// A start with any number of values.
     SelectValues,
-    /// It takes one.
+    /// A call with one argument.
     Unary(UnaryClause),
-    /// It takes two.
+    /// A call with two arguments.
     Binary(BinaryClause),
-    /// It takes a field, and `true` or `false`.
+    /// An ORDER BY of a field, and `true` or `false`.
     OrderBy,
-    /// It takes any number.
+    /// A call with any number of arguments.
     Variadic(VariadicClause),
-    /// It adds a condition of this family; its ending says how many it takes.
+    /// A condition of this family. Its ending says how many arguments it takes.
     Where(Family, Ending),
-    /// It prints a subquery of one name.
+    /// A finish with a name, which prints a subquery.
     SubqueryAs,
 }
 
-/// A printing call without an argument. `Finish`, which may hold a text, is slower to return.
+/// A finish without an argument. `Finish`, which may hold a text, is slower to return.
 #[derive(Clone, Copy)]
 pub(crate) enum Printing {
     Sql,
@@ -48,7 +48,7 @@ pub(crate) enum Printing {
     Subquery,
 }
 
-/// A condition, but for its texts. A truth value says whether it is the NOT form.
+/// A condition without its texts. A truth value says whether it is the NOT form.
 #[derive(Clone, Copy)]
 pub(crate) enum Ending {
     Raw,
@@ -63,7 +63,8 @@ pub(crate) enum Ending {
 }
 
 impl Ending {
-    /// What follows `and_where` or `or_where`, if it is known. Endings are compared exactly.
+    /// Returns what follows `and_where` or `or_where`, if it is known. Endings are compared
+    /// exactly.
     #[tactic(auto, unfolding(crate::specs::Names::ending_of))]
     fn of(ending: &str) -> Option<Ending>
         ensures ending { result ≡ ending_of ending.now }
@@ -128,8 +129,8 @@ impl Ending {
         })
     }
 
-    /// The condition that the arguments make. Fails where they don't fit. It is a part of its caller,
-    /// where it is made in place.
+    /// Returns the condition that the arguments make. Fails with `WrongArguments` if they don't
+    /// fit. It is inlined, so the condition is made in place.
     #[inline(always)]
     pub(crate) fn condition<'a>(
         self,
@@ -264,7 +265,7 @@ fn end_call(name: &str) -> Option<Meaning>
 }
 
 impl Meaning {
-    /// What the name means, if it is known. Names are compared exactly.
+    /// Returns what the name means, if it is known. Names are compared exactly.
     #[tactic(auto, unfolding(crate::specs::Names::meaning_of))]
     pub(crate) fn of(name: &str) -> Option<Meaning>
         ensures meaning { result ≡ meaning_of name.now }

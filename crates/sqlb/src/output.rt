@@ -9,7 +9,7 @@ use crate::fault::Fault;
 use crate::watched::Watched;
 use std::io::Write;
 
-/// Writes all the bytes, and stops at the first write that fails.
+/// Writes all the bytes. Fails with `Write` at the first write that fails, and then stops.
 pub(crate) fn write_all<W: Write>(writer: &mut Watched<W>, bytes: &[u8]) -> Result<(), Fault>
     requires not_failed { writer.old.failed ≡ false }
     ensures wrote { (written : List ℕ) × Appends (W.contents writer.old.inner)
@@ -27,7 +27,8 @@ pub(crate) fn write_all<W: Write>(writer: &mut Watched<W>, bytes: &[u8]) -> Resu
     Ok(())
 }
 
-/// Writes all the parts, one after another, and stops at the first write that fails.
+/// Writes all the parts, one after another. Fails with `Write` at the first write that fails, and
+/// then stops.
 pub(crate) fn write_parts<W: Write>(writer: &mut Watched<W>, parts: &[&[u8]]) -> Result<(), Fault>
     requires not_failed { writer.old.failed ≡ false }
     ensures wrote { (written : List ℕ) × Appends (W.contents writer.old.inner)
@@ -42,7 +43,8 @@ pub(crate) fn write_parts<W: Write>(writer: &mut Watched<W>, parts: &[&[u8]]) ->
     Ok(())
 }
 
-/// Writes the text and a line feed, and stops at the first write that fails.
+/// Writes the text and a line feed. Fails with `Write` at the first write that fails, and then
+/// stops.
 pub(crate) fn write_line<W: Write>(writer: &mut Watched<W>, text: &str) -> Result<(), Fault>
     requires not_failed { writer.old.failed ≡ false }
     ensures wrote { (written : List ℕ) × Appends (W.contents writer.old.inner)
@@ -75,8 +77,8 @@ fn write_digits(number: usize, digits: &mut [u8; MOST_DIGITS]) -> usize
     }
 }
 
-/// Writes the fault as a line. It takes no memory; its only fault is `Write`, where the writer
-/// failed, and then a beginning of the line is written.
+/// Writes the fault as a line, and asks for no memory. Fails only with `Write`, if the writer
+/// fails. Then only a beginning of the line is written.
 pub fn write_fault<W: Write>(fault: &Fault, writer: &mut Watched<W>) -> Result<(), Fault>
     requires not_failed { writer.old.failed ≡ false }
     ensures wrote { (written : List ℕ) × Appends (W.contents writer.old.inner)

@@ -68,9 +68,12 @@ fn check_end(number: usize, has_invalid_line: bool, is_open: bool) -> Result<(),
     Ok(())
 }
 
-/// Reads the whole input, runs its lines, and writes each finished statement and a line feed.
-/// The first fault ends the run, with the statements before it written. No read or write is
-/// tried again after an error. A reader that never ends is answered `Memory`.
+/// Reads the whole input, runs its lines, and writes each finished statement and a line feed. The
+/// first fault ends the run, and the statements before it are written.
+///
+/// Fails with `Read` if a read fails, and with `Write` if a write fails. No read or write is tried
+/// again after an error. Fails with `At` if a line is not accepted. Fails with `Memory` if memory
+/// runs out, as it does for a reader that never ends.
 pub fn run_input<R: Read, W: Write>(
     alloc: Global,
     reader: &mut Watched<R>,
@@ -109,9 +112,10 @@ pub fn run_input<R: Read, W: Write>(
     run_lines(alloc, &text, script, writer)
 }
 
-/// Runs an input as `run_input` does, flushes the buffer before it returns, and gives the writer
-/// below it back. Where a write has failed, nothing more is written or flushed; a flush that fails
-/// is the fault `Write`, unless a read has failed. What is still in the buffer then is lost.
+/// Runs an input as `run_input` does, and flushes the buffer before it returns. It returns the
+/// writer below the buffer, and the result of the run. After a failed write, nothing more is
+/// written or flushed. A failed flush is the fault `Write`, unless a read has failed. What is still
+/// in the buffer then is lost.
 pub(crate) fn run_flushed<R: Read, W: Write + Drop>(
     alloc: Global,
     reader: &mut Watched<R>,

@@ -42,7 +42,7 @@ fn end_in_rest(text: &[u8], from: usize) -> usize
     }
 }
 
-/// The place of the next TAB or line feed, or the end of the text.
+/// Returns the place of the next TAB or line feed, or the end of the text.
 #[inline(always)]
 pub(crate) fn end_of_part(text: &[u8], from: usize) -> usize
     requires { from ≤ length text.now }

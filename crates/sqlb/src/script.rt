@@ -1,5 +1,5 @@
-//! The statement that is open, and what the lines do to it. Each returns whether the line finished
-//! the statement.
+//! The statement that is open, and what the lines do to it. Each call returns whether the line
+//! finished the statement.
 ghost use Rattle.std.specs.Prelude.{◌≡◌, IfErr, IfOk, IfSome, IsErrOf, IsSome, None, Ok, OnOk, is_some, string_bytes};
 ghost use Rattle.sql_builder.specs.Builder.{HasJoin};
 ghost use Rattle.sql_builder.specs.Calls.{Cond, OrderBy, SelectValues, SubqueryAs};
@@ -25,8 +25,8 @@ use sql_builder::calls::{
 use std::alloc::Global;
 use std::marker::Model;
 
-/// The statement that is open, if one is, and the buffers of those before it. Contracts see what the
-/// open statement's builder was given.
+/// The open statement, if there is one, and the buffers of earlier statements. Contracts see what
+/// the builder of the open statement was given.
 #[derive(Drop)]
 pub(crate) struct Script {
     builder: SqlBuilder,
@@ -43,7 +43,7 @@ impl Model for Script {
 }
 
 impl Script {
-    /// No statement is open.
+    /// Returns a script without an open statement. Fails only if memory runs out.
     pub(crate) fn new(alloc: Global) -> Result<Script, Fault>
         ensures closed { IfOk result (λ script. script ≡ None) }
         ensures memory { IfErr result (λ fault. fault ≡ Memory) }
@@ -57,7 +57,7 @@ impl Script {
         }
     }
 
-    /// Whether a statement is open.
+    /// Returns whether a statement is open. Never fails.
     pub(crate) fn is_open(&self) -> bool
         ensures is_open { result ≡ is_some self.now }
     {
@@ -88,7 +88,7 @@ impl Script {
         Ok(())
     }
 
-    /// Opens a statement on a table, where none is open.
+    /// Opens a statement on a table. Fails with `StatementOpen` if one is open.
     pub(crate) fn start_on(&mut self, start: TableStart, table: &str) -> Result<bool, LineError>
         ensures { Does result self.old self.new (Starts (start_on start table.now)) }
     {
@@ -98,7 +98,7 @@ impl Script {
         Ok(false)
     }
 
-    /// Opens a statement of values, where none is open.
+    /// Opens a statement of values. Fails with `StatementOpen` if one is open.
     #[inline(never)]
     pub(crate) fn start_values(&mut self, values: Arguments<'_>) -> Result<bool, LineError>
         ensures { Does result self.old self.new (Starts (SelectValues values.entry.parts)) }
@@ -109,7 +109,7 @@ impl Script {
         Ok(false)
     }
 
-    /// Makes a call of the open statement without a text.
+    /// Makes a call without a text. Fails with `NoStatement` if no statement is open.
     pub(crate) fn add_nullary(&mut self, clause: NullaryClause) -> Result<bool, LineError>
         ensures given { Does result self.old self.new (Calls (nullary_call clause)) }
         ensures memory { IsErrOf result out.Memory → clause ≡ ReturningId }
@@ -119,8 +119,8 @@ impl Script {
         Ok(false)
     }
 
-    /// Makes a call of the open statement with one text. A function of its own, as the next, so that
-    /// `take` stays a part of the loop over lines.
+    /// Makes a call with one text. Fails with `NoStatement` if no statement is open. This call and
+    /// the next are not inlined, so that `take` stays a part of the loop over lines.
     #[inline(never)]
     pub(crate) fn add_unary(&mut self, clause: UnaryClause, text: &str) -> Result<bool, LineError>
         ensures given { Does result self.old self.new (Calls (unary_call clause text.now)) }
@@ -132,7 +132,7 @@ impl Script {
         Ok(false)
     }
 
-    /// Makes a call of the open statement with two texts.
+    /// Makes a call with two texts. Fails with `NoStatement` if no statement is open.
     #[inline(never)]
     pub(crate) fn add_binary<'a>(
         &mut self,
@@ -150,7 +150,7 @@ impl Script {
         Ok(false)
     }
 
-    /// Orders the open statement by a field.
+    /// Orders the open statement by a field. Fails with `NoStatement` if no statement is open.
     pub(crate) fn add_order(&mut self, field: &str, descending: bool) -> Result<bool, LineError>
         ensures { Does result self.old self.new (Calls (OrderBy field.now descending)) }
     {
@@ -159,7 +159,7 @@ impl Script {
         Ok(false)
     }
 
-    /// Makes a call of the open statement with a list of texts.
+    /// Makes a call with a list of texts. Fails with `NoStatement` if no statement is open.
     pub(crate) fn add_variadic(
         &mut self,
         clause: VariadicClause,
@@ -172,7 +172,7 @@ impl Script {
         Ok(false)
     }
 
-    /// Adds a condition to the open statement.
+    /// Adds a condition to the open statement. Fails with `NoStatement` if no statement is open.
     pub(crate) fn add_condition<'a>(
         &mut self,
         family: Family,
@@ -186,7 +186,8 @@ impl Script {
         Ok(false)
     }
 
-    /// Prints the open statement, which is then closed, in the place of the statement before it.
+    /// Prints the open statement in the place of the one before it, and closes it. Fails with
+    /// `NoStatement` if no statement is open.
     pub(crate) fn finish(
         &mut self,
         finish: &Finish,
@@ -202,7 +203,8 @@ impl Script {
         Ok(true)
     }
 
-    /// Prints the open statement as a subquery of this name. The statement is then closed.
+    /// Prints the open statement as a subquery of this name, and closes it. Fails with
+    /// `NoStatement` if no statement is open.
     pub(crate) fn finish_as(
         &mut self,
         name: &str,

@@ -13,12 +13,12 @@ use crate::watched::Watched;
 use std::alloc::Global;
 use std::io::{BufWriter, Read, Write};
 
-/// How a run of the program has ended.
+/// The end of a run of the program.
 #[derive(Drop)]
 pub(crate) struct Ended<W> {
-    /// The writer below the buffer; none where none was given.
+    /// The writer below the buffer, or `None` if none was given.
     pub(crate) writer: Option<Watched<W>>,
-    /// Nothing, or the fault.
+    /// The fault, if there is one.
     pub(crate) answer: Result<(), Fault>,
     /// The exit status.
     pub(crate) status: u8,
@@ -44,9 +44,9 @@ fn report<E: Write>(answer: &Result<(), Fault>, errors: &mut Watched<E>) -> u8
     }
 }
 
-/// Runs what the reader gives, writes the statements to the writer and then the fault, if there is
-/// one, to `errors`, and gives the exit status. No writer stands for no memory for its buffer, which
-/// is the fault `Memory`.
+/// Runs what the reader gives, and writes the statements to the writer. Then it writes the fault,
+/// if there is one, to `errors`. A missing writer means that there was no memory for its buffer:
+/// the fault is `Memory`.
 pub(crate) fn run_streams<R: Read, W: Write + Drop, E: Write>(
     alloc: Global,
     reader: &mut Watched<R>,

@@ -319,8 +319,8 @@ fn fault_line(alloc: Global, answer: Result<(), Fault>) -> (Vec<u8>, u8) {
     (line.into_inner(), status)
 }
 
-/// What came of a run: the reader and the writer, whether the reader ended, whether the reader failed and whether
-/// the writer did, the line of the fault and the exit status.
+/// What came of a run. It has the reader and the writer, whether the reader ended, and whether each
+/// failed. It has the line of the fault and the exit status too.
 #[derive(Drop)]
 pub(crate) struct Outcome<R> {
     reader: R,

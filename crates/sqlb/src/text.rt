@@ -31,7 +31,8 @@ fn lines_before(input: &[u8], valid: usize) -> &str
     }
 }
 
-/// The lines of an input before the first that isn't UTF-8, and whether there is such a line.
+/// Returns the lines of an input before the first that isn't UTF-8, and whether there is such a
+/// line.
 pub(crate) fn lines_of_text(input: &[u8]) -> (&str, bool)
     ensures whole { result.1 ≡ false → result.0.now ≡ input.now }
     ensures cut { IsTrue result.1 → EndsBeforeInvalidLine input.now result.0.now }

@@ -142,7 +142,8 @@ fn text_prefix(bytes: &[u8]) -> usize
     at
 }
 
-/// As `str::from_utf8`, but of a fault it gives only the place.
+/// Returns the bytes as a text, as `str::from_utf8` does. Fails with the place of the first fault
+/// alone.
 pub(crate) fn from_utf8(bytes: &[u8]) -> Result<&str, usize>
     ensures { MatchResult result (λ text. text.now ≡ bytes.now)
         (λ valid. IsValidUpTo bytes.now valid) }

@@ -10,8 +10,8 @@ use std::io;
 use std::io::{BufWriter, Read, Write};
 use std::marker::Model;
 
-/// A reader or a writer, and what its calls have returned so far. No call takes memory, beyond
-/// what the reader or the writer itself does.
+/// A reader or a writer, and what its calls have returned so far. No call asks for memory, unless
+/// the reader or the writer itself does.
 #[derive(Drop)]
 pub struct Watched<T> {
     inner: T,
@@ -36,7 +36,7 @@ impl<T> Model for Watched<T> {
 
 impl<T> Watched<T> {
     /// Watches a reader or a writer that has neither failed nor ended. From then on only the watch
-    /// calls it.
+    /// calls it. Never fails.
     pub fn new(inner: T) -> Self
         ensures inner { result.inner ≡ inner }
         ensures failed { result.failed ≡ false }
@@ -59,14 +59,15 @@ impl<T> Watched<T> {
         self.inner
     }
 
-    /// Whether a call answered an error, or a write took no byte of a slice that wasn't empty.
+    /// Returns whether a call has failed. A write fails too if it takes no byte of a slice that
+    /// isn't empty. Never fails.
     pub fn failed(&self) -> bool
         ensures failed { result ≡ self.now.failed }
     {
         self.has_failed
     }
 
-    /// Whether a read answered 0 bytes for a slice that wasn't empty.
+    /// Returns whether a read has returned 0 bytes for a slice that isn't empty. Never fails.
     pub fn ended(&self) -> bool
         ensures ended { result ≡ self.now.ended }
     {
@@ -75,7 +76,7 @@ impl<T> Watched<T> {
 }
 
 impl<R: Read> Watched<R> {
-    /// One read of the reader, and its result.
+    /// Calls the reader's `read` once, and returns its result. Fails if that fails.
     pub fn read(&mut self, buf: &mut [u8]) -> io::Result<usize>
         ensures bound { ReadsAtMost result buf.new }
         ensures bytes { ReadConsumes (R.remaining self.old.inner) (R.remaining self.new.inner)
@@ -97,7 +98,7 @@ impl<R: Read> Watched<R> {
 }
 
 impl<W: Write> Watched<W> {
-    /// One write of the writer, and its result.
+    /// Calls the writer's `write` once, and returns its result. Fails if that fails.
     pub fn write(&mut self, buf: &[u8]) -> io::Result<usize>
         ensures bound { WritesAtMost result buf.now }
         ensures bytes { WriteAppends (W.contents self.old.inner) (W.contents self.new.inner)
@@ -134,7 +135,7 @@ impl<W: Write + Drop> Watched<BufWriter<W>> {
         }
     }
 
-    /// A flush of the buffer, and its result.
+    /// Flushes the buffer once, and returns the result. Fails if that fails.
     pub(crate) fn flush(&mut self) -> io::Result<()>
         ensures bytes { Keeps (writer_contents W.contents self.old.inner)
             (writer_contents W.contents self.new.inner) }
