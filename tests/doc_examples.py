@@ -1,6 +1,6 @@
 """Reads the public calls of a source, and the examples in their doc comments.
 
-An example is code, an arrow and what it prints, or `fails with` and an error; or a block of code, in whose last line what its last
+An example is code, `gives` and what it prints, or `fails with` and an error; or a block of code, in whose last line what its last
 expression prints is in a comment."""
 
 import re
@@ -8,7 +8,7 @@ from dataclasses import dataclass
 
 from blocks import split_spans
 
-BETWEEN = ("→", "fails with")
+BETWEEN = ("gives", "→", "fails with")
 SIGNATURE = re.compile(r"^( *)(pub )?fn (\w+)(?:<[^(]*>)?\(", re.M)
 BLOCK = re.compile(r"^```\n(.*?); // (.*?)\n```$", re.M | re.S)
 
@@ -53,7 +53,7 @@ def public_calls(name, text):
 
 def examples(doc):
     """The examples of a doc comment: the code, the word between, and what comes of it."""
-    blocks = [("{ " + code.replace("\n", " ") + " }", "→", says) for code, says in BLOCK.findall(doc)]
+    blocks = [("{ " + code.replace("\n", " ") + " }", "gives", says) for code, says in BLOCK.findall(doc)]
     parts = split_spans(BLOCK.sub("", doc).replace("\n", " "))
     said = zip(parts[1::2], (it.strip() for it in parts[2::2]), parts[3::2])
     return [*blocks, *(it for it in said if it[1] in BETWEEN)]
