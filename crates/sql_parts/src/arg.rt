@@ -25,10 +25,10 @@ pub enum Literal {
     Text(String),
 }
 
-/// A value in a statement, whose text is its literal: a text is quoted, a number is written in
-/// decimal, and what isn't there is NULL. Where a call prints its value unchanged, untrusted text goes
-/// in so.
-/// `Value("it's").to_text(alloc)?` → `'it''s'`
+/// A value in a statement, whose text is its literal. A text is quoted, a number is written in
+/// decimal, and what isn't there is NULL. If a call prints its value unchanged, give it untrusted
+/// text as a `Value`.
+/// `Value("it's").to_text(alloc)?` gives `'it''s'`
 #[derive(Clone, Copy, Drop)]
 pub struct Value<A>(pub A);
 
@@ -37,13 +37,14 @@ pub trait SqlArg: Drop {
     /// The literal.
     ghost literal: { Self → LiteralValue };
 
-    /// The literal as SQL writes it. It fails only if memory runs out.
-    /// `"it's".sql_arg(alloc)?` → `'it''s'`
+    /// Returns the literal as SQL writes it. Fails only if memory runs out.
+    /// `"it's".sql_arg(alloc)?` gives `'it''s'`
     fn sql_arg(&self, alloc: Global) -> Result<String, SqlBuilderError>
         ensures literal { IfOk result (λ s. string_bytes s ≡ literal_text (literal self.now)) }
         ensures memory { FailsOnlyByMemory result };
 
-    /// Appends the literal to a text. It fails only if memory runs out, and then the text is as it was.
+    /// Appends the literal to a text. Fails only if memory runs out, and then leaves `out`
+    /// unchanged.
     /// ```
     /// let mut text = String::new(alloc);
     /// true.push_sql_arg(alloc, &mut text)?;

@@ -14,13 +14,14 @@ use crate::text::ToText;
 use std::alloc::Global;
 
 /// A text whose placeholders can be bound. Each call goes through the text once, from the left, and
-/// gives a new one: what is put in is not looked at again, and quotes in the text mean nothing.
+/// returns a new one. It doesn't look again at what it put in. Quotes in the text mean nothing to
+/// it.
 pub trait Bind {
     /// The text, as its bytes.
     ghost template: { Self → List ℕ };
 
-    /// The text with the argument in place of the first `?`. It fails only if memory runs out.
-    /// `"a = ? OR ?".bind(alloc, &"it's")?` → `a = 'it''s' OR ?`
+    /// Returns the text with the argument in place of the first `?`. Fails only if memory runs out.
+    /// `"a = ? OR ?".bind(alloc, &"it's")?` gives `a = 'it''s' OR ?`
     fn bind<A: SqlArg>(&self, alloc: Global, arg: &A) -> Result<String, SqlBuilderError>
         ensures text { IfOk result (λ s. Some (string_bytes s)
             ≡ bound (template self.now) templates.First (alone (A.literal arg.now))) }
@@ -30,10 +31,12 @@ pub trait Bind {
             templates.First (string_bytes s)) }
         ensures memory { FailsOnlyByMemory result };
 
-    /// The text with the arguments in place of each `?` in turn, the first again after the last.
-    /// A text with a `?` and no argument fails with `NoArguments`, whether there is memory or
-    /// not. Otherwise it fails only if memory runs out.
-    /// `"? ? ?".binds(alloc, &[Box::new(alloc, 1)?, Box::new(alloc, String::from_str(alloc, "b")?)?])?` →
+    /// Returns the text with the arguments in place of each `?` in turn, the first again after the
+    /// last.
+    ///
+    /// Fails with `NoArguments` if the text has a `?` and there is no argument, whether there is
+    /// memory or not. Otherwise it fails only if memory runs out.
+    /// `"? ? ?".binds(alloc, &[Box::new(alloc, 1)?, Box::new(alloc, String::from_str(alloc, "b")?)?])?` gives
     /// `1 'b' 1`
     /// `"?".binds(alloc, &[])` fails with `NoArguments`
     fn binds(&self, alloc: Global, args: &[Box<dyn SqlArg>]) -> Result<String, SqlBuilderError>
@@ -50,9 +53,9 @@ pub trait Bind {
         ensures memory { IsSome (resolve (template self.now) (templates.Cycle (length args.now)))
             → FailsOnlyByMemory result };
 
-    /// The text with the argument in place of each `$` and the number that no ASCII digit
-    /// follows. It fails only if memory runs out.
-    /// `"$1 $12".bind_num(alloc, 1, &7)?` → `7 $12`
+    /// Returns the text with the argument in place of each `$` with this number, if no ASCII digit
+    /// follows. Fails only if memory runs out.
+    /// `"$1 $12".bind_num(alloc, 1, &7)?` gives `7 $12`
     fn bind_num<A: SqlArg>(
         &self,
         alloc: Global,
@@ -67,10 +70,10 @@ pub trait Bind {
             (templates.Num num) (string_bytes s)) }
         ensures memory { FailsOnlyByMemory result };
 
-    /// The text with the arguments in place of `$1`, `$2` and so on. `$$` gives `$`, also with
-    /// zeros between, and a number without an argument, or a `$` without a number, gives nothing.
-    /// It fails only if memory runs out.
-    /// `"$2 $1 $$".bind_nums(alloc, &[Box::new(alloc, 1)?, Box::new(alloc, String::from_str(alloc, "b")?)?])?` →
+    /// Returns the text with the arguments in place of `$1`, `$2` and so on. `$$` becomes `$`, also
+    /// with zeros between. A number without an argument and a `$` without a number become nothing.
+    /// Fails only if memory runs out.
+    /// `"$2 $1 $$".bind_nums(alloc, &[Box::new(alloc, 1)?, Box::new(alloc, String::from_str(alloc, "b")?)?])?` gives
     /// `'b' 1 $`
     fn bind_nums(&self, alloc: Global, args: &[Box<dyn SqlArg>]) -> Result<String, SqlBuilderError>
         ensures text { IfOk result (λ s. Some (string_bytes s)
@@ -83,9 +86,9 @@ pub trait Bind {
             (templates.Nums (length args.now)) (string_bytes s)) }
         ensures memory { FailsOnlyByMemory result };
 
-    /// The text with the argument in place of each `:name:`, from the left and without overlap; the
-    /// name may be empty. It fails only if memory runs out.
-    /// `":a: :b:".bind_name(alloc, &"a", &1)?` → `1 :b:`
+    /// Returns the text with the argument in place of each `:name:`, from the left and without
+    /// overlap. The name may be empty. Fails only if memory runs out.
+    /// `":a: :b:".bind_name(alloc, &"a", &1)?` gives `1 :b:`
     fn bind_name<K: ToText, A: SqlArg>(
         &self,
         alloc: Global,
@@ -101,10 +104,10 @@ pub trait Bind {
             (templates.Name (K.text name.now)) (string_bytes s)) }
         ensures memory { FailsOnlyByMemory result };
 
-    /// The text with what the names are bound to in place of each `:name:`, and NULL where a name
-    /// is bound to nothing. `::` gives `:`, and a `:` that no other one closes stays, with all
-    /// behind it. It fails only if memory runs out.
-    /// `":a: :b: ::".bind_names(alloc, &{ let mut names: Vec<(&str, Box<dyn SqlArg>)> = Vec::new(alloc); names.push(("a", Box::new(alloc, 1)?))?; names })?` →
+    /// Returns the text with the literal of each name in place of `:name:`, or NULL if the name has
+    /// none. `::` becomes `:`. A `:` that no other one closes stays, with all behind it. Fails only
+    /// if memory runs out.
+    /// `":a: :b: ::".bind_names(alloc, &{ let mut names: Vec<(&str, Box<dyn SqlArg>)> = Vec::new(alloc); names.push(("a", Box::new(alloc, 1)?))?; names })?` gives
     /// `1 NULL :`
     fn bind_names<N: BindNames>(&self, alloc: Global, names: &N) -> Result<String, SqlBuilderError>
         ensures text { IfOk result (λ s. Some (string_bytes s)

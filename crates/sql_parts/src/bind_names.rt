@@ -16,9 +16,10 @@ use crate::error::SqlBuilderError;
 use std::alloc::{AllocError, Global};
 use std::collections::{BTreeMap, HashMap};
 
-/// What binds names to literals: a map, or pairs of which the last one with a name counts.
-/// Pairs are found in n log n, whatever their names are. The time of a map is the map's own: that of
-/// std has a fixed seed, so in one that has names from users they can collide, and pairs are safer.
+/// Names that are bound to literals: a map, or pairs of which the last one with a name counts.
+///
+/// Pairs are found in n log n, whatever their names are. The time of a map is the map's own. The
+/// map of std has a fixed seed, so names from users can collide in it: pairs are safer.
 pub trait BindNames {
     /// The literal of each name that has one.
     ghost literals: { Self → List ℕ → Option LiteralValue };
@@ -26,17 +27,19 @@ pub trait BindNames {
     /// Whether these are the places of the names in a list.
     ghost are_places: { Self → List (Bor (List ℕ) × ℕ) → Type 0 } = { λ _ _. ⊤ };
 
-    /// The literal of the name as SQL writes it, or none. It fails only if memory runs out.
-    /// `{ let mut names: Vec<(&str, Box<dyn SqlArg>)> = Vec::new(alloc); names.push(("a", Box::new(alloc, 1)?))?; names }.look_up(alloc, "a")?` →
+    /// Returns the literal of the name as SQL writes it, if it has one. Fails only if memory runs
+    /// out.
+    /// `{ let mut names: Vec<(&str, Box<dyn SqlArg>)> = Vec::new(alloc); names.push(("a", Box::new(alloc, 1)?))?; names }.look_up(alloc, "a")?` gives
     /// `Some(1)`
     fn look_up(&self, alloc: Global, name: &str) -> Result<Option<String>, SqlBuilderError>
         ensures literal { IfOk result (λ text. option_map string_bytes text
             ≡ option_map literal_text (literals self.now name.now)) }
         ensures memory { FailsOnlyByMemory result };
 
-    /// The places of the names in a list, by which `push_named` finds them in a longer text; none
-    /// where the names are found as fast without. It fails only if memory runs out.
-    /// `{ let mut names: Vec<(&str, Box<dyn SqlArg>)> = Vec::new(alloc); names.push(("a", Box::new(alloc, 1)?))?; names }.places(alloc)?.len()` →
+    /// Returns the places of the names in a list, by which `push_named` finds them in a longer
+    /// text. Returns none if the names are found as fast without them. Fails only if memory runs
+    /// out.
+    /// `{ let mut names: Vec<(&str, Box<dyn SqlArg>)> = Vec::new(alloc); names.push(("a", Box::new(alloc, 1)?))?; names }.places(alloc)?.len()` gives
     /// `0`
     fn places(&self, alloc: Global) -> Result<BTreeMap<&str, usize>, SqlBuilderError>
         ensures places { IfOk result (λ places. 0 < length places.entries
@@ -46,8 +49,8 @@ pub trait BindNames {
         Ok(BTreeMap::new(alloc))
     }
 
-    /// Appends the literal of the name, or NULL where it has none. The places are those that
-    /// `places` gave, or none. It fails only if memory runs out, and then the text is as it was.
+    /// Appends the literal of the name, or NULL if it has none. The places are those that `places`
+    /// returned, or none. Fails only if memory runs out, and then leaves `out` unchanged.
     /// ```
     /// let mut text = String::new(alloc);
     /// { let mut names: Vec<(&str, Box<dyn SqlArg>)> = Vec::new(alloc); names.push(("a", Box::new(alloc, 1)?))?; names }.push_named(alloc, &{ let mut names: Vec<(&str, Box<dyn SqlArg>)> = Vec::new(alloc); names.push(("a", Box::new(alloc, 1)?))?; names }.places(alloc)?, "a", &mut text)?;

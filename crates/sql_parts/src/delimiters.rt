@@ -20,8 +20,8 @@ pub enum Quotes {
 }
 
 impl Quotes {
-    /// The delimiter before a text.
-    /// `Quotes::Square.opening()` → `[`
+    /// Returns the delimiter before a text. Never fails.
+    /// `Quotes::Square.opening()` gives `[`
     pub fn opening(self) -> char
         ensures delimiter { result ≡ opening self }
         ensures one_byte { result < 128 }
@@ -34,8 +34,8 @@ impl Quotes {
         }
     }
 
-    /// The delimiter behind a text, which is written twice where the text has it.
-    /// `Quotes::Square.closing()` → `]`
+    /// Returns the delimiter behind a text. It is written twice where the text has it. Never fails.
+    /// `Quotes::Square.closing()` gives `]`
     pub fn closing(self) -> char
         ensures delimiter { result ≡ closing self }
         ensures one_byte { result < 128 }

@@ -1,4 +1,4 @@
-//! Why a call fails.
+//! The error of a call that fails.
 ghost use Rattle.std.specs.Prelude.{◌≡◌};
 ghost use Rattle.sql_parts.specs.Error.{message_text};
 
@@ -6,7 +6,7 @@ use std::alloc::{AllocError, AllocFailed};
 use std::error::Error;
 use std::fmt;
 
-/// Why a call fails.
+/// The error of a call that fails.
 #[derive(Debug, Drop)]
 pub enum SqlBuilderError {
     /// The table text is empty.
@@ -24,8 +24,8 @@ pub enum SqlBuilderError {
 }
 
 impl SqlBuilderError {
-    /// The error's message, which Display prints too. It can't fail.
-    /// `SqlBuilderError::NoTableName.message()` → `No table name`
+    /// Returns the error's message, which Display prints too. Never fails.
+    /// `SqlBuilderError::NoTableName.message()` gives `No table name`
     pub fn message(&self) -> &'static str
         ensures text { result.now ≡ message_text self.now }
     {

@@ -10,9 +10,10 @@ use crate::text::ToText;
 use std::alloc::Global;
 use std::borrow::CowStr;
 
-/// A borrowed text that is balanced and has no top-level clause keyword, as that of a table. That a
-/// constant is one is proved where it is written, and costs nothing when the program runs.
-/// `Fragment::of("books AS b").text` → `books AS b`
+/// A borrowed text that is balanced and has no top-level clause keyword, such as the text of a
+/// table. For a constant this is proved where it is written, and costs nothing when the program
+/// runs.
+/// `Fragment::of("books AS b").text` gives `books AS b`
 #[derive(Clone, Copy)]
 #[non_exhaustive]
 pub struct Fragment<'a> {
@@ -21,9 +22,9 @@ pub struct Fragment<'a> {
     pub ghost fits: { IsTrue (is_fragment text.now) },
 }
 
-/// A borrowed text that is an operand without a top-level clause keyword: a field, or a value. That a
-/// constant is one is proved where it is written, and costs nothing when the program runs.
-/// `Operand::of("price").text` → `price`
+/// A borrowed text that is an operand without a top-level clause keyword: a field, or a value. For
+/// a constant this is proved where it is written, and costs nothing when the program runs.
+/// `Operand::of("price").text` gives `price`
 #[derive(Clone, Copy)]
 #[non_exhaustive]
 pub struct Operand<'a> {
@@ -32,8 +33,8 @@ pub struct Operand<'a> {
     pub ghost fits: { ServesAsOperand text.now },
 }
 
-/// A text of its own that is an operand without a top-level clause keyword: a name between quotes, or
-/// a query in brackets.
+/// An owned text that is an operand without a top-level clause keyword: a name between quotes, or a
+/// query in brackets.
 #[derive(Drop)]
 #[non_exhaustive]
 pub struct OwnedOperand {
@@ -43,10 +44,10 @@ pub struct OwnedOperand {
 }
 
 impl<'a> Fragment<'a> {
-    /// The fragment of this text, which fits and has no top-level word that begins a clause in some
-    /// databases, as INTO: only a proof tests it, `rt try` doesn't, and `lex::misfit` says why one isn't.
-    /// It can't fail.
-    /// `Fragment::of("books AS b").text` → `books AS b`
+    /// Returns the fragment of this text. The text has to fit, and must have no top-level word that
+    /// begins a clause in some databases, such as INTO. Only a proof tests this: `rt try` doesn't.
+    /// `lex::misfit` says why a text doesn't fit. Never fails.
+    /// `Fragment::of("books AS b").text` gives `books AS b`
     pub fn of(text: &'a str) -> Fragment<'a>
         requires fits { IsTrue (is_typed_fragment text.now) }
         ensures { result.text ≡ text.entry }
@@ -54,9 +55,9 @@ impl<'a> Fragment<'a> {
         Fragment::of_built(text)
     }
 
-    /// A text that is proved to fit, as a fragment, without the further test of `of`: conditions are
-    /// borrowed so. For the crates here alone. It can't fail.
-    /// `Fragment::of_built("a = b").text` → `a = b`
+    /// Returns a text that is proved to fit, as a fragment, without the further test of `of`.
+    /// Conditions are borrowed this way. For the crates here alone. Never fails.
+    /// `Fragment::of_built("a = b").text` gives `a = b`
     pub fn of_built(text: &'a str) -> Fragment<'a>
         requires fits { IsTrue (is_fragment text.now) }
         ensures { result.text ≡ text.entry }
@@ -64,9 +65,9 @@ impl<'a> Fragment<'a> {
         Fragment { text }
     }
 
-    /// A text of the program's own as a fragment, with the test of `of`, or why it is none. It takes no
-    /// memory, and reads a text that fits once. Never give it untrusted text: what fits may still name
-    /// another table or be a query.
+    /// Returns a text of the program's own as a fragment, with the test of `of`. Fails with the
+    /// `Misfit` that the test finds. Takes no memory, and reads a text that fits once. Never give
+    /// it untrusted text: what fits may still name another table or be a query.
     /// `Fragment::of_trusted("a UNION SELECT b")` fails with `ClauseWord`
     /// `Fragment::of_trusted("books FOR SHARE")` fails with `DialectWord`
     pub fn of_trusted(text: &'a str) -> Result<Fragment<'a>, Misfit>
@@ -83,10 +84,10 @@ impl<'a> Fragment<'a> {
 }
 
 impl<'a> Operand<'a> {
-    /// The operand of this text, which fits and has no top-level word that begins a clause in some
-    /// databases, as INTO: only a proof tests it, `rt try` doesn't, and `lex::misfit` says why one isn't.
-    /// It can't fail.
-    /// `Operand::of("price").text` → `price`
+    /// Returns the operand of this text. The text has to fit, and must have no top-level word that
+    /// begins a clause in some databases, such as INTO. Only a proof tests this: `rt try` doesn't.
+    /// `lex::misfit` says why a text doesn't fit. Never fails.
+    /// `Operand::of("price").text` gives `price`
     pub fn of(text: &'a str) -> Operand<'a>
         requires fits { IsTrue (is_typed_operand text.now) }
         ensures { result.text ≡ text.entry }
@@ -94,9 +95,9 @@ impl<'a> Operand<'a> {
         Operand { text }
     }
 
-    /// A text of the program's own as an operand, with the test of `of`, or why it is none. It takes no
-    /// memory, and reads a text that fits once. Never give it untrusted text: what fits may still name
-    /// another column or be a query.
+    /// Returns a text of the program's own as an operand, with the test of `of`. Fails with the
+    /// `Misfit` that the test finds. Takes no memory, and reads a text that fits once. Never give
+    /// it untrusted text: what fits may still name another column or be a query.
     /// `Operand::of_trusted("a OR 1=1")` fails with `Joined`
     /// `Operand::of_trusted("a INTO b")` fails with `DialectWord`
     pub fn of_trusted(text: &'a str) -> Result<Operand<'a>, Misfit>
@@ -111,8 +112,8 @@ impl<'a> Operand<'a> {
         }
     }
 
-    /// An operand is a fragment. It can't fail.
-    /// `Operand::of("books").as_fragment().text` → `books`
+    /// Returns the operand as a fragment, since every operand is one. Never fails.
+    /// `Operand::of("books").as_fragment().text` gives `books`
     pub fn as_fragment(self) -> Fragment<'a>
         ensures { result.text ≡ self.entry.text }
     {
@@ -121,9 +122,10 @@ impl<'a> Operand<'a> {
 }
 
 impl OwnedOperand {
-    /// A text that is proved to fit, as an operand, without the further test of `Operand::of`: queries
-    /// in brackets are made so. For the crates here alone. It can't fail.
-    /// `OwnedOperand::of_built(String::from_str(alloc, "(SELECT a)")?).text` → `(SELECT a)`
+    /// Returns a text that is proved to fit, as an operand, without the further test of
+    /// `Operand::of`. Queries in brackets are made this way. For the crates here alone. Never
+    /// fails.
+    /// `OwnedOperand::of_built(String::from_str(alloc, "(SELECT a)")?).text` gives `(SELECT a)`
     pub fn of_built(text: String) -> OwnedOperand
         requires fits { ServesAsOperand (string_bytes text) }
         ensures { result.text ≡ text }
@@ -131,8 +133,8 @@ impl OwnedOperand {
         OwnedOperand { text }
     }
 
-    /// The same operand, borrowed. It can't fail.
-    /// `SqlName::new(alloc, "a")?.operand(Quotes::Double)?.as_operand().text` → `"a"`
+    /// Returns the same operand, borrowed. Never fails.
+    /// `SqlName::new(alloc, "a")?.operand(Quotes::Double)?.as_operand().text` gives `"a"`
     pub fn as_operand(&self) -> Operand<'_>
         ensures { result.text.now ≡ string_bytes self.now.text }
     {

@@ -6,8 +6,8 @@ ghost use Rattle.sql_parts.specs.Tokens.{tokens};
 use crate::lex::{is_balanced, segment_apart};
 use crate::tokenizer::{Token, first_token};
 
-/// How many `?` a template has. It can't fail.
-/// `hole_count("price * ? > ?")` → `2`
+/// Returns how many `?` a template has. Never fails.
+/// `hole_count("price * ? > ?")` gives `2`
 pub fn hole_count(template: &str) -> usize
     ensures { result ≡ hole_count template.now }
 {
@@ -18,11 +18,11 @@ pub fn hole_count(template: &str) -> usize
         .count()
 }
 
-/// Whether the holes of a template stand apart: nothing but a separator (a blank, `(`, `)`, `,`, `;`,
-/// `=`, `<` or `>`) or an end of the text is beside a `?`, and no quote or comment is open there. It
-/// can't fail, and takes no memory.
-/// `holes_apart("price * ? > ?")` → `true`
-/// `holes_apart("title = '?'")` → `false`
+/// Returns whether the holes of a template stand apart. Beside a `?` is then only a separator or an
+/// end of the text, and no quote or comment is open there. The separators are a blank, `(`, `)`,
+/// `,`, `;`, `=`, `<` and `>`. Never fails. Takes no memory.
+/// `holes_apart("price * ? > ?")` gives `true`
+/// `holes_apart("title = '?'")` gives `false`
 pub fn holes_apart(template: &str) -> bool
     ensures { result ≡ holes_apart template.now }
 {
@@ -81,10 +81,10 @@ fn is_bracketed(text: &str) -> bool
     }
 }
 
-/// Whether the text is a literal that isn't negative, a placeholder, a name, one sign as `*`, or a text
-/// in brackets, so that no operator beside it takes it apart. It can't fail.
-/// `is_unit("\"books\".price")` → `true`
-/// `is_unit("a + b")` → `false`
+/// Returns whether the text is a literal that isn't negative, a placeholder, a name, one sign such
+/// as `*`, or a text in brackets. An operator beside such a text can't take it apart. Never fails.
+/// `is_unit("\"books\".price")` gives `true`
+/// `is_unit("a + b")` gives `false`
 pub fn is_unit(text: &str) -> bool
     ensures { result ≡ is_unit text.now }
 {

@@ -21,9 +21,9 @@ ghost use Rattle.sql_parts.specs.TokenReader.{HasNoBackslash, OpensEveryLiteral,
 ghost use Rattle.sql_parts.specs.Tokens.{Symbol, Word, clean, closed, is_open, is_semicolon, tokens};
 ghost use Rattle.sql_parts.specs.declared.parameter.Style.{Style};
 
-/// Two texts whose quoted texts are equal are equal, in each of the five forms of quoting.
-/// It does nothing when it runs.
-/// `quote(alloc, "a'")?` → `'a'''`
+/// States that two texts whose quoted texts are equal are equal, in each of the five forms of
+/// quoting. Does nothing when it runs. Never fails.
+/// `quote(alloc, "a'")?` gives `'a'''`
 pub fn quoting_is_injective()
     ensures esc { IsInjective escaped }
     ensures quote { IsInjective quoted }
@@ -32,26 +32,26 @@ pub fn quoting_is_injective()
     ensures dquote { IsInjective dquoted }
 {}
 
-/// A text in which each `$` is doubled is given back by `bind_nums`, and one in which each `:` is
-/// doubled by `bind_names`, whatever is bound. It does nothing when it runs.
-/// `"$$1 $$".bind_nums(alloc, &[Box::new(alloc, 7)?])?` → `$1 $`
+/// States that `bind_nums` undoes the doubling of each `$` of a text, and `bind_names` that of each
+/// `:`, whatever is bound. Does nothing when it runs. Never fails.
+/// `"$$1 $$".bind_nums(alloc, &[Box::new(alloc, 7)?])?` gives `$1 $`
 pub fn doubling_is_undone()
     ensures bind_nums { (count : ℕ) → UndoesDoubling dollar (Nums count) }
     ensures bind_names { UndoesDoubling colon Names }
 {}
 
-/// A text without a `?` is given back by `bind`, and by `binds` of any number of arguments, none
-/// too. It does nothing when it runs.
-/// `"a = 1".bind(alloc, &7)?` → `a = 1`
+/// States that `bind` leaves a text without a `?` as it is. So does `binds` with any number of
+/// arguments, even none. Does nothing when it runs. Never fails.
+/// `"a = 1".bind(alloc, &7)?` gives `a = 1`
 pub fn unmarked_is_unchanged()
     ensures bind { LeavesTextWithout question_mark First }
     ensures binds { (count : ℕ) → LeavesTextWithout question_mark (Cycle count) }
 {}
 
-/// Where a text is closed and an edge is beside the seam, the tokens on both sides of it stay
-/// what they are, whatever the second text is; if that is closed too, so are both together. It does
-/// nothing when it runs.
-/// `is_closed("a, -- b")` → `false`
+/// States that tokens join at edges. Let a text be closed, and let an edge be beside the seam. The
+/// tokens on both sides then stay what they are, whatever the second text is. If the second text is
+/// closed too, so are both together. Does nothing when it runs. Never fails.
+/// `is_closed("a, -- b")` gives `false`
 pub fn tokens_join_at_edges()
     ensures tokens { (one other : List ℕ) → IsTrue (closed one) → IsTrue (clean one other)
         → tokens (one ++ other) ≡ tokens one ++ tokens other }
@@ -59,10 +59,10 @@ pub fn tokens_join_at_edges()
         → IsTrue (clean one other) → IsTrue (closed (one ++ other)) }
 {}
 
-/// The texts of string tokens decide nothing: tokens that are equal but for these texts, or but for
-/// some of them, are as many, as many of them are a `;`, and each test of fragments gives the same
-/// answer for both. It does nothing when it runs.
-/// `is_balanced("a = ')'")` → `true`
+/// States that the texts of string tokens decide nothing. Tokens that are equal except for some or
+/// all of these texts are as many, and as many of them are a `;`. Each test of fragments gives the
+/// same answer for both. Does nothing when it runs. Never fails.
+/// `is_balanced("a = ')'")` gives `true`
 pub fn string_texts_decide_nothing()
     ensures somewhere { BlankSomewhere }
     ensures count { IgnoresStrings length }
@@ -74,11 +74,12 @@ pub fn string_texts_decide_nothing()
     ensures dangling { IgnoresStrings is_dangling }
 {}
 
-/// Untrusted texts that are bound don't interfere. Where the values of a template stand apart, and
-/// the literals bound to it are of the same kinds in the same places, the bound texts have the same
-/// tokens, but for the texts of the string tokens at these places. So neither the number of `;` nor
-/// a test of fragments depends on texts that are bound. It does nothing when it runs.
-/// `"a = ?".bind(alloc, &"x' OR 1=1; --")?` → `a = 'x'' OR 1=1; --'`
+/// States that untrusted texts that are bound don't interfere. Let the values of a template stand
+/// apart, and let the literals that are bound have the same kinds in the same places. The bound
+/// texts then have the same tokens, except for the texts of the string tokens at these places. So
+/// neither the number of `;` nor a test of fragments depends on texts that are bound. Does nothing
+/// when it runs. Never fails.
+/// `"a = ?".bind(alloc, &"x' OR 1=1; --")?` gives `a = 'x'' OR 1=1; --'`
 pub fn bound_texts_do_not_interfere()
     ensures tokens { BoundTextsDoNotInterfere }
     ensures places { BoundTextsKeepTheirPlaces }
@@ -94,19 +95,19 @@ pub fn bound_texts_do_not_interfere()
     ensures names { NamesDifferInTexts }
 {}
 
-/// Where the values of a template stand apart, texts in place of other texts leave the number of
-/// tokens of the bound text as it is. It does nothing when it runs.
-/// `"a = ?".bind(alloc, &"b; c")?` → `a = 'b; c'`
+/// States that other texts leave the number of tokens of a bound text as it is, if the values of
+/// the template stand apart. Does nothing when it runs. Never fails.
+/// `"a = ?".bind(alloc, &"b; c")?` gives `a = 'b; c'`
 pub fn bound_texts_keep_the_count()
     ensures count { (template : List ℕ) (marks : Marks) (one other : Value → LiteralValue)
         → IsTrue (apart template marks) → DifferInTexts one other
         → token_count (bound template marks one) ≡ token_count (bound template marks other) }
 {}
 
-/// `bind_nums` goes part by part: a text before another that begins with neither a digit nor a `$`
-/// keeps its literals, a text without a `$` stays as it is, and the placeholder of a value becomes its
-/// literal. It does nothing when it runs.
-/// `"a = $1".bind_nums(alloc, &[Box::new(alloc, 7)?])?` → `a = 7`
+/// States that `bind_nums` goes part by part. A text keeps its literals before another one, if that
+/// begins with neither a digit nor a `$`. A text without a `$` stays as it is. The placeholder of a
+/// value becomes its literal. Does nothing when it runs. Never fails.
+/// `"a = $1".bind_nums(alloc, &[Box::new(alloc, 7)?])?` gives `a = 7`
 pub fn numbers_bind_part_by_part()
     ensures bound { NumbersAreBound }
     ensures parts { TextsBindApart }
@@ -114,10 +115,10 @@ pub fn numbers_bind_part_by_part()
     ensures placeholders { PlaceholdersAreBound }
 {}
 
-/// The text of each literal is an operand, balanced and closed, and has no top-level clause
-/// keyword; so is that of each number and truth value as `ToText` writes it, and so is what `quote`
-/// gives. It does nothing when it runs.
-/// `quote(alloc, "a OR b")?` → `'a OR b'`
+/// States that the text of each literal is an operand, balanced and closed, without a top-level
+/// clause keyword. So is each number and each truth value as `ToText` writes it, and what `quote`
+/// returns. Does nothing when it runs. Never fails.
+/// `quote(alloc, "a OR b")?` gives `'a OR b'`
 pub fn literals_are_operands()
     ensures literals { (literal : LiteralValue) → ServesAsOperand (literal_text literal) }
     ensures numbers { (number : ℤ) → ServesAsOperand (number_text number) }
@@ -125,29 +126,29 @@ pub fn literals_are_operands()
     ensures quote { (text : List ℕ) → ServesAsOperand (quoted text) }
 {}
 
-/// The text of each literal has the tokens of that literal and no other: NULL, TRUE and FALSE are a
-/// word, a number is one behind its minus, and a text is one string that stands for it. It does nothing
-/// when it runs.
-/// `quote(alloc, "it's; --")?` → `'it''s; --'`
+/// States that the text of each literal has the tokens of that literal and no other. NULL, TRUE and
+/// FALSE are a word, and a number is one behind its minus. A text is one string that stands for it.
+/// Does nothing when it runs. Never fails.
+/// `quote(alloc, "it's; --")?` gives `'it''s; --'`
 pub fn literals_have_their_tokens()
     ensures tokens { (literal : LiteralValue)
         → tokens (literal_text literal) ≡ literal_tokens literal }
 {}
 
-/// The text of each placeholder is such an operand too: a symbol and a number. It does nothing when
-/// it runs.
-/// `Placeholder { style: Style::Dollar, number: 12 }.to_text(alloc)?` → `$12`
+/// States that the text of each placeholder is an operand, as that of a literal is. Its tokens are
+/// a symbol and a number. Does nothing when it runs. Never fails.
+/// `Placeholder { style: Style::Dollar, number: 12 }.to_text(alloc)?` gives `$12`
 pub fn placeholders_are_operands()
     ensures operands { (style : Style) (number : ℕ) → ServesAsOperand (placeholder_text style number) }
     ensures tokens { (style : Style) (number : ℕ) → tokens (placeholder_text style number)
         ≡ Symbol (prefix style) ∷ Word (decimal_text number) ∷ [] }
 {}
 
-/// A text between quotes is such an operand, in each of the four kinds of quotes, and so is a name
-/// in each form that writes its parts between quotes, or bare where each is such an operand itself:
-/// with an alias, where that is between quotes or is such an operand too. It does nothing when
-/// it runs.
-/// `SqlName::new(alloc, "a")?.add("b c")?.safe()?` → `` `a`.`b c` ``
+/// States that a text between quotes is an operand, as the text of a literal is, with each of the
+/// four kinds of quotes. So is a name in each form that quotes its parts, or with bare parts that
+/// are such operands themselves. It may have an alias that is between quotes or such an operand.
+/// Does nothing when it runs. Never fails.
+/// `SqlName::new(alloc, "a")?.add("b c")?.safe()?` gives `` `a`.`b c` ``
 pub fn quoted_names_are_operands()
     ensures baquote { (text : List ℕ) → ServesAsOperand (baquoted text) }
     ensures brquote { (text : List ℕ) → ServesAsOperand (brquoted text) }
@@ -160,21 +161,23 @@ pub fn quoted_names_are_operands()
         → IsTrue (is_operand_alias name.alias) → ServesAsOperand (safe_text name) }
 {}
 
-/// Where a backslash escapes, as in MySQL and MariaDB by default, the literal that `quote` or binding
-/// writes of a text without a backslash ends at its last byte and stands for the text, whatever
-/// follows it but a quote; and where a statement has no backslash, each of its literals is the same
-/// as where none escapes. It does nothing when it runs.
-/// `has_backslash("it's")` → `false`
+/// States that literals without backslashes read alike where a backslash escapes, as in MySQL and
+/// MariaDB by default. The literal that `quote` or binding writes of a text without a backslash
+/// ends at its last byte. It stands for the text, whatever follows it except a quote. If a
+/// statement has no backslash, each of its literals is the same as where none escapes. Does nothing
+/// when it runs. Never fails.
+/// `has_backslash("it's")` gives `false`
 pub fn literals_without_backslashes_read_alike()
     ensures quote { EndsAsWritten quoted }
     ensures bound { EndsAsWritten (λ text. literal_text (words text)) }
     ensures statements { HasOneReading }
 {}
 
-/// A mask of LIKE that `escape_like` makes of a text matches that text alone; with `%` behind, what
-/// begins with the text; with `%` in front, what ends with it; with `%` on both sides, what contains
-/// it. Letters are compared as they are. It does nothing when it runs.
-/// `escape_like(alloc, "50%", LikeEscape::Exclamation)?` → `50!%`
+/// States that a mask of LIKE that `escape_like` makes of a text matches that text alone. With `%`
+/// behind, it matches what begins with the text, and with `%` in front what ends with it. With `%`
+/// on both sides, it matches what contains it. Letters are compared as they are. Does nothing when
+/// it runs. Never fails.
+/// `escape_like(alloc, "50%", LikeEscape::Exclamation)?` gives `50!%`
 pub fn escaped_masks_match_their_text()
     ensures exact { MasksMatch (λ mask. mask) (λ other text. other ≡ text) }
     ensures begins { MasksMatch (λ mask. mask ++ codes "%") (λ other text. IsTrue (starts_with nat_eq other text)) }
@@ -182,12 +185,13 @@ pub fn escaped_masks_match_their_text()
     ensures contains { MasksMatch (λ mask. codes "%" ++ mask ++ codes "%") (λ other text. HasSubslice other text) }
 {}
 
-/// Whatever reads it: where a reader opens a literal, as a database's lexer does at a quote, it goes
-/// through a text that `quote`, `baquote`, `brquote` or `dquote` gives, or `esc` between single
-/// quotes, to where it comes through no text between these quotes, and is inside of the literal until
-/// then. Each byte of the text has to be plain to the reader: a backslash is not where it escapes. It
-/// does nothing when it runs.
-/// `quote(alloc, "it's; --")?` → `'it''s; --'`
+/// States where a literal ends for any reader, such as a database's lexer. The literal is what
+/// `quote`, `baquote`, `brquote` or `dquote` returns, or what `esc` returns between single quotes.
+///
+/// A reader that opens a literal at the first quote comes to the same state as by these quotes
+/// without a text. Until then it is inside of the literal. Each byte of the text has to be plain to
+/// the reader: a backslash isn't where it escapes. Does nothing when it runs. Never fails.
+/// `quote(alloc, "it's; --")?` gives `'it''s; --'`
 pub fn literals_end_for_any_reader()
     ensures quote { LeadsAsNoText Single quoted }
     ensures baquote { LeadsAsNoText Back baquoted }
@@ -202,30 +206,32 @@ pub fn literals_end_for_any_reader()
     ensures esc_stays { StaysInside Single escaped }
 {}
 
-/// Whatever reads them: of two texts that differ only in texts which are quoted, or escaped inside of
-/// quotes, where a reader is inside of a literal at each of these in the one, it is so in the other,
-/// and goes through the same states outside of them. Where they are in the bytes says `places_from`. It
-/// does nothing when it runs.
-/// `quote(alloc, "b), (")?` → `'b), ('`
+/// States that quoted texts make no difference to any reader. Let two texts differ only in texts
+/// that are quoted, or escaped inside of quotes. If a reader is inside of a literal at each of
+/// these in the one, it is so in the other. Outside of them it goes through the same states.
+/// `places_from` says where they are in the bytes. Does nothing when it runs. Never fails.
+/// `quote(alloc, "b), (")?` gives `'b), ('`
 pub fn readers_ignore_quoted_parts()
     ensures alike { ReadersIgnoreDoubledTexts }
     ensures places { PartsAreAtPlaces }
 {}
 
-/// Whatever reads them: of two bindings of a template that differ only in texts, where a reader is
-/// inside of a string at each of these in the one bound text, it is so in the other, and goes through
-/// the same states outside of them. The values needn't stand apart: where a placeholder is inside of
-/// a literal already, the reader isn't at such a place, and nothing is promised. It does nothing when it
-/// runs.
-/// `"a = ?".bind(alloc, &"x' OR 1=1; --")?` → `a = 'x'' OR 1=1; --'`
+/// States that bound texts make no difference to any reader. Let two bindings of a template differ
+/// only in texts. If a reader is inside of a string at each of these in the one bound text, it is
+/// so in the other. Outside of them it goes through the same states.
+///
+/// The values needn't stand apart. If a placeholder is inside of a literal already, the reader
+/// isn't at such a place, and nothing is promised. Does nothing when it runs. Never fails.
+/// `"a = ?".bind(alloc, &"x' OR 1=1; --")?` gives `a = 'x'' OR 1=1; --'`
 pub fn readers_ignore_bound_texts()
     ensures { ReadersIgnoreBoundTexts }
 {}
 
-/// The rules of tokens are such a reader: between two tokens it opens a literal at each delimiter, and
-/// a text is closed where it ends outside of literals and comments. So are those by which a backslash
-/// escapes: to them each byte but a backslash is plain. It does nothing when it runs.
-/// `is_closed("a = 'b")` → `false`
+/// States that the rules of tokens are a reader. Between two tokens it opens a literal at each
+/// delimiter, and a text is closed if it ends outside of literals and comments. The rules by which
+/// a backslash escapes are a reader too: to them each byte but a backslash is plain. Does nothing
+/// when it runs. Never fails.
+/// `is_closed("a = 'b")` gives `false`
 pub fn rules_are_readers()
     ensures tokens { OpensEveryLiteral }
     ensures closed { ReadsClosed }

@@ -22,8 +22,8 @@ pub use crate::tokenizer::is_closed;
 use crate::tokenizer::{Token, first_token};
 use std::alloc::Global;
 
-/// Whether a `;` is among the tokens of the text. It can't fail.
-/// `has_semicolon("a; b")` → `true`
+/// Returns whether a `;` is among the tokens of the text. Never fails.
+/// `has_semicolon("a; b")` gives `true`
 pub fn has_semicolon(text: &str) -> bool
     ensures { result ≡ has_semicolon text.now }
 {
@@ -82,19 +82,20 @@ fn is_balanced_as(text: &str, bare: bool, typed: bool, operand: bool) -> bool
     !is_empty && depth.is_top_level()
 }
 
-/// Whether the text has a token, no quote or comment without an end and no `;`, and its brackets
-/// match, `(` and CASE counted together, and `)` and END: as many close as open, and at no
-/// place have more closed than opened. Which closes which isn't asked. It can't fail.
-/// `is_balanced("a) OR (b")` → `false`
+/// Returns whether the text has a token, no quote or comment without an end, no `;`, and brackets
+/// that match. `(` and CASE are counted together as brackets that open, `)` and END as brackets
+/// that close. As many close as open, and at no place have more closed than opened. Which closes
+/// which isn't asked. Never fails.
+/// `is_balanced("a) OR (b")` gives `false`
 pub fn is_balanced(text: &str) -> bool
     ensures { result ≡ balanced text.now }
 {
     is_balanced_as(text, false, false, false)
 }
 
-/// Whether the text is balanced, has no OR, AND or BETWEEN at depth 0, and doesn't begin with NOT.
-/// It can't fail.
-/// `is_operand("a OR b")` → `false`
+/// Returns whether the text is balanced, has no OR, AND or BETWEEN at depth 0, and doesn't begin
+/// with NOT. Never fails.
+/// `is_operand("a OR b")` gives `false`
 pub fn is_operand(text: &str) -> bool
     ensures { result ≡ operand text.now }
 {
@@ -131,19 +132,20 @@ fn has_clause(text: &str, dialect: bool) -> bool
     false
 }
 
-/// Whether a clause keyword is at depth 0 of the text: as many `(` and CASE precede it as `)` and
-/// END. It can't fail.
-/// `has_clause_word("a UNION SELECT b")` → `true`
+/// Returns whether a clause keyword is at depth 0 of the text. As many `(` and CASE precede it
+/// there as `)` and END. Never fails.
+/// `has_clause_word("a UNION SELECT b")` gives `true`
 pub fn has_clause_word(text: &str) -> bool
     ensures { result ≡ has_clause_word text.now }
 {
     has_clause(text, false)
 }
 
-/// Whether a word that is no clause keyword, but begins a clause in some databases, is at depth 0 of
-/// the text: INTO, INTERSECT, EXCEPT, MINUS, TABLE, FETCH, FOR, WITH or WINDOW. It can't fail.
-/// `has_dialect_word("a INTO b")` → `true`
-/// `has_dialect_word("substring(a FROM 1 FOR 2)")` → `false`
+/// Returns whether a word that begins a clause in some databases is at depth 0 of the text, apart
+/// from clause keywords. The words are INTO, INTERSECT, EXCEPT, MINUS, TABLE, FETCH, FOR, WITH and
+/// WINDOW. Never fails.
+/// `has_dialect_word("a INTO b")` gives `true`
+/// `has_dialect_word("substring(a FROM 1 FOR 2)")` gives `false`
 pub fn has_dialect_word(text: &str) -> bool
     ensures { result ≡ has_dialect_word text.now }
 {
@@ -222,12 +224,12 @@ fn reason(text: &str, demand: Demand) -> Option<Misfit>
     }
 }
 
-/// Why the text doesn't meet the demand, if it doesn't. It can't fail, takes no memory, and reads a
-/// text that fits once, or twice where the demand is of a type.
-/// `misfit("a UNION SELECT b", Demand::Fragment)` → `Some(ClauseWord)`
-/// `misfit("a OR 1=1", Demand::Operand)` → `Some(Joined)`
-/// `misfit("a INTO b", Demand::TypedOperand)` → `Some(DialectWord)`
-/// `misfit("@case UNION SELECT @end", Demand::TypedFragment)` → `Some(CaseWord)`
+/// Returns why the text doesn't meet the demand, if it doesn't. Never fails. Takes no memory. Reads
+/// a text that fits once, or twice if the demand is of a type.
+/// `misfit("a UNION SELECT b", Demand::Fragment)` gives `Some(ClauseWord)`
+/// `misfit("a OR 1=1", Demand::Operand)` gives `Some(Joined)`
+/// `misfit("a INTO b", Demand::TypedOperand)` gives `Some(DialectWord)`
+/// `misfit("@case UNION SELECT @end", Demand::TypedFragment)` gives `Some(CaseWord)`
 pub fn misfit(text: &str, demand: Demand) -> Option<Misfit>
     ensures reason { result ≡ misfit demand text.now }
     ensures fits { is_none result ≡ meets demand text.now }
@@ -239,10 +241,11 @@ pub fn misfit(text: &str, demand: Demand) -> Option<Misfit>
     }
 }
 
-/// Whether an OR or AND is the first token of the text or follows a token that opens, an OR, AND or
-/// NOT is the last or precedes one that closes, or a BETWEEN has no AND of its own depth behind it.
-/// It fails only if memory runs out, and not where no token raises the depth.
-/// `has_dangling(alloc, "a AND")?` → `true`
+/// Returns whether something dangles in the text. It may be an OR or AND that is the first token or
+/// follows one that opens. It may be an OR, AND or NOT that is the last token or precedes one that
+/// closes. It may be a BETWEEN without an AND of its own depth behind it. Fails only if memory runs
+/// out, and never if no token raises the depth.
+/// `has_dangling(alloc, "a AND")?` gives `true`
 pub fn has_dangling(alloc: Global, text: &str) -> Result<bool, SqlBuilderError>
     ensures dangling { IfOk result (λ b. b ≡ dangling text.now) }
     ensures memory { IfErr result (IsMemoryForNesting text.now) }
@@ -326,12 +329,14 @@ fn segments_apart(alloc: Global, template: &str, marks: Marks<'_>) -> Result<boo
     Ok(segment_apart(seen == 0, true, segment.as_str()))
 }
 
-/// Whether the values that these marks bind stand apart in a template: no `?` lacks an argument,
-/// each segment of it is closed, and nothing but a separator or an end of the text touches a value.
-/// By our rules of tokens, which know no dollar quotes and no nested comments, a text that is bound
-/// there can't leave its literal. It fails only if memory runs out.
-/// `stands_apart(alloc, "a = ?", &Marks::First)?` → `true`
-/// `stands_apart(alloc, "a = '?'", &Marks::First)?` → `false`
+/// Returns whether the values that these marks bind stand apart in a template. No `?` lacks an
+/// argument then, each segment is closed, and only a separator or an end of the text touches a
+/// value.
+///
+/// The rules of tokens know no dollar quotes and no nested comments. By these rules, a text that is
+/// bound there can't leave its literal. Fails only if memory runs out.
+/// `stands_apart(alloc, "a = ?", &Marks::First)?` gives `true`
+/// `stands_apart(alloc, "a = '?'", &Marks::First)?` gives `false`
 pub fn stands_apart(
     alloc: Global,
     template: &str,
@@ -346,9 +351,9 @@ pub fn stands_apart(
     }
 }
 
-/// Whether the text has a backslash, which some databases take to escape the character behind it in
-/// a literal, as MySQL and MariaDB do by default. It can't fail.
-/// `has_backslash("a\\b")` → `true`
+/// Returns whether the text has a backslash. Some databases take it to escape the character behind
+/// it in a literal, as MySQL and MariaDB do by default. Never fails.
+/// `has_backslash("a\\b")` gives `true`
 #[tactic(auto, using(crate::proofs::bytes::ByteFacts::found_byte))]
 pub fn has_backslash(text: &str) -> bool
     ensures { result ≡ has_backslash text.now }

@@ -1,7 +1,8 @@
 //! The parts of SQL statements: texts, quoted texts, literals, names, binding, and the error that
 //! all calls share.
 //!
-//! After an arrow in a doc comment is what the code before it prints; `alloc` is the allocator.
+//! In an example, what the code prints comes after `gives`, or its error after `fails with`. In a
+//! block it is in the last line's comment. `alloc` is the allocator.
 #![tactic(auto)]
 
 pub mod arg;

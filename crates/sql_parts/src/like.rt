@@ -24,8 +24,8 @@ pub enum LikeEscape {
 }
 
 impl LikeEscape {
-    /// The character, for the ESCAPE behind the mask. It can't fail.
-    /// `LikeEscape::Exclamation.character()` → `!`
+    /// Returns the character, for the ESCAPE behind the mask. Never fails.
+    /// `LikeEscape::Exclamation.character()` gives `!`
     pub fn character(self) -> char
         ensures character { result ≡ escape_character self }
         ensures one_byte { result < 128 }

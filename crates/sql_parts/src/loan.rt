@@ -4,14 +4,14 @@ ghost use Rattle.std.specs.Result.{result_map_both};
 
 use crate::error::SqlBuilderError;
 
-/// The mutable borrow of a value that a step has changed, on its way back to the caller. A call that
-/// returns it is proved to leave the value unchanged on failure only if it comes in a struct. For the
+/// The mutable borrow of a value that a step has changed, on its way back to the caller. That a
+/// failed call leaves the value unchanged is proved only if the borrow comes in a struct. For the
 /// crates here alone.
 #[derive(Drop)]
 pub struct Held<'a, T>(pub &'a mut T);
 
-/// The borrow that a step holds, or the step's error. For the crates here alone.
-/// `release(Ok(Held(&mut 1)))?` → `1`
+/// Returns the borrow that a step holds. Fails with the step's error. For the crates here alone.
+/// `release(Ok(Held(&mut 1)))?` gives `1`
 pub fn release<T>(held: Result<Held<'_, T>, SqlBuilderError>) -> Result<&mut T, SqlBuilderError>
     ensures { result ≡ result_map_both (λ held. held.0) (λ error. error) held.entry }
 {

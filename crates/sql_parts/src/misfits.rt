@@ -1,4 +1,4 @@
-//! Why a text doesn't fit where a statement takes it.
+//! The reasons why a text doesn't fit where a statement takes it.
 ghost use Rattle.std.specs.Prelude.{◌≡◌};
 ghost use Rattle.sql_parts.specs.Misfits.{misfit_text};
 
@@ -14,14 +14,16 @@ pub enum Demand {
     Fragment,
     /// That it is a fragment and an operand, as a field or a value is.
     Operand,
-    /// That it is a fragment, and has no top-level word that begins a clause in some databases, as
-    /// INTO: what the type `Fragment` takes.
+    /// That it is a fragment, and has no top-level word that begins a clause in some databases,
+    /// such as INTO. The type `Fragment` takes this.
     TypedFragment,
-    /// The same of an operand: what the type `Operand` takes.
+    /// That it is an operand, and has no top-level word that begins a clause in some databases. The
+    /// type `Operand` takes this.
     TypedOperand,
 }
 
-/// Why a text doesn't fit: the first of these that holds and counts.
+/// The reason why a text doesn't fit. It is the first of these that holds and counts for the
+/// demand.
 #[derive(Clone, Copy, Debug, Drop)]
 pub enum Misfit {
     /// It has no token.
@@ -32,21 +34,24 @@ pub enum Misfit {
     Semicolon,
     /// Its brackets don't match: `(` and CASE, `)` and END.
     Brackets,
-    /// It has a top-level clause keyword, as FROM or UNION, and is to be a fragment or an operand.
+    /// It has a top-level clause keyword, such as FROM or UNION, and is to be a fragment or an
+    /// operand.
     ClauseWord,
-    /// It has a top-level word that begins a clause in some databases (INTO, INTERSECT, EXCEPT, MINUS,
-    /// TABLE, FETCH, FOR, WITH or WINDOW), and is to be a `Fragment` or an `Operand` by its type.
+    /// It has a top-level word that begins a clause in some databases, and is to be a `Fragment` or
+    /// an `Operand` by its type. The words are INTO, INTERSECT, EXCEPT, MINUS, TABLE, FETCH, FOR,
+    /// WITH and WINDOW.
     DialectWord,
     /// It has a top-level OR, AND or BETWEEN, or begins with NOT, and is to be an operand.
     Joined,
-    /// A database that takes CASE and END for names would read a clause outside of brackets, or
-    /// brackets that don't match, and it is to be a `Fragment` or an `Operand` by its type.
+    /// It is to be a `Fragment` or an `Operand` by its type, and some database takes CASE and END
+    /// for names. That database would read a clause outside of brackets, or brackets that don't
+    /// match.
     CaseWord,
 }
 
 impl Misfit {
-    /// The reason as a message, which Display prints too. It can't fail.
-    /// `Misfit::Brackets.message()` → `Brackets don't match`
+    /// Returns the reason as a message, which Display prints too. Never fails.
+    /// `Misfit::Brackets.message()` gives `Brackets don't match`
     pub fn message(&self) -> &'static str
         ensures text { result.now ≡ misfit_text self.now }
     {

@@ -16,9 +16,10 @@ use crate::text::{OwnedOperand, Quotes, ToText, copies, copy};
 use std::alloc::{AllocError, Global};
 use std::marker::Model;
 
-/// A name: at least one part, and perhaps an alias. Each form writes the parts with dots between
-/// them, and then ` AS ` and the alias, which is bare if it is plain and else between backquotes. A
-/// text is plain if each byte is one of `a` to `z`, `0` to `9` and `_`; the empty text is.
+/// A name of at least one part, and perhaps an alias. Each form writes the parts with dots between
+/// them, and then ` AS ` and the alias. A plain alias is bare, and any other is between backquotes.
+/// A text is plain if each byte is one of `a` to `z`, `0` to `9` and `_`. The empty text is plain
+/// too.
 #[derive(Drop)]
 pub struct SqlName {
     alloc: Global,
@@ -98,8 +99,8 @@ impl SqlName {
     ghost use Rattle.sql_parts.specs.NameLoans.{IsUnchangedIfErr, IsUnchangedIfHeldErr};
     ghost use Rattle.sql_parts.specs.Loans.{IsChangedTo, IsHeldChangedTo};
 
-    /// A name of one part, without an alias. It fails only if memory runs out.
-    /// `SqlName::new(alloc, "a")?.safe()?` → `a`
+    /// Returns a name of one part, without an alias. Fails only if memory runs out.
+    /// `SqlName::new(alloc, "a")?.safe()?` gives `a`
     pub fn new<S: ToText>(alloc: Global, part: S) -> Result<SqlName, SqlBuilderError>
         ensures name { IfOk result (λ name. name ≡ name_of (S.text part)) }
         ensures memory { FailsOnlyByMemory result }
@@ -141,9 +142,9 @@ impl SqlName {
         Ok(Held(self))
     }
 
-    /// Adds a part behind the others. It fails only if memory runs out, and then the name
-    /// is as it was.
-    /// `SqlName::new(alloc, "a")?.add("b")?.safe()?` → `a.b`
+    /// Adds a part behind the others. Fails only if memory runs out, and then leaves the name
+    /// unchanged.
+    /// `SqlName::new(alloc, "a")?.add("b")?.safe()?` gives `a.b`
     pub fn add<S: ToText>(&mut self, part: S) -> Result<&mut Self, SqlBuilderError>
         ensures* unchanged { sem 𝓛 (IsUnchangedIfErr self.entry result) }
         ensures changed { IsChangedTo self.entry (with_part (S.text part) self.old) result }
@@ -152,10 +153,10 @@ impl SqlName {
         release(self.hold(Change::Part, part))
     }
 
-    /// Sets the alias, in place of any other. It fails only if memory runs out, and then
-    /// the name is as it was. An alias that isn't plain is between backquotes in every form, which
-    /// not every database reads as quotes.
-    /// `SqlName::new(alloc, "a")?.alias("b")?.safe()?` → `a AS b`
+    /// Sets the alias, in place of any other. An alias that isn't plain is between backquotes in
+    /// every form, which not every database reads as quotes. Fails only if memory runs out, and
+    /// then leaves the name unchanged.
+    /// `SqlName::new(alloc, "a")?.alias("b")?.safe()?` gives `a AS b`
     pub fn alias<S: ToText>(&mut self, alias: S) -> Result<&mut Self, SqlBuilderError>
         ensures* unchanged { sem 𝓛 (IsUnchangedIfErr self.entry result) }
         ensures changed { IsChangedTo self.entry (with_alias (S.text alias) self.old) result }
@@ -177,8 +178,8 @@ impl SqlName {
         }
     }
 
-    /// A name with the same parts and the same alias. It fails only if memory runs out.
-    /// `SqlName::new(alloc, "a")?.clone()?.safe()?` → `a`
+    /// Returns a name with the same parts and the same alias. Fails only if memory runs out.
+    /// `SqlName::new(alloc, "a")?.clone()?.safe()?` gives `a`
     pub fn clone(&self) -> Result<SqlName, SqlBuilderError>
         ensures equal { IfOk result (λ name. name ≡ self.now) }
         ensures memory { FailsOnlyByMemory result }
@@ -191,9 +192,9 @@ impl SqlName {
         })
     }
 
-    /// The name with all parts bare if all are plain, else with each part between backquotes. It
-    /// fails only if memory runs out.
-    /// `SqlName::new(alloc, "a")?.add("B")?.safe()?` → `` `a`.`B` ``
+    /// Returns the name with bare parts if all are plain, or else with each part between
+    /// backquotes. Fails only if memory runs out.
+    /// `SqlName::new(alloc, "a")?.add("B")?.safe()?` gives `` `a`.`B` ``
     #[tactic(auto, using(crate::proofs::tokens::NameFacts::safe_fits))]
     pub fn safe(&self) -> Result<String, SqlBuilderError>
         ensures text { IfOk result (λ s. string_bytes s ≡ safe_text self.now) }
@@ -204,8 +205,8 @@ impl SqlName {
         self.print(self.safe_form())
     }
 
-    /// The name with each part between single quotes. It fails only if memory runs out.
-    /// `SqlName::new(alloc, "a")?.add("b")?.quoted()?` → `'a'.'b'`
+    /// Returns the name with each part between single quotes. Fails only if memory runs out.
+    /// `SqlName::new(alloc, "a")?.add("b")?.quoted()?` gives `'a'.'b'`
     pub fn quoted(&self) -> Result<String, SqlBuilderError>
         ensures text { IfOk result (λ s. string_bytes s ≡ name_text quoted self.now) }
         ensures tokens { IfOk result (λ s. tokens (string_bytes s)
@@ -216,8 +217,8 @@ impl SqlName {
         self.print(Form::Between(Quotes::Single))
     }
 
-    /// The name with each part between backquotes. It fails only if memory runs out.
-    /// `SqlName::new(alloc, "a")?.add("b")?.baquoted()?` → `` `a`.`b` ``
+    /// Returns the name with each part between backquotes. Fails only if memory runs out.
+    /// `SqlName::new(alloc, "a")?.add("b")?.baquoted()?` gives `` `a`.`b` ``
     pub fn baquoted(&self) -> Result<String, SqlBuilderError>
         ensures text { IfOk result (λ s. string_bytes s ≡ name_text baquoted self.now) }
         ensures tokens { IfOk result (λ s. tokens (string_bytes s)
@@ -228,8 +229,8 @@ impl SqlName {
         self.print(Form::Between(Quotes::Back))
     }
 
-    /// The name with each part between square brackets. It fails only if memory runs out.
-    /// `SqlName::new(alloc, "a")?.add("b")?.brquoted()?` → `[a].[b]`
+    /// Returns the name with each part between square brackets. Fails only if memory runs out.
+    /// `SqlName::new(alloc, "a")?.add("b")?.brquoted()?` gives `[a].[b]`
     pub fn brquoted(&self) -> Result<String, SqlBuilderError>
         ensures text { IfOk result (λ s. string_bytes s ≡ name_text brquoted self.now) }
         ensures tokens { IfOk result (λ s. tokens (string_bytes s)
@@ -240,8 +241,8 @@ impl SqlName {
         self.print(Form::Between(Quotes::Square))
     }
 
-    /// The name with each part between double quotes. It fails only if memory runs out.
-    /// `SqlName::new(alloc, "a")?.add("b")?.dquoted()?` → `"a"."b"`
+    /// Returns the name with each part between double quotes. Fails only if memory runs out.
+    /// `SqlName::new(alloc, "a")?.add("b")?.dquoted()?` gives `"a"."b"`
     pub fn dquoted(&self) -> Result<String, SqlBuilderError>
         ensures text { IfOk result (λ s. string_bytes s ≡ name_text dquoted self.now) }
         ensures tokens { IfOk result (λ s. tokens (string_bytes s)
@@ -252,9 +253,9 @@ impl SqlName {
         self.print(Form::Between(Quotes::Double))
     }
 
-    /// The parts of the name between these quotes, without the alias: as a type that says that it is an
-    /// operand, whatever the parts are. It fails only if memory runs out.
-    /// `SqlName::new(alloc, "a\"b")?.operand(Quotes::Double)?.text` → `"a""b"`
+    /// Returns the parts of the name between these quotes, without the alias. The type says that it
+    /// is an operand, whatever the parts are. Fails only if memory runs out.
+    /// `SqlName::new(alloc, "a\"b")?.operand(Quotes::Double)?.text` gives `"a""b"`
     pub fn operand(&self, quotes: Quotes) -> Result<OwnedOperand, SqlBuilderError>
         ensures text { IfOk result (λ name. string_bytes name.text
             ≡ join_with (codes ".") (map (between quotes) (name_parts self.now))) }
@@ -372,38 +373,40 @@ macro_rules! name_in_form {
     }};
 }
 
-/// A name by `safe`: `name!(alloc, part, ..; alias)`, with one part or more and perhaps an alias.
-/// The five macros want `SqlName` in the caller's scope. The value is the text, and an error is
-/// what the caller's function returns, by `?`. An alias that isn't plain is between backquotes in each.
-/// `name!(alloc, "a", "b"; "c")` → `a.b AS c`
+/// Returns the name that `safe` writes: `name!(alloc, part, ..; alias)`, with one part or more and
+/// perhaps an alias. An alias that isn't plain is between backquotes. `SqlName` has to be in the
+/// caller's scope. Fails only if memory runs out, and then the caller's function returns, by `?`.
+/// `name!(alloc, "a", "b"; "c")` gives `a.b AS c`
 #[macro_export]
 macro_rules! name {
     ($($name:tt)*) => { $crate::name_in_form!(safe; $($name)*) };
 }
 
-/// A name by `quoted`, as `name!` has it by `safe`.
-/// `qname!(alloc, "a", "b"; "c")` → `'a'.'b' AS c`
+/// Returns the name that `quoted` writes, and is called as `name!`. Fails only if memory runs out.
+/// `qname!(alloc, "a", "b"; "c")` gives `'a'.'b' AS c`
 #[macro_export]
 macro_rules! qname {
     ($($name:tt)*) => { $crate::name_in_form!(quoted; $($name)*) };
 }
 
-/// A name by `baquoted`, as `name!` has it by `safe`.
-/// `baname!(alloc, "a", "b"; "c")` → `` `a`.`b` AS c ``
+/// Returns the name that `baquoted` writes, and is called as `name!`. Fails only if memory runs
+/// out.
+/// `baname!(alloc, "a", "b"; "c")` gives `` `a`.`b` AS c ``
 #[macro_export]
 macro_rules! baname {
     ($($name:tt)*) => { $crate::name_in_form!(baquoted; $($name)*) };
 }
 
-/// A name by `brquoted`, as `name!` has it by `safe`.
-/// `brname!(alloc, "a", "b"; "c")` → `[a].[b] AS c`
+/// Returns the name that `brquoted` writes, and is called as `name!`. Fails only if memory runs
+/// out.
+/// `brname!(alloc, "a", "b"; "c")` gives `[a].[b] AS c`
 #[macro_export]
 macro_rules! brname {
     ($($name:tt)*) => { $crate::name_in_form!(brquoted; $($name)*) };
 }
 
-/// A name by `dquoted`, as `name!` has it by `safe`.
-/// `dname!(alloc, "a", "b"; "c")` → `"a"."b" AS c`
+/// Returns the name that `dquoted` writes, and is called as `name!`. Fails only if memory runs out.
+/// `dname!(alloc, "a", "b"; "c")` gives `"a"."b" AS c`
 #[macro_export]
 macro_rules! dname {
     ($($name:tt)*) => { $crate::name_in_form!(dquoted; $($name)*) };

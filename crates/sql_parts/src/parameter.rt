@@ -8,16 +8,16 @@ use crate::error::SqlBuilderError;
 use crate::text::ToText;
 use std::alloc::Global;
 
-/// How a database writes placeholders.
+/// The style in which a database writes placeholders.
 #[derive(Clone, Copy, Debug, PartialEq, Eq)]
 pub enum Style {
-    /// `?1`: SQLite.
+    /// `?1`, for SQLite.
     Question,
-    /// `$1`: PostgreSQL.
+    /// `$1`, for PostgreSQL.
     Dollar,
 }
 
-/// The placeholder of a value, which `Parameters` gives.
+/// The placeholder of a value, which `Parameters` returns.
 #[derive(Clone, Copy, Debug, PartialEq, Eq)]
 pub struct Placeholder {
     /// How it is written.
@@ -65,8 +65,8 @@ impl ToText for Placeholder {
 }
 
 impl<V: Drop> Parameters<V> {
-    /// No values yet. It can't fail.
-    /// `Parameters::<i64>::new(alloc, Style::Dollar).values.len()` → `0`
+    /// Returns a list without values. Never fails.
+    /// `Parameters::<i64>::new(alloc, Style::Dollar).values.len()` gives `0`
     pub fn new(alloc: Global, style: Style) -> Parameters<V>
         ensures values { result.values.items ≡ [] }
         ensures style { result.style ≡ style }
@@ -77,9 +77,9 @@ impl<V: Drop> Parameters<V> {
         }
     }
 
-    /// Takes one more value behind the others, and returns its placeholder. It fails only if memory
-    /// runs out, and then the values are as they were. While `values` has room, it can't fail.
-    /// `Parameters::new(alloc, Style::Dollar).bind("it's")?.to_text(alloc)?` → `$1`
+    /// Adds a value behind the others, and returns its placeholder. Fails only if memory runs out,
+    /// and then leaves the values unchanged. Never fails while `values` has room.
+    /// `Parameters::new(alloc, Style::Dollar).bind("it's")?.to_text(alloc)?` gives `$1`
     #[inline(always)]
     pub fn bind(&mut self, value: V) -> Result<Placeholder, SqlBuilderError>
         ensures placeholder { IfOk result (λ placeholder. placeholder
@@ -100,8 +100,8 @@ impl<V: Drop> Parameters<V> {
         })
     }
 
-    /// Drops the values and keeps their memory, so that others take their numbers: a statement is
-    /// printed once and run with each. It can't fail.
+    /// Drops the values and keeps their memory. The next values take their numbers: a statement is
+    /// printed once, and run with each list of values. Never fails.
     /// ```
     /// let mut values = Parameters::new(alloc, Style::Dollar);
     /// values.bind(7)?;
@@ -118,9 +118,10 @@ impl<V: Drop> Parameters<V> {
 }
 
 impl<V: Copy + Drop> Parameters<V> {
-    /// Takes each of the values, as `bind` does, and returns their placeholders, as for an IN. It
-    /// fails only if memory runs out, and then the values are as they were.
-    /// `Parameters::new(alloc, Style::Dollar).bind_all(alloc, &[7, 9])?[1].to_text(alloc)?` → `$2`
+    /// Adds each of the values, as `bind` does, and returns their placeholders, as an IN takes
+    /// them. Fails only if memory runs out, and then leaves the values unchanged.
+    /// `Parameters::new(alloc, Style::Dollar).bind_all(alloc, &[7, 9])?[1].to_text(alloc)?` gives
+    /// `$2`
     pub fn bind_all(
         &mut self,
         alloc: Global,

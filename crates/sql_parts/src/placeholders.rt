@@ -16,8 +16,8 @@ use crate::search::{Front, split_at_first};
 use std::alloc::Global;
 use std::borrow::CowStr;
 
-/// Which call of binding is meant, and so what a placeholder is. In contracts it is the `Marks` of
-/// `specs/Templates.antt`, by `marks_of`.
+/// The call of binding that is meant, which says what a placeholder is. In contracts it is the
+/// `Marks` of `specs/Templates.antt`, by `marks_of`.
 #[derive(Clone, Copy)]
 pub enum Marks<'a> {
     /// `bind`: the first `?`.

@@ -16,11 +16,11 @@ use std::fmt;
 pub struct Positional<'a, V> {
     /// The text, with a `?` in place of each placeholder.
     pub text: String,
-    /// The values in the order of these.
+    /// The values in the order of the placeholders.
     pub values: Vec<&'a V>,
 }
 
-/// Why a text has no values by their order.
+/// The reason why a text has no values by their order.
 #[derive(Debug, Drop)]
 pub enum PositionalError {
     /// A placeholder has this number, and no value does.
@@ -32,8 +32,8 @@ pub enum PositionalError {
 }
 
 impl PositionalError {
-    /// The error's message, which Display prints too. It can't fail.
-    /// `PositionalError::NoNumber.message()` → `A ? without a number`
+    /// Returns the error's message, which Display prints too. Never fails.
+    /// `PositionalError::NoNumber.message()` gives `A ? without a number`
     pub fn message(&self) -> &'static str
         ensures text { result.now ≡ message_text self.now }
     {
@@ -116,21 +116,23 @@ fn count_marks<V>(style: Style, values: &[V], sql: &str) -> Result<usize, Positi
 }
 
 impl<V: Drop> Parameters<V> {
-    /// The text with a `?` in place of each numbered placeholder, and the values in the order of these,
-    /// as MySQL, MariaDB and ODBC take them: the placeholders were numbered by the calls, and a clause
-    /// may be printed before one that was set earlier. A number that occurs twice has its value twice.
+    /// Returns the text with a `?` in place of each numbered placeholder, and the values in the
+    /// order of these. MySQL, MariaDB and ODBC take them this way. The calls numbered the
+    /// placeholders, and a clause may be printed before one that was set earlier. A number that
+    /// occurs twice has its value twice.
     ///
-    /// A placeholder is the style's `?` or `$` with digits at once behind it, outside of strings, quoted
-    /// names and comments, by the rules of tokens: a backslash escapes nothing, `$$` begins no string,
-    /// `#` and `/*!` mean nothing special, and `[1]` is a name. A name goes on over letters, digits, `_`
-    /// and `$`, and a `$` with no digit behind it begins one: neither `a$1` nor `$$1` has a placeholder.
-    /// With `Style::Question` a `$1` is no placeholder, and with `Style::Dollar` a `?1` is a `?` without
-    /// a number. All other bytes stay as they are.
+    /// A placeholder is the style's `?` or `$` with digits at once behind it. It is outside of
+    /// strings, quoted names and comments, by the rules of tokens. By these a backslash escapes
+    /// nothing, `$$` begins no string, `#` and `/*!` mean nothing special, and `[1]` is a name. A
+    /// name goes on over letters, digits, `_` and `$`, and a `$` with no digit behind it begins
+    /// one. So neither `a$1` nor `$$1` has a placeholder. With `Style::Question` a `$1` is no
+    /// placeholder, and with `Style::Dollar` a `?1` is a `?` without a number. All other bytes stay
+    /// as they are.
     ///
-    /// It fails with `NoValue` if no value has a number, and with `NoNumber` if a `?` has none, as
-    /// PostgreSQL's operator `?`: the first of these in the text is returned, before any memory is asked
-    /// for. Else it fails only if memory runs out. Its time is linear in the text.
-    /// `Parameters { style: Style::Dollar, values: vec![in alloc; 7, 8]? }.positional(alloc, "a = $2 OR b = $1").map(|it| it.text)` →
+    /// Fails with `NoValue` if no value has a number, and with `NoNumber` if a `?` has none, such
+    /// as PostgreSQL's operator `?`. The first of these in the text is returned, before any memory
+    /// is asked for. Otherwise it fails only if memory runs out. Its time is linear in the text.
+    /// `Parameters { style: Style::Dollar, values: vec![in alloc; 7, 8]? }.positional(alloc, "a = $2 OR b = $1").map(|it| it.text)` gives
     /// `a = ? OR b = ?`
     pub fn positional(&self, alloc: Global, sql: &str) -> Result<Positional<'_, V>, PositionalError>
         ensures text { IfOk result (λ positional. string_bytes positional.text ≡ positional_text self.now.style sql.now) }

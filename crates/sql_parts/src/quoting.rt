@@ -54,9 +54,9 @@ fn enclose<S: ToText>(alloc: Global, quotes: Quotes, text: S) -> Result<String, 
     Ok(out)
 }
 
-/// The text with each `'` in it doubled: between two `'` it is an SQL text. It fails only if memory
-/// runs out.
-/// `esc(alloc, "it's")?` → `it''s`
+/// Returns the text with each `'` in it doubled. Between two `'` it is an SQL text. Fails only if
+/// memory runs out.
+/// `esc(alloc, "it's")?` gives `it''s`
 #[tactic(auto, using(crate::proofs::tokens::TokenFacts::escaped_token))]
 pub fn esc<S: ToText>(alloc: Global, text: S) -> Result<String, SqlBuilderError>
     ensures text { IfOk result (λ s. string_bytes s ≡ escaped (S.text text)) }
@@ -70,8 +70,8 @@ pub fn esc<S: ToText>(alloc: Global, text: S) -> Result<String, SqlBuilderError>
     Ok(out)
 }
 
-/// The text before the first `'` and the text after it, if there is one.
-/// `split_at_quote("it's").unwrap_or(("", "")).1` → `s`
+/// Returns the text before the first `'` and the text after it, if there is one. Never fails.
+/// `split_at_quote("it's").unwrap_or(("", "")).1` gives `s`
 pub fn split_at_quote(text: &str) -> Option<(&str, &str)>
     ensures cut { IfSome result (λ parts. text.now ≡ parts.0.now ++ (codes "'" ++ parts.1.now)) }
     ensures doubled { MatchOption result (escaped text.now ≡ text.now)
@@ -83,9 +83,9 @@ pub fn split_at_quote(text: &str) -> Option<(&str, &str)>
 // Room for so many delimiters that are doubled is taken at once.
 const SOME_DELIMITERS: usize = 8;
 
-/// The text with each `'` in it doubled, borrowed where it has none. It fails only if memory runs
+/// Returns the text with each `'` in it doubled, borrowed if it has none. Fails only if memory runs
 /// out.
-/// `escaped(alloc, "it's")?` → `it''s`
+/// `escaped(alloc, "it's")?` gives `it''s`
 pub fn escaped(alloc: Global, text: &str) -> Result<CowStr<'_>, AllocError>
     ensures { IfOk result (λ s. cow_str_bytes s ≡ escaped text.now) }
 {
@@ -99,8 +99,8 @@ pub fn escaped(alloc: Global, text: &str) -> Result<CowStr<'_>, AllocError>
     Ok(CowStr::Owned(out))
 }
 
-/// Appends the text between single quotes, with each `'` in it doubled. It fails only if memory runs
-/// out, and then the text is as it was.
+/// Appends the text between single quotes, with each `'` in it doubled. Fails only if memory runs
+/// out, and then leaves `out` unchanged.
 /// ```
 /// let mut text = String::new(alloc);
 /// push_quoted(&mut text, "it's")?;
@@ -113,9 +113,9 @@ pub fn push_quoted(out: &mut String, text: &str) -> Result<(), AllocError>
     push_enclosed(out, Quotes::Single, text)
 }
 
-/// The text between single quotes, with each `'` in it doubled: an SQL text. It fails only if
+/// Returns the text between single quotes, with each `'` in it doubled: an SQL text. Fails only if
 /// memory runs out.
-/// `quote(alloc, "it's")?` → `'it''s'`
+/// `quote(alloc, "it's")?` gives `'it''s'`
 pub fn quote<S: ToText>(alloc: Global, text: S) -> Result<String, SqlBuilderError>
     ensures text { IfOk result (λ s. string_bytes s ≡ quoted (S.text text)) }
     ensures token { IfOk result (λ s. tokens (string_bytes s) ≡ Str (S.text text) ∷ []) }
@@ -125,9 +125,9 @@ pub fn quote<S: ToText>(alloc: Global, text: S) -> Result<String, SqlBuilderErro
     enclose(alloc, Quotes::Single, text)
 }
 
-/// The text between backquotes, with each backquote in it doubled: an SQL name. It fails only if
-/// memory runs out.
-/// `` baquote(alloc, "a`b")? `` → ``` `a``b` ```
+/// Returns the text between backquotes, with each backquote in it doubled: an SQL name. Fails only
+/// if memory runs out.
+/// `` baquote(alloc, "a`b")? `` gives ``` `a``b` ```
 pub fn baquote<S: ToText>(alloc: Global, text: S) -> Result<String, SqlBuilderError>
     ensures text { IfOk result (λ s. string_bytes s ≡ baquoted (S.text text)) }
     ensures token { IfOk result (λ s. tokens (string_bytes s) ≡ Name (S.text text) ∷ []) }
@@ -137,9 +137,9 @@ pub fn baquote<S: ToText>(alloc: Global, text: S) -> Result<String, SqlBuilderEr
     enclose(alloc, Quotes::Back, text)
 }
 
-/// The text between square brackets, with each `]` in it doubled: an SQL name. It fails only if
-/// memory runs out.
-/// `brquote(alloc, "a]")?` → `[a]]]`
+/// Returns the text between square brackets, with each `]` in it doubled: an SQL name. Fails only
+/// if memory runs out.
+/// `brquote(alloc, "a]")?` gives `[a]]]`
 pub fn brquote<S: ToText>(alloc: Global, text: S) -> Result<String, SqlBuilderError>
     ensures text { IfOk result (λ s. string_bytes s ≡ brquoted (S.text text)) }
     ensures token { IfOk result (λ s. tokens (string_bytes s) ≡ Name (S.text text) ∷ []) }
@@ -149,9 +149,9 @@ pub fn brquote<S: ToText>(alloc: Global, text: S) -> Result<String, SqlBuilderEr
     enclose(alloc, Quotes::Square, text)
 }
 
-/// The text between double quotes, with each `"` in it doubled: an SQL name. It fails only if
+/// Returns the text between double quotes, with each `"` in it doubled: an SQL name. Fails only if
 /// memory runs out.
-/// `dquote(alloc, "a\"b")?` → `"a""b"`
+/// `dquote(alloc, "a\"b")?` gives `"a""b"`
 pub fn dquote<S: ToText>(alloc: Global, text: S) -> Result<String, SqlBuilderError>
     ensures text { IfOk result (λ s. string_bytes s ≡ dquoted (S.text text)) }
     ensures token { IfOk result (λ s. tokens (string_bytes s) ≡ Name (S.text text) ∷ []) }

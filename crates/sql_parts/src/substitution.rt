@@ -22,7 +22,7 @@ pub(crate) trait Literals: Drop {
     /// That a text which is stored of a literal is its text.
     ghost is_kept: { Self → Type 0 } = { λ _. ⊤ };
 
-    /// Appends the literal of a value. It fails only if memory runs out.
+    /// Appends the literal of a value. Fails only if memory runs out.
     fn push_literal(
         &self,
         alloc: Global,
@@ -62,7 +62,7 @@ pub(crate) struct Repeated<A> {
 }
 
 impl<A: SqlArg> Repeated<A> {
-    /// It fails only if memory runs out.
+    /// Fails only if memory runs out.
     pub(crate) fn new(alloc: Global, arg: A) -> Result<Self, SqlBuilderError>
         ensures arg { IfOk result (λ repeated. repeated.arg ≡ arg) }
         ensures text { IfOk result (λ repeated.
@@ -151,7 +151,7 @@ fn has_few_names(template: &str) -> bool {
     false
 }
 
-/// The places of the names, or none. It fails only if memory runs out.
+/// The places of the names, or none. Fails only if memory runs out.
 pub(crate) fn places_for<'a, N: BindNames>(
     alloc: Global,
     template: &str,
@@ -230,7 +230,7 @@ fn push_bound<L: Literals>(
 /// How many bytes most literals have at the most.
 const LITERAL: usize = 32;
 
-/// The template with literals in place of its placeholders. It fails only if memory runs out.
+/// The template with literals in place of its placeholders. Fails only if memory runs out.
 #[inline(always)]
 #[tactic(auto, using(crate::proofs::templates::ApartFacts::has_bound_tokens, crate::proofs::templates::ApartFacts::is_closed_if_apart))]
 pub(crate) fn bound_text<L: Literals>(

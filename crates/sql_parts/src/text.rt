@@ -1,4 +1,4 @@
-//! What can be written as a text.
+//! Values that can be written as texts.
 
 ghost use Rattle.std.specs.Prelude.{◌≡◌, ◌++◌, [], ◌∷◌, ℕ, List, MatchOption, map, string_bytes, IfOk, OnErr, OnOk};
 ghost use Rattle.std.specs.Char.{encode_utf8};
@@ -17,19 +17,20 @@ use crate::search::find_byte;
 use std::alloc::Global;
 use std::borrow::CowStr;
 
-/// What has a text: a user's own type has one by an implementation.
+/// A value that has a text. Implement it for types of your own.
 pub trait ToText: Drop {
     /// The text, as its bytes.
     ghost text: { Self → List ℕ };
 
-    /// The text. It fails only if memory runs out.
-    /// `25.to_text(alloc)?` → `25`
+    /// Returns the text. Fails only if memory runs out.
+    /// `25.to_text(alloc)?` gives `25`
     fn to_text(&self, alloc: Global) -> Result<String, SqlBuilderError>
         ensures text { IfOk result (λ s. string_bytes s ≡ text self.now) }
         ensures memory { FailsOnlyByMemory result };
 
-    /// The text, borrowed where the value has it, and else made. It fails only if memory runs out.
-    /// `"it's".as_text(alloc)?` → `it's`
+    /// Returns the text, borrowed if the value has it, and else made. Fails only if memory runs
+    /// out.
+    /// `"it's".as_text(alloc)?` gives `it's`
     fn as_text(&self, alloc: Global) -> Result<CowStr<'_>, SqlBuilderError>
         ensures text { IfOk result (λ s. cow_str_bytes s ≡ text self.now) }
         ensures memory { FailsOnlyByMemory result }
@@ -37,7 +38,7 @@ pub trait ToText: Drop {
         Ok(CowStr::Owned(self.to_text(alloc)?))
     }
 
-    /// Appends the text to another. It fails only if memory runs out, and then the other is as it was.
+    /// Appends the text to another. Fails only if memory runs out, and then leaves `out` unchanged.
     /// ```
     /// let mut text = String::from_str(alloc, "price = ")?;
     /// 25.push_text(alloc, &mut text)?;
@@ -56,14 +57,14 @@ pub trait ToText: Drop {
 /// Texts that are taken one after another, so that a list of them need not be made. For the crates
 /// here alone.
 pub trait Texts<'a>: Drop {
-    /// What has one of the texts.
+    /// The type that has one of the texts.
     type Text: ToText;
 
     /// The texts that are left.
     ghost left: { Self → List (List ℕ) };
 
-    /// Takes the next text, if one is left. It can't fail.
-    /// `Items { items: &["a"] }.next_text().copied()` → `Some(a)`
+    /// Takes the next text, if one is left. Never fails.
+    /// `Items { items: &["a"] }.next_text().copied()` gives `Some(a)`
     fn next_text(&mut self) -> Option<Self::Text>
         ensures next { MatchOption result
             ((left self.old ≡ []) × (left self.new ≡ []))
@@ -89,8 +90,8 @@ impl<'a, S: ToText> Texts<'a> for Items<'a, S> {
     }
 }
 
-/// The text of each item. It fails only if memory runs out. For the crates here alone.
-/// `copies(alloc, &[1, 2])?` → `[1, 2]`
+/// Returns the text of each item. Fails only if memory runs out. For the crates here alone.
+/// `copies(alloc, &[1, 2])?` gives `[1, 2]`
 pub fn copies<S: ToText>(alloc: Global, items: &[S]) -> Result<Vec<String>, SqlBuilderError>
     ensures copied { IfOk result (λ copied. texts copied.items ≡ map S.text items.now) }
     ensures memory { FailsOnlyByMemory result }
@@ -102,8 +103,9 @@ pub fn copies<S: ToText>(alloc: Global, items: &[S]) -> Result<Vec<String>, SqlB
     Ok(copied)
 }
 
-/// A copy of the text, if there is one. It fails only if memory runs out. For the crates here alone.
-/// `copy(alloc, &Some(String::from_str(alloc, "a")?))?` → `Some(a)`
+/// Returns a copy of the text, if there is one. Fails only if memory runs out. For the crates here
+/// alone.
+/// `copy(alloc, &Some(String::from_str(alloc, "a")?))?` gives `Some(a)`
 pub fn copy(alloc: Global, text: &Option<String>) -> Result<Option<String>, SqlBuilderError>
     ensures copied { IfOk result (λ copied. optional_text copied ≡ optional_text text.now) }
     ensures memory { FailsOnlyByMemory result }
@@ -114,10 +116,10 @@ pub fn copy(alloc: Global, text: &Option<String>) -> Result<Option<String>, SqlB
     }
 }
 
-/// Whether the text has a zero byte. Programs that read statements from their input, as `sqlite3` and
-/// `psql` do, drop what is behind one on its line, and with it the quote that closes a literal. It
-/// can't fail.
-/// `has_zero("x\0")` → `true`
+/// Returns whether the text has a zero byte. Programs that read statements from their input, as
+/// `sqlite3` and `psql` do, drop what is behind one on its line. They then drop the quote that
+/// closes a literal. Never fails.
+/// `has_zero("x\0")` gives `true`
 #[tactic(auto, using(crate::proofs::bytes::ByteFacts::found_byte))]
 pub fn has_zero(text: &str) -> bool
     ensures { result ≡ has_byte 0 text.now }
@@ -128,12 +130,13 @@ pub fn has_zero(text: &str) -> bool
 // Room for so many characters that are escaped is taken at once, and for wildcards behind them.
 const SOME_ESCAPES: usize = 8;
 
-/// The text with the escape character before each `%`, each `_` and each escape character in it: a
-/// mask of LIKE that matches this text alone, where ESCAPE names the character. With `%` behind it
-/// the mask matches what begins with the text, with `%` in front what ends with it, with `%` on both
-/// sides what contains it. A quote is left as it is, for the call that quotes or binds the mask. It
-/// fails only if memory runs out.
-/// `escape_like(alloc, "50%", LikeEscape::Exclamation)?` → `50!%`
+/// Returns the text with the escape character before each `%`, each `_` and each escape character.
+/// As a mask of LIKE it matches this text alone, if ESCAPE names the character.
+///
+/// With `%` behind it the mask matches what begins with the text, and with `%` in front what ends
+/// with it. With `%` on both sides it matches what contains it. A quote is left as it is, for the
+/// call that quotes or binds the mask. Fails only if memory runs out.
+/// `escape_like(alloc, "50%", LikeEscape::Exclamation)?` gives `50!%`
 pub fn escape_like<S: ToText>(
     alloc: Global,
     text: S,

@@ -160,8 +160,8 @@ pub(crate) fn first_token(text: &str) -> Option<(Token<'_>, &str)>
     None
 }
 
-/// Whether each quote and each comment of the text has its end. It can't fail.
-/// `is_closed("a -- b")` → `false`
+/// Returns whether each quote and each comment of the text has its end. Never fails.
+/// `is_closed("a -- b")` gives `false`
 pub fn is_closed(text: &str) -> bool
     ensures { result ≡ closed text.now }
 {
