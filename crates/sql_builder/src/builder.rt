@@ -187,9 +187,8 @@ impl SqlBuilder {
 
     // The four starts are functions of their own, since as parts of their callers they copied a builder
     // more often.
-    /// A SELECT from this table, with no other clause. It fails only if memory runs out, as does
-    /// each of the four starts below.
-    /// `SqlBuilder::select_from(alloc, "t")?.sql()?` → `SELECT * FROM t;`
+    /// Returns a SELECT from this table, with no other clause. Fails only if memory runs out.
+    /// `SqlBuilder::select_from(alloc, "t")?.sql()?` gives `SELECT * FROM t;`
     #[inline(never)]
     pub fn select_from<S: ToText>(alloc: Global, table: S) -> Result<SqlBuilder, SqlBuilderError>
         ensures made { IfOk result (λ b. b ≡ started (SelectFrom (S.text table))) }
@@ -198,8 +197,8 @@ impl SqlBuilder {
         SqlBuilder::starting_from(alloc, Kind::SelectFrom, table)
     }
 
-    /// A SELECT of these values, without a table.
-    /// `SqlBuilder::select_values(alloc, &[1, 2])?.sql()?` → `SELECT 1, 2;`
+    /// Returns a SELECT of these values, without a table. Fails only if memory runs out.
+    /// `SqlBuilder::select_values(alloc, &[1, 2])?.sql()?` gives `SELECT 1, 2;`
     pub fn select_values<S: ToText>(
         alloc: Global,
         values: &[S],
@@ -212,8 +211,8 @@ impl SqlBuilder {
         Ok(SqlBuilder::new(alloc, Kind::SelectValues, String::new(alloc), fields))
     }
 
-    /// An INSERT into this table, with no other clause.
-    /// `SqlBuilder::insert_into(alloc, "t")?.field("a")?.values(&[1])?.sql()?` →
+    /// Returns an INSERT into this table, with no other clause. Fails only if memory runs out.
+    /// `SqlBuilder::insert_into(alloc, "t")?.field("a")?.values(&[1])?.sql()?` gives
     /// `INSERT INTO t (a) VALUES (1);`
     #[inline(never)]
     pub fn insert_into<S: ToText>(alloc: Global, table: S) -> Result<SqlBuilder, SqlBuilderError>
@@ -223,8 +222,8 @@ impl SqlBuilder {
         SqlBuilder::starting_from(alloc, Kind::InsertInto, table)
     }
 
-    /// An UPDATE of this table, with no other clause.
-    /// `SqlBuilder::update_table(alloc, "t")?.set("a", 1)?.sql()?` → `UPDATE t SET a = 1;`
+    /// Returns an UPDATE of this table, with no other clause. Fails only if memory runs out.
+    /// `SqlBuilder::update_table(alloc, "t")?.set("a", 1)?.sql()?` gives `UPDATE t SET a = 1;`
     #[inline(never)]
     pub fn update_table<S: ToText>(alloc: Global, table: S) -> Result<SqlBuilder, SqlBuilderError>
         ensures made { IfOk result (λ b. b ≡ started (UpdateTable (S.text table))) }
@@ -233,8 +232,8 @@ impl SqlBuilder {
         SqlBuilder::starting_from(alloc, Kind::UpdateTable, table)
     }
 
-    /// A DELETE from this table, with no other clause.
-    /// `SqlBuilder::delete_from(alloc, "t")?.sql()?` → `DELETE FROM t;`
+    /// Returns a DELETE from this table, with no other clause. Fails only if memory runs out.
+    /// `SqlBuilder::delete_from(alloc, "t")?.sql()?` gives `DELETE FROM t;`
     #[inline(never)]
     pub fn delete_from<S: ToText>(alloc: Global, table: S) -> Result<SqlBuilder, SqlBuilderError>
         ensures made { IfOk result (λ b. b ≡ started (DeleteFrom (S.text table))) }
@@ -301,8 +300,8 @@ impl SqlBuilder {
         ))
     }
 
-    /// An equal builder. It fails only if memory runs out.
-    /// `SqlBuilder::select_from(alloc, "t")?.field("a")?.clone()?.field("b")?.sql()?` →
+    /// Returns an equal builder. Fails only if memory runs out.
+    /// `SqlBuilder::select_from(alloc, "t")?.field("a")?.clone()?.field("b")?.sql()?` gives
     /// `SELECT a, b FROM t;`
     pub fn clone(&self) -> Result<SqlBuilder, SqlBuilderError>
         ensures equal { IfOk result (λ b. b ≡ self.now) }

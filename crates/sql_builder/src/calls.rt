@@ -34,124 +34,125 @@ use sql_parts::text::{Items, Texts};
 use std::alloc::{AllocError, Global};
 use std::mem::swap;
 
-/// How a list of calls begins.
+/// The start of a list of calls.
 #[derive(Drop)]
 pub enum Start {
-    /// `select_from` of this table.
+    /// A call of `select_from` with this table.
     SelectFrom(String),
-    /// `select_values` of these values.
+    /// A call of `select_values` with these values.
     SelectValues(Vec<String>),
-    /// `insert_into` of this table.
+    /// A call of `insert_into` with this table.
     InsertInto(String),
-    /// `update_table` of this table.
+    /// A call of `update_table` with this table.
     UpdateTable(String),
-    /// `delete_from` of this table.
+    /// A call of `delete_from` with this table.
     DeleteFrom(String),
 }
 
-/// How a statement on a table begins. For `restart_on`, and for the crates here alone.
+/// The start of a statement on a table. For `restart_on`, and for the crates here alone.
 #[derive(Clone, Copy)]
 pub enum TableStart {
-    /// `select_from`.
+    /// A call of `select_from`.
     SelectFrom,
-    /// `insert_into`.
+    /// A call of `insert_into`.
     InsertInto,
-    /// `update_table`.
+    /// A call of `update_table`.
     UpdateTable,
-    /// `delete_from`.
+    /// A call of `delete_from`.
     DeleteFrom,
 }
 
 /// A call that changes a builder.
 #[derive(Drop)]
 pub enum Call {
-    /// `natural`.
+    /// A call of `natural`.
     Natural,
-    /// `left`.
+    /// A call of `left`.
     Left,
-    /// `left_outer`.
+    /// A call of `left_outer`.
     LeftOuter,
-    /// `right`.
+    /// A call of `right`.
     Right,
-    /// `right_outer`.
+    /// A call of `right_outer`.
     RightOuter,
-    /// `inner`.
+    /// A call of `inner`.
     Inner,
-    /// `cross`.
+    /// A call of `cross`.
     Cross,
-    /// `distinct`.
+    /// A call of `distinct`.
     Distinct,
-    /// `and_table` of this table.
+    /// A call of `and_table` with this table.
     AndTable(String),
-    /// `join` of this table.
+    /// A call of `join` with this table.
     Join(String),
-    /// `on` of this constraint.
+    /// A call of `on` with this constraint.
     On(String),
-    /// `on_eq` of these two texts.
+    /// A call of `on_eq` with these two texts.
     OnEq(String, String),
-    /// `fields` of this list.
+    /// A call of `fields` with this list.
     Fields(Vec<String>),
-    /// `set_fields` of this list.
+    /// A call of `set_fields` with this list.
     SetFields(Vec<String>),
-    /// `field` of this text.
+    /// A call of `field` with this text.
     Field(String),
-    /// `set_field` of this text.
+    /// A call of `set_field` with this text.
     SetField(String),
-    /// `count` of this field.
+    /// A call of `count` with this field.
     Count(String),
-    /// `count_as` of this field, under this name.
+    /// A call of `count_as` with this field and this name.
     CountAs(String, String),
-    /// `set` of this field to this value.
+    /// A call of `set` with this field and this value.
     SetTo(String, String),
-    /// `set_str` of this field to this text, which is quoted.
+    /// A call of `set_str` with this field and this text, which is quoted.
     SetStr(String, String),
-    /// `values` of this row.
+    /// A call of `values` with this row.
     Values(Vec<String>),
-    /// `select` of this query.
+    /// A call of `select` with this query.
     Select(String),
-    /// `returning` of this text.
+    /// A call of `returning` with this text.
     Returning(String),
-    /// `returning_id`.
+    /// A call of `returning_id`.
     ReturningId,
-    /// `group_by` of this field.
+    /// A call of `group_by` with this field.
     GroupBy(String),
-    /// `having` of this condition.
+    /// A call of `having` with this condition.
     Having(String),
-    /// `union` of this query.
+    /// A call of `union` with this query.
     Union(String),
-    /// `union_all` of this query.
+    /// A call of `union_all` with this query.
     UnionAll(String),
-    /// `order_by` of this field, descending where the truth value says so.
+    /// A call of `order_by` with this field, descending where the truth value says so.
     OrderBy(String, bool),
-    /// `order_asc` of this field.
+    /// A call of `order_asc` with this field.
     OrderAsc(String),
-    /// `order_desc` of this field.
+    /// A call of `order_desc` with this field.
     OrderDesc(String),
-    /// `limit` of this text.
+    /// A call of `limit` with this text.
     Limit(String),
-    /// `offset` of this text.
+    /// A call of `offset` with this text.
     Offset(String),
     /// The call of this family that adds this condition.
     Cond(Family, Condition),
 }
 
-/// How a list of calls ends.
+/// The finish of a list of calls.
 #[derive(Drop)]
 pub enum Finish {
-    /// `sql`.
+    /// A call of `sql`.
     Sql,
-    /// `query`.
+    /// A call of `query`.
     Query,
-    /// `query_values`.
+    /// A call of `query_values`.
     QueryValues,
-    /// `subquery`.
+    /// A call of `subquery`.
     Subquery,
-    /// `subquery_as` of this name.
+    /// A call of `subquery_as` with this name.
     SubqueryAs(String),
 }
 
-/// The builder that a start makes. It fails only if memory runs out.
-/// `begin(alloc, &Start::SelectFrom(String::from_str(alloc, "t")?))?.sql()?` → `SELECT * FROM t;`
+/// Returns the builder that a start makes. Fails only if memory runs out.
+/// `begin(alloc, &Start::SelectFrom(String::from_str(alloc, "t")?))?.sql()?` gives
+/// `SELECT * FROM t;`
 pub fn begin(alloc: Global, start: &Start) -> Result<SqlBuilder, SqlBuilderError>
     ensures made { IfOk result (λ b. b ≡ started (start_view start.now)) }
     ensures memory { FailsOnlyByMemory result }
@@ -165,8 +166,8 @@ pub fn begin(alloc: Global, start: &Start) -> Result<SqlBuilder, SqlBuilderError
     }
 }
 
-/// Makes a builder that of another start, and keeps its buffers. It fails only if memory runs out, and
-/// then leaves the builder as it was.
+/// Turns a builder into that of another start, and keeps its buffers. Fails only if memory runs
+/// out, and then leaves the builder unchanged.
 /// ```
 /// let mut b = SqlBuilder::select_from(alloc, "t")?;
 /// b.field("a")?;
@@ -187,8 +188,9 @@ pub fn restart(builder: &mut SqlBuilder, start: &Start) -> Result<(), SqlBuilder
     }
 }
 
-/// Makes a builder that of a statement on this table, and keeps its buffers. It fails only if memory
-/// runs out, and then leaves the builder as it was. For `sqlb`: as `restart`, with its text borrowed.
+/// Turns a builder into that of a statement on this table, and keeps its buffers. Fails only if
+/// memory runs out, and then leaves the builder unchanged. For `sqlb`: as `restart`, with its text
+/// borrowed.
 /// ```
 /// let mut b = SqlBuilder::select_from(alloc, "t")?;
 /// restart_on(&mut b, TableStart::DeleteFrom, "u")?;
@@ -215,9 +217,9 @@ pub fn restart_on(
     Ok(())
 }
 
-/// Makes a builder that of a SELECT of values that are taken one after another, without a table, and
-/// keeps its buffers. It fails only if memory runs out, and then leaves the builder as it was. For
-/// `sqlb`: as `restart`, with its texts borrowed.
+/// Turns a builder into that of a SELECT of these values, without a table, and keeps its buffers.
+/// The values are taken one after another. Fails only if memory runs out, and then leaves the
+/// builder unchanged. For `sqlb`: as `restart`, with its texts borrowed.
 /// ```
 /// let mut b = SqlBuilder::select_from(alloc, "t")?;
 /// restart_values(&mut b, Items { items: &[1, 2] })?;
@@ -238,8 +240,9 @@ pub fn restart_values<'a, T: Texts<'a>>(
     Ok(())
 }
 
-/// Makes a call of a builder. It fails only if memory runs out, and then leaves the builder as it
-/// was; `natural`, `distinct`, the six operators, and `on` and `on_eq` without a join can't fail.
+/// Makes a call of a builder. Fails only if memory runs out, and then leaves the builder unchanged.
+/// Never fails for `natural`, `distinct` and the six operators, nor for `on` and `on_eq` without a
+/// join.
 /// ```
 /// let mut b = begin(alloc, &Start::SelectFrom(String::from_str(alloc, "t")?))?;
 /// make(&mut b, &Call::Field(String::from_str(alloc, "a")?))?;
@@ -323,11 +326,13 @@ fn room_for(builder: &SqlBuilder, finish: &Finish) -> Result<String, AllocError>
     String::with_capacity(builder.alloc, printed_length(builder, finish))
 }
 
-/// Prints a builder. It fails as the printing call that is meant does, or because memory runs out.
-/// What `begin` and `make` have made prints the statement of its start and calls, which is what `run`
-/// gives (`laws::builders_print_statements`); the laws of statements say the rest of it.
-/// `print(&begin(alloc, &Start::SelectFrom(String::from_str(alloc, "t")?))?, &Finish::Query)?` →
-/// `SELECT * FROM t`
+/// Returns what a finish prints of a builder. Fails as the printing call that is meant does, or if
+/// memory runs out.
+///
+/// A builder that `begin` and `make` made prints the statement of its start and calls, as `run`
+/// does. `laws::builders_print_statements` says so. The laws of statements say the rest of it.
+/// `print(&begin(alloc, &Start::SelectFrom(String::from_str(alloc, "t")?))?, &Finish::Query)?`
+/// gives `SELECT * FROM t`
 pub fn print(builder: &SqlBuilder, finish: &Finish) -> Result<String, SqlBuilderError>
     ensures text { IfOk result (λ s. string_bytes s
         ≡ text_at (finish_view finish.now) builder.now) }
@@ -342,9 +347,9 @@ pub fn print(builder: &SqlBuilder, finish: &Finish) -> Result<String, SqlBuilder
     Ok(out)
 }
 
-/// How many bytes `print` gives, or the greatest `usize` where there are more; also where `print`
-/// fails.
-/// `printed_length(&begin(alloc, &Start::SelectFrom(String::from_str(alloc, "t")?))?, &Finish::Query)` →
+/// Returns how many bytes `print` returns, or the greatest `usize` if there are more. It is the
+/// same if `print` fails. Never fails.
+/// `printed_length(&begin(alloc, &Start::SelectFrom(String::from_str(alloc, "t")?))?, &Finish::Query)` gives
 /// `15`
 pub fn printed_length(builder: &SqlBuilder, finish: &Finish) -> usize
     ensures { result ≡ min (length (text_at (finish_view finish.now) builder.now)) (2 ^ 64 - 1) }
@@ -354,8 +359,8 @@ pub fn printed_length(builder: &SqlBuilder, finish: &Finish) -> usize
     count.len()
 }
 
-/// Appends to a text what `print` gives. It fails where `print` does, and then the text is as it was.
-/// Where the text has room for `printed_length` more bytes, memory can't run out.
+/// Appends to a text what `print` returns. Fails as `print` does, and then leaves `out` unchanged.
+/// Memory can't run out if the text has room for `printed_length` more bytes.
 /// ```
 /// let mut s = String::from_str(alloc, "-- ")?;
 /// print_to(&begin(alloc, &Start::SelectFrom(String::from_str(alloc, "t")?))?, &Finish::Query, &mut s)?;
@@ -383,9 +388,10 @@ pub fn print_to(
     Ok(())
 }
 
-/// Whether the builder has a UNION, an ORDER BY, a LIMIT or an OFFSET: behind the UNION of another query
-/// they would be of the whole. It can't fail. For the crates here alone.
-/// `needs_brackets(&begin(alloc, &Start::SelectFrom(String::from_str(alloc, "t")?))?)` → `false`
+/// Returns whether the builder has a UNION, an ORDER BY, a LIMIT or an OFFSET. Behind the UNION of
+/// another query they would apply to the whole. Never fails. For the crates here alone.
+/// `needs_brackets(&begin(alloc, &Start::SelectFrom(String::from_str(alloc, "t")?))?)` gives
+/// `false`
 pub fn needs_brackets(builder: &SqlBuilder) -> bool
     ensures { result ≡ needs_brackets builder.now }
 {
@@ -395,20 +401,24 @@ pub fn needs_brackets(builder: &SqlBuilder) -> bool
         || builder.offset.is_some()
 }
 
-/// Makes the builder, makes the calls in order, and prints: the statement that the whole list
-/// means, or its error. It may run out of memory in place of either.
+/// Makes the builder, makes the calls in order, and returns the statement that the whole list
+/// means. Fails with the error of the list, if it has one. Memory may run out in place of either.
 ///
-/// The fragments are the texts that it prints unchanged. Where each is closed, the text has their
-/// tokens, and one token for each text that is quoted. Where each before the first UNION is
-/// balanced, and has no top-level clause keyword unless brackets of the builder's own are round it,
-/// what `sql`, `query` and `query_values` print parses back, up to that UNION, as the clauses that
-/// the calls say. Where this holds of the fragments of each condition too, by the condition's own
-/// brackets, the truth of the WHERE of a query, and of what `sql` prints of a SELECT from a table,
-/// an UPDATE or a DELETE, is the AND of the groups, each the OR of its conditions. Where each
-/// fragment is balanced, those behind a UNION too, what `query` and `subquery_as` print is
-/// balanced, and what `subquery` prints is an operand without a top-level clause keyword; nor has
-/// what `subquery_as` prints one, where its name has none.
-/// `run(alloc, &Start::SelectFrom(String::from_str(alloc, "t")?), &[Call::Field(String::from_str(alloc, "a")?)], &Finish::Sql)?` →
+/// The fragments are the texts that it prints unchanged. If each fragment is closed, the text has
+/// their tokens, and one token for each text that is quoted.
+///
+/// What `sql`, `query` and `query_values` print parses back, up to the first UNION, as the clauses
+/// that the calls say. For this, each fragment before that UNION has to be balanced. It may have a
+/// top-level clause keyword only if brackets of the builder's own are round it.
+///
+/// The truth of a WHERE is the AND of the groups, each the OR of its conditions. For this, the same
+/// has to hold of the fragments of each condition, by the condition's own brackets. The WHERE is
+/// that of a query, or of what `sql` prints of a SELECT from a table, an UPDATE or a DELETE.
+///
+/// If each fragment is balanced, those behind a UNION too, what `query` and `subquery_as` print is
+/// balanced. What `subquery` prints is then an operand without a top-level clause keyword. What
+/// `subquery_as` prints has no such word either, if its name has none.
+/// `run(alloc, &Start::SelectFrom(String::from_str(alloc, "t")?), &[Call::Field(String::from_str(alloc, "a")?)], &Finish::Sql)?` gives
 /// `SELECT a FROM t;`
 pub fn run(
     alloc: Global,

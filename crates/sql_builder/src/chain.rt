@@ -1,5 +1,5 @@
-//! The calls that give a builder a clause. Each gives the builder back, so that calls form a chain.
-//! Each that can fail fails only if memory runs out, and then leaves the builder as it was.
+//! The calls that give a builder a clause. Each returns the builder, so that calls form a chain.
+//! Each that can fail fails only if memory runs out, and then leaves the builder unchanged.
 ghost use Rattle.std.specs.Prelude.{◌≡◌, [], ◌∷◌, codes, false, map, true, IfErr};
 ghost use Rattle.sql_parts.specs.Error.{FailsOnlyByMemory};
 ghost use Rattle.sql_parts.specs.Quoting.{quoted};
@@ -20,8 +20,9 @@ impl SqlBuilder {
     ghost use Rattle.sql_builder.specs.BuilderLoans.{IsUnchangedIfErr};
     ghost use Rattle.sql_parts.specs.Loans.{IsChangedSoThat, IsChangedTo};
 
-    /// Adds a table: appends `, ` and the table to the table text, also to an empty one.
-    /// `SqlBuilder::select_from(alloc, "t")?.and_table("u")?.sql()?` → `SELECT * FROM t, u;`
+    /// Adds a table: appends `, ` and the table to the table text, also to an empty one. Fails only
+    /// if memory runs out, and then leaves the builder unchanged.
+    /// `SqlBuilder::select_from(alloc, "t")?.and_table("u")?.sql()?` gives `SELECT * FROM t, u;`
     pub fn and_table<S: ToText>(&mut self, table: S) -> Result<&mut Self, SqlBuilderError>
         ensures* unchanged { sem 𝓛 (IsUnchangedIfErr self.entry result) }
         ensures changed { IsChangedTo self.entry (with_table (S.text table) self.old) result }
@@ -30,9 +31,11 @@ impl SqlBuilder {
         release(self.hold_unary(UnaryClause::AndTable, table))
     }
 
-    /// Adds a join with this table, with the operator in force, and NATURAL where `natural` waits
-    /// for it; no later join is then NATURAL by that `natural`.
-    /// `SqlBuilder::select_from(alloc, "t")?.left().join("u")?.sql()?` → `SELECT * FROM t LEFT JOIN u;`
+    /// Adds a join with this table, with the operator in force. It is NATURAL if a `natural` waits
+    /// for it, which then makes no later join NATURAL. Fails only if memory runs out, and then
+    /// leaves the builder unchanged.
+    /// `SqlBuilder::select_from(alloc, "t")?.left().join("u")?.sql()?` gives
+    /// `SELECT * FROM t LEFT JOIN u;`
     pub fn join<S: ToText>(&mut self, table: S) -> Result<&mut Self, SqlBuilderError>
         ensures* unchanged { sem 𝓛 (IsUnchangedIfErr self.entry result) }
         ensures changed { IsChangedTo self.entry (with_join (S.text table) self.old) result }
@@ -41,8 +44,9 @@ impl SqlBuilder {
         release(self.hold_unary(UnaryClause::Join, table))
     }
 
-    /// Adds a constraint to the last join. Without a join it does nothing, and can't fail.
-    /// `SqlBuilder::select_from(alloc, "t")?.join("u")?.on("a = b")?.sql()?` →
+    /// Adds a constraint to the last join. Without a join it does nothing and never fails.
+    /// Otherwise it fails only if memory runs out, and then leaves the builder unchanged.
+    /// `SqlBuilder::select_from(alloc, "t")?.join("u")?.on("a = b")?.sql()?` gives
     /// `SELECT * FROM t JOIN u ON a = b;`
     pub fn on<S: ToText>(&mut self, constraint: S) -> Result<&mut Self, SqlBuilderError>
         ensures* unchanged { sem 𝓛 (IsUnchangedIfErr self.entry result) }
@@ -52,9 +56,10 @@ impl SqlBuilder {
         release(self.hold_unary(UnaryClause::On, constraint))
     }
 
-    /// Adds the constraint `left = right` to the last join. Without a join it does nothing, and
-    /// can't fail.
-    /// `SqlBuilder::select_from(alloc, "t")?.join("u")?.on_eq("a", "b")?.sql()?` →
+    /// Adds the constraint `left = right` to the last join. Without a join it does nothing and
+    /// never fails. Otherwise it fails only if memory runs out, and then leaves the builder
+    /// unchanged.
+    /// `SqlBuilder::select_from(alloc, "t")?.join("u")?.on_eq("a", "b")?.sql()?` gives
     /// `SELECT * FROM t JOIN u ON a = b;`
     pub fn on_eq<S: ToText, T: ToText>(
         &mut self,
@@ -70,8 +75,9 @@ impl SqlBuilder {
         release(self.hold_binary(BinaryClause::OnEq, left, right))
     }
 
-    /// Appends fields.
-    /// `SqlBuilder::select_from(alloc, "t")?.fields(&["a", "b"])?.sql()?` → `SELECT a, b FROM t;`
+    /// Appends fields. Fails only if memory runs out, and then leaves the builder unchanged.
+    /// `SqlBuilder::select_from(alloc, "t")?.fields(&["a", "b"])?.sql()?` gives
+    /// `SELECT a, b FROM t;`
     pub fn fields<S: ToText>(&mut self, fields: &[S]) -> Result<&mut Self, SqlBuilderError>
         ensures* unchanged { sem 𝓛 (IsUnchangedIfErr self.entry result) }
         ensures changed { IsChangedTo self.entry
@@ -81,8 +87,9 @@ impl SqlBuilder {
         release(self.hold_variadic(VariadicClause::Fields, fields))
     }
 
-    /// Puts these fields in the place of all others.
-    /// `SqlBuilder::select_from(alloc, "t")?.field("a")?.set_fields(&["b", "c"])?.sql()?` →
+    /// Puts these fields in the place of all others. Fails only if memory runs out, and then leaves
+    /// the builder unchanged.
+    /// `SqlBuilder::select_from(alloc, "t")?.field("a")?.set_fields(&["b", "c"])?.sql()?` gives
     /// `SELECT b, c FROM t;`
     pub fn set_fields<S: ToText>(&mut self, fields: &[S]) -> Result<&mut Self, SqlBuilderError>
         ensures* unchanged { sem 𝓛 (IsUnchangedIfErr self.entry result) }
@@ -93,8 +100,8 @@ impl SqlBuilder {
         release(self.hold_variadic(VariadicClause::SetFields, fields))
     }
 
-    /// Appends a field.
-    /// `SqlBuilder::select_from(alloc, "t")?.field("a")?.sql()?` → `SELECT a FROM t;`
+    /// Appends a field. Fails only if memory runs out, and then leaves the builder unchanged.
+    /// `SqlBuilder::select_from(alloc, "t")?.field("a")?.sql()?` gives `SELECT a FROM t;`
     pub fn field<S: ToText>(&mut self, field: S) -> Result<&mut Self, SqlBuilderError>
         ensures* unchanged { sem 𝓛 (IsUnchangedIfErr self.entry result) }
         ensures changed { IsChangedTo self.entry
@@ -104,8 +111,10 @@ impl SqlBuilder {
         release(self.hold_unary(UnaryClause::Field, field))
     }
 
-    /// Puts this field in the place of all others.
-    /// `SqlBuilder::select_from(alloc, "t")?.field("a")?.set_field("b")?.sql()?` → `SELECT b FROM t;`
+    /// Puts this field in the place of all others. Fails only if memory runs out, and then leaves
+    /// the builder unchanged.
+    /// `SqlBuilder::select_from(alloc, "t")?.field("a")?.set_field("b")?.sql()?` gives
+    /// `SELECT b FROM t;`
     pub fn set_field<S: ToText>(&mut self, field: S) -> Result<&mut Self, SqlBuilderError>
         ensures* unchanged { sem 𝓛 (IsUnchangedIfErr self.entry result) }
         ensures changed { IsChangedTo self.entry
@@ -115,8 +124,9 @@ impl SqlBuilder {
         release(self.hold_unary(UnaryClause::SetField, field))
     }
 
-    /// Appends the field `COUNT(field)`.
-    /// `SqlBuilder::select_from(alloc, "t")?.count("a")?.sql()?` → `SELECT COUNT(a) FROM t;`
+    /// Appends the field `COUNT(field)`. Fails only if memory runs out, and then leaves the builder
+    /// unchanged.
+    /// `SqlBuilder::select_from(alloc, "t")?.count("a")?.sql()?` gives `SELECT COUNT(a) FROM t;`
     pub fn count<S: ToText>(&mut self, field: S) -> Result<&mut Self, SqlBuilderError>
         ensures* unchanged { sem 𝓛 (IsUnchangedIfErr self.entry result) }
         ensures changed { IsChangedTo self.entry
@@ -126,8 +136,9 @@ impl SqlBuilder {
         release(self.hold_unary(UnaryClause::Count, field))
     }
 
-    /// Appends the field `COUNT(field) AS name`.
-    /// `SqlBuilder::select_from(alloc, "t")?.count_as("a", "n")?.sql()?` →
+    /// Appends the field `COUNT(field) AS name`. Fails only if memory runs out, and then leaves the
+    /// builder unchanged.
+    /// `SqlBuilder::select_from(alloc, "t")?.count_as("a", "n")?.sql()?` gives
     /// `SELECT COUNT(a) AS n FROM t;`
     pub fn count_as<S: ToText, T: ToText>(
         &mut self,
@@ -144,8 +155,10 @@ impl SqlBuilder {
         release(self.hold_binary(BinaryClause::CountAs, field, name))
     }
 
-    /// Adds `field = value` to what UPDATE sets.
-    /// `SqlBuilder::update_table(alloc, "t")?.set("a", "a + 1")?.sql()?` → `UPDATE t SET a = a + 1;`
+    /// Adds `field = value` to what UPDATE sets. Fails only if memory runs out, and then leaves the
+    /// builder unchanged.
+    /// `SqlBuilder::update_table(alloc, "t")?.set("a", "a + 1")?.sql()?` gives
+    /// `UPDATE t SET a = a + 1;`
     pub fn set<S: ToText, T: ToText>(
         &mut self,
         field: S,
@@ -160,9 +173,9 @@ impl SqlBuilder {
         release(self.hold_binary(BinaryClause::SetTo, field, value))
     }
 
-    /// Adds `field = 'value'` to what UPDATE sets, the value between single quotes as `quote`
-    /// writes it.
-    /// `SqlBuilder::update_table(alloc, "t")?.set_str("a", "it's")?.sql()?` →
+    /// Adds `field = 'value'` to what UPDATE sets, with the value between single quotes as `quote`
+    /// writes it. Fails only if memory runs out, and then leaves the builder unchanged.
+    /// `SqlBuilder::update_table(alloc, "t")?.set_str("a", "it's")?.sql()?` gives
     /// `UPDATE t SET a = 'it''s';`
     pub fn set_str<S: ToText, T: ToText>(
         &mut self,
@@ -179,8 +192,9 @@ impl SqlBuilder {
         release(self.hold_binary(BinaryClause::SetStr, field, value))
     }
 
-    /// Adds a row to an INSERT, the values in brackets, and drops its query.
-    /// `SqlBuilder::insert_into(alloc, "t")?.field("a")?.values(&[1])?.values(&[2])?.sql()?` →
+    /// Adds a row to an INSERT, with the values in brackets, and drops its query. Fails only if
+    /// memory runs out, and then leaves the builder unchanged.
+    /// `SqlBuilder::insert_into(alloc, "t")?.field("a")?.values(&[1])?.values(&[2])?.sql()?` gives
     /// `INSERT INTO t (a) VALUES (1), (2);`
     pub fn values<S: ToText>(&mut self, values: &[S]) -> Result<&mut Self, SqlBuilderError>
         ensures* unchanged { sem 𝓛 (IsUnchangedIfErr self.entry result) }
@@ -191,8 +205,9 @@ impl SqlBuilder {
         release(self.hold_variadic(VariadicClause::Values, values))
     }
 
-    /// Gives an INSERT this query, and drops all rows.
-    /// `SqlBuilder::insert_into(alloc, "t")?.field("a")?.select("SELECT 1")?.sql()?` →
+    /// Sets the query of an INSERT, and drops all rows. Fails only if memory runs out, and then
+    /// leaves the builder unchanged.
+    /// `SqlBuilder::insert_into(alloc, "t")?.field("a")?.select("SELECT 1")?.sql()?` gives
     /// `INSERT INTO t (a) SELECT 1;`
     pub fn select<S: ToText>(&mut self, query: S) -> Result<&mut Self, SqlBuilderError>
         ensures* unchanged { sem 𝓛 (IsUnchangedIfErr self.entry result) }
@@ -202,9 +217,11 @@ impl SqlBuilder {
         release(self.hold_unary(UnaryClause::Select, query))
     }
 
-    /// What RETURNING returns, in an INSERT, an UPDATE and a DELETE; the last call of `returning` or
-    /// `returning_id` counts.
-    /// `SqlBuilder::delete_from(alloc, "t")?.returning("a")?.sql()?` → `DELETE FROM t RETURNING a;`
+    /// Sets what RETURNING returns, in an INSERT, an UPDATE and a DELETE. The last call of
+    /// `returning` or `returning_id` counts. Fails only if memory runs out, and then leaves the
+    /// builder unchanged.
+    /// `SqlBuilder::delete_from(alloc, "t")?.returning("a")?.sql()?` gives
+    /// `DELETE FROM t RETURNING a;`
     pub fn returning<S: ToText>(&mut self, fields: S) -> Result<&mut Self, SqlBuilderError>
         ensures* unchanged { sem 𝓛 (IsUnchangedIfErr self.entry result) }
         ensures changed { IsChangedTo self.entry
@@ -214,9 +231,10 @@ impl SqlBuilder {
         release(self.hold_unary(UnaryClause::Returning, fields))
     }
 
-    /// RETURNING id, in an INSERT, an UPDATE and a DELETE; the last call of `returning` or
-    /// `returning_id` counts.
-    /// `SqlBuilder::delete_from(alloc, "t")?.returning_id()?.sql()?` → `DELETE FROM t RETURNING id;`
+    /// Sets RETURNING id, in an INSERT, an UPDATE and a DELETE. The last call of `returning` or
+    /// `returning_id` counts. Fails only if memory runs out, and then leaves the builder unchanged.
+    /// `SqlBuilder::delete_from(alloc, "t")?.returning_id()?.sql()?` gives
+    /// `DELETE FROM t RETURNING id;`
     pub fn returning_id(&mut self) -> Result<&mut Self, SqlBuilderError>
         ensures* unchanged { sem 𝓛 (IsUnchangedIfErr self.entry result) }
         ensures changed { IsChangedTo self.entry (with_returning (codes "id") self.old) result }
@@ -225,8 +243,10 @@ impl SqlBuilder {
         release(self.hold_returning_id())
     }
 
-    /// Appends a field to GROUP BY.
-    /// `SqlBuilder::select_from(alloc, "t")?.group_by("a")?.sql()?` → `SELECT * FROM t GROUP BY a;`
+    /// Appends a field to GROUP BY. Fails only if memory runs out, and then leaves the builder
+    /// unchanged.
+    /// `SqlBuilder::select_from(alloc, "t")?.group_by("a")?.sql()?` gives
+    /// `SELECT * FROM t GROUP BY a;`
     pub fn group_by<S: ToText>(&mut self, field: S) -> Result<&mut Self, SqlBuilderError>
         ensures* unchanged { sem 𝓛 (IsUnchangedIfErr self.entry result) }
         ensures changed { IsChangedTo self.entry
@@ -236,9 +256,10 @@ impl SqlBuilder {
         release(self.hold_unary(UnaryClause::GroupBy, field))
     }
 
-    /// The condition of HAVING, which follows GROUP BY; the last call counts. Printing a query
-    /// without a GROUP BY then fails with `NoGroupBy`.
-    /// `SqlBuilder::select_from(alloc, "t")?.group_by("a")?.having("b")?.sql()?` →
+    /// Sets the condition of HAVING, which follows GROUP BY. The last call counts. Fails only if
+    /// memory runs out, and then leaves the builder unchanged. Without a GROUP BY, printing a query
+    /// then fails with `NoGroupBy`.
+    /// `SqlBuilder::select_from(alloc, "t")?.group_by("a")?.having("b")?.sql()?` gives
     /// `SELECT * FROM t GROUP BY a HAVING b;`
     pub fn having<S: ToText>(&mut self, condition: S) -> Result<&mut Self, SqlBuilderError>
         ensures* unchanged { sem 𝓛 (IsUnchangedIfErr self.entry result) }
@@ -249,8 +270,9 @@ impl SqlBuilder {
         release(self.hold_unary(UnaryClause::Having, condition))
     }
 
-    /// Appends UNION and the query.
-    /// `SqlBuilder::select_from(alloc, "t")?.union("SELECT 1")?.sql()?` →
+    /// Appends UNION and the query. Fails only if memory runs out, and then leaves the builder
+    /// unchanged.
+    /// `SqlBuilder::select_from(alloc, "t")?.union("SELECT 1")?.sql()?` gives
     /// `SELECT * FROM t UNION SELECT 1;`
     pub fn union<S: ToText>(&mut self, query: S) -> Result<&mut Self, SqlBuilderError>
         ensures* unchanged { sem 𝓛 (IsUnchangedIfErr self.entry result) }
@@ -261,8 +283,9 @@ impl SqlBuilder {
         release(self.hold_unary(UnaryClause::Union, query))
     }
 
-    /// Appends UNION ALL and the query.
-    /// `SqlBuilder::select_from(alloc, "t")?.union_all("SELECT 1")?.sql()?` →
+    /// Appends UNION ALL and the query. Fails only if memory runs out, and then leaves the builder
+    /// unchanged.
+    /// `SqlBuilder::select_from(alloc, "t")?.union_all("SELECT 1")?.sql()?` gives
     /// `SELECT * FROM t UNION ALL SELECT 1;`
     pub fn union_all<S: ToText>(&mut self, query: S) -> Result<&mut Self, SqlBuilderError>
         ensures* unchanged { sem 𝓛 (IsUnchangedIfErr self.entry result) }
@@ -273,9 +296,9 @@ impl SqlBuilder {
         release(self.hold_unary(UnaryClause::UnionAll, query))
     }
 
-    /// Appends a field to ORDER BY, with DESC where it is descending. ORDER BY is left out beside
-    /// a union.
-    /// `SqlBuilder::select_from(alloc, "t")?.order_by("a", true)?.sql()?` →
+    /// Appends a field to ORDER BY, with DESC if it is descending. ORDER BY is left out beside a
+    /// union. Fails only if memory runs out, and then leaves the builder unchanged.
+    /// `SqlBuilder::select_from(alloc, "t")?.order_by("a", true)?.sql()?` gives
     /// `SELECT * FROM t ORDER BY a DESC;`
     pub fn order_by<S: ToText>(
         &mut self,
@@ -290,8 +313,10 @@ impl SqlBuilder {
         release(self.hold_order(field, descending))
     }
 
-    /// Appends a field to ORDER BY, which is left out beside a union.
-    /// `SqlBuilder::select_from(alloc, "t")?.order_asc("a")?.sql()?` → `SELECT * FROM t ORDER BY a;`
+    /// Appends a field to ORDER BY. ORDER BY is left out beside a union. Fails only if memory runs
+    /// out, and then leaves the builder unchanged.
+    /// `SqlBuilder::select_from(alloc, "t")?.order_asc("a")?.sql()?` gives
+    /// `SELECT * FROM t ORDER BY a;`
     pub fn order_asc<S: ToText>(&mut self, field: S) -> Result<&mut Self, SqlBuilderError>
         ensures* unchanged { sem 𝓛 (IsUnchangedIfErr self.entry result) }
         ensures changed { IsChangedTo self.entry
@@ -301,8 +326,9 @@ impl SqlBuilder {
         release(self.hold_unary(UnaryClause::OrderAsc, field))
     }
 
-    /// Appends a field with DESC to ORDER BY, which is left out beside a union.
-    /// `SqlBuilder::select_from(alloc, "t")?.order_desc("a")?.sql()?` →
+    /// Appends a field with DESC to ORDER BY. ORDER BY is left out beside a union. Fails only if
+    /// memory runs out, and then leaves the builder unchanged.
+    /// `SqlBuilder::select_from(alloc, "t")?.order_desc("a")?.sql()?` gives
     /// `SELECT * FROM t ORDER BY a DESC;`
     pub fn order_desc<S: ToText>(&mut self, field: S) -> Result<&mut Self, SqlBuilderError>
         ensures* unchanged { sem 𝓛 (IsUnchangedIfErr self.entry result) }
@@ -313,8 +339,9 @@ impl SqlBuilder {
         release(self.hold_unary(UnaryClause::OrderDesc, field))
     }
 
-    /// The text of a query's LIMIT; the last call counts.
-    /// `SqlBuilder::select_from(alloc, "t")?.limit(3)?.sql()?` → `SELECT * FROM t LIMIT 3;`
+    /// Sets the text of a query's LIMIT. The last call counts. Fails only if memory runs out, and
+    /// then leaves the builder unchanged.
+    /// `SqlBuilder::select_from(alloc, "t")?.limit(3)?.sql()?` gives `SELECT * FROM t LIMIT 3;`
     pub fn limit<S: ToText>(&mut self, limit: S) -> Result<&mut Self, SqlBuilderError>
         ensures* unchanged { sem 𝓛 (IsUnchangedIfErr self.entry result) }
         ensures changed { IsChangedTo self.entry (with_limit (S.text limit) self.old) result }
@@ -323,8 +350,9 @@ impl SqlBuilder {
         release(self.hold_unary(UnaryClause::Limit, limit))
     }
 
-    /// The text of a query's OFFSET; the last call counts.
-    /// `SqlBuilder::select_from(alloc, "t")?.limit(3)?.offset(2)?.sql()?` →
+    /// Sets the text of a query's OFFSET. The last call counts. Fails only if memory runs out, and
+    /// then leaves the builder unchanged.
+    /// `SqlBuilder::select_from(alloc, "t")?.limit(3)?.offset(2)?.sql()?` gives
     /// `SELECT * FROM t LIMIT 3 OFFSET 2;`
     pub fn offset<S: ToText>(&mut self, offset: S) -> Result<&mut Self, SqlBuilderError>
         ensures* unchanged { sem 𝓛 (IsUnchangedIfErr self.entry result) }
@@ -340,8 +368,8 @@ impl SqlBuilder {
     ghost use Rattle.sql_builder.specs.BuilderLoans.{IsSameLoan};
     ghost use Rattle.sql_builder.specs.declared.clauses.JoinOperator.TheVariants.{Left, LeftOuter, Right, RightOuter, Inner, Cross};
 
-    /// The next join is NATURAL. It can't fail, and returns the builder.
-    /// `SqlBuilder::select_from(alloc, "t")?.natural().join("u")?.join("v")?.sql()?` →
+    /// Makes the next join NATURAL, and returns the builder. Never fails.
+    /// `SqlBuilder::select_from(alloc, "t")?.natural().join("u")?.join("v")?.sql()?` gives
     /// `SELECT * FROM t NATURAL JOIN u JOIN v;`
     pub fn natural(&mut self) -> &mut Self
         ensures same { IsSameLoan self.entry result }
@@ -351,9 +379,9 @@ impl SqlBuilder {
         self
     }
 
-    /// The joins to come are LEFT joins, until another operator is chosen. It can't fail, and
-    /// returns the builder.
-    /// `SqlBuilder::select_from(alloc, "t")?.left().join("u")?.join("v")?.sql()?` →
+    /// Makes the joins to come LEFT joins, until another operator is chosen, and returns the
+    /// builder. Never fails.
+    /// `SqlBuilder::select_from(alloc, "t")?.left().join("u")?.join("v")?.sql()?` gives
     /// `SELECT * FROM t LEFT JOIN u LEFT JOIN v;`
     pub fn left(&mut self) -> &mut Self
         ensures same { IsSameLoan self.entry result }
@@ -363,9 +391,9 @@ impl SqlBuilder {
         self
     }
 
-    /// The joins to come are LEFT OUTER joins, until another operator is chosen. It can't fail, and
-    /// returns the builder.
-    /// `SqlBuilder::select_from(alloc, "t")?.left_outer().join("u")?.sql()?` →
+    /// Makes the joins to come LEFT OUTER joins, until another operator is chosen, and returns the
+    /// builder. Never fails.
+    /// `SqlBuilder::select_from(alloc, "t")?.left_outer().join("u")?.sql()?` gives
     /// `SELECT * FROM t LEFT OUTER JOIN u;`
     pub fn left_outer(&mut self) -> &mut Self
         ensures same { IsSameLoan self.entry result }
@@ -375,9 +403,9 @@ impl SqlBuilder {
         self
     }
 
-    /// The joins to come are RIGHT joins, until another operator is chosen. It can't fail, and
-    /// returns the builder.
-    /// `SqlBuilder::select_from(alloc, "t")?.right().join("u")?.sql()?` →
+    /// Makes the joins to come RIGHT joins, until another operator is chosen, and returns the
+    /// builder. Never fails.
+    /// `SqlBuilder::select_from(alloc, "t")?.right().join("u")?.sql()?` gives
     /// `SELECT * FROM t RIGHT JOIN u;`
     pub fn right(&mut self) -> &mut Self
         ensures same { IsSameLoan self.entry result }
@@ -387,9 +415,9 @@ impl SqlBuilder {
         self
     }
 
-    /// The joins to come are RIGHT OUTER joins, until another operator is chosen. It can't fail,
-    /// and returns the builder.
-    /// `SqlBuilder::select_from(alloc, "t")?.right_outer().join("u")?.sql()?` →
+    /// Makes the joins to come RIGHT OUTER joins, until another operator is chosen, and returns the
+    /// builder. Never fails.
+    /// `SqlBuilder::select_from(alloc, "t")?.right_outer().join("u")?.sql()?` gives
     /// `SELECT * FROM t RIGHT OUTER JOIN u;`
     pub fn right_outer(&mut self) -> &mut Self
         ensures same { IsSameLoan self.entry result }
@@ -399,9 +427,9 @@ impl SqlBuilder {
         self
     }
 
-    /// The joins to come are INNER joins, until another operator is chosen. It can't fail, and
-    /// returns the builder.
-    /// `SqlBuilder::select_from(alloc, "t")?.inner().join("u")?.sql()?` →
+    /// Makes the joins to come INNER joins, until another operator is chosen, and returns the
+    /// builder. Never fails.
+    /// `SqlBuilder::select_from(alloc, "t")?.inner().join("u")?.sql()?` gives
     /// `SELECT * FROM t INNER JOIN u;`
     pub fn inner(&mut self) -> &mut Self
         ensures same { IsSameLoan self.entry result }
@@ -411,9 +439,9 @@ impl SqlBuilder {
         self
     }
 
-    /// The joins to come are CROSS joins, until another operator is chosen. It can't fail, and
-    /// returns the builder.
-    /// `SqlBuilder::select_from(alloc, "t")?.cross().join("u")?.sql()?` →
+    /// Makes the joins to come CROSS joins, until another operator is chosen, and returns the
+    /// builder. Never fails.
+    /// `SqlBuilder::select_from(alloc, "t")?.cross().join("u")?.sql()?` gives
     /// `SELECT * FROM t CROSS JOIN u;`
     pub fn cross(&mut self) -> &mut Self
         ensures same { IsSameLoan self.entry result }
@@ -423,8 +451,8 @@ impl SqlBuilder {
         self
     }
 
-    /// Selects equal rows once. It can't fail, and returns the builder.
-    /// `SqlBuilder::select_from(alloc, "t")?.distinct().field("a")?.sql()?` →
+    /// Selects equal rows once, and returns the builder. Never fails.
+    /// `SqlBuilder::select_from(alloc, "t")?.distinct().field("a")?.sql()?` gives
     /// `SELECT DISTINCT a FROM t;`
     pub fn distinct(&mut self) -> &mut Self
         ensures same { IsSameLoan self.entry result }

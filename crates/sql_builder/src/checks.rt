@@ -25,7 +25,7 @@ use std::alloc::Global;
 use std::error::Error;
 use std::fmt;
 
-/// Where a text of a list of calls is.
+/// The place of a text in a list of calls.
 #[derive(Clone, Copy, Debug, Drop)]
 pub enum Place {
     /// In the start.
@@ -47,7 +47,7 @@ pub struct Unfit {
     pub misfit: Misfit,
 }
 
-/// Why a list of calls that is tested has no statement.
+/// The reason why a list of calls that is tested has no statement.
 #[derive(Debug, Drop)]
 pub enum CheckedError {
     /// A text doesn't fit in its place.
@@ -57,9 +57,9 @@ pub enum CheckedError {
 }
 
 impl CheckedError {
-    /// The error's message, which Display prints too: of a text that doesn't fit why it doesn't. It
-    /// can't fail.
-    /// `CheckedError::Failed(SqlBuilderError::NoValues).message()` → `No values`
+    /// Returns the error's message, which Display prints too. For a text that doesn't fit, it says
+    /// why. Never fails.
+    /// `CheckedError::Failed(SqlBuilderError::NoValues).message()` gives `No values`
     pub fn message(&self) -> &'static str
         ensures text { result.now ≡ checked_message self.now }
     {
@@ -329,11 +329,13 @@ fn test_texts(bare: Demand, start: &Start, calls: &[Call], finish: &Finish) -> R
     end.test_finish(finish)
 }
 
-/// Whether each text that the statement of a list prints unchanged fits in its place: it is
-/// balanced, and has no top-level clause keyword unless brackets of the builder's own are round it,
-/// or UNION precedes it. The fragments are then fit for all that `run` says of them. It fails with
-/// the first text that doesn't fit, as a query of `select` that begins with SELECT. It takes no
-/// memory, and reads a text that fits once.
+/// Tests whether each text that the statement of a list prints unchanged fits in its place. The
+/// text has to be balanced. It may have a top-level clause keyword only if brackets of the
+/// builder's own are round it, or UNION precedes it. The fragments are then fit for all that `run`
+/// says of them.
+///
+/// Fails with the first text that doesn't fit, such as a query of `select` that begins with SELECT.
+/// Takes no memory, and reads a text that fits once.
 /// `check(&Start::DeleteFrom(String::from_str(alloc, "t; u")?), &[], &Finish::Sql)` fails with
 /// `Unfit { place: Start, text: 0, misfit: Semicolon }`
 #[tactic(auto, using(crate::proofs::fragments::UnfitLemmas::list_is_fit))]
@@ -344,9 +346,9 @@ pub fn check(start: &Start, calls: &[Call], finish: &Finish) -> Result<(), Unfit
     test_texts(Demand::Fragment, start, calls, finish)
 }
 
-/// Whether each text that the statement of a list prints unchanged is balanced: its quotes and
-/// comments are closed, it has no `;`, and its brackets match by count. It fails with the first text
-/// that isn't. It takes no memory, and reads a text that is balanced once.
+/// Tests whether each text that the statement of a list prints unchanged is balanced. Its quotes
+/// and comments are then closed, it has no `;`, and its brackets match by count. Fails with the
+/// first text that isn't balanced. Takes no memory, and reads a text that is balanced once.
 /// `check_confined(&Start::DeleteFrom(String::from_str(alloc, "t)")?), &[], &Finish::Sql)` fails with
 /// `Unfit { place: Start, text: 0, misfit: Brackets }`
 #[tactic(auto, using(crate::proofs::fragments::UnfitLemmas::list_is_balanced))]
@@ -357,10 +359,10 @@ pub fn check_confined(start: &Start, calls: &[Call], finish: &Finish) -> Result<
     test_texts(Demand::Balanced, start, calls, finish)
 }
 
-/// Tests a list by `check`, and then runs it, which takes no premise: what it prints is the
-/// statement of the list, is closed, has the tokens of its parts and, if `sql` prints it, one `;`,
-/// parses back as the clauses that were given, has the truth of its groups, and nests. It fails as
-/// `check` does, and else as `run`.
+/// Tests a list by `check`, and then runs it, without a premise. What it prints is the statement of
+/// the list, is closed, has the tokens of its parts, and nests. It parses back as the clauses that
+/// were given, and has the truth of its groups. If `sql` prints it, it has one `;`. Fails as
+/// `check` does, or else as `run` does.
 /// ```
 /// let start = Start::DeleteFrom(String::from_str(alloc, "t")?);
 /// run_checked(alloc, &start, &[], &Finish::Sql); // DELETE FROM t;
@@ -398,10 +400,10 @@ pub fn run_checked(
     Ok(run(alloc, start, calls, finish)?)
 }
 
-/// Tests a list by `check_confined`, and then runs it, as one with a query that `select` gives an
-/// INSERT: what it prints is the statement of the list, is closed, has the tokens of its parts and,
-/// if `sql` prints it, one `;`, and nests. Its raw texts may change which clauses it has, and the
-/// truth of its WHERE. It fails as `check_confined` does, and else as `run`.
+/// Tests a list by `check_confined`, and then runs it. So a list can have a query that `select`
+/// gives an INSERT. What it prints is the statement of the list, is closed, has the tokens of its
+/// parts, and nests. If `sql` prints it, it has one `;`. Its raw texts may change which clauses it
+/// has, and the truth of its WHERE. Fails as `check_confined` does, or else as `run` does.
 /// ```
 /// let start = Start::InsertInto(String::from_str(alloc, "t")?);
 /// let field = Call::Field(String::from_str(alloc, "a")?);

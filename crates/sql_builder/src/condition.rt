@@ -1,4 +1,4 @@
-//! What a condition says, and its text.
+//! Conditions, and their texts.
 ghost use Rattle.std.specs.Prelude.{◌≡◌, ◌++◌, codes, if◌then◌else◌, map, string_bytes, IfOk};
 ghost use Rattle.sql_parts.specs.Error.{FailsOnlyByMemory};
 ghost use Rattle.sql_builder.specs.Condition.{Between, Compare, InList, InQuery, InQuoted, IsNotNull, IsNull, Like, borrowed_view, condition_bytes, condition_view, has_trailing, has_leading, not_text, relation_text};
@@ -10,16 +10,16 @@ use sql_parts::text::{Items, Texts};
 use sql_parts::{SqlBuilderError, ToText, escaped};
 use std::alloc::{AllocError, Global};
 
-/// Which family a condition's call belongs to.
+/// The family that a condition's call belongs to.
 #[derive(Clone, Copy)]
 pub enum Family {
     /// The condition opens a group of its own.
     And,
-    /// The condition joins the last group, and opens one only where there is none.
+    /// The condition joins the last group, or opens one if there is none.
     Or,
 }
 
-/// How two texts are compared.
+/// A comparison of two texts.
 #[derive(Clone, Copy)]
 pub enum Relation {
     /// Equal.
@@ -36,14 +36,14 @@ pub enum Relation {
     Le,
 }
 
-/// Where a mask of LIKE has percent signs.
+/// The places of the percent signs in a mask of LIKE.
 #[derive(Clone, Copy)]
 pub enum Percent {
     /// Nowhere.
     Plain,
-    /// In front of the mask, which the text so matches at its right end.
+    /// In front of the mask, so that the text matches it at its right end.
     Right,
-    /// Behind the mask, which the text so matches at its left end.
+    /// Behind the mask, so that the text matches it at its left end.
     Left,
     /// On both sides.
     Any,
@@ -72,8 +72,8 @@ pub enum Condition {
     Between(bool, String, String, String),
 }
 
-/// A condition whose texts are borrowed, and whose lists are taken text by text, for `sqlb` and
-/// `sql_typed`. A truth value says whether it is the NOT form.
+/// A condition whose texts are borrowed, and whose lists are taken text by text. A truth value says
+/// whether it is the NOT form. For `sqlb` and `sql_typed`.
 #[derive(Drop)]
 pub enum BorrowedCondition<'a, T> {
     /// A raw condition, which is printed unchanged.
@@ -97,8 +97,8 @@ pub enum BorrowedCondition<'a, T> {
 }
 
 impl Relation {
-    /// Its sign, between blanks. It can't fail.
-    /// `Relation::Ge.sign().trim()` → `>=`
+    /// Returns the sign, between blanks. Never fails.
+    /// `Relation::Ge.sign().trim()` gives `>=`
     pub fn sign(self) -> &'static str
         ensures { result.now ≡ relation_text self }
     {

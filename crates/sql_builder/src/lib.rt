@@ -1,6 +1,7 @@
 //! A builder of SQL statements, and lists of its calls as values.
 //!
-//! After an arrow in a doc comment is what the code before it prints; `alloc` is the allocator.
+//! In an example, what the code prints comes after `gives`, or its error after `fails with`. In a
+//! block it is in the last line's comment. `alloc` is the allocator.
 #![tactic(auto)]
 
 mod builder;

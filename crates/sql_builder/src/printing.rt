@@ -1,5 +1,5 @@
-//! Prints a builder's clauses as a statement or a query: to a count of the bytes first, so that room
-//! for them is asked for in one allocation, and then to a text, which can't fail.
+//! Prints a builder's clauses as a statement or a query. The first pass counts the bytes, so that
+//! room for them is asked for in one allocation. The second pass prints to a text, and can't fail.
 ghost use Rattle.std.specs.Prelude.{◌≡◌, [], ◌∷◌, ◌++◌, IfOk, IfSome, IsNone, IsOk, OnErr, OnOk, length, map, string_bytes, string_capacity};
 ghost use Rattle.std.specs.List.{list_any};
 ghost use Rattle.sql_parts.specs.Error.{FailsOnlyByMemory};
@@ -329,16 +329,18 @@ impl SqlBuilder {
         }
     }
 
-    /// The statement, ended by `;`. It fails with `NoTableName` where the table text is empty and
-    /// the statement is no SELECT of values; then with `NoValues` where an INSERT has neither rows
-    /// nor a query, or a SELECT of values no value, with `NoSetFields` where an UPDATE sets
-    /// nothing, and with `NoGroupBy` where a SELECT from a table has a HAVING and no GROUP BY; each
-    /// whether there is memory or not, and else only if memory runs out.
+    /// Returns the statement, ended by `;`.
     ///
-    /// Where the builder's texts before the first UNION are balanced and, but between brackets,
-    /// without a top-level clause keyword, it parses back as the builder's clauses, and the truth
-    /// of a WHERE is the AND of the builder's groups.
-    /// `SqlBuilder::select_from(alloc, "t")?.sql()?` → `SELECT * FROM t;`
+    /// Fails with `NoTableName` if the table text is empty and the statement is no SELECT of
+    /// values. After that it fails with `NoValues` if an INSERT has neither rows nor a query, or a
+    /// SELECT of values no value. Fails with `NoSetFields` if an UPDATE sets nothing. Fails with
+    /// `NoGroupBy` if a SELECT from a table has a HAVING and no GROUP BY. Each comes whether there
+    /// is memory or not. Otherwise it fails only if memory runs out.
+    ///
+    /// The statement parses back as the builder's clauses, and the truth of a WHERE is the AND of
+    /// the builder's groups. For this, the builder's texts before the first UNION have to be
+    /// balanced. A top-level clause keyword may be in them only between brackets.
+    /// `SqlBuilder::select_from(alloc, "t")?.sql()?` gives `SELECT * FROM t;`
     /// `SqlBuilder::select_from(alloc, "")?.sql()` fails with `NoTableName`
     #[tactic(auto, using(crate::proofs::pieces::LayoutShapeLemmas::sql_shape, crate::proofs::pieces::LayoutShapeLemmas::sql_closed, crate::proofs::reading::ReadBackLemmas::sql_clauses, crate::proofs::reading::ReadBackLemmas::sql_truth))]
     pub fn sql(&self) -> Result<String, SqlBuilderError>
@@ -358,11 +360,11 @@ impl SqlBuilder {
         Ok(statement)
     }
 
-    /// The query, on a builder of any kind. It fails with `NoGroupBy` where there is a HAVING and
-    /// no GROUP BY, whether there is memory or not, and else only if memory runs out. It parses
-    /// back, and has the truth of its groups, as what `sql` prints; where the builder's texts are
-    /// balanced, also behind UNION, so is the query.
-    /// `SqlBuilder::select_from(alloc, "t")?.query()?` → `SELECT * FROM t`
+    /// Returns the query, on a builder of any kind. Fails with `NoGroupBy` if there is a HAVING and
+    /// no GROUP BY, whether there is memory or not. Otherwise it fails only if memory runs out. The
+    /// query parses back, and has the truth of its groups, as what `sql` prints does. If the
+    /// builder's texts are balanced, also behind UNION, so is the query.
+    /// `SqlBuilder::select_from(alloc, "t")?.query()?` gives `SELECT * FROM t`
     /// `SqlBuilder::select_from(alloc, "t")?.having("a")?.query()` fails with `NoGroupBy`
     #[tactic(auto, using(crate::proofs::pieces::LayoutShapeLemmas::query_shape, crate::proofs::pieces::LayoutShapeLemmas::query_closed, crate::proofs::reading::ReadBackLemmas::query_clauses, crate::proofs::reading::ReadBackLemmas::query_truth, crate::proofs::reading::ReadBackLemmas::query_nests))]
     pub fn query(&self) -> Result<String, SqlBuilderError>
@@ -384,9 +386,9 @@ impl SqlBuilder {
         Ok(query)
     }
 
-    /// `SELECT` and the fields, nothing else, on a builder of any kind. It fails only if memory
-    /// runs out. It parses back as what `sql` prints.
-    /// `SqlBuilder::select_values(alloc, &[1, 2])?.query_values()?` → `SELECT 1, 2`
+    /// Returns `SELECT` and the fields, nothing else, on a builder of any kind. Fails only if
+    /// memory runs out. The text parses back as what `sql` prints does.
+    /// `SqlBuilder::select_values(alloc, &[1, 2])?.query_values()?` gives `SELECT 1, 2`
     #[tactic(auto, using(crate::proofs::pieces::LayoutShapeLemmas::query_values_shape, crate::proofs::pieces::LayoutShapeLemmas::query_values_closed, crate::proofs::reading::ReadBackLemmas::query_values_clauses))]
     pub fn query_values(&self) -> Result<String, SqlBuilderError>
         ensures text { IfOk result (λ s. string_bytes s ≡ query_values byte_units self.now) }
@@ -402,9 +404,9 @@ impl SqlBuilder {
         Ok(query)
     }
 
-    /// The query in brackets: an operand without a top-level clause keyword, where the builder's
-    /// texts are balanced. It fails as `query` does.
-    /// `SqlBuilder::select_from(alloc, "t")?.subquery()?` → `(SELECT * FROM t)`
+    /// Returns the query in brackets. It is an operand without a top-level clause keyword, if the
+    /// builder's texts are balanced. Fails as `query` does.
+    /// `SqlBuilder::select_from(alloc, "t")?.subquery()?` gives `(SELECT * FROM t)`
     #[tactic(auto, using(crate::proofs::pieces::LayoutShapeLemmas::subquery_shape, crate::proofs::pieces::LayoutShapeLemmas::subquery_closed, crate::proofs::reading::ReadBackLemmas::subquery_nests))]
     pub fn subquery(&self) -> Result<String, SqlBuilderError>
         ensures text { IfOk result (λ s. string_bytes s ≡ subquery byte_units self.now) }
@@ -421,10 +423,10 @@ impl SqlBuilder {
         Ok(query)
     }
 
-    /// The query in brackets, `AS` and the name: balanced, where the builder's texts and the name
-    /// are, and without a top-level clause keyword, where the name has none; so it serves as a
-    /// table. It fails as `query` does.
-    /// `SqlBuilder::select_from(alloc, "t")?.subquery_as("s")?` → `(SELECT * FROM t) AS s`
+    /// Returns the query in brackets, `AS` and the name, which serves as a table. It is balanced if
+    /// the builder's texts and the name are. It has no top-level clause keyword if the name has
+    /// none. Fails as `query` does.
+    /// `SqlBuilder::select_from(alloc, "t")?.subquery_as("s")?` gives `(SELECT * FROM t) AS s`
     pub fn subquery_as<S: ToText>(&self, name: S) -> Result<String, SqlBuilderError>
         ensures text { IfOk result (λ s. string_bytes s
             ≡ subquery_as byte_units (S.text name) self.now) }

@@ -23,84 +23,84 @@ use std::mem::swap;
 /// A call without a text. For the crates here alone.
 #[derive(Clone, Copy)]
 pub enum NullaryClause {
-    /// `natural`.
+    /// A call of `natural`.
     Natural,
-    /// `left`.
+    /// A call of `left`.
     Left,
-    /// `left_outer`.
+    /// A call of `left_outer`.
     LeftOuter,
-    /// `right`.
+    /// A call of `right`.
     Right,
-    /// `right_outer`.
+    /// A call of `right_outer`.
     RightOuter,
-    /// `inner`.
+    /// A call of `inner`.
     Inner,
-    /// `cross`.
+    /// A call of `cross`.
     Cross,
-    /// `distinct`.
+    /// A call of `distinct`.
     Distinct,
-    /// `returning_id`.
+    /// A call of `returning_id`.
     ReturningId,
 }
 
 /// A call with one text. For the crates here alone.
 #[derive(Clone, Copy)]
 pub enum UnaryClause {
-    /// `and_table` of a table.
+    /// A call of `and_table` with a table.
     AndTable,
-    /// `join` of a table.
+    /// A call of `join` with a table.
     Join,
-    /// `on` of a constraint.
+    /// A call of `on` with a constraint.
     On,
-    /// `field` of a field.
+    /// A call of `field` with a field.
     Field,
-    /// `set_field` of a field.
+    /// A call of `set_field` with a field.
     SetField,
-    /// `count` of a field.
+    /// A call of `count` with a field.
     Count,
-    /// `select` of a query.
+    /// A call of `select` with a query.
     Select,
-    /// `returning` of fields.
+    /// A call of `returning` with fields.
     Returning,
-    /// `group_by` of a field.
+    /// A call of `group_by` with a field.
     GroupBy,
-    /// `having` of a condition.
+    /// A call of `having` with a condition.
     Having,
-    /// `union` of a query.
+    /// A call of `union` with a query.
     Union,
-    /// `union_all` of a query.
+    /// A call of `union_all` with a query.
     UnionAll,
-    /// `order_asc` of a field.
+    /// A call of `order_asc` with a field.
     OrderAsc,
-    /// `order_desc` of a field.
+    /// A call of `order_desc` with a field.
     OrderDesc,
-    /// `limit` of a number.
+    /// A call of `limit` with a number.
     Limit,
-    /// `offset` of a number.
+    /// A call of `offset` with a number.
     Offset,
 }
 
 /// A call with two texts. For the crates here alone.
 #[derive(Clone, Copy)]
 pub enum BinaryClause {
-    /// `on_eq` of two texts.
+    /// A call of `on_eq` with two texts.
     OnEq,
-    /// `count_as` of a field and a name.
+    /// A call of `count_as` with a field and a name.
     CountAs,
-    /// `set` of a field to a value.
+    /// A call of `set` with a field and a value.
     SetTo,
-    /// `set_str` of a field to a text, which is quoted.
+    /// A call of `set_str` with a field and a text, which is quoted.
     SetStr,
 }
 
 /// A call with a list of texts. For the crates here alone.
 #[derive(Clone, Copy)]
 pub enum VariadicClause {
-    /// `fields`.
+    /// A call of `fields`.
     Fields,
-    /// `set_fields`.
+    /// A call of `set_fields`.
     SetFields,
-    /// `values` of a row.
+    /// A call of `values` with a row.
     Values,
 }
 
@@ -288,8 +288,8 @@ impl SqlBuilder {
     }
 }
 
-/// Makes a call without a text, for `make`, `sqlb` and `sql_typed`. `returning_id` fails only if memory runs
-/// out, and then leaves the builder as it was; the others can't fail.
+/// Makes a call without a text, for `make`, `sqlb` and `sql_typed`. `returning_id` fails only if
+/// memory runs out, and then leaves the builder unchanged. The others never fail.
 /// ```
 /// let mut b = SqlBuilder::select_from(alloc, "t")?;
 /// make_nullary(&mut b, NullaryClause::Distinct)?;
@@ -314,8 +314,9 @@ pub fn make_nullary(builder: &mut SqlBuilder, clause: NullaryClause) -> Result<(
     Ok(())
 }
 
-/// Makes a call with one text. It fails only if memory runs out, and then leaves the builder as it
-/// was; `on` without a join can't fail. For `sqlb` and `sql_typed`: its text is borrowed.
+/// Makes a call with one text. Fails only if memory runs out, and then leaves the builder
+/// unchanged. Never fails for `on` without a join. For `sqlb` and `sql_typed`: its text is
+/// borrowed.
 /// ```
 /// let mut b = SqlBuilder::select_from(alloc, "t")?;
 /// make_unary(&mut b, UnaryClause::Field, "a")?;
@@ -350,8 +351,9 @@ pub fn make_unary(
     }
 }
 
-/// Makes a call with two texts. It fails only if memory runs out, and then leaves the builder as it
-/// was; `on_eq` without a join can't fail. For `sqlb` and `sql_typed`: its texts are borrowed.
+/// Makes a call with two texts. Fails only if memory runs out, and then leaves the builder
+/// unchanged. Never fails for `on_eq` without a join. For `sqlb` and `sql_typed`: its texts are
+/// borrowed.
 /// ```
 /// let mut b = SqlBuilder::update_table(alloc, "t")?;
 /// make_binary(&mut b, BinaryClause::SetTo, "a", "1")?;
@@ -381,8 +383,8 @@ pub fn make_binary<'a>(
     }
 }
 
-/// Makes a call with a list of texts. It fails only if memory runs out, and then leaves the builder
-/// as it was. For `sqlb` and `sql_typed`: its texts are taken one after another.
+/// Makes a call with a list of texts. Fails only if memory runs out, and then leaves the builder
+/// unchanged. For `sqlb` and `sql_typed`: its texts are taken one after another.
 /// ```
 /// let mut b = SqlBuilder::select_from(alloc, "t")?;
 /// make_variadic(&mut b, VariadicClause::Fields, Items { items: &["a", "b"] })?;
@@ -415,8 +417,8 @@ pub fn make_variadic<'a, T: Texts<'a>>(
     Ok(())
 }
 
-/// Makes the call of VALUES with a row whose texts are stored. It fails only if memory runs out, and
-/// then leaves the builder as it was. For `sql_typed`: the row is borrowed.
+/// Makes the call of VALUES with a row whose texts are stored. Fails only if memory runs out, and
+/// then leaves the builder unchanged. For `sql_typed`: the row is borrowed.
 /// ```
 /// let mut b = SqlBuilder::insert_into(alloc, "t")?;
 /// let mut row = TextList::new(alloc);
@@ -436,7 +438,7 @@ pub fn add_row(builder: &mut SqlBuilder, row: &TextList) -> Result<(), SqlBuilde
     Ok(())
 }
 
-/// Makes a call of ORDER BY. It fails only if memory runs out, and then leaves the builder as it was.
+/// Makes a call of ORDER BY. Fails only if memory runs out, and then leaves the builder unchanged.
 /// For `sqlb`: its text is borrowed.
 /// ```
 /// let mut b = SqlBuilder::select_from(alloc, "t")?;
@@ -456,8 +458,8 @@ pub fn make_order(
     Ok(builder.order_fields.push(&[Part(field), Part(words)])?)
 }
 
-/// Makes the call of this family that adds this condition. It fails only if memory runs out, and then
-/// leaves the builder as it was. For `sqlb`: its texts are borrowed.
+/// Makes the call of this family that adds this condition. Fails only if memory runs out, and then
+/// leaves the builder unchanged. For `sqlb`: its texts are borrowed.
 /// ```
 /// let mut b = SqlBuilder::select_from(alloc, "t")?;
 /// make_condition(&mut b, Family::And, BorrowedCondition::InList(false, "a", Items { items: &["1", "2"] }))?;
@@ -477,10 +479,10 @@ pub fn make_condition<'a, T: Texts<'a>>(
     builder.push_condition(family, text)
 }
 
-/// The text of a condition, for a condition of `sql_typed` that it is a part of. It fails only if
-/// memory runs out.
-/// `condition_text(alloc, BorrowedCondition::InList(false, "a", Items { items: &["1", "2"] }))?` →
-/// `a IN (1, 2)`
+/// Returns the text of a condition, for a condition of `sql_typed` that it is a part of. Fails only
+/// if memory runs out.
+/// `condition_text(alloc, BorrowedCondition::InList(false, "a", Items { items: &["1", "2"] }))?`
+/// gives `a IN (1, 2)`
 pub fn condition_text<'a, T: Texts<'a>>(
     alloc: Global,
     condition: BorrowedCondition<'a, T>,
@@ -492,8 +494,8 @@ pub fn condition_text<'a, T: Texts<'a>>(
     condition.text(alloc)
 }
 
-/// Makes the call of this family that adds the condition of this text, which isn't copied, for
-/// `sql_typed`. It fails only if memory runs out, and then leaves the builder as it was.
+/// Makes the call of this family that adds the condition of this text, which isn't copied. Fails
+/// only if memory runs out, and then leaves the builder unchanged. For `sql_typed`.
 /// ```
 /// let mut b = SqlBuilder::select_from(alloc, "t")?;
 /// add_condition(&mut b, Family::And, String::from_str(alloc, "a IN (1, 2)")?)?;

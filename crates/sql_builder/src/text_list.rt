@@ -50,8 +50,8 @@ fn push_comma(out: &mut String, is_first: bool)
 }
 
 impl TextList {
-    /// No text. It can't fail.
-    /// `TextList::new(alloc).as_str().len()` → `0`
+    /// Returns a list without texts. Never fails.
+    /// `TextList::new(alloc).as_str().len()` gives `0`
     pub fn new(alloc: Global) -> TextList
         ensures { result ≡ [] }
     {
@@ -68,8 +68,8 @@ impl TextList {
         !self.has_items
     }
 
-    /// The texts with `, ` between each and the next. It can't fail.
-    /// `TextList::new(alloc).as_str().is_empty()` → `true`
+    /// Returns the texts with `, ` between each and the next. Never fails.
+    /// `TextList::new(alloc).as_str().is_empty()` gives `true`
     pub fn as_str(&self) -> &str
         ensures { result.now ≡ join_with (codes ", ") self.now }
     {
@@ -95,7 +95,8 @@ impl TextList {
         Ok(())
     }
 
-    /// Appends the text of a value. It fails only if memory runs out, and then the list is as it was.
+    /// Appends the text of a value. Fails only if memory runs out, and then leaves the list
+    /// unchanged.
     /// ```
     /// let mut list = TextList::new(alloc);
     /// list.push_text(alloc, &25)?;

@@ -1,7 +1,7 @@
-//! The condition calls: each condition in the family that opens a group of its own, and in the one
-//! that joins the last group by OR and opens one only where there is none. Each gives the builder
-//! back; it fails only if memory runs out, and then leaves the builder as it was. Where its
-//! texts are operands, what it adds is an atom of truth, but for a raw condition.
+//! The condition calls, in two families. One opens a group of its own. The other joins the last
+//! group by OR, or opens one if there is none. Each call returns the builder. It fails only if
+//! memory runs out, and then leaves the builder unchanged. If its texts are operands, what it adds
+//! is an atom of truth, unless the condition is raw.
 ghost use Rattle.std.specs.Prelude.{◌≡◌};
 ghost use Rattle.sql_builder.specs.Steps.{is_negated};
 

@@ -15,8 +15,9 @@ impl SqlBuilder {
     ghost use Rattle.sql_builder.specs.declared.condition.Family.TheVariants.{And, Or};
     ghost use Rattle.sql_builder.specs.declared.condition.Relation.TheVariants.{Eq, Ne, Gt, Ge, Lt, Le};
 
-    /// Adds the condition unchanged, in a group of its own.
-    /// `SqlBuilder::select_from(alloc, "t")?.and_where("a")?.and_where("b")?.sql()?` →
+    /// Adds the condition unchanged, in a group of its own. Fails only if memory runs out, and then
+    /// leaves the builder unchanged.
+    /// `SqlBuilder::select_from(alloc, "t")?.and_where("a")?.and_where("b")?.sql()?` gives
     /// `SELECT * FROM t WHERE (a) AND (b);`
     pub fn and_where<S: ToText>(&mut self, condition: S) -> Result<&mut Self, SqlBuilderError>
         ensures* unchanged { sem 𝓛 (IsUnchangedIfErr self.entry result) }
@@ -27,8 +28,9 @@ impl SqlBuilder {
         release(self.hold_raw(Family::And, condition))
     }
 
-    /// Adds `field IS NULL`, in a group of its own.
-    /// `SqlBuilder::select_from(alloc, "t")?.and_where_is_null("a")?.sql()?` →
+    /// Adds `field IS NULL`, in a group of its own. Fails only if memory runs out, and then leaves
+    /// the builder unchanged.
+    /// `SqlBuilder::select_from(alloc, "t")?.and_where_is_null("a")?.sql()?` gives
     /// `SELECT * FROM t WHERE a IS NULL;`
     pub fn and_where_is_null<S: ToText>(&mut self, field: S) -> Result<&mut Self, SqlBuilderError>
         ensures* unchanged { sem 𝓛 (IsUnchangedIfErr self.entry result) }
@@ -39,8 +41,9 @@ impl SqlBuilder {
         release(self.hold_is_null(Family::And, field))
     }
 
-    /// Adds `field IS NOT NULL`, in a group of its own.
-    /// `SqlBuilder::select_from(alloc, "t")?.and_where_is_not_null("a")?.sql()?` →
+    /// Adds `field IS NOT NULL`, in a group of its own. Fails only if memory runs out, and then
+    /// leaves the builder unchanged.
+    /// `SqlBuilder::select_from(alloc, "t")?.and_where_is_not_null("a")?.sql()?` gives
     /// `SELECT * FROM t WHERE a IS NOT NULL;`
     pub fn and_where_is_not_null<S: ToText>(
         &mut self,
@@ -54,8 +57,9 @@ impl SqlBuilder {
         release(self.hold_is_not_null(Family::And, field))
     }
 
-    /// Adds `field = value`, in a group of its own.
-    /// `SqlBuilder::select_from(alloc, "t")?.and_where_eq("a", 1)?.sql()?` →
+    /// Adds `field = value`, in a group of its own. Fails only if memory runs out, and then leaves
+    /// the builder unchanged.
+    /// `SqlBuilder::select_from(alloc, "t")?.and_where_eq("a", 1)?.sql()?` gives
     /// `SELECT * FROM t WHERE a = 1;`
     pub fn and_where_eq<S: ToText, T: ToText>(
         &mut self,
@@ -70,8 +74,9 @@ impl SqlBuilder {
         release(self.hold_compare(Family::And, Relation::Eq, field, value))
     }
 
-    /// Adds `field <> value`, in a group of its own.
-    /// `SqlBuilder::select_from(alloc, "t")?.and_where_ne("a", 1)?.sql()?` →
+    /// Adds `field <> value`, in a group of its own. Fails only if memory runs out, and then leaves
+    /// the builder unchanged.
+    /// `SqlBuilder::select_from(alloc, "t")?.and_where_ne("a", 1)?.sql()?` gives
     /// `SELECT * FROM t WHERE a <> 1;`
     pub fn and_where_ne<S: ToText, T: ToText>(
         &mut self,
@@ -86,8 +91,9 @@ impl SqlBuilder {
         release(self.hold_compare(Family::And, Relation::Ne, field, value))
     }
 
-    /// Adds `field > value`, in a group of its own.
-    /// `SqlBuilder::select_from(alloc, "t")?.and_where_gt("a", 1)?.sql()?` →
+    /// Adds `field > value`, in a group of its own. Fails only if memory runs out, and then leaves
+    /// the builder unchanged.
+    /// `SqlBuilder::select_from(alloc, "t")?.and_where_gt("a", 1)?.sql()?` gives
     /// `SELECT * FROM t WHERE a > 1;`
     pub fn and_where_gt<S: ToText, T: ToText>(
         &mut self,
@@ -102,8 +108,9 @@ impl SqlBuilder {
         release(self.hold_compare(Family::And, Relation::Gt, field, value))
     }
 
-    /// Adds `field >= value`, in a group of its own.
-    /// `SqlBuilder::select_from(alloc, "t")?.and_where_ge("a", 1)?.sql()?` →
+    /// Adds `field >= value`, in a group of its own. Fails only if memory runs out, and then leaves
+    /// the builder unchanged.
+    /// `SqlBuilder::select_from(alloc, "t")?.and_where_ge("a", 1)?.sql()?` gives
     /// `SELECT * FROM t WHERE a >= 1;`
     pub fn and_where_ge<S: ToText, T: ToText>(
         &mut self,
@@ -118,8 +125,9 @@ impl SqlBuilder {
         release(self.hold_compare(Family::And, Relation::Ge, field, value))
     }
 
-    /// Adds `field < value`, in a group of its own.
-    /// `SqlBuilder::select_from(alloc, "t")?.and_where_lt("a", 1)?.sql()?` →
+    /// Adds `field < value`, in a group of its own. Fails only if memory runs out, and then leaves
+    /// the builder unchanged.
+    /// `SqlBuilder::select_from(alloc, "t")?.and_where_lt("a", 1)?.sql()?` gives
     /// `SELECT * FROM t WHERE a < 1;`
     pub fn and_where_lt<S: ToText, T: ToText>(
         &mut self,
@@ -134,8 +142,9 @@ impl SqlBuilder {
         release(self.hold_compare(Family::And, Relation::Lt, field, value))
     }
 
-    /// Adds `field <= value`, in a group of its own.
-    /// `SqlBuilder::select_from(alloc, "t")?.and_where_le("a", 1)?.sql()?` →
+    /// Adds `field <= value`, in a group of its own. Fails only if memory runs out, and then leaves
+    /// the builder unchanged.
+    /// `SqlBuilder::select_from(alloc, "t")?.and_where_le("a", 1)?.sql()?` gives
     /// `SELECT * FROM t WHERE a <= 1;`
     pub fn and_where_le<S: ToText, T: ToText>(
         &mut self,
@@ -150,9 +159,9 @@ impl SqlBuilder {
         release(self.hold_compare(Family::And, Relation::Le, field, value))
     }
 
-    /// Adds the condition unchanged: joins the last group by OR, and opens one where there
-    /// is none.
-    /// `SqlBuilder::select_from(alloc, "t")?.and_where("a")?.or_where("b")?.sql()?` →
+    /// Adds the condition unchanged. It joins the last group by OR, or opens one if there is none.
+    /// Fails only if memory runs out, and then leaves the builder unchanged.
+    /// `SqlBuilder::select_from(alloc, "t")?.and_where("a")?.or_where("b")?.sql()?` gives
     /// `SELECT * FROM t WHERE a OR b;`
     pub fn or_where<S: ToText>(&mut self, condition: S) -> Result<&mut Self, SqlBuilderError>
         ensures* unchanged { sem 𝓛 (IsUnchangedIfErr self.entry result) }
@@ -163,8 +172,9 @@ impl SqlBuilder {
         release(self.hold_raw(Family::Or, condition))
     }
 
-    /// Adds `field IS NULL`: joins the last group by OR, and opens one where there is none.
-    /// `SqlBuilder::select_from(alloc, "t")?.and_where("b")?.or_where_is_null("a")?.sql()?` →
+    /// Adds `field IS NULL`. It joins the last group by OR, or opens one if there is none. Fails
+    /// only if memory runs out, and then leaves the builder unchanged.
+    /// `SqlBuilder::select_from(alloc, "t")?.and_where("b")?.or_where_is_null("a")?.sql()?` gives
     /// `SELECT * FROM t WHERE b OR a IS NULL;`
     pub fn or_where_is_null<S: ToText>(&mut self, field: S) -> Result<&mut Self, SqlBuilderError>
         ensures* unchanged { sem 𝓛 (IsUnchangedIfErr self.entry result) }
@@ -175,9 +185,10 @@ impl SqlBuilder {
         release(self.hold_is_null(Family::Or, field))
     }
 
-    /// Adds `field IS NOT NULL`: joins the last group by OR, and opens one where there is none.
-    /// `SqlBuilder::select_from(alloc, "t")?.and_where("b")?.or_where_is_not_null("a")?.sql()?` →
-    /// `SELECT * FROM t WHERE b OR a IS NOT NULL;`
+    /// Adds `field IS NOT NULL`. It joins the last group by OR, or opens one if there is none.
+    /// Fails only if memory runs out, and then leaves the builder unchanged.
+    /// `SqlBuilder::select_from(alloc, "t")?.and_where("b")?.or_where_is_not_null("a")?.sql()?`
+    /// gives `SELECT * FROM t WHERE b OR a IS NOT NULL;`
     pub fn or_where_is_not_null<S: ToText>(
         &mut self,
         field: S,
@@ -190,8 +201,9 @@ impl SqlBuilder {
         release(self.hold_is_not_null(Family::Or, field))
     }
 
-    /// Adds `field = value`: joins the last group by OR, and opens one where there is none.
-    /// `SqlBuilder::select_from(alloc, "t")?.and_where("b")?.or_where_eq("a", 1)?.sql()?` →
+    /// Adds `field = value`. It joins the last group by OR, or opens one if there is none. Fails
+    /// only if memory runs out, and then leaves the builder unchanged.
+    /// `SqlBuilder::select_from(alloc, "t")?.and_where("b")?.or_where_eq("a", 1)?.sql()?` gives
     /// `SELECT * FROM t WHERE b OR a = 1;`
     pub fn or_where_eq<S: ToText, T: ToText>(
         &mut self,
@@ -206,8 +218,9 @@ impl SqlBuilder {
         release(self.hold_compare(Family::Or, Relation::Eq, field, value))
     }
 
-    /// Adds `field <> value`: joins the last group by OR, and opens one where there is none.
-    /// `SqlBuilder::select_from(alloc, "t")?.and_where("b")?.or_where_ne("a", 1)?.sql()?` →
+    /// Adds `field <> value`. It joins the last group by OR, or opens one if there is none. Fails
+    /// only if memory runs out, and then leaves the builder unchanged.
+    /// `SqlBuilder::select_from(alloc, "t")?.and_where("b")?.or_where_ne("a", 1)?.sql()?` gives
     /// `SELECT * FROM t WHERE b OR a <> 1;`
     pub fn or_where_ne<S: ToText, T: ToText>(
         &mut self,
@@ -222,8 +235,9 @@ impl SqlBuilder {
         release(self.hold_compare(Family::Or, Relation::Ne, field, value))
     }
 
-    /// Adds `field > value`: joins the last group by OR, and opens one where there is none.
-    /// `SqlBuilder::select_from(alloc, "t")?.and_where("b")?.or_where_gt("a", 1)?.sql()?` →
+    /// Adds `field > value`. It joins the last group by OR, or opens one if there is none. Fails
+    /// only if memory runs out, and then leaves the builder unchanged.
+    /// `SqlBuilder::select_from(alloc, "t")?.and_where("b")?.or_where_gt("a", 1)?.sql()?` gives
     /// `SELECT * FROM t WHERE b OR a > 1;`
     pub fn or_where_gt<S: ToText, T: ToText>(
         &mut self,
@@ -238,8 +252,9 @@ impl SqlBuilder {
         release(self.hold_compare(Family::Or, Relation::Gt, field, value))
     }
 
-    /// Adds `field >= value`: joins the last group by OR, and opens one where there is none.
-    /// `SqlBuilder::select_from(alloc, "t")?.and_where("b")?.or_where_ge("a", 1)?.sql()?` →
+    /// Adds `field >= value`. It joins the last group by OR, or opens one if there is none. Fails
+    /// only if memory runs out, and then leaves the builder unchanged.
+    /// `SqlBuilder::select_from(alloc, "t")?.and_where("b")?.or_where_ge("a", 1)?.sql()?` gives
     /// `SELECT * FROM t WHERE b OR a >= 1;`
     pub fn or_where_ge<S: ToText, T: ToText>(
         &mut self,
@@ -254,8 +269,9 @@ impl SqlBuilder {
         release(self.hold_compare(Family::Or, Relation::Ge, field, value))
     }
 
-    /// Adds `field < value`: joins the last group by OR, and opens one where there is none.
-    /// `SqlBuilder::select_from(alloc, "t")?.and_where("b")?.or_where_lt("a", 1)?.sql()?` →
+    /// Adds `field < value`. It joins the last group by OR, or opens one if there is none. Fails
+    /// only if memory runs out, and then leaves the builder unchanged.
+    /// `SqlBuilder::select_from(alloc, "t")?.and_where("b")?.or_where_lt("a", 1)?.sql()?` gives
     /// `SELECT * FROM t WHERE b OR a < 1;`
     pub fn or_where_lt<S: ToText, T: ToText>(
         &mut self,
@@ -270,8 +286,9 @@ impl SqlBuilder {
         release(self.hold_compare(Family::Or, Relation::Lt, field, value))
     }
 
-    /// Adds `field <= value`: joins the last group by OR, and opens one where there is none.
-    /// `SqlBuilder::select_from(alloc, "t")?.and_where("b")?.or_where_le("a", 1)?.sql()?` →
+    /// Adds `field <= value`. It joins the last group by OR, or opens one if there is none. Fails
+    /// only if memory runs out, and then leaves the builder unchanged.
+    /// `SqlBuilder::select_from(alloc, "t")?.and_where("b")?.or_where_le("a", 1)?.sql()?` gives
     /// `SELECT * FROM t WHERE b OR a <= 1;`
     pub fn or_where_le<S: ToText, T: ToText>(
         &mut self,

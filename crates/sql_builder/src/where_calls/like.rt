@@ -16,8 +16,9 @@ impl SqlBuilder {
     ghost use Rattle.sql_builder.specs.declared.condition.Family.TheVariants.{And, Or};
     ghost use Rattle.sql_builder.specs.declared.condition.Percent.TheVariants.{Plain, Right, Left, Any};
 
-    /// Adds `field LIKE` the mask, as `quote` writes it, in a group of its own.
-    /// `SqlBuilder::select_from(alloc, "t")?.and_where_like("a", "it's")?.sql()?` →
+    /// Adds `field LIKE 'mask'`, with `'mask'` as `quote` writes it, in a group of its own. Fails
+    /// only if memory runs out, and then leaves the builder unchanged.
+    /// `SqlBuilder::select_from(alloc, "t")?.and_where_like("a", "it's")?.sql()?` gives
     /// `SELECT * FROM t WHERE a LIKE 'it''s';`
     pub fn and_where_like<S: ToText, T: ToText>(
         &mut self,
@@ -32,9 +33,9 @@ impl SqlBuilder {
         release(self.hold_like(Family::And, Percent::Plain, field, mask))
     }
 
-    /// Adds `field LIKE` `%` and the mask, which `quote` writes together, in a group of its
-    /// own.
-    /// `SqlBuilder::select_from(alloc, "t")?.and_where_like_right("a", "it's")?.sql()?` →
+    /// Adds `field LIKE '%mask'`, with `'%mask'` as `quote` writes it, in a group of its own. Fails
+    /// only if memory runs out, and then leaves the builder unchanged.
+    /// `SqlBuilder::select_from(alloc, "t")?.and_where_like_right("a", "it's")?.sql()?` gives
     /// `SELECT * FROM t WHERE a LIKE '%it''s';`
     pub fn and_where_like_right<S: ToText, T: ToText>(
         &mut self,
@@ -49,9 +50,9 @@ impl SqlBuilder {
         release(self.hold_like(Family::And, Percent::Right, field, mask))
     }
 
-    /// Adds `field LIKE` the mask and `%`, which `quote` writes together, in a group of its
-    /// own.
-    /// `SqlBuilder::select_from(alloc, "t")?.and_where_like_left("a", "it's")?.sql()?` →
+    /// Adds `field LIKE 'mask%'`, with `'mask%'` as `quote` writes it, in a group of its own. Fails
+    /// only if memory runs out, and then leaves the builder unchanged.
+    /// `SqlBuilder::select_from(alloc, "t")?.and_where_like_left("a", "it's")?.sql()?` gives
     /// `SELECT * FROM t WHERE a LIKE 'it''s%';`
     pub fn and_where_like_left<S: ToText, T: ToText>(
         &mut self,
@@ -66,9 +67,9 @@ impl SqlBuilder {
         release(self.hold_like(Family::And, Percent::Left, field, mask))
     }
 
-    /// Adds `field LIKE` `%`, the mask and `%`, which `quote` writes together, in a group of
-    /// its own.
-    /// `SqlBuilder::select_from(alloc, "t")?.and_where_like_any("a", "it's")?.sql()?` →
+    /// Adds `field LIKE '%mask%'`, with `'%mask%'` as `quote` writes it, in a group of its own.
+    /// Fails only if memory runs out, and then leaves the builder unchanged.
+    /// `SqlBuilder::select_from(alloc, "t")?.and_where_like_any("a", "it's")?.sql()?` gives
     /// `SELECT * FROM t WHERE a LIKE '%it''s%';`
     pub fn and_where_like_any<S: ToText, T: ToText>(
         &mut self,
@@ -83,8 +84,9 @@ impl SqlBuilder {
         release(self.hold_like(Family::And, Percent::Any, field, mask))
     }
 
-    /// Adds `field NOT LIKE` the mask, as `quote` writes it, in a group of its own.
-    /// `SqlBuilder::select_from(alloc, "t")?.and_where_not_like("a", "it's")?.sql()?` →
+    /// Adds `field NOT LIKE 'mask'`, with `'mask'` as `quote` writes it, in a group of its own.
+    /// Fails only if memory runs out, and then leaves the builder unchanged.
+    /// `SqlBuilder::select_from(alloc, "t")?.and_where_not_like("a", "it's")?.sql()?` gives
     /// `SELECT * FROM t WHERE a NOT LIKE 'it''s';`
     pub fn and_where_not_like<S: ToText, T: ToText>(
         &mut self,
@@ -99,9 +101,9 @@ impl SqlBuilder {
         release(self.hold_not_like(Family::And, Percent::Plain, field, mask))
     }
 
-    /// Adds `field NOT LIKE` `%` and the mask, which `quote` writes together, in a group of its
-    /// own.
-    /// `SqlBuilder::select_from(alloc, "t")?.and_where_not_like_right("a", "it's")?.sql()?` →
+    /// Adds `field NOT LIKE '%mask'`, with `'%mask'` as `quote` writes it, in a group of its own.
+    /// Fails only if memory runs out, and then leaves the builder unchanged.
+    /// `SqlBuilder::select_from(alloc, "t")?.and_where_not_like_right("a", "it's")?.sql()?` gives
     /// `SELECT * FROM t WHERE a NOT LIKE '%it''s';`
     pub fn and_where_not_like_right<S: ToText, T: ToText>(
         &mut self,
@@ -116,9 +118,9 @@ impl SqlBuilder {
         release(self.hold_not_like(Family::And, Percent::Right, field, mask))
     }
 
-    /// Adds `field NOT LIKE` the mask and `%`, which `quote` writes together, in a group of its
-    /// own.
-    /// `SqlBuilder::select_from(alloc, "t")?.and_where_not_like_left("a", "it's")?.sql()?` →
+    /// Adds `field NOT LIKE 'mask%'`, with `'mask%'` as `quote` writes it, in a group of its own.
+    /// Fails only if memory runs out, and then leaves the builder unchanged.
+    /// `SqlBuilder::select_from(alloc, "t")?.and_where_not_like_left("a", "it's")?.sql()?` gives
     /// `SELECT * FROM t WHERE a NOT LIKE 'it''s%';`
     pub fn and_where_not_like_left<S: ToText, T: ToText>(
         &mut self,
@@ -133,9 +135,9 @@ impl SqlBuilder {
         release(self.hold_not_like(Family::And, Percent::Left, field, mask))
     }
 
-    /// Adds `field NOT LIKE` `%`, the mask and `%`, which `quote` writes together, in a group
-    /// of its own.
-    /// `SqlBuilder::select_from(alloc, "t")?.and_where_not_like_any("a", "it's")?.sql()?` →
+    /// Adds `field NOT LIKE '%mask%'`, with `'%mask%'` as `quote` writes it, in a group of its own.
+    /// Fails only if memory runs out, and then leaves the builder unchanged.
+    /// `SqlBuilder::select_from(alloc, "t")?.and_where_not_like_any("a", "it's")?.sql()?` gives
     /// `SELECT * FROM t WHERE a NOT LIKE '%it''s%';`
     pub fn and_where_not_like_any<S: ToText, T: ToText>(
         &mut self,
@@ -150,10 +152,11 @@ impl SqlBuilder {
         release(self.hold_not_like(Family::And, Percent::Any, field, mask))
     }
 
-    /// Adds `field LIKE` the mask, as `quote` writes it: joins the last group by OR, and opens
-    /// one where there is none.
-    /// `SqlBuilder::select_from(alloc, "t")?.and_where("b")?.or_where_like("a", "it's")?.sql()?` →
-    /// `SELECT * FROM t WHERE b OR a LIKE 'it''s';`
+    /// Adds `field LIKE 'mask'`, with `'mask'` as `quote` writes it. It joins the last group by OR,
+    /// or opens one if there is none. Fails only if memory runs out, and then leaves the builder
+    /// unchanged.
+    /// `SqlBuilder::select_from(alloc, "t")?.and_where("b")?.or_where_like("a", "it's")?.sql()?`
+    /// gives `SELECT * FROM t WHERE b OR a LIKE 'it''s';`
     pub fn or_where_like<S: ToText, T: ToText>(
         &mut self,
         field: S,
@@ -167,9 +170,10 @@ impl SqlBuilder {
         release(self.hold_like(Family::Or, Percent::Plain, field, mask))
     }
 
-    /// Adds `field LIKE` `%` and the mask, which `quote` writes together: joins the last group
-    /// by OR, and opens one where there is none.
-    /// `SqlBuilder::select_from(alloc, "t")?.and_where("b")?.or_where_like_right("a", "it's")?.sql()?` →
+    /// Adds `field LIKE '%mask'`, with `'%mask'` as `quote` writes it. It joins the last group by
+    /// OR, or opens one if there is none. Fails only if memory runs out, and then leaves the
+    /// builder unchanged.
+    /// `SqlBuilder::select_from(alloc, "t")?.and_where("b")?.or_where_like_right("a", "it's")?.sql()?` gives
     /// `SELECT * FROM t WHERE b OR a LIKE '%it''s';`
     pub fn or_where_like_right<S: ToText, T: ToText>(
         &mut self,
@@ -184,9 +188,10 @@ impl SqlBuilder {
         release(self.hold_like(Family::Or, Percent::Right, field, mask))
     }
 
-    /// Adds `field LIKE` the mask and `%`, which `quote` writes together: joins the last group
-    /// by OR, and opens one where there is none.
-    /// `SqlBuilder::select_from(alloc, "t")?.and_where("b")?.or_where_like_left("a", "it's")?.sql()?` →
+    /// Adds `field LIKE 'mask%'`, with `'mask%'` as `quote` writes it. It joins the last group by
+    /// OR, or opens one if there is none. Fails only if memory runs out, and then leaves the
+    /// builder unchanged.
+    /// `SqlBuilder::select_from(alloc, "t")?.and_where("b")?.or_where_like_left("a", "it's")?.sql()?` gives
     /// `SELECT * FROM t WHERE b OR a LIKE 'it''s%';`
     pub fn or_where_like_left<S: ToText, T: ToText>(
         &mut self,
@@ -201,9 +206,10 @@ impl SqlBuilder {
         release(self.hold_like(Family::Or, Percent::Left, field, mask))
     }
 
-    /// Adds `field LIKE` `%`, the mask and `%`, which `quote` writes together: joins the last
-    /// group by OR, and opens one where there is none.
-    /// `SqlBuilder::select_from(alloc, "t")?.and_where("b")?.or_where_like_any("a", "it's")?.sql()?` →
+    /// Adds `field LIKE '%mask%'`, with `'%mask%'` as `quote` writes it. It joins the last group by
+    /// OR, or opens one if there is none. Fails only if memory runs out, and then leaves the
+    /// builder unchanged.
+    /// `SqlBuilder::select_from(alloc, "t")?.and_where("b")?.or_where_like_any("a", "it's")?.sql()?` gives
     /// `SELECT * FROM t WHERE b OR a LIKE '%it''s%';`
     pub fn or_where_like_any<S: ToText, T: ToText>(
         &mut self,
@@ -218,9 +224,10 @@ impl SqlBuilder {
         release(self.hold_like(Family::Or, Percent::Any, field, mask))
     }
 
-    /// Adds `field NOT LIKE` the mask, as `quote` writes it: joins the last group by OR, and
-    /// opens one where there is none.
-    /// `SqlBuilder::select_from(alloc, "t")?.and_where("b")?.or_where_not_like("a", "it's")?.sql()?` →
+    /// Adds `field NOT LIKE 'mask'`, with `'mask'` as `quote` writes it. It joins the last group by
+    /// OR, or opens one if there is none. Fails only if memory runs out, and then leaves the
+    /// builder unchanged.
+    /// `SqlBuilder::select_from(alloc, "t")?.and_where("b")?.or_where_not_like("a", "it's")?.sql()?` gives
     /// `SELECT * FROM t WHERE b OR a NOT LIKE 'it''s';`
     pub fn or_where_not_like<S: ToText, T: ToText>(
         &mut self,
@@ -235,9 +242,10 @@ impl SqlBuilder {
         release(self.hold_not_like(Family::Or, Percent::Plain, field, mask))
     }
 
-    /// Adds `field NOT LIKE` `%` and the mask, which `quote` writes together: joins the last
-    /// group by OR, and opens one where there is none.
-    /// `SqlBuilder::select_from(alloc, "t")?.and_where("b")?.or_where_not_like_right("a", "it's")?.sql()?` →
+    /// Adds `field NOT LIKE '%mask'`, with `'%mask'` as `quote` writes it. It joins the last group
+    /// by OR, or opens one if there is none. Fails only if memory runs out, and then leaves the
+    /// builder unchanged.
+    /// `SqlBuilder::select_from(alloc, "t")?.and_where("b")?.or_where_not_like_right("a", "it's")?.sql()?` gives
     /// `SELECT * FROM t WHERE b OR a NOT LIKE '%it''s';`
     pub fn or_where_not_like_right<S: ToText, T: ToText>(
         &mut self,
@@ -252,9 +260,10 @@ impl SqlBuilder {
         release(self.hold_not_like(Family::Or, Percent::Right, field, mask))
     }
 
-    /// Adds `field NOT LIKE` the mask and `%`, which `quote` writes together: joins the last
-    /// group by OR, and opens one where there is none.
-    /// `SqlBuilder::select_from(alloc, "t")?.and_where("b")?.or_where_not_like_left("a", "it's")?.sql()?` →
+    /// Adds `field NOT LIKE 'mask%'`, with `'mask%'` as `quote` writes it. It joins the last group
+    /// by OR, or opens one if there is none. Fails only if memory runs out, and then leaves the
+    /// builder unchanged.
+    /// `SqlBuilder::select_from(alloc, "t")?.and_where("b")?.or_where_not_like_left("a", "it's")?.sql()?` gives
     /// `SELECT * FROM t WHERE b OR a NOT LIKE 'it''s%';`
     pub fn or_where_not_like_left<S: ToText, T: ToText>(
         &mut self,
@@ -269,9 +278,10 @@ impl SqlBuilder {
         release(self.hold_not_like(Family::Or, Percent::Left, field, mask))
     }
 
-    /// Adds `field NOT LIKE` `%`, the mask and `%`, which `quote` writes together: joins the
-    /// last group by OR, and opens one where there is none.
-    /// `SqlBuilder::select_from(alloc, "t")?.and_where("b")?.or_where_not_like_any("a", "it's")?.sql()?` →
+    /// Adds `field NOT LIKE '%mask%'`, with `'%mask%'` as `quote` writes it. It joins the last
+    /// group by OR, or opens one if there is none. Fails only if memory runs out, and then leaves
+    /// the builder unchanged.
+    /// `SqlBuilder::select_from(alloc, "t")?.and_where("b")?.or_where_not_like_any("a", "it's")?.sql()?` gives
     /// `SELECT * FROM t WHERE b OR a NOT LIKE '%it''s%';`
     pub fn or_where_not_like_any<S: ToText, T: ToText>(
         &mut self,

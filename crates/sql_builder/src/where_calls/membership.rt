@@ -16,8 +16,9 @@ impl SqlBuilder {
     ghost use Rattle.sql_builder.specs.Condition.{InList, InQuoted, InQuery, Between};
     ghost use Rattle.sql_builder.specs.declared.condition.Family.TheVariants.{And, Or};
 
-    /// Adds `field IN (..)` of these values, in a group of its own.
-    /// `SqlBuilder::select_from(alloc, "t")?.and_where_in("a", &[1, 2])?.sql()?` →
+    /// Adds `field IN (..)` of these values, in a group of its own. Fails only if memory runs out,
+    /// and then leaves the builder unchanged.
+    /// `SqlBuilder::select_from(alloc, "t")?.and_where_in("a", &[1, 2])?.sql()?` gives
     /// `SELECT * FROM t WHERE a IN (1, 2);`
     pub fn and_where_in<S: ToText, T: ToText>(
         &mut self,
@@ -34,8 +35,9 @@ impl SqlBuilder {
     }
 
     /// Adds `field IN (..)` of these values, each as `quote` writes it, in a group of its own.
-    /// `SqlBuilder::select_from(alloc, "t")?.and_where_in_quoted("a", &["b", "it's"])?.sql()?` →
-    /// `SELECT * FROM t WHERE a IN ('b', 'it''s');`
+    /// Fails only if memory runs out, and then leaves the builder unchanged.
+    /// `SqlBuilder::select_from(alloc, "t")?.and_where_in_quoted("a", &["b", "it's"])?.sql()?`
+    /// gives `SELECT * FROM t WHERE a IN ('b', 'it''s');`
     pub fn and_where_in_quoted<S: ToText, T: ToText>(
         &mut self,
         field: S,
@@ -50,8 +52,9 @@ impl SqlBuilder {
         release(self.hold_in_quoted(Family::And, Sense::Plain, field, values))
     }
 
-    /// Adds `field IN (query)`, in a group of its own.
-    /// `SqlBuilder::select_from(alloc, "t")?.and_where_in_query("a", "SELECT 1")?.sql()?` →
+    /// Adds `field IN (query)`, in a group of its own. Fails only if memory runs out, and then
+    /// leaves the builder unchanged.
+    /// `SqlBuilder::select_from(alloc, "t")?.and_where_in_query("a", "SELECT 1")?.sql()?` gives
     /// `SELECT * FROM t WHERE a IN (SELECT 1);`
     pub fn and_where_in_query<S: ToText, T: ToText>(
         &mut self,
@@ -66,8 +69,9 @@ impl SqlBuilder {
         release(self.hold_in_query(Family::And, Sense::Plain, field, query))
     }
 
-    /// Adds `field BETWEEN least AND greatest`, in a group of its own.
-    /// `SqlBuilder::select_from(alloc, "t")?.and_where_between("a", 1, 2)?.sql()?` →
+    /// Adds `field BETWEEN least AND greatest`, in a group of its own. Fails only if memory runs
+    /// out, and then leaves the builder unchanged.
+    /// `SqlBuilder::select_from(alloc, "t")?.and_where_between("a", 1, 2)?.sql()?` gives
     /// `SELECT * FROM t WHERE a BETWEEN 1 AND 2;`
     pub fn and_where_between<S: ToText, T: ToText, U: ToText>(
         &mut self,
@@ -84,8 +88,9 @@ impl SqlBuilder {
         release(self.hold_between(Family::And, Sense::Plain, field, least, greatest))
     }
 
-    /// Adds `field NOT IN (..)` of these values, in a group of its own.
-    /// `SqlBuilder::select_from(alloc, "t")?.and_where_not_in("a", &[1, 2])?.sql()?` →
+    /// Adds `field NOT IN (..)` of these values, in a group of its own. Fails only if memory runs
+    /// out, and then leaves the builder unchanged.
+    /// `SqlBuilder::select_from(alloc, "t")?.and_where_not_in("a", &[1, 2])?.sql()?` gives
     /// `SELECT * FROM t WHERE a NOT IN (1, 2);`
     pub fn and_where_not_in<S: ToText, T: ToText>(
         &mut self,
@@ -101,10 +106,10 @@ impl SqlBuilder {
         release(self.hold_in_list(Family::And, Sense::Negated, field, values))
     }
 
-    /// Adds `field NOT IN (..)` of these values, each as `quote` writes it, in a group of its
-    /// own.
-    /// `SqlBuilder::select_from(alloc, "t")?.and_where_not_in_quoted("a", &["b", "it's"])?.sql()?` →
-    /// `SELECT * FROM t WHERE a NOT IN ('b', 'it''s');`
+    /// Adds `field NOT IN (..)` of these values, each as `quote` writes it, in a group of its own.
+    /// Fails only if memory runs out, and then leaves the builder unchanged.
+    /// `SqlBuilder::select_from(alloc, "t")?.and_where_not_in_quoted("a", &["b", "it's"])?.sql()?`
+    /// gives `SELECT * FROM t WHERE a NOT IN ('b', 'it''s');`
     pub fn and_where_not_in_quoted<S: ToText, T: ToText>(
         &mut self,
         field: S,
@@ -119,8 +124,9 @@ impl SqlBuilder {
         release(self.hold_in_quoted(Family::And, Sense::Negated, field, values))
     }
 
-    /// Adds `field NOT IN (query)`, in a group of its own.
-    /// `SqlBuilder::select_from(alloc, "t")?.and_where_not_in_query("a", "SELECT 1")?.sql()?` →
+    /// Adds `field NOT IN (query)`, in a group of its own. Fails only if memory runs out, and then
+    /// leaves the builder unchanged.
+    /// `SqlBuilder::select_from(alloc, "t")?.and_where_not_in_query("a", "SELECT 1")?.sql()?` gives
     /// `SELECT * FROM t WHERE a NOT IN (SELECT 1);`
     pub fn and_where_not_in_query<S: ToText, T: ToText>(
         &mut self,
@@ -135,8 +141,9 @@ impl SqlBuilder {
         release(self.hold_in_query(Family::And, Sense::Negated, field, query))
     }
 
-    /// Adds `field NOT BETWEEN least AND greatest`, in a group of its own.
-    /// `SqlBuilder::select_from(alloc, "t")?.and_where_not_between("a", 1, 2)?.sql()?` →
+    /// Adds `field NOT BETWEEN least AND greatest`, in a group of its own. Fails only if memory
+    /// runs out, and then leaves the builder unchanged.
+    /// `SqlBuilder::select_from(alloc, "t")?.and_where_not_between("a", 1, 2)?.sql()?` gives
     /// `SELECT * FROM t WHERE a NOT BETWEEN 1 AND 2;`
     pub fn and_where_not_between<S: ToText, T: ToText, U: ToText>(
         &mut self,
@@ -153,10 +160,10 @@ impl SqlBuilder {
         release(self.hold_between(Family::And, Sense::Negated, field, least, greatest))
     }
 
-    /// Adds `field IN (..)` of these values: joins the last group by OR, and opens one where
-    /// there is none.
-    /// `SqlBuilder::select_from(alloc, "t")?.and_where("b")?.or_where_in("a", &[1, 2])?.sql()?` →
-    /// `SELECT * FROM t WHERE b OR a IN (1, 2);`
+    /// Adds `field IN (..)` of these values. It joins the last group by OR, or opens one if there
+    /// is none. Fails only if memory runs out, and then leaves the builder unchanged.
+    /// `SqlBuilder::select_from(alloc, "t")?.and_where("b")?.or_where_in("a", &[1, 2])?.sql()?`
+    /// gives `SELECT * FROM t WHERE b OR a IN (1, 2);`
     pub fn or_where_in<S: ToText, T: ToText>(
         &mut self,
         field: S,
@@ -171,9 +178,10 @@ impl SqlBuilder {
         release(self.hold_in_list(Family::Or, Sense::Plain, field, values))
     }
 
-    /// Adds `field IN (..)` of these values, each as `quote` writes it: joins the last group by
-    /// OR, and opens one where there is none.
-    /// `SqlBuilder::select_from(alloc, "t")?.and_where("b")?.or_where_in_quoted("a", &["b", "it's"])?.sql()?` →
+    /// Adds `field IN (..)` of these values, each as `quote` writes it. It joins the last group by
+    /// OR, or opens one if there is none. Fails only if memory runs out, and then leaves the
+    /// builder unchanged.
+    /// `SqlBuilder::select_from(alloc, "t")?.and_where("b")?.or_where_in_quoted("a", &["b", "it's"])?.sql()?` gives
     /// `SELECT * FROM t WHERE b OR a IN ('b', 'it''s');`
     pub fn or_where_in_quoted<S: ToText, T: ToText>(
         &mut self,
@@ -189,8 +197,9 @@ impl SqlBuilder {
         release(self.hold_in_quoted(Family::Or, Sense::Plain, field, values))
     }
 
-    /// Adds `field IN (query)`: joins the last group by OR, and opens one where there is none.
-    /// `SqlBuilder::select_from(alloc, "t")?.and_where("b")?.or_where_in_query("a", "SELECT 1")?.sql()?` →
+    /// Adds `field IN (query)`. It joins the last group by OR, or opens one if there is none. Fails
+    /// only if memory runs out, and then leaves the builder unchanged.
+    /// `SqlBuilder::select_from(alloc, "t")?.and_where("b")?.or_where_in_query("a", "SELECT 1")?.sql()?` gives
     /// `SELECT * FROM t WHERE b OR a IN (SELECT 1);`
     pub fn or_where_in_query<S: ToText, T: ToText>(
         &mut self,
@@ -205,10 +214,10 @@ impl SqlBuilder {
         release(self.hold_in_query(Family::Or, Sense::Plain, field, query))
     }
 
-    /// Adds `field BETWEEN least AND greatest`: joins the last group by OR, and opens one where
-    /// there is none.
-    /// `SqlBuilder::select_from(alloc, "t")?.and_where("b")?.or_where_between("a", 1, 2)?.sql()?` →
-    /// `SELECT * FROM t WHERE b OR a BETWEEN 1 AND 2;`
+    /// Adds `field BETWEEN least AND greatest`. It joins the last group by OR, or opens one if
+    /// there is none. Fails only if memory runs out, and then leaves the builder unchanged.
+    /// `SqlBuilder::select_from(alloc, "t")?.and_where("b")?.or_where_between("a", 1, 2)?.sql()?`
+    /// gives `SELECT * FROM t WHERE b OR a BETWEEN 1 AND 2;`
     pub fn or_where_between<S: ToText, T: ToText, U: ToText>(
         &mut self,
         field: S,
@@ -224,10 +233,10 @@ impl SqlBuilder {
         release(self.hold_between(Family::Or, Sense::Plain, field, least, greatest))
     }
 
-    /// Adds `field NOT IN (..)` of these values: joins the last group by OR, and opens one
-    /// where there is none.
-    /// `SqlBuilder::select_from(alloc, "t")?.and_where("b")?.or_where_not_in("a", &[1, 2])?.sql()?` →
-    /// `SELECT * FROM t WHERE b OR a NOT IN (1, 2);`
+    /// Adds `field NOT IN (..)` of these values. It joins the last group by OR, or opens one if
+    /// there is none. Fails only if memory runs out, and then leaves the builder unchanged.
+    /// `SqlBuilder::select_from(alloc, "t")?.and_where("b")?.or_where_not_in("a", &[1, 2])?.sql()?`
+    /// gives `SELECT * FROM t WHERE b OR a NOT IN (1, 2);`
     pub fn or_where_not_in<S: ToText, T: ToText>(
         &mut self,
         field: S,
@@ -242,9 +251,10 @@ impl SqlBuilder {
         release(self.hold_in_list(Family::Or, Sense::Negated, field, values))
     }
 
-    /// Adds `field NOT IN (..)` of these values, each as `quote` writes it: joins the last
-    /// group by OR, and opens one where there is none.
-    /// `SqlBuilder::select_from(alloc, "t")?.and_where("b")?.or_where_not_in_quoted("a", &["b", "it's"])?.sql()?` →
+    /// Adds `field NOT IN (..)` of these values, each as `quote` writes it. It joins the last group
+    /// by OR, or opens one if there is none. Fails only if memory runs out, and then leaves the
+    /// builder unchanged.
+    /// `SqlBuilder::select_from(alloc, "t")?.and_where("b")?.or_where_not_in_quoted("a", &["b", "it's"])?.sql()?` gives
     /// `SELECT * FROM t WHERE b OR a NOT IN ('b', 'it''s');`
     pub fn or_where_not_in_quoted<S: ToText, T: ToText>(
         &mut self,
@@ -260,9 +270,9 @@ impl SqlBuilder {
         release(self.hold_in_quoted(Family::Or, Sense::Negated, field, values))
     }
 
-    /// Adds `field NOT IN (query)`: joins the last group by OR, and opens one where there is
-    /// none.
-    /// `SqlBuilder::select_from(alloc, "t")?.and_where("b")?.or_where_not_in_query("a", "SELECT 1")?.sql()?` →
+    /// Adds `field NOT IN (query)`. It joins the last group by OR, or opens one if there is none.
+    /// Fails only if memory runs out, and then leaves the builder unchanged.
+    /// `SqlBuilder::select_from(alloc, "t")?.and_where("b")?.or_where_not_in_query("a", "SELECT 1")?.sql()?` gives
     /// `SELECT * FROM t WHERE b OR a NOT IN (SELECT 1);`
     pub fn or_where_not_in_query<S: ToText, T: ToText>(
         &mut self,
@@ -277,9 +287,9 @@ impl SqlBuilder {
         release(self.hold_in_query(Family::Or, Sense::Negated, field, query))
     }
 
-    /// Adds `field NOT BETWEEN least AND greatest`: joins the last group by OR, and opens one
-    /// where there is none.
-    /// `SqlBuilder::select_from(alloc, "t")?.and_where("b")?.or_where_not_between("a", 1, 2)?.sql()?` →
+    /// Adds `field NOT BETWEEN least AND greatest`. It joins the last group by OR, or opens one if
+    /// there is none. Fails only if memory runs out, and then leaves the builder unchanged.
+    /// `SqlBuilder::select_from(alloc, "t")?.and_where("b")?.or_where_not_between("a", 1, 2)?.sql()?` gives
     /// `SELECT * FROM t WHERE b OR a NOT BETWEEN 1 AND 2;`
     pub fn or_where_not_between<S: ToText, T: ToText, U: ToText>(
         &mut self,
