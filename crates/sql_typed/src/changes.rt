@@ -22,24 +22,24 @@ pub type Update = Statement<UpdateKind>;
 pub type Delete = Statement<DeleteKind>;
 
 impl Statement<InsertKind> {
-    /// An INSERT into this table.
-    /// `Insert::into(alloc, Fragment::of("t"))?.field(Operand::of("a"))?.values(&[1])?.sql()?` → `INSERT INTO t (a) VALUES (1);`
+    /// Returns an INSERT into this table. Fails only if memory runs out.
+    /// `Insert::into(alloc, Fragment::of("t"))?.field(Operand::of("a"))?.values(&[1])?.sql()?` gives `INSERT INTO t (a) VALUES (1);`
     pub fn into<T: FragmentText>(alloc: Global, table: T) -> Result<Insert>
         ensures made { Gives result (beginning (InsertInto (T.text table))) }
     {
         Statement::begin(alloc, TableStart::InsertInto, table)
     }
 
-    /// One more field that is inserted.
-    /// `Insert::into(alloc, Fragment::of("t"))?.field(Operand::of("a"))?.values(&[1])?.sql()?` → `INSERT INTO t (a) VALUES (1);`
+    /// Adds a field that is inserted. Fails only if memory runs out.
+    /// `Insert::into(alloc, Fragment::of("t"))?.field(Operand::of("a"))?.values(&[1])?.sql()?` gives `INSERT INTO t (a) VALUES (1);`
     pub fn field<F: OperandText>(self, field: F) -> Result<Insert>
         ensures made { Gives result (adding (Field (F.text field)) self) }
     {
         self.with_operand(UnaryClause::Field, field)
     }
 
-    /// One more row, whose values may be of different types.
-    /// `Insert::into(alloc, Fragment::of("t"))?.field(Operand::of("a"))?.row(Row::new(alloc).value(Value("it's"))?)?.sql()?` →
+    /// Adds a row, whose values may be of different types. Fails only if memory runs out.
+    /// `Insert::into(alloc, Fragment::of("t"))?.field(Operand::of("a"))?.row(Row::new(alloc).value(Value("it's"))?)?.sql()?` gives
     /// `INSERT INTO t (a) VALUES ('it''s');`
     pub fn row(self, row: Row) -> Result<Insert>
         ensures made { Gives result (adding (Values row.values) self) }
@@ -47,8 +47,8 @@ impl Statement<InsertKind> {
         self.add(Step::Row(row.values))
     }
 
-    /// One more row, whose values are of one type, such as `Literal`.
-    /// `Insert::into(alloc, Fragment::of("t"))?.field(Operand::of("a"))?.values(&[Literal::Null])?.sql()?` → `INSERT INTO t (a) VALUES (NULL);`
+    /// Adds a row, whose values are of one type, such as `Literal`. Fails only if memory runs out.
+    /// `Insert::into(alloc, Fragment::of("t"))?.field(Operand::of("a"))?.values(&[Literal::Null])?.sql()?` gives `INSERT INTO t (a) VALUES (NULL);`
     pub fn values<V: OperandText>(self, values: &[V]) -> Result<Insert>
         ensures made { Gives result (adding (Values (map V.text values.now)) self) }
     {
@@ -57,24 +57,24 @@ impl Statement<InsertKind> {
 }
 
 impl Statement<UpdateKind> {
-    /// An UPDATE of this table.
-    /// `Update::table(alloc, Fragment::of("t"))?.set(Operand::of("a"), Value("b"))?.all_rows().sql()?` → `UPDATE t SET a = 'b';`
+    /// Returns an UPDATE of this table. Fails only if memory runs out.
+    /// `Update::table(alloc, Fragment::of("t"))?.set(Operand::of("a"), Value("b"))?.all_rows().sql()?` gives `UPDATE t SET a = 'b';`
     pub fn table<T: FragmentText>(alloc: Global, table: T) -> Result<Update>
         ensures made { Gives result (beginning (UpdateTable (T.text table))) }
     {
         Statement::begin(alloc, TableStart::UpdateTable, table)
     }
 
-    /// Sets a field to a value.
-    /// `Update::table(alloc, Fragment::of("t"))?.set(Operand::of("a"), Value("b"))?.all_rows().sql()?` → `UPDATE t SET a = 'b';`
+    /// Sets a field to a value. Fails only if memory runs out.
+    /// `Update::table(alloc, Fragment::of("t"))?.set(Operand::of("a"), Value("b"))?.all_rows().sql()?` gives `UPDATE t SET a = 'b';`
     pub fn set<F: OperandText, V: OperandText>(self, field: F, value: V) -> Result<Update>
         ensures made { Gives result (adding (SetTo (F.text field) (V.text value)) self) }
     {
         self.with_pair(BinaryClause::SetTo, field, value)
     }
 
-    /// Sets a field to a text, which is quoted in place.
-    /// `Update::table(alloc, Fragment::of("t"))?.set_str(Operand::of("a"), Value("it's"))?.all_rows().sql()?` → `UPDATE t SET a = 'it''s';`
+    /// Sets a field to a text, which is quoted in place. Fails only if memory runs out.
+    /// `Update::table(alloc, Fragment::of("t"))?.set_str(Operand::of("a"), Value("it's"))?.all_rows().sql()?` gives `UPDATE t SET a = 'it''s';`
     pub fn set_str<F: OperandText>(self, field: F, value: Value<&str>) -> Result<Update>
         ensures made { Gives result (adding (SetStr (F.text field) value.entry.0.now) self) }
     {
@@ -84,8 +84,8 @@ impl Statement<UpdateKind> {
 }
 
 impl Statement<DeleteKind> {
-    /// A DELETE from this table.
-    /// `Delete::from(alloc, Fragment::of("t"))?.all_rows().sql()?` → `DELETE FROM t;`
+    /// Returns a DELETE from this table. Fails only if memory runs out.
+    /// `Delete::from(alloc, Fragment::of("t"))?.all_rows().sql()?` gives `DELETE FROM t;`
     pub fn from<T: FragmentText>(alloc: Global, table: T) -> Result<Delete>
         ensures made { Gives result (beginning (DeleteFrom (T.text table))) }
     {

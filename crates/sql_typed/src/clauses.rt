@@ -1,5 +1,5 @@
-//! Clauses that the builder hasn't: upserts, INSERT of a query, locks, INTERSECT, EXCEPT and WITH. Each is
-//! printed behind a text that is printed already, so types say what may follow what.
+//! Clauses that the builder doesn't have: upserts, INSERT of a query, locks, INTERSECT, EXCEPT and
+//! WITH. Each is printed behind a text that is printed already, so types say what may follow what.
 ghost use Rattle.std.specs.Prelude.{◌≡◌, ◌++◌, ◌⊎◌, codes, IfErr, IfOk, IsTrue, MatchResult, None, Ok, Some, map, string_bytes, true};
 ghost use Rattle.sql_parts.specs.Error.{FailsOnlyByMemory, IsMemory};
 ghost use Rattle.sql_parts.specs.Fragments.{balanced};
@@ -116,8 +116,8 @@ impl<K> Printed<K> {
 }
 
 impl<K: Complete> Printed<K> {
-    /// The statement. It fails only if memory runs out.
-    /// `Select::from(alloc, Fragment::of("t"))?.printed()?.sql()?` → `SELECT * FROM t;`
+    /// Returns the statement. Fails only if memory runs out.
+    /// `Select::from(alloc, Fragment::of("t"))?.printed()?.sql()?` gives `SELECT * FROM t;`
     pub fn sql(self) -> Result<String>
         ensures text { IfOk result (λ s. string_bytes s ≡ string_bytes self.text ++ codes ";") }
         ensures closed { IfOk result (λ s. IsTrue (closed (string_bytes s))) }
@@ -135,8 +135,8 @@ impl<K: Complete> Printed<K> {
 }
 
 impl<K: Returns> Printed<K> {
-    /// RETURNING of a field, as the last clause. It fails only if memory runs out.
-    /// `Insert::into(alloc, Fragment::of("t"))?.values(&[1])?.rows()?.returning(Operand::of("id"))?.sql()?` →
+    /// Adds RETURNING of a field, as the last clause. Fails only if memory runs out.
+    /// `Insert::into(alloc, Fragment::of("t"))?.values(&[1])?.rows()?.returning(Operand::of("id"))?.sql()?` gives
     /// `INSERT INTO t () VALUES (1) RETURNING id;`
     pub fn returning<F: OperandText>(self, field: F) -> Result<Printed<Whole>>
         ensures text { Continues result (string_bytes self.text ++ (codes " RETURNING " ++ F.text field)) }
@@ -146,8 +146,9 @@ impl<K: Returns> Printed<K> {
 }
 
 impl Printed<Rows> {
-    /// ON CONFLICT of these columns; of none, of any conflict. It fails only if memory runs out.
-    /// `Insert::into(alloc, Fragment::of("t"))?.field(Operand::of("id"))?.values(&[1])?.rows()?.on_conflict(&[Operand::of("id")])?.do_nothing()?.sql()?` →
+    /// Adds ON CONFLICT of these columns, or of any conflict if there are none. Fails only if
+    /// memory runs out.
+    /// `Insert::into(alloc, Fragment::of("t"))?.field(Operand::of("id"))?.values(&[1])?.rows()?.on_conflict(&[Operand::of("id")])?.do_nothing()?.sql()?` gives
     /// `INSERT INTO t (id) VALUES (1) ON CONFLICT (id) DO NOTHING;`
     pub fn on_conflict<F: OperandText>(self, columns: &[F]) -> Result<Printed<Conflict>>
         ensures text { Continues result (string_bytes self.text ++ conflict_text (map F.text columns.now)) }
@@ -160,8 +161,8 @@ impl Printed<Rows> {
         printed.ended(")")
     }
 
-    /// MySQL's ON DUPLICATE KEY UPDATE of a field to a value. It fails only if memory runs out.
-    /// `Insert::into(alloc, Fragment::of("t"))?.field(Operand::of("id"))?.values(&[1])?.rows()?.on_duplicate_key(Operand::of("n"), 2)?.sql()?` →
+    /// Adds MySQL's ON DUPLICATE KEY UPDATE of a field to a value. Fails only if memory runs out.
+    /// `Insert::into(alloc, Fragment::of("t"))?.field(Operand::of("id"))?.values(&[1])?.rows()?.on_duplicate_key(Operand::of("n"), 2)?.sql()?` gives
     /// `INSERT INTO t (id) VALUES (1) ON DUPLICATE KEY UPDATE n = 2;`
     pub fn on_duplicate_key<F: OperandText, V: OperandText>(
         self,
@@ -188,8 +189,8 @@ fn listed<F: OperandText>(alloc: Global, operands: &[F]) -> Result<TextList>
 }
 
 impl Printed<Conflict> {
-    /// DO NOTHING. It fails only if memory runs out, as the call below does.
-    /// `Insert::into(alloc, Fragment::of("t"))?.field(Operand::of("id"))?.values(&[1])?.rows()?.on_conflict(&[Operand::of("id")])?.do_nothing()?.sql()?` →
+    /// Adds DO NOTHING. Fails only if memory runs out.
+    /// `Insert::into(alloc, Fragment::of("t"))?.field(Operand::of("id"))?.values(&[1])?.rows()?.on_conflict(&[Operand::of("id")])?.do_nothing()?.sql()?` gives
     /// `INSERT INTO t (id) VALUES (1) ON CONFLICT (id) DO NOTHING;`
     pub fn do_nothing(self) -> Result<Printed<DoNothing>>
         ensures text { Continues result (string_bytes self.text ++ codes " DO NOTHING") }
@@ -197,8 +198,9 @@ impl Printed<Conflict> {
         self.ended(" DO NOTHING")
     }
 
-    /// DO UPDATE, which sets a field to a value, as to `Operand::of("excluded.n")`, which was to be inserted.
-    /// `Insert::into(alloc, Fragment::of("t"))?.field(Operand::of("id"))?.values(&[1])?.rows()?.on_conflict(&[Operand::of("id")])?.do_update(Operand::of("n"), Value("it's"))?.sql()?` →
+    /// Adds DO UPDATE, which sets a field to a value. The value that was to be inserted is an
+    /// operand, such as `Operand::of("excluded.n")`. Fails only if memory runs out.
+    /// `Insert::into(alloc, Fragment::of("t"))?.field(Operand::of("id"))?.values(&[1])?.rows()?.on_conflict(&[Operand::of("id")])?.do_update(Operand::of("n"), Value("it's"))?.sql()?` gives
     /// `INSERT INTO t (id) VALUES (1) ON CONFLICT (id) DO UPDATE SET n = 'it''s';`
     pub fn do_update<F: OperandText, V: OperandText>(
         self,
@@ -213,8 +215,8 @@ impl Printed<Conflict> {
 }
 
 impl<K: Sets> Printed<K> {
-    /// Sets one more field to a value. It fails only if memory runs out.
-    /// `Insert::into(alloc, Fragment::of("t"))?.field(Operand::of("id"))?.values(&[1])?.rows()?.on_conflict(&[Operand::of("id")])?.do_update(Operand::of("n"), 2)?.set(Operand::of("m"), Operand::of("excluded.m"))?.sql()?` →
+    /// Sets one more field to a value. Fails only if memory runs out.
+    /// `Insert::into(alloc, Fragment::of("t"))?.field(Operand::of("id"))?.values(&[1])?.rows()?.on_conflict(&[Operand::of("id")])?.do_update(Operand::of("n"), 2)?.set(Operand::of("m"), Operand::of("excluded.m"))?.sql()?` gives
     /// `INSERT INTO t (id) VALUES (1) ON CONFLICT (id) DO UPDATE SET n = 2, m = excluded.m;`
     pub fn set<F: OperandText, V: OperandText>(self, field: F, value: V) -> Result<Printed<K>>
         ensures text { Continues result (string_bytes self.text
@@ -225,8 +227,8 @@ impl<K: Sets> Printed<K> {
 }
 
 impl Printed<DuplicateKey> {
-    /// Sets one more field to the value that was to be inserted. It fails only if memory runs out.
-    /// `Insert::into(alloc, Fragment::of("t"))?.field(Operand::of("id"))?.values(&[1])?.rows()?.on_duplicate_key(Operand::of("n"), 2)?.set_inserted(Operand::of("m"))?.sql()?` →
+    /// Sets one more field to the value that was to be inserted. Fails only if memory runs out.
+    /// `Insert::into(alloc, Fragment::of("t"))?.field(Operand::of("id"))?.values(&[1])?.rows()?.on_duplicate_key(Operand::of("n"), 2)?.set_inserted(Operand::of("m"))?.sql()?` gives
     /// `INSERT INTO t (id) VALUES (1) ON DUPLICATE KEY UPDATE n = 2, m = VALUES(m);`
     pub fn set_inserted<F: OperandText>(self, field: F) -> Result<Printed<DuplicateKey>>
         ensures text { Continues result (string_bytes self.text
@@ -239,8 +241,9 @@ impl Printed<DuplicateKey> {
 }
 
 impl Printed<Named> {
-    /// WITH a query under a name, which may begin with RECURSIVE. It fails only if memory runs out, as the two calls below do.
-    /// `With::of(alloc, Operand::of("q"), &query)?.before(&Select::from(alloc, Fragment::of("q"))?.printed()?)?.sql()?` →
+    /// Returns WITH and a query under a name, which may begin with RECURSIVE. Fails only if memory
+    /// runs out.
+    /// `With::of(alloc, Operand::of("q"), &query)?.before(&Select::from(alloc, Fragment::of("q"))?.printed()?)?.sql()?` gives
     /// `WITH q AS (SELECT b FROM t) SELECT * FROM q;`
     pub fn of<N: OperandText>(alloc: Global, name: N, query: &Query) -> Result<With>
         ensures text { Continues result (named_text (codes "WITH ") (N.text name) (string_bytes query.now.text)) }
@@ -248,8 +251,8 @@ impl Printed<Named> {
         opened(alloc)?.named(" ", name, query)
     }
 
-    /// One more query under a name.
-    /// `With::of(alloc, Operand::of("q"), &query)?.and(Operand::of("r"), &query)?.before(&Select::from(alloc, Fragment::of("r"))?.printed()?)?.sql()?` →
+    /// Adds a query under a name. Fails only if memory runs out.
+    /// `With::of(alloc, Operand::of("q"), &query)?.and(Operand::of("r"), &query)?.before(&Select::from(alloc, Fragment::of("r"))?.printed()?)?.sql()?` gives
     /// `WITH q AS (SELECT b FROM t), r AS (SELECT b FROM t) SELECT * FROM r;`
     pub fn and<N: OperandText>(self, name: N, query: &Query) -> Result<With>
         ensures text { Continues result (string_bytes self.text
@@ -258,8 +261,8 @@ impl Printed<Named> {
         self.named(", ", name, query)
     }
 
-    /// The statement that these queries are for.
-    /// `With::of(alloc, Operand::of("q"), &query)?.before(&Select::from(alloc, Fragment::of("q"))?.printed()?)?.text` →
+    /// Adds the statement that these queries are for. Fails only if memory runs out.
+    /// `With::of(alloc, Operand::of("q"), &query)?.before(&Select::from(alloc, Fragment::of("q"))?.printed()?)?.text` gives
     /// `WITH q AS (SELECT b FROM t) SELECT * FROM q`
     pub fn before<K: Complete>(self, statement: &Printed<K>) -> Result<Printed<Whole>>
         ensures text { Continues result (string_bytes self.text ++ (codes " " ++ string_bytes statement.now.text)) }
@@ -280,8 +283,8 @@ fn opened(alloc: Global) -> Result<With>
 }
 
 impl<K> Statement<K> {
-    /// The statement without its `;`, for clauses that follow it. It fails as `sql` does.
-    /// `Select::from(alloc, Fragment::of("t"))?.printed()?.text` → `SELECT * FROM t`
+    /// Returns the statement without its `;`, for clauses that follow it. Fails as `sql` does.
+    /// `Select::from(alloc, Fragment::of("t"))?.printed()?.text` gives `SELECT * FROM t`
     pub fn printed(&self) -> Result<Printed<Whole>, Error>
         ensures printed { IfOk result (λ p.
             IsPrinted self.now Sql (string_bytes p.text ++ codes ";")) }
@@ -316,8 +319,8 @@ fn lock_words(lock: Lock, wait: Wait) -> &'static str
 }
 
 impl Printed<Selected> {
-    /// With a lock on its rows. It fails only if memory runs out.
-    /// `Select::from(alloc, Fragment::of("t"))?.query()?.printed(alloc)?.locked(Lock::Update, Wait::SkipLocked)?.sql()?` →
+    /// Adds a lock on the rows. Fails only if memory runs out.
+    /// `Select::from(alloc, Fragment::of("t"))?.query()?.printed(alloc)?.locked(Lock::Update, Wait::SkipLocked)?.sql()?` gives
     /// `SELECT * FROM t FOR UPDATE SKIP LOCKED;`
     pub fn locked(self, lock: Lock, wait: Wait) -> Result<Printed<Whole>>
         ensures text { Continues result (string_bytes self.text ++ lock_text lock wait) }
@@ -327,9 +330,11 @@ impl Printed<Selected> {
 }
 
 impl Statement<InsertKind> {
-    /// The INSERT, for clauses behind its rows. It fails with `ReturningFirst` where it has a RETURNING,
-    /// which comes last: call that of what is printed. Else it fails as `sql` does.
-    /// `Insert::into(alloc, Fragment::of("t"))?.values(&[1])?.rows()?.text` → `INSERT INTO t () VALUES (1)`
+    /// Returns the INSERT, for clauses behind its rows. Fails with `ReturningFirst` if it has a
+    /// RETURNING. That comes last: call `returning` of what is printed. Otherwise it fails as `sql`
+    /// does.
+    /// `Insert::into(alloc, Fragment::of("t"))?.values(&[1])?.rows()?.text` gives
+    /// `INSERT INTO t () VALUES (1)`
     pub fn rows(&self) -> Result<Printed<Rows>, Error>
         ensures printed { IfOk result (λ p.
             IsPrinted self.now Sql (string_bytes p.text ++ codes ";")) }
@@ -341,9 +346,10 @@ impl Statement<InsertKind> {
         Ok(printed)
     }
 
-    /// INSERT of the rows of a query, in place of rows of its own. It fails with `ReturningFirst` where it
-    /// has a RETURNING, else with the builder's `NoTableName`, or because memory runs out.
-    /// `Insert::into(alloc, Fragment::of("u"))?.field(Operand::of("a"))?.rows_of(&query)?.sql()?` → `INSERT INTO u (a) SELECT b FROM t;`
+    /// Returns an INSERT of the rows of a query, in place of rows of its own. Fails with
+    /// `ReturningFirst` if it has a RETURNING. Otherwise it fails with the builder's `NoTableName`,
+    /// or if memory runs out.
+    /// `Insert::into(alloc, Fragment::of("u"))?.field(Operand::of("a"))?.rows_of(&query)?.sql()?` gives `INSERT INTO u (a) SELECT b FROM t;`
     pub fn rows_of(self, query: &Query) -> Result<Printed<Rows>, Error>
         ensures statement { IfOk result (λ p.
             statement self.start (asking (string_bytes query.now.text) self.calls) Sql
@@ -386,9 +392,9 @@ impl Statement<InsertKind> {
 }
 
 impl Query {
-    /// The rows that both queries have, as INTERSECT gives them. A query that `union` would make a table is
-    /// one here. It fails only if memory runs out, as the two calls below do.
-    /// `query.intersect(alloc, &query)?.text` → `SELECT b FROM t INTERSECT SELECT b FROM t`
+    /// Returns the rows that both queries have, as INTERSECT gives them. A query that `union` would
+    /// make a table is one here. Fails only if memory runs out.
+    /// `query.intersect(alloc, &query)?.text` gives `SELECT b FROM t INTERSECT SELECT b FROM t`
     pub fn intersect(&self, alloc: Global, other: &Query) -> Result<Query>
         ensures text { IfOk result (λ q. string_bytes q.text ≡ combined_text (codes " INTERSECT ")
             self.now.needs_brackets (string_bytes self.now.text)
@@ -399,8 +405,9 @@ impl Query {
         self.combined(alloc, " INTERSECT ", other)
     }
 
-    /// The rows that the other query hasn't, as EXCEPT gives them.
-    /// `query.except(alloc, &query)?.text` → `SELECT b FROM t EXCEPT SELECT b FROM t`
+    /// Returns the rows that the other query doesn't have, as EXCEPT gives them. Fails only if
+    /// memory runs out.
+    /// `query.except(alloc, &query)?.text` gives `SELECT b FROM t EXCEPT SELECT b FROM t`
     pub fn except(&self, alloc: Global, other: &Query) -> Result<Query>
         ensures text { IfOk result (λ q. string_bytes q.text ≡ combined_text (codes " EXCEPT ")
             self.now.needs_brackets (string_bytes self.now.text)
@@ -431,8 +438,9 @@ impl Query {
         })
     }
 
-    /// The query as a statement, which may have a lock.
-    /// `query.except(alloc, &query)?.printed(alloc)?.sql()?` → `SELECT b FROM t EXCEPT SELECT b FROM t;`
+    /// Returns the query as a statement, which may have a lock. Fails only if memory runs out.
+    /// `query.except(alloc, &query)?.printed(alloc)?.sql()?` gives
+    /// `SELECT b FROM t EXCEPT SELECT b FROM t;`
     pub fn printed(&self, alloc: Global) -> Result<Printed<Selected>>
         ensures text { Continues result (string_bytes self.now.text) }
     {

@@ -73,8 +73,8 @@ fn compare<F: OperandText, V: OperandText>(
     Ok(Condition { text })
 }
 
-/// `field = value`.
-/// `eq(alloc, Operand::of("a"), Value("it's"))?.text` → `a = 'it''s'`
+/// Returns `field = value`. Fails only if memory runs out.
+/// `eq(alloc, Operand::of("a"), Value("it's"))?.text` gives `a = 'it''s'`
 pub fn eq<F: OperandText, V: OperandText>(alloc: Global, field: F, value: V) -> Result
     ensures text { Prints result (condition_bytes (Compare Eq (F.text field) (V.text value))) }
     ensures atom { IfOk result (λ c. IsAtom (tokens (string_bytes c.text))) }
@@ -82,8 +82,8 @@ pub fn eq<F: OperandText, V: OperandText>(alloc: Global, field: F, value: V) -> 
     compare(alloc, Relation::Eq, field, value)
 }
 
-/// `field <> value`.
-/// `ne(alloc, Operand::of("a"), Value("it's"))?.text` → `a <> 'it''s'`
+/// Returns `field <> value`. Fails only if memory runs out.
+/// `ne(alloc, Operand::of("a"), Value("it's"))?.text` gives `a <> 'it''s'`
 pub fn ne<F: OperandText, V: OperandText>(alloc: Global, field: F, value: V) -> Result
     ensures text { Prints result (condition_bytes (Compare Ne (F.text field) (V.text value))) }
     ensures atom { IfOk result (λ c. IsAtom (tokens (string_bytes c.text))) }
@@ -91,9 +91,10 @@ pub fn ne<F: OperandText, V: OperandText>(alloc: Global, field: F, value: V) -> 
     compare(alloc, Relation::Ne, field, value)
 }
 
-/// `field > value`. A query that has one value is an operand, as `subquery` prints it.
-/// `gt(alloc, Operand::of("a"), Value("it's"))?.text` → `a > 'it''s'`,
-/// `gt(alloc, Operand::of("a"), Select::from(alloc, Fragment::of("t"))?.field(Operand::of("AVG(a)"))?.subquery()?)?.text` →
+/// Returns `field > value`. A query that has one value is an operand, as `subquery` prints it.
+/// Fails only if memory runs out.
+/// `gt(alloc, Operand::of("a"), Value("it's"))?.text` gives `a > 'it''s'`,
+/// `gt(alloc, Operand::of("a"), Select::from(alloc, Fragment::of("t"))?.field(Operand::of("AVG(a)"))?.subquery()?)?.text` gives
 /// `a > (SELECT AVG(a) FROM t)`
 pub fn gt<F: OperandText, V: OperandText>(alloc: Global, field: F, value: V) -> Result
     ensures text { Prints result (condition_bytes (Compare Gt (F.text field) (V.text value))) }
@@ -102,8 +103,8 @@ pub fn gt<F: OperandText, V: OperandText>(alloc: Global, field: F, value: V) -> 
     compare(alloc, Relation::Gt, field, value)
 }
 
-/// `field >= value`.
-/// `ge(alloc, Operand::of("a"), Value("it's"))?.text` → `a >= 'it''s'`
+/// Returns `field >= value`. Fails only if memory runs out.
+/// `ge(alloc, Operand::of("a"), Value("it's"))?.text` gives `a >= 'it''s'`
 pub fn ge<F: OperandText, V: OperandText>(alloc: Global, field: F, value: V) -> Result
     ensures text { Prints result (condition_bytes (Compare Ge (F.text field) (V.text value))) }
     ensures atom { IfOk result (λ c. IsAtom (tokens (string_bytes c.text))) }
@@ -111,8 +112,8 @@ pub fn ge<F: OperandText, V: OperandText>(alloc: Global, field: F, value: V) -> 
     compare(alloc, Relation::Ge, field, value)
 }
 
-/// `field < value`.
-/// `lt(alloc, Operand::of("a"), Value("it's"))?.text` → `a < 'it''s'`
+/// Returns `field < value`. Fails only if memory runs out.
+/// `lt(alloc, Operand::of("a"), Value("it's"))?.text` gives `a < 'it''s'`
 pub fn lt<F: OperandText, V: OperandText>(alloc: Global, field: F, value: V) -> Result
     ensures text { Prints result (condition_bytes (Compare Lt (F.text field) (V.text value))) }
     ensures atom { IfOk result (λ c. IsAtom (tokens (string_bytes c.text))) }
@@ -120,8 +121,8 @@ pub fn lt<F: OperandText, V: OperandText>(alloc: Global, field: F, value: V) -> 
     compare(alloc, Relation::Lt, field, value)
 }
 
-/// `field <= value`.
-/// `le(alloc, Operand::of("a"), Value("it's"))?.text` → `a <= 'it''s'`
+/// Returns `field <= value`. Fails only if memory runs out.
+/// `le(alloc, Operand::of("a"), Value("it's"))?.text` gives `a <= 'it''s'`
 pub fn le<F: OperandText, V: OperandText>(alloc: Global, field: F, value: V) -> Result
     ensures text { Prints result (condition_bytes (Compare Le (F.text field) (V.text value))) }
     ensures atom { IfOk result (λ c. IsAtom (tokens (string_bytes c.text))) }
@@ -129,8 +130,8 @@ pub fn le<F: OperandText, V: OperandText>(alloc: Global, field: F, value: V) -> 
     compare(alloc, Relation::Le, field, value)
 }
 
-/// `field IS NULL`.
-/// `is_null(alloc, Operand::of("a"))?.text` → `a IS NULL`
+/// Returns `field IS NULL`. Fails only if memory runs out.
+/// `is_null(alloc, Operand::of("a"))?.text` gives `a IS NULL`
 pub fn is_null<F: OperandText>(alloc: Global, field: F) -> Result
     ensures text { Prints result (condition_bytes (IsNull (F.text field))) }
     ensures atom { IfOk result (λ c. IsAtom (tokens (string_bytes c.text))) }
@@ -139,8 +140,8 @@ pub fn is_null<F: OperandText>(alloc: Global, field: F) -> Result
     made(alloc, Plain::IsNull(field.as_str()))
 }
 
-/// `field IS NOT NULL`.
-/// `is_not_null(alloc, Operand::of("a"))?.text` → `a IS NOT NULL`
+/// Returns `field IS NOT NULL`. Fails only if memory runs out.
+/// `is_not_null(alloc, Operand::of("a"))?.text` gives `a IS NOT NULL`
 pub fn is_not_null<F: OperandText>(alloc: Global, field: F) -> Result
     ensures text { Prints result (condition_bytes (IsNotNull (F.text field))) }
     ensures atom { IfOk result (λ c. IsAtom (tokens (string_bytes c.text))) }
@@ -149,9 +150,10 @@ pub fn is_not_null<F: OperandText>(alloc: Global, field: F) -> Result
     made(alloc, Plain::IsNotNull(field.as_str()))
 }
 
-/// `field = value`, and `field IS NULL` without a value. `Some(Value(None))` is a value: of `= NULL` no row is found.
-/// A plain `None` is of no type: write `is_null` for it.
-/// `eq_or_null(alloc, Operand::of("a"), None::<i64>)?.text` → `a IS NULL`
+/// Returns `field = value`, or `field IS NULL` without a value. `Some(Value(None))` is a value:
+/// `= NULL` finds no row. A plain `None` is of no type: write `is_null` for it. Fails only if
+/// memory runs out.
+/// `eq_or_null(alloc, Operand::of("a"), None::<i64>)?.text` gives `a IS NULL`
 pub fn eq_or_null<F: OperandText, V: OperandText>(
     alloc: Global,
     field: F,
@@ -166,8 +168,8 @@ pub fn eq_or_null<F: OperandText, V: OperandText>(
     }
 }
 
-/// A raw condition, which is printed unchanged.
-/// `raw(alloc, Fragment::of("a = b"))?.text` → `a = b`
+/// Returns a raw condition, which is printed unchanged. Fails only if memory runs out.
+/// `raw(alloc, Fragment::of("a = b"))?.text` gives `a = b`
 pub fn raw(alloc: Global, fragment: Fragment<'_>) -> Result
     ensures text { Prints result fragment.entry.text.now }
 {
@@ -189,9 +191,10 @@ fn masked<F: OperandText>(
     made(alloc, Plain::Like(negated, percent, field.as_str(), mask.0))
 }
 
-/// `field LIKE 'mask'`, with the percent signs that `percent` says. A `%` or `_` of the mask is a wildcard too,
-/// and a backslash escapes on PostgreSQL, MySQL and MariaDB.
-/// `like(alloc, Percent::Left, Operand::of("a"), Value("b"))?.text` → `a LIKE 'b%'`
+/// Returns `field LIKE 'mask'`, with the percent signs that `percent` says. A `%` or `_` of the
+/// mask is a wildcard too. A backslash escapes on PostgreSQL, MySQL and MariaDB. Fails only if
+/// memory runs out.
+/// `like(alloc, Percent::Left, Operand::of("a"), Value("b"))?.text` gives `a LIKE 'b%'`
 pub fn like<F: OperandText>(alloc: Global, percent: Percent, field: F, mask: Value<&str>) -> Result
     ensures text { Prints result (condition_bytes (Like false percent (F.text field) mask.entry.0.now)) }
     ensures atom { IfOk result (λ c. IsAtom (tokens (string_bytes c.text))) }
@@ -199,9 +202,10 @@ pub fn like<F: OperandText>(alloc: Global, percent: Percent, field: F, mask: Val
     masked(alloc, false, percent, field, mask)
 }
 
-/// `field NOT LIKE 'mask'`, with the percent signs that `percent` says. A `%` or `_` of the mask is a wildcard too,
-/// and a backslash escapes on PostgreSQL, MySQL and MariaDB.
-/// `not_like(alloc, Percent::Any, Operand::of("a"), Value("b"))?.text` → `a NOT LIKE '%b%'`
+/// Returns `field NOT LIKE 'mask'`, with the percent signs that `percent` says. A `%` or `_` of the
+/// mask is a wildcard too. A backslash escapes on PostgreSQL, MySQL and MariaDB. Fails only if
+/// memory runs out.
+/// `not_like(alloc, Percent::Any, Operand::of("a"), Value("b"))?.text` gives `a NOT LIKE '%b%'`
 pub fn not_like<F: OperandText>(
     alloc: Global,
     percent: Percent,
@@ -235,8 +239,9 @@ fn like_escaped<F: OperandText, M: OperandText>(
     Ok(Condition { text })
 }
 
-/// `field LIKE mask ESCAPE '!'`, where the mask is any operand, as a parameter of a mask that `mask::containing` makes.
-/// `like_mask(alloc, Operand::of("a"), Operand::of("?1"))?.text` → `a LIKE ?1 ESCAPE '!'`
+/// Returns `field LIKE mask ESCAPE '!'`. The mask is any operand, such as a parameter of a mask
+/// that `mask::containing` makes. Fails only if memory runs out.
+/// `like_mask(alloc, Operand::of("a"), Operand::of("?1"))?.text` gives `a LIKE ?1 ESCAPE '!'`
 pub fn like_mask<F: OperandText, M: OperandText>(alloc: Global, field: F, mask: M) -> Result
     ensures text { Prints result (like_text false (F.text field) (M.text mask)) }
     ensures atom { IfOk result (λ c. IsAtom (tokens (string_bytes c.text))) }
@@ -244,8 +249,10 @@ pub fn like_mask<F: OperandText, M: OperandText>(alloc: Global, field: F, mask: 
     like_escaped(alloc, false, field, mask)
 }
 
-/// `field NOT LIKE mask ESCAPE '!'`, where the mask is any operand, as a parameter of a mask that `mask::containing` makes.
-/// `not_like_mask(alloc, Operand::of("a"), Operand::of("?1"))?.text` → `a NOT LIKE ?1 ESCAPE '!'`
+/// Returns `field NOT LIKE mask ESCAPE '!'`. The mask is any operand, such as a parameter of a mask
+/// that `mask::containing` makes. Fails only if memory runs out.
+/// `not_like_mask(alloc, Operand::of("a"), Operand::of("?1"))?.text` gives
+/// `a NOT LIKE ?1 ESCAPE '!'`
 pub fn not_like_mask<F: OperandText, M: OperandText>(alloc: Global, field: F, mask: M) -> Result
     ensures text { Prints result (like_text true (F.text field) (M.text mask)) }
     ensures atom { IfOk result (λ c. IsAtom (tokens (string_bytes c.text))) }
@@ -253,8 +260,9 @@ pub fn not_like_mask<F: OperandText, M: OperandText>(alloc: Global, field: F, ma
     like_escaped(alloc, true, field, mask)
 }
 
-/// Whether the field contains this text, whose wildcards are escaped.
-/// `contains(alloc, Operand::of("a"), Value("50%"))?.text` → `a LIKE '%50!%%' ESCAPE '!'`
+/// Returns the condition that the field contains this text, whose wildcards are escaped. Fails only
+/// if memory runs out.
+/// `contains(alloc, Operand::of("a"), Value("50%"))?.text` gives `a LIKE '%50!%%' ESCAPE '!'`
 pub fn contains<F: OperandText>(alloc: Global, field: F, word: Value<&str>) -> Result
     ensures text { Prints result (like_text false (F.text field) (quoted (escaped_mask percent.Any word.entry.0.now))) }
     ensures atom { IfOk result (λ c. IsAtom (tokens (string_bytes c.text))) }
@@ -263,8 +271,10 @@ pub fn contains<F: OperandText>(alloc: Global, field: F, word: Value<&str>) -> R
     like_escaped(alloc, false, field, Value(mask))
 }
 
-/// Whether the field does not contain this text, whose wildcards are escaped.
-/// `not_contains(alloc, Operand::of("a"), Value("50%"))?.text` → `a NOT LIKE '%50!%%' ESCAPE '!'`
+/// Returns the condition that the field does not contain this text, whose wildcards are escaped.
+/// Fails only if memory runs out.
+/// `not_contains(alloc, Operand::of("a"), Value("50%"))?.text` gives
+/// `a NOT LIKE '%50!%%' ESCAPE '!'`
 pub fn not_contains<F: OperandText>(alloc: Global, field: F, word: Value<&str>) -> Result
     ensures text { Prints result (like_text true (F.text field) (quoted (escaped_mask percent.Any word.entry.0.now))) }
     ensures atom { IfOk result (λ c. IsAtom (tokens (string_bytes c.text))) }
@@ -273,8 +283,9 @@ pub fn not_contains<F: OperandText>(alloc: Global, field: F, word: Value<&str>) 
     like_escaped(alloc, true, field, Value(mask))
 }
 
-/// Whether the field starts with this text, whose wildcards are escaped.
-/// `starts_with(alloc, Operand::of("a"), Value("50%"))?.text` → `a LIKE '50!%%' ESCAPE '!'`
+/// Returns the condition that the field starts with this text, whose wildcards are escaped. Fails
+/// only if memory runs out.
+/// `starts_with(alloc, Operand::of("a"), Value("50%"))?.text` gives `a LIKE '50!%%' ESCAPE '!'`
 pub fn starts_with<F: OperandText>(alloc: Global, field: F, word: Value<&str>) -> Result
     ensures text { Prints result (like_text false (F.text field) (quoted (escaped_mask percent.Left word.entry.0.now))) }
     ensures atom { IfOk result (λ c. IsAtom (tokens (string_bytes c.text))) }
@@ -283,8 +294,10 @@ pub fn starts_with<F: OperandText>(alloc: Global, field: F, word: Value<&str>) -
     like_escaped(alloc, false, field, Value(mask))
 }
 
-/// Whether the field does not start with this text, whose wildcards are escaped.
-/// `not_starts_with(alloc, Operand::of("a"), Value("50%"))?.text` → `a NOT LIKE '50!%%' ESCAPE '!'`
+/// Returns the condition that the field does not start with this text, whose wildcards are escaped.
+/// Fails only if memory runs out.
+/// `not_starts_with(alloc, Operand::of("a"), Value("50%"))?.text` gives
+/// `a NOT LIKE '50!%%' ESCAPE '!'`
 pub fn not_starts_with<F: OperandText>(alloc: Global, field: F, word: Value<&str>) -> Result
     ensures text { Prints result (like_text true (F.text field) (quoted (escaped_mask percent.Left word.entry.0.now))) }
     ensures atom { IfOk result (λ c. IsAtom (tokens (string_bytes c.text))) }
@@ -293,8 +306,9 @@ pub fn not_starts_with<F: OperandText>(alloc: Global, field: F, word: Value<&str
     like_escaped(alloc, true, field, Value(mask))
 }
 
-/// Whether the field ends with this text, whose wildcards are escaped.
-/// `ends_with(alloc, Operand::of("a"), Value("50%"))?.text` → `a LIKE '%50!%' ESCAPE '!'`
+/// Returns the condition that the field ends with this text, whose wildcards are escaped. Fails
+/// only if memory runs out.
+/// `ends_with(alloc, Operand::of("a"), Value("50%"))?.text` gives `a LIKE '%50!%' ESCAPE '!'`
 pub fn ends_with<F: OperandText>(alloc: Global, field: F, word: Value<&str>) -> Result
     ensures text { Prints result (like_text false (F.text field) (quoted (escaped_mask percent.Right word.entry.0.now))) }
     ensures atom { IfOk result (λ c. IsAtom (tokens (string_bytes c.text))) }
@@ -303,8 +317,10 @@ pub fn ends_with<F: OperandText>(alloc: Global, field: F, word: Value<&str>) -> 
     like_escaped(alloc, false, field, Value(mask))
 }
 
-/// Whether the field does not end with this text, whose wildcards are escaped.
-/// `not_ends_with(alloc, Operand::of("a"), Value("50%"))?.text` → `a NOT LIKE '%50!%' ESCAPE '!'`
+/// Returns the condition that the field does not end with this text, whose wildcards are escaped.
+/// Fails only if memory runs out.
+/// `not_ends_with(alloc, Operand::of("a"), Value("50%"))?.text` gives
+/// `a NOT LIKE '%50!%' ESCAPE '!'`
 pub fn not_ends_with<F: OperandText>(alloc: Global, field: F, word: Value<&str>) -> Result
     ensures text { Prints result (like_text true (F.text field) (quoted (escaped_mask percent.Right word.entry.0.now))) }
     ensures atom { IfOk result (λ c. IsAtom (tokens (string_bytes c.text))) }
@@ -396,9 +412,10 @@ fn listed<F: OperandText, V: OperandText>(
     }
 }
 
-/// `field IN (values)`. Of no values it is `1 = 0`, which is false. A query in brackets is one value among them, and
-/// `field = ((query))` alone; `in_query` is for its rows.
-/// `in_values(alloc, Operand::of("a"), &[1, 2])?.text` → `a IN (1, 2)`
+/// Returns `field IN (values)`. Without values it is `1 = 0`, which is false. A query in brackets
+/// is one value: alone it makes `field = ((query))`. For its rows take `in_query`. Fails only if
+/// memory runs out.
+/// `in_values(alloc, Operand::of("a"), &[1, 2])?.text` gives `a IN (1, 2)`
 pub fn in_values<F: OperandText, V: OperandText>(alloc: Global, field: F, values: &[V]) -> Result
     ensures text { Prints result (list_text false (F.text field) (map V.text values.now)) }
     ensures atom { IfOk result (λ c. IsAtom (tokens (string_bytes c.text))) }
@@ -406,9 +423,10 @@ pub fn in_values<F: OperandText, V: OperandText>(alloc: Global, field: F, values
     listed(alloc, false, field, values)
 }
 
-/// `field NOT IN (values)`. Of no values it is `1 = 1`, which is true; with a NULL among them it is true of no row. A query
-/// in brackets is one value among them, and `field <> ((query))` alone; `not_in_query` is for its rows.
-/// `not_in_values(alloc, Operand::of("a"), &[1, 2])?.text` → `a NOT IN (1, 2)`
+/// Returns `field NOT IN (values)`. Without values it is `1 = 1`, which is true. With a NULL among
+/// them it is true of no row. A query in brackets is one value: alone it makes
+/// `field <> ((query))`. For its rows take `not_in_query`. Fails only if memory runs out.
+/// `not_in_values(alloc, Operand::of("a"), &[1, 2])?.text` gives `a NOT IN (1, 2)`
 pub fn not_in_values<F: OperandText, V: OperandText>(
     alloc: Global,
     field: F,
@@ -429,8 +447,9 @@ fn queried<F: OperandText>(alloc: Global, negated: bool, field: F, query: &Query
     made(alloc, condition)
 }
 
-/// `field IN (query)`: whether the field is in a row of the query.
-/// `in_query(alloc, Operand::of("a"), &query)?.text` → `a IN (SELECT b FROM t)`
+/// Returns `field IN (query)`: whether the field is in a row of the query. Fails only if memory
+/// runs out.
+/// `in_query(alloc, Operand::of("a"), &query)?.text` gives `a IN (SELECT b FROM t)`
 pub fn in_query<F: OperandText>(alloc: Global, field: F, query: &Query) -> Result
     ensures text { Prints result (condition_bytes (InQuery false (F.text field) (string_bytes query.now.text))) }
     ensures atom { IfOk result (λ c. IsAtom (tokens (string_bytes c.text))) }
@@ -438,8 +457,9 @@ pub fn in_query<F: OperandText>(alloc: Global, field: F, query: &Query) -> Resul
     queried(alloc, false, field, query)
 }
 
-/// `field NOT IN (query)`: whether the field is in no row of the query.
-/// `not_in_query(alloc, Operand::of("a"), &query)?.text` → `a NOT IN (SELECT b FROM t)`
+/// Returns `field NOT IN (query)`: whether the field is in no row of the query. Fails only if
+/// memory runs out.
+/// `not_in_query(alloc, Operand::of("a"), &query)?.text` gives `a NOT IN (SELECT b FROM t)`
 pub fn not_in_query<F: OperandText>(alloc: Global, field: F, query: &Query) -> Result
     ensures text { Prints result (condition_bytes (InQuery true (F.text field) (string_bytes query.now.text))) }
     ensures atom { IfOk result (λ c. IsAtom (tokens (string_bytes c.text))) }
@@ -460,8 +480,8 @@ fn opened(alloc: Global, words: &str, text: &str) -> crate::Result<String>
     Ok(opened)
 }
 
-/// `EXISTS (query)`: whether the query has a row.
-/// `exists(alloc, &query)?.text` → `EXISTS (SELECT b FROM t)`
+/// Returns `EXISTS (query)`: whether the query has a row. Fails only if memory runs out.
+/// `exists(alloc, &query)?.text` gives `EXISTS (SELECT b FROM t)`
 pub fn exists(alloc: Global, query: &Query) -> Result
     ensures text { Prints result (exists_text false (string_bytes query.now.text)) }
     ensures atom { IfOk result (λ c. IsAtom (tokens (string_bytes c.text))) }
@@ -470,8 +490,8 @@ pub fn exists(alloc: Global, query: &Query) -> Result
     Ok(Condition { text })
 }
 
-/// `NOT EXISTS (query)`: whether the query has no row.
-/// `not_exists(alloc, &query)?.text` → `NOT EXISTS (SELECT b FROM t)`
+/// Returns `NOT EXISTS (query)`: whether the query has no row. Fails only if memory runs out.
+/// `not_exists(alloc, &query)?.text` gives `NOT EXISTS (SELECT b FROM t)`
 pub fn not_exists(alloc: Global, query: &Query) -> Result
     ensures text { Prints result (exists_text true (string_bytes query.now.text)) }
     ensures truth { IfOk result (λ c. (facts : Valuation) → truth facts (tokens (string_bytes c.text))
@@ -498,8 +518,8 @@ fn ranged<F: OperandText, L: OperandText, G: OperandText>(
     made(alloc, condition)
 }
 
-/// `field BETWEEN least AND greatest`.
-/// `between(alloc, Operand::of("a"), 1, 2)?.text` → `a BETWEEN 1 AND 2`
+/// Returns `field BETWEEN least AND greatest`. Fails only if memory runs out.
+/// `between(alloc, Operand::of("a"), 1, 2)?.text` gives `a BETWEEN 1 AND 2`
 pub fn between<F: OperandText, L: OperandText, G: OperandText>(
     alloc: Global,
     field: F,
@@ -512,8 +532,8 @@ pub fn between<F: OperandText, L: OperandText, G: OperandText>(
     ranged(alloc, false, field, least, greatest)
 }
 
-/// `field NOT BETWEEN least AND greatest`.
-/// `not_between(alloc, Operand::of("a"), 1, 2)?.text` → `a NOT BETWEEN 1 AND 2`
+/// Returns `field NOT BETWEEN least AND greatest`. Fails only if memory runs out.
+/// `not_between(alloc, Operand::of("a"), 1, 2)?.text` gives `a NOT BETWEEN 1 AND 2`
 pub fn not_between<F: OperandText, L: OperandText, G: OperandText>(
     alloc: Global,
     field: F,
@@ -585,8 +605,10 @@ fn combined(alloc: Global, conjunction: bool, conditions: &[Condition]) -> Resul
     Ok(Condition { text })
 }
 
-/// The AND of these conditions, each in brackets, in brackets. Of none it is `1 = 1`, which is true.
-/// `all(alloc, &[eq(alloc, Operand::of("a"), 1)?, is_null(alloc, Operand::of("b"))?])?.text` → `((a = 1) AND (b IS NULL))`
+/// Returns the AND of these conditions, with brackets round each and round all. Without conditions
+/// it is `1 = 1`, which is true. Fails only if memory runs out.
+/// `all(alloc, &[eq(alloc, Operand::of("a"), 1)?, is_null(alloc, Operand::of("b"))?])?.text` gives
+/// `((a = 1) AND (b IS NULL))`
 pub fn all(alloc: Global, conditions: &[Condition]) -> Result
     ensures text { Prints result (combined_text true (map (λ c. string_bytes c.text) conditions.now)) }
     ensures truth { IfOk result (λ c. IsCombined and_all
@@ -595,8 +617,10 @@ pub fn all(alloc: Global, conditions: &[Condition]) -> Result
     combined(alloc, true, conditions)
 }
 
-/// The OR of these conditions, each in brackets, in brackets. Of none it is `1 = 0`, which is false.
-/// `any(alloc, &[eq(alloc, Operand::of("a"), 1)?, is_null(alloc, Operand::of("b"))?])?.text` → `((a = 1) OR (b IS NULL))`
+/// Returns the OR of these conditions, with brackets round each and round all. Without conditions
+/// it is `1 = 0`, which is false. Fails only if memory runs out.
+/// `any(alloc, &[eq(alloc, Operand::of("a"), 1)?, is_null(alloc, Operand::of("b"))?])?.text` gives
+/// `((a = 1) OR (b IS NULL))`
 pub fn any(alloc: Global, conditions: &[Condition]) -> Result
     ensures text { Prints result (combined_text false (map (λ c. string_bytes c.text) conditions.now)) }
     ensures truth { IfOk result (λ c. IsCombined or_all
@@ -605,8 +629,8 @@ pub fn any(alloc: Global, conditions: &[Condition]) -> Result
     combined(alloc, false, conditions)
 }
 
-/// NOT of a condition, which is in brackets.
-/// `not(alloc, &eq(alloc, Operand::of("a"), 1)?)?.text` → `NOT (a = 1)`
+/// Returns NOT of a condition, which is in brackets. Fails only if memory runs out.
+/// `not(alloc, &eq(alloc, Operand::of("a"), 1)?)?.text` gives `NOT (a = 1)`
 pub fn not(alloc: Global, condition: &Condition) -> Result
     ensures text { Prints result (negation_text (string_bytes condition.now.text)) }
     ensures truth { IfOk result (λ c. (facts : Valuation) → truth facts (tokens (string_bytes c.text))

@@ -1,4 +1,4 @@
-//! Why a call fails.
+//! The error of a call that fails.
 ghost use Rattle.std.specs.Prelude.{◌≡◌};
 ghost use Rattle.sql_typed.specs.Faults.{message_text};
 
@@ -8,14 +8,15 @@ use sql_parts::lex::Misfit;
 use std::alloc::{AllocError, AllocFailed};
 use std::{error, fmt};
 
-/// Why a call fails: what a function returns that prints statements, since `?` makes it of the others.
+/// The error of a call that fails. Functions that print statements return it, since `?` makes it of
+/// the other errors.
 #[derive(Debug, Drop)]
 pub enum Error {
-    /// Why a call of the builder fails, or memory ran out.
+    /// A call of the builder failed, or memory ran out.
     Builder(SqlBuilderError),
-    /// Why a text is no fragment, or no operand.
+    /// A text is no fragment or no operand, for this reason.
     Misfit(Misfit),
-    /// Why a template is none.
+    /// A text is no template, or a template isn't what it is to be, for this reason.
     Template(TemplateError),
     /// An UPDATE or a DELETE has neither a condition nor `all_rows`.
     NoCondition,
@@ -28,8 +29,8 @@ pub enum Error {
 }
 
 impl Error {
-    /// The error's message, which Display prints too. It can't fail.
-    /// `Error::NoJoin.message()` → `A constraint before the first join`
+    /// Returns the error's message, which Display prints too. Never fails.
+    /// `Error::NoJoin.message()` gives `A constraint before the first join`
     pub fn message(&self) -> &'static str
         ensures text { result.now ≡ message_text self.now }
     {

@@ -2,11 +2,14 @@
 ghost use Rattle.sql_builder.specs.Combined.{CombinedFollowTheirParts, ConditionsFollowTheirPieces, ExistsFollowsItsQuery, MasksFollowTheirField, NegationsFollowTheirPart};
 ghost use Rattle.sql_builder.specs.Interference.{QuotesKeepTheirOutline};
 
-/// Conditions whose parts differ in texts of strings alone, as `Value`s of texts do, have the same
-/// tokens, but for these texts: comparisons, IN, BETWEEN and EXISTS, LIKE of any mask, and what `all`,
-/// `any` and `not` make of such conditions. So statements of these have them too (`sql`:
-/// `no_interference`).
-/// `eq(alloc, Operand::of("a"), Value("b OR 1=1"))?.text` → `a = 'b OR 1=1'`
+/// States that values don't interfere. Let the parts of conditions differ in texts of strings
+/// alone, as `Value`s of texts do. The conditions then have the same tokens, except for these
+/// texts.
+///
+/// This holds of comparisons, IN, BETWEEN and EXISTS, LIKE of any mask, and what `all`, `any` and
+/// `not` make of such conditions. So statements of these have the same tokens too, by
+/// `no_interference` of `sql`. Does nothing when it runs. Never fails.
+/// `eq(alloc, Operand::of("a"), Value("b OR 1=1"))?.text` gives `a = 'b OR 1=1'`
 #[tactic(auto, using(sql_builder::proofs::truth::CombinedLemmas::condition_outline, sql_builder::proofs::truth::CombinedLemmas::mask_outline, sql_builder::proofs::truth::CombinedLemmas::combined_outline, sql_builder::proofs::truth::CombinedLemmas::negation_outline, sql_builder::proofs::truth::CombinedLemmas::exists_outline))]
 pub fn values_do_not_interfere()
     ensures conditions { ConditionsFollowTheirPieces }

@@ -1,8 +1,10 @@
-//! SQL statements by value: no call that prints takes a bare text, so each contract holds with no premise on any text. A `Value`
-//! can't leave its literal, where the database reads literals as these contracts do: not by the defaults of MySQL and MariaDB. What
-//! the program itself gives as an `Operand`, a `Fragment` or a name is printed as SQL.
+//! SQL statements by value. No call that prints takes a bare text, so each contract holds with no
+//! premise on any text. A `Value` can't leave its literal, if the database reads literals as these
+//! contracts do. By their defaults MySQL and MariaDB don't. What the program itself gives as an
+//! `Operand`, a `Fragment` or a name is printed as SQL.
 //!
-//! After an arrow in a doc comment is what the code before it prints; `alloc` is the allocator.
+//! In an example, what the code prints comes after `gives`, or its error after `fails with`. In a
+//! block it is in the last line's comment. `alloc` is the allocator.
 #![tactic(auto)]
 
 pub mod changes;
@@ -31,5 +33,5 @@ pub use statement::Statement;
 pub use template::{Operands, Template, TemplateError};
 pub use texts::{Query, Row, TableQuery};
 
-/// What a call gives, or why it fails: of a call that prints statements, an `Error`.
+/// What a call returns, or why it fails. Calls that print statements fail with an `Error`.
 pub type Result<T, E = SqlBuilderError> = std::result::Result<T, E>;

@@ -9,8 +9,8 @@ use crate::Result;
 use sql_parts::text::{LikeEscape, escape_like};
 use std::alloc::Global;
 
-/// The mask that matches what contains this word.
-/// `containing(alloc, "50%")?` → `%50!%%`
+/// Returns the mask that matches what contains this word. Fails only if memory runs out.
+/// `containing(alloc, "50%")?` gives `%50!%%`
 pub fn containing(alloc: Global, word: &str) -> Result<String>
     ensures text { IfOk result (λ mask. string_bytes mask ≡ escaped_mask percent.Any word.now) }
     ensures memory { FailsOnlyByMemory result }
@@ -20,8 +20,8 @@ pub fn containing(alloc: Global, word: &str) -> Result<String>
     Ok(mask)
 }
 
-/// The mask that matches what starts with this word.
-/// `starting_with(alloc, "50%")?` → `50!%%`
+/// Returns the mask that matches what starts with this word. Fails only if memory runs out.
+/// `starting_with(alloc, "50%")?` gives `50!%%`
 pub fn starting_with(alloc: Global, word: &str) -> Result<String>
     ensures text { IfOk result (λ mask. string_bytes mask ≡ escaped_mask percent.Left word.now) }
     ensures memory { FailsOnlyByMemory result }
@@ -31,8 +31,8 @@ pub fn starting_with(alloc: Global, word: &str) -> Result<String>
     Ok(mask)
 }
 
-/// The mask that matches what ends with this word.
-/// `ending_with(alloc, "50%")?` → `%50!%`
+/// Returns the mask that matches what ends with this word. Fails only if memory runs out.
+/// `ending_with(alloc, "50%")?` gives `%50!%`
 pub fn ending_with(alloc: Global, word: &str) -> Result<String>
     ensures text { IfOk result (λ mask. string_bytes mask ≡ escaped_mask percent.Right word.now) }
     ensures memory { FailsOnlyByMemory result }

@@ -14,8 +14,9 @@ use sql_parts::text::{Fragment, Operand, OwnedOperand, ToText};
 use sql_parts::{Literal, Placeholder, SqlArg, Value};
 use std::alloc::Global;
 
-/// Write `Value(text)` where the compiler says "the trait bound `&str: OperandText` is not satisfied". A type each
-/// of whose texts is an operand without a top-level clause keyword; implement it for types of your own.
+/// A type each of whose texts is an operand without a top-level clause keyword. Implement it for
+/// types of your own. Write `Value(text)` where the compiler says "the trait bound
+/// `&str: OperandText` is not satisfied".
 pub trait OperandText: ToText {
     /// Each text of the type is one.
     ghost serves_as_operand: { (x : Self) → ServesAsOperand (Self.text x) };
@@ -41,9 +42,9 @@ impl CountText for Placeholder {
     ghost is_count = { λ placeholder. inr (placeholder.style, placeholder.number, refl) };
 }
 
-/// The text of an operand, made: values of different types become a row of one type so. It fails only
-/// if memory runs out.
-/// `Insert::into(alloc, Fragment::of("t"))?.field(Operand::of("a"))?.values(&[operand(alloc, Value("b"))?])?.sql()?` →
+/// Returns an operand's text as a value of its own. So values of different types become a row of
+/// one type. Fails only if memory runs out.
+/// `Insert::into(alloc, Fragment::of("t"))?.field(Operand::of("a"))?.values(&[operand(alloc, Value("b"))?])?.sql()?` gives
 /// `INSERT INTO t (a) VALUES ('b');`
 pub fn operand<V: OperandText>(alloc: Global, value: V) -> Result<OwnedOperand>
     ensures text { IfOk result (λ owned. string_bytes owned.text ≡ V.text value) }

@@ -38,7 +38,7 @@ pub struct DuplicateKey {}
 #[derive(Drop)]
 pub struct Named {}
 
-/// What is a statement as it is.
+/// A kind of text that is a statement as it is.
 pub trait Complete {}
 
 impl Complete for Whole {}
@@ -53,7 +53,7 @@ impl Complete for DoUpdate {}
 
 impl Complete for DuplicateKey {}
 
-/// What sets fields.
+/// A kind of text that sets fields.
 pub trait Sets {}
 
 impl Sets for DoUpdate {}
@@ -68,7 +68,8 @@ impl Returns for DoUpdate {}
 
 impl Returns for DuplicateKey {}
 
-/// The text of a statement, or of how it begins, without its `;`: each quote and comment in it is closed.
+/// The text of a statement, or of how it begins, without its `;`. Each quote and comment in it is
+/// closed.
 #[derive(Drop)]
 #[non_exhaustive]
 pub struct Printed<K> {
@@ -82,7 +83,7 @@ pub struct Printed<K> {
 /// WITH and its queries.
 pub type With = Printed<Named>;
 
-/// Which lock the rows of a SELECT get.
+/// A lock on the rows of a SELECT.
 #[derive(Clone, Copy)]
 pub enum Lock {
     /// FOR UPDATE.

@@ -57,40 +57,44 @@ fn join_operator(kind: JoinKind) -> NullaryClause
 }
 
 impl Statement<SelectKind> {
-    /// A SELECT from this table.
-    /// `Select::from(alloc, Fragment::of("t"))?.sql()?` → `SELECT * FROM t;`
+    /// Returns a SELECT from this table. Fails only if memory runs out.
+    /// `Select::from(alloc, Fragment::of("t"))?.sql()?` gives `SELECT * FROM t;`
     pub fn from<T: FragmentText>(alloc: Global, table: T) -> Result<Select>
         ensures made { Gives result (beginning (SelectFrom (T.text table))) }
     {
         Statement::begin(alloc, TableStart::SelectFrom, table)
     }
 
-    /// One more field.
-    /// `Select::from(alloc, Fragment::of("t"))?.field(Operand::of("a"))?.sql()?` → `SELECT a FROM t;`
+    /// Adds a field. Fails only if memory runs out.
+    /// `Select::from(alloc, Fragment::of("t"))?.field(Operand::of("a"))?.sql()?` gives
+    /// `SELECT a FROM t;`
     pub fn field<F: OperandText>(self, field: F) -> Result<Select>
         ensures made { Gives result (adding (Field (F.text field)) self) }
     {
         self.with_operand(UnaryClause::Field, field)
     }
 
-    /// The number of the values of a field.
-    /// `Select::from(alloc, Fragment::of("t"))?.count(Operand::of("*"))?.sql()?` → `SELECT COUNT(*) FROM t;`
+    /// Adds the field `COUNT(field)`, the number of its values. Fails only if memory runs out.
+    /// `Select::from(alloc, Fragment::of("t"))?.count(Operand::of("*"))?.sql()?` gives
+    /// `SELECT COUNT(*) FROM t;`
     pub fn count<F: OperandText>(self, field: F) -> Result<Select>
         ensures made { Gives result (adding (Count (F.text field)) self) }
     {
         self.with_operand(UnaryClause::Count, field)
     }
 
-    /// The number of the values of a field, under a name.
-    /// `Select::from(alloc, Fragment::of("t"))?.count_as(Operand::of("*"), Operand::of("n"))?.sql()?` → `SELECT COUNT(*) AS n FROM t;`
+    /// Adds the field `COUNT(field) AS name`, the number of its values under a name. Fails only if
+    /// memory runs out.
+    /// `Select::from(alloc, Fragment::of("t"))?.count_as(Operand::of("*"), Operand::of("n"))?.sql()?` gives `SELECT COUNT(*) AS n FROM t;`
     pub fn count_as<F: OperandText, N: OperandText>(self, field: F, name: N) -> Result<Select>
         ensures made { Gives result (adding (CountAs (F.text field) (N.text name)) self) }
     {
         self.with_pair(BinaryClause::CountAs, field, name)
     }
 
-    /// Selects equal rows once. It can't fail.
-    /// `Select::from(alloc, Fragment::of("t"))?.distinct()?.field(Operand::of("a"))?.sql()?` → `SELECT DISTINCT a FROM t;`
+    /// Selects equal rows once. Never fails.
+    /// `Select::from(alloc, Fragment::of("t"))?.distinct()?.field(Operand::of("a"))?.sql()?` gives
+    /// `SELECT DISTINCT a FROM t;`
     pub fn distinct(self) -> Result<Select>
         ensures made { Gives result (adding Distinct self) }
         ensures succeeds { IsOk result }
@@ -98,16 +102,17 @@ impl Statement<SelectKind> {
         self.with_nullary(NullaryClause::Distinct)
     }
 
-    /// One more table.
-    /// `Select::from(alloc, Fragment::of("t"))?.and_table(Fragment::of("u"))?.sql()?` → `SELECT * FROM t, u;`
+    /// Adds a table. Fails only if memory runs out.
+    /// `Select::from(alloc, Fragment::of("t"))?.and_table(Fragment::of("u"))?.sql()?` gives
+    /// `SELECT * FROM t, u;`
     pub fn and_table<T: FragmentText>(self, table: T) -> Result<Select>
         ensures made { Gives result (adding (AndTable (T.text table)) self) }
     {
         self.with_fragment(UnaryClause::AndTable, table)
     }
 
-    /// The next join is NATURAL. It can't fail.
-    /// `Select::from(alloc, Fragment::of("t"))?.natural()?.join(JoinKind::Left, Fragment::of("u"))?.sql()?` → `SELECT * FROM t NATURAL LEFT JOIN u;`
+    /// Makes the next join NATURAL. Never fails.
+    /// `Select::from(alloc, Fragment::of("t"))?.natural()?.join(JoinKind::Left, Fragment::of("u"))?.sql()?` gives `SELECT * FROM t NATURAL LEFT JOIN u;`
     pub fn natural(self) -> Result<Select>
         ensures made { Gives result (adding Natural self) }
         ensures succeeds { IsOk result }
@@ -115,8 +120,8 @@ impl Statement<SelectKind> {
         self.with_nullary(NullaryClause::Natural)
     }
 
-    /// A join with this table.
-    /// `Select::from(alloc, Fragment::of("t"))?.join(JoinKind::Left, Fragment::of("u"))?.sql()?` → `SELECT * FROM t LEFT JOIN u;`
+    /// Adds a join with this table. Fails only if memory runs out.
+    /// `Select::from(alloc, Fragment::of("t"))?.join(JoinKind::Left, Fragment::of("u"))?.sql()?` gives `SELECT * FROM t LEFT JOIN u;`
     pub fn join<T: FragmentText>(self, kind: JoinKind, table: T) -> Result<Select>
         ensures made { Gives result (adding (Join (T.text table)) (adding (operator_call kind) self)) }
     {
@@ -124,9 +129,10 @@ impl Statement<SelectKind> {
         statement.with_fragment(UnaryClause::Join, table)
     }
 
-    /// The constraint of the last join; before the first join, printing fails with `NoJoin`. Of several make one by `all`: a
-    /// database may give a second one to the join before.
-    /// `Select::from(alloc, Fragment::of("t"))?.join(JoinKind::Cross, Fragment::of("u"))?.on(&is_null(alloc, Operand::of("a"))?)?.sql()?` →
+    /// Adds a constraint to the last join. Fails only if memory runs out. Before the first join,
+    /// printing fails with `NoJoin`. Make one constraint of several by `all`: a database may give a
+    /// second one to the join before.
+    /// `Select::from(alloc, Fragment::of("t"))?.join(JoinKind::Cross, Fragment::of("u"))?.on(&is_null(alloc, Operand::of("a"))?)?.sql()?` gives
     /// `SELECT * FROM t CROSS JOIN u ON a IS NULL;`
     pub fn on(self, condition: &Condition) -> Result<Select>
         ensures made { Gives result (adding (On (string_bytes condition.now.text)) self) }
@@ -134,8 +140,9 @@ impl Statement<SelectKind> {
         self.with_fragment(UnaryClause::On, condition.as_fragment())
     }
 
-    /// The constraint `left = right` of the last join, which has no other; before the first join, printing fails with `NoJoin`.
-    /// `Select::from(alloc, Fragment::of("t"))?.join(JoinKind::Inner, Fragment::of("u"))?.on_eq(Operand::of("t.a"), Operand::of("u.b"))?.sql()?` →
+    /// Adds the constraint `left = right` to the last join, which has no other. Fails only if
+    /// memory runs out. Before the first join, printing fails with `NoJoin`.
+    /// `Select::from(alloc, Fragment::of("t"))?.join(JoinKind::Inner, Fragment::of("u"))?.on_eq(Operand::of("t.a"), Operand::of("u.b"))?.sql()?` gives
     /// `SELECT * FROM t INNER JOIN u ON t.a = u.b;`
     pub fn on_eq<L: OperandText, R: OperandText>(self, left: L, right: R) -> Result<Select>
         ensures made { Gives result (adding (OnEq (L.text left) (R.text right)) self) }
@@ -143,17 +150,18 @@ impl Statement<SelectKind> {
         self.with_pair(BinaryClause::OnEq, left, right)
     }
 
-    /// One more field of GROUP BY.
-    /// `Select::from(alloc, Fragment::of("t"))?.group_by(Operand::of("a"))?.sql()?` → `SELECT * FROM t GROUP BY a;`
+    /// Adds a field to GROUP BY. Fails only if memory runs out.
+    /// `Select::from(alloc, Fragment::of("t"))?.group_by(Operand::of("a"))?.sql()?` gives
+    /// `SELECT * FROM t GROUP BY a;`
     pub fn group_by<F: OperandText>(self, field: F) -> Result<Select>
         ensures made { Gives result (adding (GroupBy (F.text field)) self) }
     {
         self.with_operand(UnaryClause::GroupBy, field)
     }
 
-    /// The condition of HAVING; the last call counts. Printing fails with `NoGroupBy` without a
-    /// GROUP BY.
-    /// `Select::from(alloc, Fragment::of("t"))?.group_by(Operand::of("a"))?.having(&gt(alloc, Operand::of("a"), 1)?)?.sql()?` →
+    /// Sets the condition of HAVING. The last call counts. Fails only if memory runs out. Without a
+    /// GROUP BY, printing fails with `NoGroupBy`.
+    /// `Select::from(alloc, Fragment::of("t"))?.group_by(Operand::of("a"))?.having(&gt(alloc, Operand::of("a"), 1)?)?.sql()?` gives
     /// `SELECT * FROM t GROUP BY a HAVING a > 1;`
     pub fn having(self, condition: &Condition) -> Result<Select>
         ensures made { Gives result (adding (Having (string_bytes condition.now.text)) self) }
@@ -161,40 +169,49 @@ impl Statement<SelectKind> {
         self.with_fragment(UnaryClause::Having, condition.as_fragment())
     }
 
-    /// One more field of ORDER BY. Beside a union, printing fails with `OrderBesideUnion`.
-    /// `Select::from(alloc, Fragment::of("t"))?.order_asc(Operand::of("a"))?.sql()?` → `SELECT * FROM t ORDER BY a;`
+    /// Adds a field to ORDER BY. Fails only if memory runs out. Beside a union, printing fails with
+    /// `OrderBesideUnion`.
+    /// `Select::from(alloc, Fragment::of("t"))?.order_asc(Operand::of("a"))?.sql()?` gives
+    /// `SELECT * FROM t ORDER BY a;`
     pub fn order_asc<F: OperandText>(self, field: F) -> Result<Select>
         ensures made { Gives result (adding (OrderAsc (F.text field)) self) }
     {
         self.with_operand(UnaryClause::OrderAsc, field)
     }
 
-    /// One more field of ORDER BY, descending.
-    /// `Select::from(alloc, Fragment::of("t"))?.order_desc(Operand::of("a"))?.sql()?` → `SELECT * FROM t ORDER BY a DESC;`
+    /// Adds a field to ORDER BY, descending. Fails only if memory runs out. Beside a union,
+    /// printing fails with `OrderBesideUnion`.
+    /// `Select::from(alloc, Fragment::of("t"))?.order_desc(Operand::of("a"))?.sql()?` gives
+    /// `SELECT * FROM t ORDER BY a DESC;`
     pub fn order_desc<F: OperandText>(self, field: F) -> Result<Select>
         ensures made { Gives result (adding (OrderDesc (F.text field)) self) }
     {
         self.with_operand(UnaryClause::OrderDesc, field)
     }
 
-    /// LIMIT; the last call counts. Beside a union it is of the whole.
-    /// `Select::from(alloc, Fragment::of("t"))?.limit(3)?.sql()?` → `SELECT * FROM t LIMIT 3;`
+    /// Sets LIMIT. The last call counts. Beside a union it applies to the whole. Fails only if
+    /// memory runs out.
+    /// `Select::from(alloc, Fragment::of("t"))?.limit(3)?.sql()?` gives `SELECT * FROM t LIMIT 3;`
     pub fn limit<N: CountText>(self, most: N) -> Result<Select>
         ensures made { Gives result (adding (Limit (N.text most)) self) }
     {
         self.with_operand(UnaryClause::Limit, most)
     }
 
-    /// OFFSET; the last call counts. Beside a union it is of the whole. SQLite, MySQL and MariaDB take it behind a LIMIT alone.
-    /// `Select::from(alloc, Fragment::of("t"))?.limit(3)?.offset(2)?.sql()?` → `SELECT * FROM t LIMIT 3 OFFSET 2;`
+    /// Sets OFFSET. The last call counts. Beside a union it applies to the whole. SQLite, MySQL and
+    /// MariaDB take it only behind a LIMIT. Fails only if memory runs out.
+    /// `Select::from(alloc, Fragment::of("t"))?.limit(3)?.offset(2)?.sql()?` gives
+    /// `SELECT * FROM t LIMIT 3 OFFSET 2;`
     pub fn offset<N: CountText>(self, skipped: N) -> Result<Select>
         ensures made { Gives result (adding (Offset (N.text skipped)) self) }
     {
         self.with_operand(UnaryClause::Offset, skipped)
     }
 
-    /// UNION and a query. One that has a UNION, an ORDER BY, a LIMIT or an OFFSET is a table there, since these would be of the whole.
-    /// `Select::from(alloc, Fragment::of("t"))?.union(&query)?.sql()?` → `SELECT * FROM t UNION SELECT b FROM t;`,
+    /// Adds UNION and a query. A query that has a UNION, an ORDER BY, a LIMIT or an OFFSET is a
+    /// table there, since these would apply to the whole. Fails only if memory runs out.
+    /// `Select::from(alloc, Fragment::of("t"))?.union(&query)?.sql()?` gives
+    /// `SELECT * FROM t UNION SELECT b FROM t;`,
     /// or of a query with a LIMIT `SELECT * FROM t UNION SELECT * FROM (SELECT b FROM t LIMIT 1) AS u;`
     pub fn union(self, query: &Query) -> Result<Select>
         ensures made { Gives result (adding
@@ -204,8 +221,10 @@ impl Statement<SelectKind> {
         self.add(Step::Unary(UnaryClause::Union, query.as_str()))
     }
 
-    /// UNION ALL and a query, which is a table there where `union` makes it one.
-    /// `Select::from(alloc, Fragment::of("t"))?.union_all(&query)?.sql()?` → `SELECT * FROM t UNION ALL SELECT b FROM t;`
+    /// Adds UNION ALL and a query, which is a table there if `union` makes it one. Fails only if
+    /// memory runs out.
+    /// `Select::from(alloc, Fragment::of("t"))?.union_all(&query)?.sql()?` gives
+    /// `SELECT * FROM t UNION ALL SELECT b FROM t;`
     pub fn union_all(self, query: &Query) -> Result<Select>
         ensures made { Gives result (adding
             (UnionAll (united_text query.now.needs_brackets (string_bytes query.now.text))) self) }
@@ -214,8 +233,8 @@ impl Statement<SelectKind> {
         self.add(Step::Unary(UnaryClause::UnionAll, query.as_str()))
     }
 
-    /// The query, as a type that says that it is balanced. It fails as `sql` does.
-    /// `Select::from(alloc, Fragment::of("t"))?.query()?.text` → `SELECT * FROM t`
+    /// Returns the query, as a type that says that it is balanced. Fails as `sql` does.
+    /// `Select::from(alloc, Fragment::of("t"))?.query()?.text` gives `SELECT * FROM t`
     pub fn query(&self) -> Result<Query, Error>
         ensures printed { IfOk result (λ q. IsPrinted self.now finish.Query (string_bytes q.text)) }
         ensures united { IfOk result (λ q.
@@ -230,8 +249,8 @@ impl Statement<SelectKind> {
         })
     }
 
-    /// The query in brackets, as an operand or a table. It fails as `sql` does.
-    /// `Select::from(alloc, Fragment::of("t"))?.subquery()?.text` → `(SELECT * FROM t)`
+    /// Returns the query in brackets, as an operand or a table. Fails as `sql` does.
+    /// `Select::from(alloc, Fragment::of("t"))?.subquery()?.text` gives `(SELECT * FROM t)`
     pub fn subquery(&self) -> Result<OwnedOperand, Error>
         ensures printed { IfOk result (λ q. IsPrinted self.now Subquery (string_bytes q.text)) }
         ensures error { FailsAs self.now Subquery result }
@@ -240,8 +259,9 @@ impl Statement<SelectKind> {
         Ok(OwnedOperand::of_built(text))
     }
 
-    /// The query in brackets under a name, as a table. It fails as `sql` does.
-    /// `Select::from(alloc, Fragment::of("t"))?.subquery_as(Operand::of("s"))?.text` → `(SELECT * FROM t) AS s`
+    /// Returns the query in brackets under a name, as a table. Fails as `sql` does.
+    /// `Select::from(alloc, Fragment::of("t"))?.subquery_as(Operand::of("s"))?.text` gives
+    /// `(SELECT * FROM t) AS s`
     pub fn subquery_as<N: OperandText>(&self, name: N) -> Result<TableQuery, Error>
         ensures printed { IfOk result (λ q.
             IsPrinted self.now (SubqueryAs (N.text name)) (string_bytes q.text)) }

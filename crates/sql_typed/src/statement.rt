@@ -308,9 +308,9 @@ impl<K> Statement<K> {
         print_to(&self.builder, &Finish::Sql, out)
     }
 
-    /// An equal statement, as a count and a page of one search are made of. It fails only if memory runs
-    /// out.
-    /// `Select::from(alloc, Fragment::of("t"))?.clone()?.sql()?` → `SELECT * FROM t;`
+    /// Returns an equal statement, for example for a count and a page of one search. Fails only if
+    /// memory runs out.
+    /// `Select::from(alloc, Fragment::of("t"))?.clone()?.sql()?` gives `SELECT * FROM t;`
     pub fn clone(&self) -> Result<Statement<K>>
         ensures equal { Gives result self.now }
     {
@@ -325,12 +325,16 @@ impl<K> Statement<K> {
         })
     }
 
-    /// The statement. It fails with `NoCondition` for an UPDATE or a DELETE that has neither a condition
-    /// nor `all_rows`, `NoJoin` for a constraint before the first join, `OrderBesideUnion` for an ORDER
-    /// BY beside a union; then with the builder's `NoValues` for an INSERT without a row, `NoSetFields`
-    /// for an UPDATE that sets nothing, `NoGroupBy` for a HAVING without a GROUP BY; and else only if
-    /// memory runs out. Nothing is asked of any text.
-    /// `Select::from(alloc, Fragment::of("t"))?.and_where(eq(alloc, Operand::of("a"), Value("it's"))?)?.sql()?` → `SELECT * FROM t WHERE a = 'it''s';`
+    /// Returns the statement. Nothing is asked of any text.
+    ///
+    /// Fails with `NoCondition` if an UPDATE or a DELETE has neither a condition nor `all_rows`.
+    /// Fails with `NoJoin` if a constraint is before the first join. Fails with `OrderBesideUnion`
+    /// if an ORDER BY is beside a union.
+    ///
+    /// After that it fails with the builder's `NoValues` for an INSERT without a row, and
+    /// `NoSetFields` for an UPDATE that sets nothing. It fails with the builder's `NoGroupBy` for a
+    /// HAVING without a GROUP BY. Otherwise it fails only if memory runs out.
+    /// `Select::from(alloc, Fragment::of("t"))?.and_where(eq(alloc, Operand::of("a"), Value("it's"))?)?.sql()?` gives `SELECT * FROM t WHERE a = 'it''s';`
     pub fn sql(&self) -> Result<String, Error>
         ensures statement { IfOk result (λ s.
             statement self.now.start self.now.calls Sql ≡ Ok (string_bytes s)) }
@@ -352,8 +356,8 @@ impl<K> Statement<K> {
         Ok(text)
     }
 
-    /// Appends to a text what `sql` prints. It fails where `sql` does, and then the text is as it was.
-    /// Where the text has room, memory can't run out.
+    /// Appends to a text what `sql` prints. Fails as `sql` does, and then leaves `out` unchanged.
+    /// Memory can't run out if `out` has room for it.
     /// ```
     /// let mut s = String::from_str(alloc, "-- ")?;
     /// Select::from(alloc, Fragment::of("t"))?.print_to(&mut s)?;
@@ -376,9 +380,9 @@ impl<K> Statement<K> {
 }
 
 impl<K: Filters> Statement<K> {
-    /// A condition in a group of its own, which the others join by AND. It fails only if memory runs
-    /// out, as the three calls below do.
-    /// `Delete::from(alloc, Fragment::of("t"))?.and_where(eq(alloc, Operand::of("a"), Value("it's"))?)?.sql()?` → `DELETE FROM t WHERE a = 'it''s';`
+    /// Adds a condition in a group of its own. The groups are joined by AND. Fails only if memory
+    /// runs out.
+    /// `Delete::from(alloc, Fragment::of("t"))?.and_where(eq(alloc, Operand::of("a"), Value("it's"))?)?.sql()?` gives `DELETE FROM t WHERE a = 'it''s';`
     pub fn and_where(self, condition: Condition) -> Result<Statement<K>>
         ensures made { (text : List ℕ) → string_bytes condition.text ≡ text
             → Gives result (adding (Cond And (Raw text)) self) }
@@ -386,8 +390,9 @@ impl<K: Filters> Statement<K> {
         self.add(Step::Condition(Family::And, condition.text))
     }
 
-    /// A condition that joins the last group by OR, and opens one only where there is none.
-    /// `Delete::from(alloc, Fragment::of("t"))?.and_where(eq(alloc, Operand::of("a"), 1)?)?.or_where(is_null(alloc, Operand::of("b"))?)?.sql()?` →
+    /// Adds a condition that joins the last group by OR, or opens one if there is none. Fails only
+    /// if memory runs out.
+    /// `Delete::from(alloc, Fragment::of("t"))?.and_where(eq(alloc, Operand::of("a"), 1)?)?.or_where(is_null(alloc, Operand::of("b"))?)?.sql()?` gives
     /// `DELETE FROM t WHERE a = 1 OR b IS NULL;`
     pub fn or_where(self, condition: Condition) -> Result<Statement<K>>
         ensures made { (text : List ℕ) → string_bytes condition.text ≡ text
@@ -398,9 +403,9 @@ impl<K: Filters> Statement<K> {
 }
 
 impl<K: Changes> Statement<K> {
-    /// Every row is meant: without this call, or a condition, printing fails with `NoCondition`. It can't
-    /// fail.
-    /// `Delete::from(alloc, Fragment::of("t"))?.all_rows().sql()?` → `DELETE FROM t;`
+    /// Says that every row is meant. Without this call or a condition, printing fails with
+    /// `NoCondition`. Never fails.
+    /// `Delete::from(alloc, Fragment::of("t"))?.all_rows().sql()?` gives `DELETE FROM t;`
     pub fn all_rows(self) -> Statement<K>
         ensures made { result ≡ meaning_all_rows self }
     {
@@ -425,16 +430,17 @@ impl<K: Changes> Statement<K> {
 }
 
 impl<K: Returns> Statement<K> {
-    /// What RETURNING returns; the last call counts.
-    /// `Delete::from(alloc, Fragment::of("t"))?.all_rows().returning(Operand::of("id"))?.sql()?` → `DELETE FROM t RETURNING id;`
+    /// Sets what RETURNING returns. The last call counts. Fails only if memory runs out.
+    /// `Delete::from(alloc, Fragment::of("t"))?.all_rows().returning(Operand::of("id"))?.sql()?` gives `DELETE FROM t RETURNING id;`
     pub fn returning<F: OperandText>(self, field: F) -> Result<Statement<K>>
         ensures made { Gives result (adding (Returning (F.text field)) self) }
     {
         self.with_operand(UnaryClause::Returning, field)
     }
 
-    /// RETURNING id; the last call counts.
-    /// `Delete::from(alloc, Fragment::of("t"))?.all_rows().returning_id()?.sql()?` → `DELETE FROM t RETURNING id;`
+    /// Sets RETURNING id. The last call counts. Fails only if memory runs out.
+    /// `Delete::from(alloc, Fragment::of("t"))?.all_rows().returning_id()?.sql()?` gives
+    /// `DELETE FROM t RETURNING id;`
     pub fn returning_id(self) -> Result<Statement<K>>
         ensures made { Gives result (adding ReturningId self) }
     {

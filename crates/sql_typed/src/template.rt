@@ -26,22 +26,22 @@ use std::alloc::Global;
 use std::error::Error;
 use std::fmt;
 
-/// Why a template, or one with these operands, is none of what it is to be.
+/// The reason why a text is no template, or a template with its operands isn't what it is to be.
 #[derive(Debug, Drop)]
 pub enum TemplateError {
     /// A `?` is in a literal, a name or a comment, or something else than a separator is beside it.
     HolesTouch,
     /// There is not one operand for each `?`.
     OperandCount,
-    /// Why its text is no condition or no operand, whatever is in its holes.
+    /// Its text is no condition or no operand, whatever is in its holes, for this reason.
     Misfit(Misfit),
-    /// Why another call fails.
+    /// Another call failed.
     Builder(SqlBuilderError),
 }
 
 impl TemplateError {
-    /// The error's message, which Display prints too. It can't fail.
-    /// `TemplateError::OperandCount.message()` → `Not one operand for each ?`
+    /// Returns the error's message, which Display prints too. Never fails.
+    /// `TemplateError::OperandCount.message()` gives `Not one operand for each ?`
     pub fn message(&self) -> &'static str
         ensures text { result.now ≡ message_text self.now }
     {
@@ -93,8 +93,8 @@ pub struct Operands {
 }
 
 impl Operands {
-    /// No operand. It can't fail.
-    /// `Operands::new(alloc).written.len()` → `0`
+    /// Returns a list without operands. Never fails.
+    /// `Operands::new(alloc).written.len()` gives `0`
     pub fn new(alloc: Global) -> Operands
         ensures { result.written.items ≡ [] }
     {
@@ -102,8 +102,9 @@ impl Operands {
         Operands { alloc, written }
     }
 
-    /// One more operand. It fails only if memory runs out.
-    /// `Operands::new(alloc).with(Value("it's"))?.with(Operand::of("a + b"))?.written` → `['it''s', (a + b)]`
+    /// Adds an operand. Fails only if memory runs out.
+    /// `Operands::new(alloc).with(Value("it's"))?.with(Operand::of("a + b"))?.written` gives
+    /// `['it''s', (a + b)]`
     pub fn with<V: OperandText>(mut self, operand: V) -> Result<Operands>
         ensures texts { IfOk result (λ operands. texts operands.written.items
             ≡ texts self.written.items ++ in_hole (V.text operand) ∷ []) }
@@ -116,8 +117,9 @@ impl Operands {
         Ok(self)
     }
 
-    /// One more operand: a condition, in brackets. It fails only if memory runs out.
-    /// `Operands::new(alloc).with_condition(&is_null(alloc, Operand::of("a"))?)?.written` → `[(a IS NULL)]`
+    /// Adds a condition in brackets, as an operand. Fails only if memory runs out.
+    /// `Operands::new(alloc).with_condition(&is_null(alloc, Operand::of("a"))?)?.written` gives
+    /// `[(a IS NULL)]`
     pub fn with_condition(self, condition: &Condition) -> Result<Operands>
         ensures texts { IfOk result (λ operands. texts operands.written.items
             ≡ texts self.written.items ++ in_brackets byte_units (string_bytes condition.now.text) ∷ []) }
@@ -144,9 +146,9 @@ fn held(alloc: Global, text: String) -> Result<String>
     Ok(held)
 }
 
-/// A text of the program's own with a hole for each operand, a `?` with a separator or an end of the
-/// text at both sides. An operator of the database's own can't be written so: for `data ? 'key'` take
-/// `jsonb_exists(data, ?)`.
+/// A text of the program's own with a hole for each operand. A hole is a `?` with a separator or an
+/// end of the text at both sides. An operator of the database's own can't be written this way: for
+/// `data ? 'key'` take `jsonb_exists(data, ?)`.
 #[derive(Clone, Copy)]
 #[non_exhaustive]
 pub struct Template<'a> {
@@ -156,9 +158,9 @@ pub struct Template<'a> {
 }
 
 impl<'a> Template<'a> {
-    /// The template of this text, whose holes stand apart: only a proof tests it, `rt try` doesn't. It
-    /// can't fail.
-    /// `Template::of("price * ? > ?").text` → `price * ? > ?`
+    /// Returns the template of this text, whose holes have to stand apart. Only a proof tests this:
+    /// `rt try` doesn't. Never fails.
+    /// `Template::of("price * ? > ?").text` gives `price * ? > ?`
     pub fn of(text: &'a str) -> Template<'a>
         requires apart { IsTrue (holes_apart text.now) }
         ensures text { result.text ≡ text.entry }
@@ -170,8 +172,8 @@ impl<'a> Template<'a> {
         Template { text }
     }
 
-    /// A text of the program's own as a template, or `HolesTouch`. It takes no memory. Never give it
-    /// untrusted text.
+    /// Returns a text of the program's own as a template. Fails with `HolesTouch` if its holes
+    /// don't stand apart. Takes no memory. Never give it untrusted text.
     /// `Template::of_trusted("title = '?'")` fails with `HolesTouch`
     pub fn of_trusted(text: &'a str) -> std::result::Result<Template<'a>, TemplateError>
         ensures apart { is_ok result ≡ holes_apart text.entry.now }
@@ -185,9 +187,9 @@ impl<'a> Template<'a> {
         }
     }
 
-    /// Tests what the calls below require, where the text or the operands aren't known before the
-    /// program runs. It fails with why the text doesn't meet the demand, and else with `OperandCount`.
-    /// It takes no memory.
+    /// Tests what the calls below require, if the text or the operands aren't known before the
+    /// program runs. Fails with the `Misfit` if the text doesn't meet the demand, and else with
+    /// `OperandCount`. Takes no memory.
     /// `Template::of("a OR ?").check(Demand::TypedOperand, &Operands::new(alloc))` fails with `Misfit(Joined)`
     pub fn check(
         self,
@@ -207,9 +209,9 @@ impl<'a> Template<'a> {
         Ok(())
     }
 
-    /// The template with these operands in its holes, as an operand: the text with a word in each hole
-    /// is one. It fails only if memory runs out.
-    /// `Template::of("lower(?)").operand(alloc, &Operands::new(alloc).with(Value("It's"))?)?.text` → `lower('It''s')`
+    /// Returns the template with these operands in its holes, as an operand. The text with a word
+    /// in each hole has to be one. Fails only if memory runs out.
+    /// `Template::of("lower(?)").operand(alloc, &Operands::new(alloc).with(Value("It's"))?)?.text` gives `lower('It''s')`
     pub fn operand(self, alloc: Global, operands: &Operands) -> Result<OwnedOperand>
         requires fits { IsTrue (is_typed_operand self.text.now) }
         requires count { hole_count self.text.now ≡ length operands.now.written.items }
@@ -221,9 +223,9 @@ impl<'a> Template<'a> {
         Ok(OwnedOperand::of_built(text))
     }
 
-    /// The template with these operands in its holes, as a condition, which `as_fragment` borrows as a
-    /// fragment. It fails only if memory runs out.
-    /// `Template::of("instr(title, ?) > 0").condition(alloc, &Operands::new(alloc).with(Value("it's"))?)?.text` →
+    /// Returns the template with these operands in its holes, as a condition. `as_fragment` borrows
+    /// that as a fragment. Fails only if memory runs out.
+    /// `Template::of("instr(title, ?) > 0").condition(alloc, &Operands::new(alloc).with(Value("it's"))?)?.text` gives
     /// `instr(title, 'it''s') > 0`
     pub fn condition(self, alloc: Global, operands: &Operands) -> Result<Condition>
         requires fits { IsTrue (is_typed_fragment self.text.now) }
@@ -234,8 +236,9 @@ impl<'a> Template<'a> {
         Ok(Condition { text })
     }
 
-    /// The template with these operands in its holes, as a statement of any kind: no test of a fragment
-    /// reads it. No operand ends a literal or a comment, or has a `;`. It fails only if memory runs out.
+    /// Returns the template with these operands in its holes, as a statement of any kind. No test
+    /// of a fragment reads it. No operand ends a literal or a comment, or has a `;`. Fails only if
+    /// memory runs out.
     /// ```
     /// let name = Operands::new(alloc).with(Value("it's"))?;
     /// let upsert = Template::of("INSERT INTO t (a) VALUES (?) ON CONFLICT DO NOTHING;");

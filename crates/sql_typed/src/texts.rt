@@ -26,16 +26,16 @@ pub struct Condition {
 }
 
 impl Condition {
-    /// The condition, borrowed as a fragment. It can't fail.
-    /// `is_null(alloc, Operand::of("a"))?.as_fragment().text` → `a IS NULL`
+    /// Returns the condition, borrowed as a fragment. Never fails.
+    /// `is_null(alloc, Operand::of("a"))?.as_fragment().text` gives `a IS NULL`
     pub fn as_fragment(&self) -> Fragment<'_>
         ensures { result.text.now ≡ string_bytes self.now.text }
     {
         Fragment::of_built(self.text.as_str())
     }
 
-    /// A condition of the same text. It fails only if memory runs out.
-    /// `is_null(alloc, Operand::of("a"))?.clone()?.text` → `a IS NULL`
+    /// Returns a condition of the same text. Fails only if memory runs out.
+    /// `is_null(alloc, Operand::of("a"))?.clone()?.text` gives `a IS NULL`
     pub fn clone(&self) -> Result<Condition>
         ensures text { IfOk result (λ c. string_bytes c.text ≡ string_bytes self.now.text) }
         ensures memory { FailsOnlyByMemory result }
@@ -51,7 +51,8 @@ impl Condition {
 pub struct Query {
     /// The text.
     pub text: String,
-    /// Whether it has a UNION, an ORDER BY, a LIMIT or an OFFSET: `union` makes a table of it then. `query` sets it.
+    /// Whether it has a UNION, an ORDER BY, a LIMIT or an OFFSET. `union` makes a table of it then.
+    /// `query` sets it.
     pub needs_brackets: bool,
     pub ghost fits: { IsTrue (balanced (string_bytes text)) },
 }
@@ -109,8 +110,8 @@ pub struct Row {
 }
 
 impl Row {
-    /// A row without values. It can't fail.
-    /// `Row::new(alloc).values.as_str().len()` → `0`
+    /// Returns a row without values. Never fails.
+    /// `Row::new(alloc).values.as_str().len()` gives `0`
     pub fn new(alloc: Global) -> Row
         ensures { result.values ≡ [] }
     {
@@ -118,8 +119,9 @@ impl Row {
         Row { alloc, values }
     }
 
-    /// The row with one more value. It fails only if memory runs out.
-    /// `Row::new(alloc).value(Value("it's"))?.value(Literal::Null)?.values.as_str()` → `'it''s', NULL`
+    /// Returns the row with one more value. Fails only if memory runs out.
+    /// `Row::new(alloc).value(Value("it's"))?.value(Literal::Null)?.values.as_str()` gives
+    /// `'it''s', NULL`
     pub fn value<V: OperandText>(self, value: V) -> Result<Row>
         ensures values { IfOk result (λ row. row.values ≡ self.values ++ V.text value ∷ []) }
         ensures memory { FailsOnlyByMemory result }
