@@ -8,7 +8,7 @@ from dataclasses import dataclass
 
 from blocks import split_spans
 
-BETWEEN = ("gives", "→", "fails with")
+BETWEEN = ("gives", "fails with")
 SIGNATURE = re.compile(r"^( *)(pub )?fn (\w+)(?:<[^(]*>)?\(", re.M)
 BLOCK = re.compile(r"^```\n(.*?); // (.*?)\n```$", re.M | re.S)
 

@@ -1,4 +1,5 @@
 """Counts the words of pages, and of their sentences: README.md, CONTRIBUTING.md, CHANGELOG.md and docs/*.md, without generated ones.
+Doc comments are read too: their sentences are no longer, and they have no arrow.
 
 A sentence is read without code, of which each piece is one word, as a link is its text. Tables are taken cell by cell."""
 
@@ -10,6 +11,8 @@ from blocks import cells, split_spans
 ALL_WORDS, README_WORDS, README_LINES, SENTENCE_WORDS = 12_000, 900, 110, 30
 # A list's item, a heading or a quotation: its text begins behind the mark.
 MARK = re.compile(r"\s*(?:[-*] |\d+\. |#+ |> )")
+# A line of a doc comment: its text is behind the mark.
+DOC = re.compile(r"\s*//[/!] ?(.*)")
 # A sentence ends here. (`..` ends none)
 END = re.compile(r"(?<=[.?!])(?<!\.\.)[)\"*]*\s+")
 
@@ -55,12 +58,25 @@ def word_count(sentence):
     return sum(bool(re.search(r"\w", it)) for it in sentence.split())
 
 
+def long_sentences(page, text):
+    """The sentences of a page that are too long, and where."""
+    for number, sentence in sentences(text):
+        if (words := word_count(sentence)) > SENTENCE_WORDS:
+            yield f"{page}:{number}", f"a sentence of {words} words: {sentence}"
+
+
+def wrong_docs(sources):
+    """What is wrong of the doc comments of sources, by their names, and where. They are read as a page, with the code left out."""
+    for source, text in sources.items():
+        lines = [match[1] if (match := DOC.match(line)) else "" for line in text.split("\n")]
+        yield from ((f"{source}:{number}", "an arrow in a doc comment") for number, line in enumerate(lines, 1) if "→" in line)
+        yield from long_sentences(source, "\n".join(lines))
+
+
 def too_long(texts):
     """What is too long of pages, by their names, and where; README.md is among them only where they are all."""
     for page, text in texts.items():
-        for number, sentence in sentences(text):
-            if (words := word_count(sentence)) > SENTENCE_WORDS:
-                yield f"{page}:{number}", f"a sentence of {words} words: {sentence}"
+        yield from long_sentences(page, text)
     if readme := texts.get("README.md"):
         if (words := sum(len(it.split()) for it in texts.values())) > ALL_WORDS and len(texts) > 1:
             yield "the pages", f"{words} words, and {ALL_WORDS} are the most"

@@ -350,7 +350,7 @@ fn next(state: u64, byte: u8) -> u64
 }
 
 /// What PostgreSQL is in behind a text, by its number in `specs/PostgresReader.antt`.
-/// `postgres_state(b"SELECT 'a")` → `16`
+/// `postgres_state(b"SELECT 'a")` gives `16`
 pub fn postgres_state(text: &[u8]) -> u64
     ensures { result ≡ after postgres outside text.now }
 {

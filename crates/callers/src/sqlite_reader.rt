@@ -230,7 +230,7 @@ fn next(state: u64, byte: u8) -> u64
 }
 
 /// What SQLite is in behind a text, by its number in `specs/SqliteReader.antt`.
-/// `sqlite_state(b"SELECT 'a")` → `11`
+/// `sqlite_state(b"SELECT 'a")` gives `11`
 pub fn sqlite_state(text: &[u8]) -> u64
     ensures { result ≡ after sqlite outside text.now }
 {
