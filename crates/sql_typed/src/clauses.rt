@@ -392,7 +392,7 @@ impl Statement<InsertKind> {
 }
 
 impl Query {
-    /// Returns the rows that both queries have, as INTERSECT gives them. A query that `union` would
+    /// Returns a query of the rows that both queries have, by INTERSECT. A query that `union` would
     /// make a table is one here. Fails only if memory runs out.
     /// `query.intersect(alloc, &query)?.text` gives `SELECT b FROM t INTERSECT SELECT b FROM t`
     pub fn intersect(&self, alloc: Global, other: &Query) -> Result<Query>
@@ -405,7 +405,7 @@ impl Query {
         self.combined(alloc, " INTERSECT ", other)
     }
 
-    /// Returns the rows that the other query doesn't have, as EXCEPT gives them. Fails only if
+    /// Returns a query of the rows that the other query doesn't have, by EXCEPT. Fails only if
     /// memory runs out.
     /// `query.except(alloc, &query)?.text` gives `SELECT b FROM t EXCEPT SELECT b FROM t`
     pub fn except(&self, alloc: Global, other: &Query) -> Result<Query>

@@ -73,7 +73,7 @@ fn compare<F: OperandText, V: OperandText>(
     Ok(Condition { text })
 }
 
-/// Returns `field = value`. Fails only if memory runs out.
+/// Returns the condition `field = value`. Fails only if memory runs out.
 /// `eq(alloc, Operand::of("a"), Value("it's"))?.text` gives `a = 'it''s'`
 pub fn eq<F: OperandText, V: OperandText>(alloc: Global, field: F, value: V) -> Result
     ensures text { Prints result (condition_bytes (Compare Eq (F.text field) (V.text value))) }
@@ -82,7 +82,7 @@ pub fn eq<F: OperandText, V: OperandText>(alloc: Global, field: F, value: V) -> 
     compare(alloc, Relation::Eq, field, value)
 }
 
-/// Returns `field <> value`. Fails only if memory runs out.
+/// Returns the condition `field <> value`. Fails only if memory runs out.
 /// `ne(alloc, Operand::of("a"), Value("it's"))?.text` gives `a <> 'it''s'`
 pub fn ne<F: OperandText, V: OperandText>(alloc: Global, field: F, value: V) -> Result
     ensures text { Prints result (condition_bytes (Compare Ne (F.text field) (V.text value))) }
@@ -91,8 +91,8 @@ pub fn ne<F: OperandText, V: OperandText>(alloc: Global, field: F, value: V) -> 
     compare(alloc, Relation::Ne, field, value)
 }
 
-/// Returns `field > value`. A query that has one value is an operand, as `subquery` prints it.
-/// Fails only if memory runs out.
+/// Returns the condition `field > value`. A query that has one value is an operand, as `subquery`
+/// prints it. Fails only if memory runs out.
 /// `gt(alloc, Operand::of("a"), Value("it's"))?.text` gives `a > 'it''s'`,
 /// `gt(alloc, Operand::of("a"), Select::from(alloc, Fragment::of("t"))?.field(Operand::of("AVG(a)"))?.subquery()?)?.text` gives
 /// `a > (SELECT AVG(a) FROM t)`
@@ -103,7 +103,7 @@ pub fn gt<F: OperandText, V: OperandText>(alloc: Global, field: F, value: V) -> 
     compare(alloc, Relation::Gt, field, value)
 }
 
-/// Returns `field >= value`. Fails only if memory runs out.
+/// Returns the condition `field >= value`. Fails only if memory runs out.
 /// `ge(alloc, Operand::of("a"), Value("it's"))?.text` gives `a >= 'it''s'`
 pub fn ge<F: OperandText, V: OperandText>(alloc: Global, field: F, value: V) -> Result
     ensures text { Prints result (condition_bytes (Compare Ge (F.text field) (V.text value))) }
@@ -112,7 +112,7 @@ pub fn ge<F: OperandText, V: OperandText>(alloc: Global, field: F, value: V) -> 
     compare(alloc, Relation::Ge, field, value)
 }
 
-/// Returns `field < value`. Fails only if memory runs out.
+/// Returns the condition `field < value`. Fails only if memory runs out.
 /// `lt(alloc, Operand::of("a"), Value("it's"))?.text` gives `a < 'it''s'`
 pub fn lt<F: OperandText, V: OperandText>(alloc: Global, field: F, value: V) -> Result
     ensures text { Prints result (condition_bytes (Compare Lt (F.text field) (V.text value))) }
@@ -121,7 +121,7 @@ pub fn lt<F: OperandText, V: OperandText>(alloc: Global, field: F, value: V) -> 
     compare(alloc, Relation::Lt, field, value)
 }
 
-/// Returns `field <= value`. Fails only if memory runs out.
+/// Returns the condition `field <= value`. Fails only if memory runs out.
 /// `le(alloc, Operand::of("a"), Value("it's"))?.text` gives `a <= 'it''s'`
 pub fn le<F: OperandText, V: OperandText>(alloc: Global, field: F, value: V) -> Result
     ensures text { Prints result (condition_bytes (Compare Le (F.text field) (V.text value))) }
@@ -130,7 +130,7 @@ pub fn le<F: OperandText, V: OperandText>(alloc: Global, field: F, value: V) -> 
     compare(alloc, Relation::Le, field, value)
 }
 
-/// Returns `field IS NULL`. Fails only if memory runs out.
+/// Returns the condition `field IS NULL`. Fails only if memory runs out.
 /// `is_null(alloc, Operand::of("a"))?.text` gives `a IS NULL`
 pub fn is_null<F: OperandText>(alloc: Global, field: F) -> Result
     ensures text { Prints result (condition_bytes (IsNull (F.text field))) }
@@ -140,7 +140,7 @@ pub fn is_null<F: OperandText>(alloc: Global, field: F) -> Result
     made(alloc, Plain::IsNull(field.as_str()))
 }
 
-/// Returns `field IS NOT NULL`. Fails only if memory runs out.
+/// Returns the condition `field IS NOT NULL`. Fails only if memory runs out.
 /// `is_not_null(alloc, Operand::of("a"))?.text` gives `a IS NOT NULL`
 pub fn is_not_null<F: OperandText>(alloc: Global, field: F) -> Result
     ensures text { Prints result (condition_bytes (IsNotNull (F.text field))) }
@@ -150,9 +150,9 @@ pub fn is_not_null<F: OperandText>(alloc: Global, field: F) -> Result
     made(alloc, Plain::IsNotNull(field.as_str()))
 }
 
-/// Returns `field = value`, or `field IS NULL` without a value. `Some(Value(None))` is a value:
-/// `= NULL` finds no row. A plain `None` is of no type: write `is_null` for it. Fails only if
-/// memory runs out.
+/// Returns the condition `field = value`, or `field IS NULL` without a value. `Some(Value(None))`
+/// is a value: `= NULL` finds no row. A plain `None` is of no type: write `is_null` for it. Fails
+/// only if memory runs out.
 /// `eq_or_null(alloc, Operand::of("a"), None::<i64>)?.text` gives `a IS NULL`
 pub fn eq_or_null<F: OperandText, V: OperandText>(
     alloc: Global,
@@ -191,9 +191,9 @@ fn masked<F: OperandText>(
     made(alloc, Plain::Like(negated, percent, field.as_str(), mask.0))
 }
 
-/// Returns `field LIKE 'mask'`, with the percent signs that `percent` says. A `%` or `_` of the
-/// mask is a wildcard too. A backslash escapes on PostgreSQL, MySQL and MariaDB. Fails only if
-/// memory runs out.
+/// Returns the condition `field LIKE 'mask'`, with the percent signs that `percent` says. A `%` or
+/// `_` of the mask is a wildcard too. A backslash escapes on PostgreSQL, MySQL and MariaDB. Fails
+/// only if memory runs out.
 /// `like(alloc, Percent::Left, Operand::of("a"), Value("b"))?.text` gives `a LIKE 'b%'`
 pub fn like<F: OperandText>(alloc: Global, percent: Percent, field: F, mask: Value<&str>) -> Result
     ensures text { Prints result (condition_bytes (Like false percent (F.text field) mask.entry.0.now)) }
@@ -202,9 +202,9 @@ pub fn like<F: OperandText>(alloc: Global, percent: Percent, field: F, mask: Val
     masked(alloc, false, percent, field, mask)
 }
 
-/// Returns `field NOT LIKE 'mask'`, with the percent signs that `percent` says. A `%` or `_` of the
-/// mask is a wildcard too. A backslash escapes on PostgreSQL, MySQL and MariaDB. Fails only if
-/// memory runs out.
+/// Returns the condition `field NOT LIKE 'mask'`, with the percent signs that `percent` says. A `%`
+/// or `_` of the mask is a wildcard too. A backslash escapes on PostgreSQL, MySQL and MariaDB.
+/// Fails only if memory runs out.
 /// `not_like(alloc, Percent::Any, Operand::of("a"), Value("b"))?.text` gives `a NOT LIKE '%b%'`
 pub fn not_like<F: OperandText>(
     alloc: Global,
@@ -239,8 +239,8 @@ fn like_escaped<F: OperandText, M: OperandText>(
     Ok(Condition { text })
 }
 
-/// Returns `field LIKE mask ESCAPE '!'`. The mask is any operand, such as a parameter of a mask
-/// that `mask::containing` makes. Fails only if memory runs out.
+/// Returns the condition `field LIKE mask ESCAPE '!'`. The mask is any operand, such as a parameter
+/// of a mask that `mask::containing` makes. Fails only if memory runs out.
 /// `like_mask(alloc, Operand::of("a"), Operand::of("?1"))?.text` gives `a LIKE ?1 ESCAPE '!'`
 pub fn like_mask<F: OperandText, M: OperandText>(alloc: Global, field: F, mask: M) -> Result
     ensures text { Prints result (like_text false (F.text field) (M.text mask)) }
@@ -249,8 +249,8 @@ pub fn like_mask<F: OperandText, M: OperandText>(alloc: Global, field: F, mask: 
     like_escaped(alloc, false, field, mask)
 }
 
-/// Returns `field NOT LIKE mask ESCAPE '!'`. The mask is any operand, such as a parameter of a mask
-/// that `mask::containing` makes. Fails only if memory runs out.
+/// Returns the condition `field NOT LIKE mask ESCAPE '!'`. The mask is any operand, such as a
+/// parameter of a mask that `mask::containing` makes. Fails only if memory runs out.
 /// `not_like_mask(alloc, Operand::of("a"), Operand::of("?1"))?.text` gives
 /// `a NOT LIKE ?1 ESCAPE '!'`
 pub fn not_like_mask<F: OperandText, M: OperandText>(alloc: Global, field: F, mask: M) -> Result
@@ -412,9 +412,9 @@ fn listed<F: OperandText, V: OperandText>(
     }
 }
 
-/// Returns `field IN (values)`. Without values it is `1 = 0`, which is false. A query in brackets
-/// is one value: alone it makes `field = ((query))`. For its rows take `in_query`. Fails only if
-/// memory runs out.
+/// Returns the condition `field IN (values)`. Without values it is `1 = 0`, which is false. A query
+/// in brackets is one value: alone it makes `field = ((query))`. For its rows take `in_query`.
+/// Fails only if memory runs out.
 /// `in_values(alloc, Operand::of("a"), &[1, 2])?.text` gives `a IN (1, 2)`
 pub fn in_values<F: OperandText, V: OperandText>(alloc: Global, field: F, values: &[V]) -> Result
     ensures text { Prints result (list_text false (F.text field) (map V.text values.now)) }
@@ -423,8 +423,8 @@ pub fn in_values<F: OperandText, V: OperandText>(alloc: Global, field: F, values
     listed(alloc, false, field, values)
 }
 
-/// Returns `field NOT IN (values)`. Without values it is `1 = 1`, which is true. With a NULL among
-/// them it is true of no row. A query in brackets is one value: alone it makes
+/// Returns the condition `field NOT IN (values)`. Without values it is `1 = 1`, which is true. With
+/// a NULL among them it is true of no row. A query in brackets is one value: alone it makes
 /// `field <> ((query))`. For its rows take `not_in_query`. Fails only if memory runs out.
 /// `not_in_values(alloc, Operand::of("a"), &[1, 2])?.text` gives `a NOT IN (1, 2)`
 pub fn not_in_values<F: OperandText, V: OperandText>(
@@ -447,8 +447,8 @@ fn queried<F: OperandText>(alloc: Global, negated: bool, field: F, query: &Query
     made(alloc, condition)
 }
 
-/// Returns `field IN (query)`: whether the field is in a row of the query. Fails only if memory
-/// runs out.
+/// Returns the condition `field IN (query)`: whether the field is in a row of the query. Fails only
+/// if memory runs out.
 /// `in_query(alloc, Operand::of("a"), &query)?.text` gives `a IN (SELECT b FROM t)`
 pub fn in_query<F: OperandText>(alloc: Global, field: F, query: &Query) -> Result
     ensures text { Prints result (condition_bytes (InQuery false (F.text field) (string_bytes query.now.text))) }
@@ -457,8 +457,8 @@ pub fn in_query<F: OperandText>(alloc: Global, field: F, query: &Query) -> Resul
     queried(alloc, false, field, query)
 }
 
-/// Returns `field NOT IN (query)`: whether the field is in no row of the query. Fails only if
-/// memory runs out.
+/// Returns the condition `field NOT IN (query)`: whether the field is in no row of the query. Fails
+/// only if memory runs out.
 /// `not_in_query(alloc, Operand::of("a"), &query)?.text` gives `a NOT IN (SELECT b FROM t)`
 pub fn not_in_query<F: OperandText>(alloc: Global, field: F, query: &Query) -> Result
     ensures text { Prints result (condition_bytes (InQuery true (F.text field) (string_bytes query.now.text))) }
@@ -480,7 +480,8 @@ fn opened(alloc: Global, words: &str, text: &str) -> crate::Result<String>
     Ok(opened)
 }
 
-/// Returns `EXISTS (query)`: whether the query has a row. Fails only if memory runs out.
+/// Returns the condition `EXISTS (query)`: whether the query has a row. Fails only if memory runs
+/// out.
 /// `exists(alloc, &query)?.text` gives `EXISTS (SELECT b FROM t)`
 pub fn exists(alloc: Global, query: &Query) -> Result
     ensures text { Prints result (exists_text false (string_bytes query.now.text)) }
@@ -490,7 +491,8 @@ pub fn exists(alloc: Global, query: &Query) -> Result
     Ok(Condition { text })
 }
 
-/// Returns `NOT EXISTS (query)`: whether the query has no row. Fails only if memory runs out.
+/// Returns the condition `NOT EXISTS (query)`: whether the query has no row. Fails only if memory
+/// runs out.
 /// `not_exists(alloc, &query)?.text` gives `NOT EXISTS (SELECT b FROM t)`
 pub fn not_exists(alloc: Global, query: &Query) -> Result
     ensures text { Prints result (exists_text true (string_bytes query.now.text)) }
@@ -518,7 +520,7 @@ fn ranged<F: OperandText, L: OperandText, G: OperandText>(
     made(alloc, condition)
 }
 
-/// Returns `field BETWEEN least AND greatest`. Fails only if memory runs out.
+/// Returns the condition `field BETWEEN least AND greatest`. Fails only if memory runs out.
 /// `between(alloc, Operand::of("a"), 1, 2)?.text` gives `a BETWEEN 1 AND 2`
 pub fn between<F: OperandText, L: OperandText, G: OperandText>(
     alloc: Global,
@@ -532,7 +534,7 @@ pub fn between<F: OperandText, L: OperandText, G: OperandText>(
     ranged(alloc, false, field, least, greatest)
 }
 
-/// Returns `field NOT BETWEEN least AND greatest`. Fails only if memory runs out.
+/// Returns the condition `field NOT BETWEEN least AND greatest`. Fails only if memory runs out.
 /// `not_between(alloc, Operand::of("a"), 1, 2)?.text` gives `a NOT BETWEEN 1 AND 2`
 pub fn not_between<F: OperandText, L: OperandText, G: OperandText>(
     alloc: Global,
