@@ -20,7 +20,7 @@ from built import proved
 from connections import Broken, Refused, Skipped, maria, postgres, sqlite
 from tally import Tally
 
-SEPARATOR, PLACES = "\x1e", 12
+SEPARATOR, PLACES = "\x1e", 13
 # A file in the server's folder, in whose place this is.
 FOLDER, FILE = "FOLDER", "written"
 HOSTILE = (
@@ -71,7 +71,7 @@ def prepare(db):
 
 def is_made(db):
     try:
-        db.run("SELECT a FROM evil")
+        db.run("SELECT 1 FROM evil")
         return True
     except Refused:
         return False
