@@ -2,7 +2,7 @@
 use Rattle.std.proofs.Common.{◌≡◌, ◌==◌, ◌∙◌, ◌++◌, ap, append-nil, append_assoc, codes, length, refl, sym, subst, ℕ, true, false, not, List, [], ◌∷◌, map}
 use Rattle.std.specs.Prelude.{flat_map}
 use Rattle.std.specs.List.{list_all, list_any}
-use Rattle.std.proofs.lemmas.Bool.{and_from, and_parts, not_from_false, not-true, true≢false}
+use Rattle.std.proofs.lemmas.Bool.{and_from, and_parts, not_from_false, not-true, or_left, true≢false}
 use Rattle.std.proofs.lemmas.List.Folds.{list_all-append}
 use Rattle.sql_parts.specs.Fragments.{balanced}
 use Rattle.sql_parts.specs.Operands.{ServesAsOperand}
@@ -32,6 +32,7 @@ use Rattle.sql_builder.proofs.tokens.BalancedFacts.{even_text, is_balanced-appen
 use Rattle.sql_typed.specs.Fits.{IsFitBy, Made}
 use Rattle.sql_typed.specs.Whole.{HasWholeFront, asking, conflict_text, is_whole, may_follow, may_join}
 use Rattle.sql_typed.proofs.FitLemmas.{texts_fit}
+use Rattle.sql_typed.proofs.InterferenceLemmas.{clauses_keep}
 
 -- what is balanced is whole
 pub balanced_is_whole : (text : List ℕ) → balanced text ≡ true → is_whole text ≡ true
@@ -115,13 +116,9 @@ pub balanced_followed : (text words other : List ℕ) → balanced text ≡ true
 balanced_followed text words other is may even also =
     let ends = and_parts (may_follow words) (ends_with is_edge words) may in
     let begins = and_parts (is_whole words) (begins_with is_edge words) ends.0 in
-    let ps = raw_piece text ++ (fixed_piece words ++ raw_piece other) in
-    let shapes = shaped ps
-    (words-between words (raw_piece text) (raw_piece other) (words_whole words begins.0) begins.1 ends.1 (raw-inside text) (raw-inside other)) in
-    let tokens_are : tokens (text ++ (words ++ other)) ≡ tokens text ++ (tokens words ++ tokens other) =
-    ap (λ t. tokens (text ++ (words ++ t))) (sym (append-nil other))
-    ∙ shapes.shape_is (and_from _ _ (balanced_whole text is).0 (and_from _ _ (balanced_whole other also).0 refl))
-    ∙ ap (λ ts. tokens text ++ (tokens words ++ ts)) (append-nil (tokens other)) in
+    let behind = and_from _ _ (and_from _ _ (and_from _ _ (and_parts (closed words) _ begins.0).0 begins.1) (or_left _ _ ends.1)) (balanced_whole other also).0 in
+    let tokens_are = clauses_keep text ((words, other) ∷ []) (balanced_whole text is).0 (and_from _ _ behind refl)
+    ∙ ap (λ ts. tokens text ++ ts) (append-nil (tokens words ++ tokens other)) in
     is_balanced-is (tokens (text ++ (words ++ other))) ∙ ap is_balanced tokens_are
     ∙ is_balanced-append (tokens text) (tokens words ++ tokens other) (sym (is_balanced-is (tokens text)) ∙ is)
     (is_even-append (tokens words) (tokens other) (even_text words even) (even_text other also))

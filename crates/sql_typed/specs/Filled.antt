@@ -2,9 +2,11 @@
 use Rattle.std.specs.Prelude.{◌≡◌, ℕ, ◌==◌, ◌&&◌, ◌++◌, Bool, IsTrue, List, [], ◌∷◌, Option, None, Some, codes, map}
 use Rattle.std.specs.List.{list_all}
 use Rattle.sql_parts.specs.Error as builder
-use Rattle.sql_parts.specs.Holes.{cut, filled, hole_count}
+use Rattle.sql_parts.specs.Holes.{cut, filled, hole_count, holes_apart}
 use Rattle.sql_parts.specs.Misfits.{meets, misfit_text}
 use Rattle.sql_parts.specs.Readers.{Part, Constant, Reader, IsInsideAtEach, emptied, has_plain_text, marks, outer_states, parts_bytes}
+use Rattle.sql_parts.specs.StringTexts.{outline}
+use Rattle.sql_parts.specs.Tokens.{closed}
 use Rattle.sql_parts.specs.declared.misfits.Demand.{Demand}
 use Rattle.sql_parts.specs.declared.misfits.Misfit as misfits
 use Rattle.sql_typed.specs.declared.template.TemplateError.{TemplateError}
@@ -46,3 +48,9 @@ ReadersIgnoreHeldTexts operands template = (next : Reader) (plain : ℕ → Bool
     → IsInsideAtEach next plain state (filled_parts other template)
     × (outer_states next state (marks (filled_parts one template)) (filled operands template)
     ≡ outer_states next state (marks (filled_parts other template)) (filled (map parts_bytes other) template))
+
+-- Operands that are closed, and others that differ from them in texts of strings alone, fill a template to texts that have the same tokens,
+-- but for these.
+abbrev pub TemplatesFollowTheirOperands : Type 0
+TemplatesFollowTheirOperands = (template : List ℕ) (one other : List (List ℕ)) → IsTrue (holes_apart template) → map outline one ≡ map outline other
+    → IsTrue (list_all closed one) → outline (filled one template) ≡ outline (filled other template)

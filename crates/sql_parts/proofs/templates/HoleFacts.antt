@@ -131,14 +131,14 @@ all-closed [] (segment ∷ segments) all = (refl, all-closed [] segments tt)
 all-closed (text ∷ texts) (segment ∷ segments) all = (all.0, all-closed texts segments all.1)
 
 -- the tokens of a template, with those of the texts in its holes
-abbrev filled_tokens : List (List ℕ) → List ℕ × List (List ℕ) → List Token
+abbrev pub filled_tokens : List (List ℕ) → List ℕ × List (List ℕ) → List Token
 filled_tokens texts cut = tokens cut.0 ++ part_tokens (λ text. text) (holding texts cut.1)
 
 all-shut : (texts : List (List ℕ)) → AllByRecursion ServesAsOperand texts → AllByRecursion (λ text. closed text ≡ true) texts
 all-shut [] all = tt
 all-shut (text ∷ texts) all = (all.0.is_closed, all-shut texts all.1)
 
-filled-tokens : (texts : List (List ℕ)) (template : List ℕ) → holes_apart template ≡ true → AllByRecursion (λ text. closed text ≡ true) texts
+pub filled-tokens : (texts : List (List ℕ)) (template : List ℕ) → holes_apart template ≡ true → AllByRecursion (λ text. closed text ≡ true) texts
     → tokens (filled texts template) ≡ filled_tokens texts (cut template)
 filled-tokens texts template is all =
     segments-tokens (λ text. text) true (cut template).0 (holding texts (cut template).1) (all-closed texts (cut template).1 all)
