@@ -1,7 +1,8 @@
 -- What a search by types asks for of the table of books.
-use Rattle.std.specs.Prelude.{ℕ, List, Bool, Option, None, Some, codes, if◌then◌else◌}
+use Rattle.std.specs.Prelude.{ℕ, List, [], ◌∷◌, Bool, Option, None, Some, codes, if◌then◌else◌}
 use Rattle.std.specs.Borrow.{Bor}
-use Rattle.sql_builder.specs.Calls.{Cond, Field, SelectFrom}
+use Rattle.sql_parts.specs.Quoting.{quoted}
+use Rattle.sql_builder.specs.Calls.{Cond, Field, InsertInto, SelectFrom, Values}
 use Rattle.sql_builder.specs.Condition.{ConditionText, Raw, condition_bytes}
 use Rattle.sql_builder.specs.declared.condition.Family.TheVariants.{And}
 use Rattle.sql_typed.specs.Fits.{Made, adding, beginning}
@@ -38,3 +39,7 @@ asked search =
 -- the books of an author
 abbrev pub asked_of_author : List ℕ → Made
 asked_of_author author = asking (written_by author) (beginning (SelectFrom (codes "books")))
+
+-- a user of a name
+abbrev pub asked_to_name : List ℕ → Made
+asked_to_name name = adding (Values (quoted name ∷ [])) (adding (Field (codes "name")) (beginning (InsertInto (codes "users"))))

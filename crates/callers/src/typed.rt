@@ -1,4 +1,4 @@
-//! The search of `searches` by types, which takes no proof but for `of_author`.
+//! The search of `searches` by types, which takes no proof but for `of_author`, and an upsert.
 ghost use Rattle.std.specs.Prelude.{◌≡◌, codes, string_bytes, IfOk, IsTrue, Ok};
 ghost use Rattle.sql_builder.specs.Calls.{Sql};
 ghost use Rattle.sql_builder.specs.Meaning.{HasTruthOf, condition_groups};
@@ -7,14 +7,15 @@ ghost use Rattle.sql_builder.specs.Statement.{statement};
 ghost use Rattle.sql_builder.specs.StringTexts.{outline};
 ghost use Rattle.sql_builder.specs.Tokens.{closed, tokens};
 ghost use Rattle.sql_typed.specs.Results.{Gives};
-ghost use Rattle.callers.specs.TypedSearches.{asked, asked_of_author, by_author, by_price, by_stock, by_title};
+ghost use Rattle.callers.specs.TypedSearches.{asked, asked_of_author, asked_to_name, by_author, by_price, by_stock, by_title};
 
 use crate::searches::Search;
 use sql_builder::arg::Value;
 use sql_builder::calls::Percent;
 use sql_builder::text::{Fragment, Operand};
 use sql_typed::condition::{eq, ge, gt, like};
-use sql_typed::{Error, Result, Select};
+use sql_typed::laws::values_do_not_interfere;
+use sql_typed::{Error, Insert, Result, Select};
 use std::alloc::Global;
 
 /// Those whose title contains this, if it is given.
@@ -103,4 +104,24 @@ pub fn of_author(alloc: Global, author: &str) -> Result<String, Error>
 {
     let books = of_one_author(alloc, author)?;
     books.sql()
+}
+
+fn naming(alloc: Global, name: &str) -> Result<Insert>
+    ensures made { Gives result (asked_to_name name.now) }
+{
+    let users = Insert::into(alloc, Fragment::of("users"))?.field(Operand::of("name"))?;
+    users.values(&[Value(name)])
+}
+
+/// Stores a user of this name, or that one has it. Whatever it is, the tokens are the same, but for
+/// the texts of both strings.
+pub fn named(alloc: Global, name: &str) -> Result<String, Error>
+    ensures same { IfOk result (λ s. outline (string_bytes s)
+        ≡ tokens (codes "INSERT INTO users (name) VALUES ('') ON DUPLICATE KEY UPDATE name = '';")) }
+{
+    values_do_not_interfere();
+    let rows = naming(alloc, name)?.rows()?;
+    let upsert = rows.on_duplicate_key(Operand::of("name"), Value(name))?;
+    let statement = upsert.sql()?;
+    Ok(statement)
 }
