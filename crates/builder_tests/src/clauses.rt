@@ -5,7 +5,7 @@ use sql_builder::SqlBuilderError;
 use sql_builder::prelude::*;
 use sql_builder::text::{Fragment, Operand};
 use sql_parts::lex::Misfit;
-use sql_typed::condition::{eq, is_null};
+use sql_typed::condition::{all, any, eq, is_null, not, not_in_values};
 use sql_typed::printed::{Conflict, Rows, Whole};
 use sql_typed::{
     Delete, Error, Insert, JoinKind, Lock, Operands, Printed, Query, Row, Select, Template,
@@ -81,6 +81,25 @@ fn rows_need_a_condition(rt: HostRuntime) -> Result<(), Fail> {
     assert!(rt; is_made(filtered.all_rows().sql(), "DELETE FROM t WHERE id = 1;"));
     let filtered = update(alloc)?.or_where(is_null(alloc, id())?)?;
     assert!(rt; is_made(filtered.sql(), "UPDATE t SET n = 1 WHERE id IS NULL;"));
+    Ok(())
+}
+
+#[test]
+fn empty_lists_filter_nothing(rt: HostRuntime) -> Result<(), Fail> {
+    let alloc = rt.alloc();
+    let wanted = "No condition: say all_rows where every row is meant";
+    let none: [i64; 0] = [];
+    let others = delete(alloc)?.and_where(not_in_values(alloc, id(), &none)?)?;
+    assert_eq!(rt; message(others.sql()), wanted);
+    let all_of_none = all(alloc, &[])?;
+    assert_eq!(rt;
+        message(delete(alloc)?.or_where(all_of_none)?.sql()),
+        wanted
+    );
+    let not_any = not(alloc, &any(alloc, &[])?)?;
+    assert_eq!(rt; message(update(alloc)?.and_where(not_any)?.sql()), wanted);
+    let filtered = others.and_where(eq(alloc, id(), 1)?)?;
+    assert!(rt; is_made(filtered.sql(), "DELETE FROM t WHERE (1 = 1) AND (id = 1);"));
     Ok(())
 }
 

@@ -19,7 +19,7 @@ marks_more : (made : Made) (c : CallText) → noted c (marks_of made) ≡ marks_
 marks_more made c = sym (fold-append (λ m d. noted d m) (started made) made.calls (c ∷ []))
 
 abbrev marked : Marks → Marks
-marked m = record m { needs_condition = false }
+marked m = record m { needs_filter = false }
 
 -- that every row is meant changes nothing else
 marks_meant : (m : Marks) (calls : List CallText) → marked (fold (λ n c. noted c n) m calls) ≡ fold (λ n c. noted c n) (marked m) calls

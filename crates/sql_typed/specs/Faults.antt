@@ -1,11 +1,14 @@
 -- Which statements aren't printed, and why.
 use Rattle.std.specs.Prelude.{◌≡◌, ℕ, ◌&&◌, ◌||◌, ◌⊎◌, Bool, true, false, not, if◌then◌else◌, List, Option, None, Some, Result, Err, IfErr, codes, is_some, option_map}
 use Rattle.std.specs.List.{fold}
+use Rattle.std.specs.Str.{bytes_eq}
 use Rattle.sql_parts.specs.Error as builder
 use Rattle.sql_parts.specs.Misfits.{misfit_text}
 use Rattle.sql_parts.specs.declared.error.SqlBuilderError.{SqlBuilderError}
 use Rattle.sql_builder.specs.Calls as call
-use Rattle.sql_builder.specs.Calls.{CallText, FinishText, StartText, condition_in, is_join, kind_of, returning_in}
+use Rattle.sql_builder.specs.Calls.{CallText, FinishText, StartText, is_join, kind_of, returning_in}
+use Rattle.sql_builder.specs.Combined.{constant_text, negation_text}
+use Rattle.sql_builder.specs.Condition.{Raw}
 use Rattle.sql_builder.specs.Statement.{error_at}
 use Rattle.sql_builder.specs.StatementLaws.{made_by}
 use Rattle.sql_typed.specs.Filled as template
@@ -30,9 +33,16 @@ changes_rows (call.UpdateTable table) = true
 changes_rows (call.DeleteFrom table) = true
 changes_rows _ = false
 
--- a call that adds a condition of WHERE
-abbrev pub is_condition : CallText → Bool
-is_condition c = is_some (condition_in c)
+-- a condition of an empty list that every row meets: `1 = 1`, or the NOT of `1 = 0`
+abbrev pub selects_every_row : List ℕ → Bool
+selects_every_row condition =
+    bytes_eq condition (constant_text true) || bytes_eq condition (negation_text (constant_text false))
+
+-- a call that adds another condition of WHERE
+abbrev pub is_filter : CallText → Bool
+is_filter (call.Cond family (Raw condition)) = not (selects_every_row condition)
+is_filter (call.Cond family condition) = true
+is_filter _ = false
 
 -- a call that adds a constraint of a join
 abbrev pub is_constraint : CallText → Bool
@@ -60,8 +70,8 @@ is_returning c = is_some (returning_in c)
 -- what a statement has before its calls
 abbrev pub started : Made → Marks
 started made = record {
-  needs_condition = not made.all_rows && changes_rows made.start;
-  has_condition = false;
+  needs_filter = not made.all_rows && changes_rows made.start;
+  has_filter = false;
   has_join = false;
   has_stray_constraint = false;
   has_union = false;
@@ -72,8 +82,8 @@ started made = record {
 -- what it has after one more call
 abbrev pub noted : CallText → Marks → Marks
 noted c m = record {
-  needs_condition = m.needs_condition;
-  has_condition = is_condition c || m.has_condition;
+  needs_filter = m.needs_filter;
+  has_filter = is_filter c || m.has_filter;
   has_join = is_join c || m.has_join;
   has_stray_constraint = (is_constraint c && not m.has_join) || m.has_stray_constraint;
   has_union = is_union c || m.has_union;
@@ -88,12 +98,12 @@ marks_of made = fold (λ m c. noted c m) (started made) made.calls
 -- why what has this isn't printed
 abbrev pub fault : Marks → Option Error
 fault m =
-    if m.needs_condition && not m.has_condition then Some NoCondition
+    if m.needs_filter && not m.has_filter then Some NoCondition
     else if m.has_stray_constraint then Some NoJoin
     else if m.has_union && m.has_order then Some OrderBesideUnion else None
 
--- Why a statement isn't printed, whatever the builder says: an UPDATE or a DELETE without a condition, where no call says that all rows
--- are meant; a constraint before the first join; an ORDER BY beside a union.
+-- Why a statement isn't printed, whatever the builder says: an UPDATE or a DELETE without a filter, where no call says that all rows are
+-- meant; a constraint before the first join; an ORDER BY beside a union.
 abbrev pub fault_of : Made → Option Error
 fault_of made = fault (marks_of made)
 

@@ -1,7 +1,7 @@
 //! What a statement has, as far as it decides whether it is printed.
 ghost use Rattle.std.specs.Prelude.{◌≡◌, ◌||◌, not, List, ℕ};
 ghost use Rattle.sql_builder.specs.Calls.{start_on, unary_call};
-ghost use Rattle.sql_typed.specs.Faults.{fault, marks_of, noted};
+ghost use Rattle.sql_typed.specs.Faults.{fault, marks_of, noted, selects_every_row};
 ghost use Rattle.sql_typed.specs.Fits.{beginning};
 ghost use Rattle.sql_typed.specs.Steps.{step_call};
 
@@ -13,8 +13,9 @@ use sql_builder::calls::{BinaryClause, NullaryClause, TableStart, UnaryClause};
 #[derive(Clone, Copy)]
 pub(crate) struct Marks {
     /// It changes rows, and no call has said that all are meant.
-    pub(crate) needs_condition: bool,
-    pub(crate) has_condition: bool,
+    pub(crate) needs_filter: bool,
+    /// A condition came that an empty list doesn't make.
+    pub(crate) has_filter: bool,
     pub(crate) has_join: bool,
     /// A constraint came before the first join.
     pub(crate) has_stray_constraint: bool,
@@ -23,16 +24,22 @@ pub(crate) struct Marks {
     pub(crate) has_returning: bool,
 }
 
+fn selects_every_row(condition: &str) -> bool
+    ensures { result ≡ selects_every_row condition.now }
+{
+    condition == "1 = 1" || condition == "NOT (1 = 0)"
+}
+
 impl Marks {
     pub(crate) fn of(start: TableStart) -> Marks
         ensures { (table : List ℕ) → result ≡ marks_of (beginning (start_on start table)) }
     {
         Marks {
-            needs_condition: match start {
+            needs_filter: match start {
                 TableStart::SelectFrom | TableStart::InsertInto => false,
                 TableStart::UpdateTable | TableStart::DeleteFrom => true,
             },
-            has_condition: false,
+            has_filter: false,
             has_join: false,
             has_stray_constraint: false,
             has_union: false,
@@ -48,8 +55,8 @@ impl Marks {
         match step {
             Step::Unary(clause, _) => self.with_unary(*clause),
             Step::Binary(BinaryClause::OnEq, _, _) => self.with_constraint(),
-            Step::Condition(_, _) => Marks {
-                has_condition: true,
+            Step::Condition(_, condition) => Marks {
+                has_filter: !selects_every_row(condition.as_str()) || self.has_filter,
                 ..self
             },
             Step::Nullary(NullaryClause::ReturningId) => Marks {
@@ -106,7 +113,7 @@ impl Marks {
     pub(crate) fn fault(self) -> Option<Error>
         ensures { result ≡ fault self }
     {
-        if self.needs_condition && !self.has_condition {
+        if self.needs_filter && !self.has_filter {
             Some(Error::NoCondition)
         } else if self.has_stray_constraint {
             Some(Error::NoJoin)

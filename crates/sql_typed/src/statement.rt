@@ -327,9 +327,10 @@ impl<K> Statement<K> {
 
     /// Returns the statement. Nothing is asked of any text.
     ///
-    /// Fails with `NoCondition` if an UPDATE or a DELETE has neither a condition nor `all_rows`.
-    /// Fails with `NoJoin` if a constraint is before the first join. Fails with `OrderBesideUnion`
-    /// if an ORDER BY is beside a union.
+    /// Fails with `NoCondition` if an UPDATE or a DELETE has neither a filter nor `all_rows`. The
+    /// conditions `1 = 1` and `NOT (1 = 0)`, which empty lists make, are no filters. Fails with
+    /// `NoJoin` if a constraint is before the first join. Fails with `OrderBesideUnion` if an ORDER
+    /// BY is beside a union.
     ///
     /// After that it fails with the builder's `NoValues` for an INSERT without a row, and
     /// `NoSetFields` for an UPDATE that sets nothing. It fails with the builder's `NoGroupBy` for a
@@ -403,8 +404,8 @@ impl<K: Filters> Statement<K> {
 }
 
 impl<K: Changes> Statement<K> {
-    /// Says that every row is meant. Without this call or a condition, printing fails with
-    /// `NoCondition`. Never fails.
+    /// Says that every row is meant. Without this call or a filter, printing fails with `NoCondition`.
+    /// Never fails.
     /// `Delete::from(alloc, Fragment::of("t"))?.all_rows().sql()?` gives `DELETE FROM t;`
     pub fn all_rows(self) -> Statement<K>
         ensures made { result ≡ meaning_all_rows self }
@@ -420,7 +421,7 @@ impl<K: Changes> Statement<K> {
             alloc,
             builder,
             marks: Marks {
-                needs_condition: false,
+                needs_filter: false,
                 ..marks
             },
             made: GhostValue::of(&made),

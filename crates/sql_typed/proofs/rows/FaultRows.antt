@@ -19,6 +19,15 @@ all_rows = refl
 with_a_condition : fault_of (adding (Cond And (Raw (codes "a"))) (beginning (DeleteFrom (codes "t")))) ≡ None
 with_a_condition = refl
 
+of_an_empty_list : fault_of (adding (Cond And (Raw (codes "1 = 1"))) (beginning (DeleteFrom (codes "t")))) ≡ Some NoCondition
+of_an_empty_list = refl
+
+of_its_negation : fault_of (adding (Cond And (Raw (codes "NOT (1 = 0)"))) (beginning (UpdateTable (codes "t")))) ≡ Some NoCondition
+of_its_negation = refl
+
+and_another : fault_of (adding (Cond And (Raw (codes "1 = 1"))) (adding (Cond And (Raw (codes "a"))) (beginning (DeleteFrom (codes "t"))))) ≡ None
+and_another = refl
+
 select : fault_of (beginning (SelectFrom (codes "t"))) ≡ None
 select = refl
 
