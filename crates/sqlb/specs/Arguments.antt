@@ -5,6 +5,10 @@ use Rattle.sqlb.specs.Lines.{lines, parts_of}
 use Rattle.sqlb.specs.declared.fault.Reason.{Reason}
 use Rattle.sqlb.specs.declared.fault.Reason.TheVariants.{WrongArguments}
 
+-- this byte or a line feed
+abbrev pub is_or_feed : ℕ → ℕ → Bool
+is_or_feed first byte = byte == first || byte == 10
+
 -- a byte that ends a part: a TAB or a line feed
 abbrev pub is_separator : ℕ → Bool
 is_separator byte = byte == 9 || byte == 10

@@ -4,7 +4,7 @@ ghost use Rattle.sqlb.specs.Arguments.{IsNextLine, IsTaken, first_of, none_of, o
 ghost use Rattle.sqlb.specs.Script.{Checks};
 
 use crate::fault::Reason;
-use crate::scan::end_of_part;
+use crate::scan::end_at;
 use sql_builder::text::Texts;
 use std::marker::Model;
 
@@ -66,7 +66,7 @@ impl<'a> Arguments<'a> {
             return None;
         }
         let text = self.text;
-        let end = end_of_part(text.as_bytes(), self.at);
+        let end = end_at(text.as_bytes(), self.at, b'\t');
         let part = &text[self.at..end];
         if end == text.len() {
             self.in_line = false;
@@ -144,7 +144,17 @@ impl<'a> Arguments<'a> {
             at: self.at,
             in_line: self.in_line,
         };
-        'parts: while self.next().is_some() {}
+        if !self.in_line {
+            return others;
+        }
+        let text = self.text;
+        let feed = end_at(text.as_bytes(), self.at, b'\n');
+        self.in_line = false;
+        if feed == text.len() {
+            self.at = feed;
+            return others;
+        }
+        self.at = feed + 1;
         others
     }
 }

@@ -10,7 +10,7 @@ use Rattle.std.proofs.lemmas.List.{drop-drop, drop_all, get_or-drop, get_or_past
 use Rattle.std.proofs.lemmas.List.Sums.{passes_at_first, prefix_len-le-length}
 use Rattle.std.proofs.lemmas.List.Splits.{slice_split-cons_no, slice_split-cons_yes}
 use Rattle.sqlb.specs.Lines.{parts_of}
-use Rattle.sqlb.specs.Arguments.{Remaining, is_separator, remaining_of}
+use Rattle.sqlb.specs.Arguments.{Remaining, is_or_feed, is_separator, remaining_of}
 
 abbrev tab : ℕ → Bool
 tab byte = byte == 9
@@ -71,53 +71,72 @@ step (byte ∷ rest) = by (tab byte) (feed byte) refl refl (step rest)
         ∙ ap (λ l. left l (after_first feed rest)) (slice_split-cons_no tab byte (before_first feed rest) is_tab)
         ∙ ap (λ (l : Remaining). left (onto_first byte l.parts) l.behind) e ∙ sym (ap part_of (cut-no is_separator byte rest goes_on))
 
-below_128 : (byte : ℕ) → is_separator byte ≡ true → byte < 128
-below_128 byte ends = by (tab byte) (feed byte) refl refl ends
+small : (one byte : ℕ) → one < 128 → is_or_feed one byte ≡ true → byte < 128
+small one byte below ends = by (byte == one) (byte == 10) refl refl ends
   where
-    by : (t f : Bool) → tab byte ≡ t → feed byte ≡ f → (t || f) ≡ true → byte < 128
-    by true f is_tab is_feed e = omega (arith, eqb-true byte 9 is_tab)
-    by false true is_tab is_feed e = omega (arith, eqb-true byte 10 is_feed)
-    by false false is_tab is_feed e = cc
+    by : (is feed : Bool) → (byte == one) ≡ is → (byte == 10) ≡ feed → (is || feed) ≡ true → byte < 128
+    by true f is is_feed e = omega (arith, below, eqb-true byte one is)
+    by false true is is_feed e = omega (arith, eqb-true byte 10 is_feed)
+    by false false is is_feed e = cc
 
--- a part that begins at a place of a text, and ends at another
-module _ (text : List ℕ) (at end : ℕ) (start : at ≤ length text) (is : end ≡ at + position_or_len is_separator (drop at text)) where
+-- a part or a line that begins at a place of a text, and ends at another
+module _ (one : ℕ) (below : one < 128) (text : List ℕ) (at end : ℕ) (start : at ≤ length text)
+    (is : end ≡ at + position_or_len (is_or_feed one) (drop at text)) where
   abbrev size : ℕ
-  size = position_or_len is_separator (drop at text)
+  size = position_or_len (is_or_feed one) (drop at text)
 
   pub within : end ≤ length text
-  within = omega (arith, start, is, length-drop at text, prefix_len-le-length (λ byte. not (is_separator byte)) (drop at text))
+  within = omega (arith, start, is, length-drop at text, prefix_len-le-length (λ byte. not (is_or_feed one byte)) (drop at text))
 
   last : get_or (drop at text) size 0 ≡ get_or text end 0
   last = get_or-drop at text size 0 ∙ ap (λ k. get_or text k 0) (sym is)
 
-  ends : end < length text → is_separator (get_or text end 0) ≡ true
-  ends inside = subst (λ byte. is_separator byte ≡ true) last (passes_at_first is_separator (drop at text) 0 (omega (arith, is, inside, length-drop at text)))
+  ends : end < length text → is_or_feed one (get_or text end 0) ≡ true
+  ends inside = subst (λ byte. is_or_feed one byte ≡ true) last (passes_at_first (is_or_feed one) (drop at text) 0 (omega (arith, is, inside, length-drop at text)))
 
   pub boundary_at_end : IsCharBoundary text end
   boundary_at_end =
       elim (cases_lt end (length text)) [
-        | inl inside ↦ IsCharBoundary-before_ascii text end inside (below_128 _ (ends inside))
+        | inl inside ↦ IsCharBoundary-before_ascii text end inside (small one _ below (ends inside))
         | inr outside ↦ subst (IsCharBoundary text) (omega (arith, outside, within)) (IsCharBoundary-end text)
       ]
 
   pub boundary_behind : IsUtf8 text → end < length text → IsCharBoundary text (end + 1)
-  boundary_behind utf8 inside = IsCharBoundary-after_ascii text end utf8 inside (below_128 _ (ends inside))
+  boundary_behind utf8 inside = IsCharBoundary-after_ascii text end utf8 inside (small one _ below (ends inside))
 
-  part : take (end - at) (drop at text) ≡ before_first is_separator (drop at text)
-  part =
-      let count : end - at ≡ size = omega (arith, is) in
-      ap (λ n. take n (drop at text)) count
-
-  behind : after_first is_separator (drop at text) ≡ drop (end + 1) text
+  behind : after_first (is_or_feed one) (drop at text) ≡ drop (end + 1) text
   behind =
       let count : at + (size + 1) ≡ end + 1 = omega (arith, is) in
       drop-drop (size + 1) at text ∙ ap (λ n. drop n text) count
 
+  pub behind_end : end ≡ length text → drop (end + 1) text ≡ drop end text
+  behind_end e = drop_all (end + 1) text (omega (arith, e)) ∙ sym (drop_all end text (omega (arith, e)))
+
+-- a part
+module _ (text : List ℕ) (at end : ℕ) (start : at ≤ length text) (is : end ≡ at + position_or_len is_separator (drop at text)) where
+  part : take (end - at) (drop at text) ≡ before_first is_separator (drop at text)
+  part =
+      let count : end - at ≡ position_or_len is_separator (drop at text) = omega (arith, is) in
+      ap (λ n. take n (drop at text)) count
+
   pub steps_on : remaining_of true (drop at text) ≡ with_part (take (end - at) (drop at text)) (remaining_of (tab (get_or text end 0)) (drop (end + 1) text))
-  steps_on = step (drop at text) ∙ ap₂ with_part (sym part) (ap₂ (λ byte rest. remaining_of (tab byte) rest) last behind)
+  steps_on =
+      step (drop at text)
+      ∙ ap₂ with_part (sym part) (ap₂ (λ byte rest. remaining_of (tab byte) rest) (last 9 (omega arith) text at end start is) (behind 9 (omega arith) text at end start is))
 
   pub steps_to_end : end ≡ length text → remaining_of true (drop at text) ≡ with_part (take (end - at) (drop at text)) (remaining_of false (drop end text))
   steps_to_end e =
-      let none : drop (end + 1) text ≡ drop end text = drop_all (end + 1) text (omega (arith, e)) ∙ sym (drop_all end text (omega (arith, e))) in
       let byte : get_or text end 0 ≡ 0 = get_or_past text end 0 (omega (arith, e)) in
-      steps_on ∙ ap₂ (λ byte rest. with_part (take (end - at) (drop at text)) (remaining_of (tab byte) rest)) byte none
+      steps_on ∙ ap₂ (λ byte rest. with_part (take (end - at) (drop at text)) (remaining_of (tab byte) rest)) byte (behind_end 9 (omega arith) text at end start is e)
+
+feed_twice : (byte : ℕ) → is_or_feed 10 byte ≡ feed byte
+feed_twice byte = by (feed byte)
+  where
+    by : (b : Bool) → (b || b) ≡ b
+    by true = refl
+    by false = refl
+
+-- what is behind a line
+pub line_behind : (text : List ℕ) (at end : ℕ) (start : at ≤ length text) (is : end ≡ at + position_or_len (is_or_feed 10) (drop at text))
+    → after_first feed (drop at text) ≡ drop (end + 1) text
+line_behind text at end start is = (λ i. after_first (λ byte. sym (feed_twice byte) i) (drop at text)) ∙ behind 10 (omega arith) text at end start is

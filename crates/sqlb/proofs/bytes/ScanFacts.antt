@@ -1,4 +1,4 @@
--- How far the first TAB or line feed of a text is, by blocks.
+-- How far the first byte of a text is that is one of two, by blocks.
 use Rattle.std.proofs.Common.{◌≡◌, ◌≢◌, ℕ, ◌+◌, ◌%◌, ◌^◌, ◌≤◌, ◌<◌, Bool, true, false, ◌||◌, not, cond, List, map, length, take, drop, replicate, eqb, refl}
 use Rattle.std.proofs.Common.{sym, ap, ◌∙◌, arith, bit_or}
 use Rattle.std.specs.Prelude.{position, Some, None}
@@ -10,22 +10,22 @@ use Rattle.std.specs.Simd.Lanes.{mask_l, top, zip2}
 use Rattle.std.proofs.lemmas.List.{length-map}
 use Rattle.std.proofs.lemmas.List.Folds.{prefix_len-append}
 use Rattle.std.proofs.lemmas.Simd.{chunk-drop, length-chunk, mask_l-mod, zip2_splat, zip2_of_maps, map-map, leading_from_mask_l, trailing_mask_l}
-use Rattle.sqlb.specs.Arguments.{is_separator}
+use Rattle.sqlb.specs.Arguments.{is_or_feed}
 
 -- the lanes that are equal to a byte
 abbrev equal : ℕ → ℕ → ℕ
 equal byte x = cond (eqb x byte) 255 0
 
-is_end : (x : ℕ) → top 7 (bit_or (equal 9 x) (equal 10 x)) ≡ is_separator x
-is_end x = by (eqb x 9) (eqb x 10)
+is_end : (first x : ℕ) → top 7 (bit_or (equal first x) (equal 10 x)) ≡ is_or_feed first x
+is_end first x = by (eqb x first) (eqb x 10)
   where
-    by : (tab feed : Bool) → top 7 (bit_or (cond tab 255 0) (cond feed 255 0)) ≡ (tab || feed)
+    by : (is feed : Bool) → top 7 (bit_or (cond is 255 0) (cond feed 255 0)) ≡ (is || feed)
     by true true = refl
     by true false = refl
     by false true = refl
     by false false = refl
 
-module _ (text : List ℕ) (at : ℕ) (room : at + 16 ≤ length text) where
+module _ (one : ℕ) (text : List ℕ) (at : ℕ) (room : at + 16 ≤ length text) where
   abbrev block : List ℕ
   block = take 16 (drop at text)
 
@@ -33,48 +33,48 @@ module _ (text : List ℕ) (at : ℕ) (room : at + 16 ≤ length text) where
   abbrev lanes : ℕ → List ℕ
   lanes byte = zip2 (λ a b. cond (eqb a b) 255 0) block (replicate 16 byte)
 
-  -- a bit for each byte of the block that ends a part
+  -- a bit for each byte of the block that is one of the two
   abbrev ends : ℕ
-  ends = mask_l (map (top 7) (zip2 bit_or (lanes 9) (lanes 10))) % 2 ^ 64
+  ends = mask_l (map (top 7) (zip2 bit_or (lanes one) (lanes 10))) % 2 ^ 64
 
   long : length block ≡ 16
   long = length-chunk at 16 text room
 
-  ends_are : ends ≡ mask_l (map is_separator block)
+  ends_are : ends ≡ mask_l (map (is_or_feed one) block)
   ends_are =
-      let tabs = zip2_splat (λ a b. cond (eqb a b) 255 0) block 16 9 long in
+      let firsts = zip2_splat (λ a b. cond (eqb a b) 255 0) block 16 one long in
       let feeds = zip2_splat (λ a b. cond (eqb a b) 255 0) block 16 10 long in
-      let either = zip2_of_maps bit_or (equal 9) (equal 10) block tabs feeds in
-      let tops = map-map (top 7) (λ x. bit_or (equal 9 x) (equal 10 x)) block in
-      ap (λ l. mask_l l % 2 ^ 64) (ap (map (top 7)) either ∙ tops ∙ (λ i. map (λ x. is_end x i) block))
-      ∙ mask_l-mod (map is_separator block) 64 (omega (arith, length-map block is_separator, long))
+      let either = zip2_of_maps bit_or (equal one) (equal 10) block firsts feeds in
+      let tops = map-map (top 7) (λ x. bit_or (equal one x) (equal 10 x)) block in
+      ap (λ l. mask_l l % 2 ^ 64) (ap (map (top 7)) either ∙ tops ∙ (λ i. map (λ x. is_end one x i) block))
+      ∙ mask_l-mod (map (is_or_feed one) block) 64 (omega (arith, length-map block (is_or_feed one), long))
 
-  pub run_without_end : ends ≡ 0 → 16 ≡ position_or_len is_separator block
-  run_without_end none = sym (leading_from_mask_l is_separator block (sym ends_are ∙ none) ∙ long)
+  pub run_without_end : ends ≡ 0 → 16 ≡ position_or_len (is_or_feed one) block
+  run_without_end none = sym (leading_from_mask_l (is_or_feed one) block (sym ends_are ∙ none) ∙ long)
 
-  pub run_to_end : ends ≢ 0 → count_trailing_zeros 64 ends ≡ position_or_len is_separator block
-  run_to_end some = ap (count_trailing_zeros 64) ends_are ∙ trailing_mask_l is_separator 64 block (omega (arith, long)) (omega (arith, ends_are, some))
+  pub run_to_end : ends ≢ 0 → count_trailing_zeros 64 ends ≡ position_or_len (is_or_feed one) block
+  run_to_end some = ap (count_trailing_zeros 64) ends_are ∙ trailing_mask_l (is_or_feed one) 64 block (omega (arith, long)) (omega (arith, ends_are, some))
 
   abbrev behind : ℕ
-  behind = position_or_len is_separator (drop (at + 16) text)
+  behind = position_or_len (is_or_feed one) (drop (at + 16) text)
 
-  first : position_or_len is_separator (drop at text)
-      ≡ cond (eqb (position_or_len is_separator block) (length block)) (length block + behind) (position_or_len is_separator block)
-  first = ap (position_or_len is_separator) (chunk-drop at 16 text) ∙ prefix_len-append (λ x. not (is_separator x)) block (drop (at + 16) text)
+  first : position_or_len (is_or_feed one) (drop at text)
+      ≡ cond (eqb (position_or_len (is_or_feed one) block) (length block)) (length block + behind) (position_or_len (is_or_feed one) block)
+  first = ap (position_or_len (is_or_feed one)) (chunk-drop at 16 text) ∙ prefix_len-append (λ x. not (is_or_feed one x)) block (drop (at + 16) text)
 
   -- the part ends in this block
-  pub ends_in_block : (run : ℕ) → run ≡ position_or_len is_separator block → run < 16 → position_or_len is_separator (drop at text) ≡ run
+  pub ends_in_block : (run : ℕ) → run ≡ position_or_len (is_or_feed one) block → run < 16 → position_or_len (is_or_feed one) (drop at text) ≡ run
   ends_in_block run is short =
-      let apart : position_or_len is_separator block ≢ length block = omega (arith, is, long) in
+      let apart : position_or_len (is_or_feed one) block ≢ length block = omega (arith, is, long) in
       first ∙ cond-false _ _ _ (ne_eqb _ _ apart) ∙ sym is
 
   -- the part goes on behind this block
-  pub goes_past_block : (run : ℕ) → run ≡ position_or_len is_separator block → 16 ≤ run → position_or_len is_separator (drop at text) ≡ 16 + behind
+  pub goes_past_block : (run : ℕ) → run ≡ position_or_len (is_or_feed one) block → 16 ≤ run → position_or_len (is_or_feed one) (drop at text) ≡ 16 + behind
   goes_past_block run is far =
-      let all : position_or_len is_separator block ≡ length block = omega (arith, is, long, prefix_len-le-length (λ x. not (is_separator x)) block) in
+      let all : position_or_len (is_or_feed one) block ≡ length block = omega (arith, is, long, prefix_len-le-length (λ x. not (is_or_feed one x)) block) in
       first ∙ cond-true _ _ _ (eq-eqb _ _ all) ∙ ap (λ n. n + behind) long
 
--- where a byte that ends a part is found, or none
+-- where such a byte is found, or none
 cond_some : (b : Bool) (x y : ℕ) → cond b (Some x) None ≡ Some y → x ≡ y
 cond_some true x y e = cc
 cond_some false x y e = cc
@@ -83,10 +83,10 @@ cond_none : (b : Bool) (x : ℕ) → cond b (Some x) None ≡ None → b ≡ fal
 cond_none true x e = cc
 cond_none false x e = refl
 
-pub found_end : (xs : List ℕ) (i : ℕ) → position is_separator xs ≡ Some i → position_or_len is_separator xs ≡ i
-found_end xs i e = cond_some _ _ i e
+pub found_end : (one : ℕ) (xs : List ℕ) (i : ℕ) → position (is_or_feed one) xs ≡ Some i → position_or_len (is_or_feed one) xs ≡ i
+found_end one xs i e = cond_some _ _ i e
 
-pub no_end : (xs : List ℕ) → position is_separator xs ≡ None → position_or_len is_separator xs ≡ length xs
-no_end xs e =
-    let far : length xs ≤ position_or_len is_separator xs = ltb-false _ _ (cond_none _ _ e) in
-    omega (arith, far, prefix_len-le-length (λ x. not (is_separator x)) xs)
+pub no_end : (one : ℕ) (xs : List ℕ) → position (is_or_feed one) xs ≡ None → position_or_len (is_or_feed one) xs ≡ length xs
+no_end one xs e =
+    let far : length xs ≤ position_or_len (is_or_feed one) xs = ltb-false _ _ (cond_none _ _ e) in
+    omega (arith, far, prefix_len-le-length (λ x. not (is_or_feed one x)) xs)
