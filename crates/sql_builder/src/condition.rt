@@ -192,11 +192,31 @@ impl<'a, T: Texts<'a>> BorrowedCondition<'a, T> {
     }
 }
 
-// NOT behind a field, where the condition is the NOT form.
-fn not(negated: bool) -> &'static str
-    ensures { result.now ≡ not_text negated }
+// The words behind a field, with NOT where the condition is the NOT form. They are single constants,
+// since each part of a text is copied by a call.
+fn in_words(negated: bool) -> &'static str
+    ensures { result.now ≡ not_text negated ++ codes " IN (" }
 {
-    if negated { " NOT" } else { "" }
+    if negated { " NOT IN (" } else { " IN (" }
+}
+
+fn between_words(negated: bool) -> &'static str
+    ensures { result.now ≡ not_text negated ++ codes " BETWEEN " }
+{
+    if negated { " NOT BETWEEN " } else { " BETWEEN " }
+}
+
+// LIKE, and what precedes the mask.
+fn like_words(negated: bool, percent: Percent) -> &'static str
+    ensures { result.now ≡ (not_text negated ++ codes " LIKE ")
+        ++ (if has_leading percent then codes "'%" else codes "'") }
+{
+    match (negated, percent.has_leading()) {
+        (false, false) => " LIKE '",
+        (false, true) => " LIKE '%",
+        (true, false) => " NOT LIKE '",
+        (true, true) => " NOT LIKE '%",
+    }
 }
 
 /// A field compared with a value.
@@ -243,28 +263,26 @@ pub(crate) fn like<'a>(
     ensures memory { FailsOnlyByMemory result }
 {
     let mask = escaped(alloc, mask)?;
-    Ok(like_escaped(alloc, not(negated), percent, field, mask.as_str())?)
+    Ok(like_escaped(alloc, negated, percent, field, mask.as_str())?)
 }
 
 // The same of a mask whose quotes are doubled.
 fn like_escaped<'a>(
     alloc: Global,
-    not: &'static str,
+    negated: bool,
     percent: Percent,
     field: &'a str,
     mask: &'a str,
 ) -> Result<String, AllocError>
-    ensures { IfOk result (λ s. string_bytes s ≡ field.now ++ (not.now ++ (codes " LIKE "
-        ++ ((if has_leading percent then codes "'%" else codes "'")
-        ++ (mask.now ++ (if has_trailing percent then codes "%'" else codes "'")))))) }
+    ensures { IfOk result (λ s. string_bytes s ≡ field.now
+        ++ (((not_text negated ++ codes " LIKE ") ++ (if has_leading percent then codes "'%" else codes "'"))
+        ++ (mask.now ++ (if has_trailing percent then codes "%'" else codes "'")))) }
 {
     concat(
         alloc,
         &[
             Part(field),
-            Part(not),
-            Part(" LIKE "),
-            Part(if percent.has_leading() { "'%" } else { "'" }),
+            Part(like_words(negated, percent)),
             Part(mask),
             Part(if percent.has_trailing() { "%'" } else { "'" }),
         ],
@@ -278,8 +296,7 @@ fn field_in(alloc: Global, negated: bool, field: &str) -> Result<String, AllocEr
     let room = field.len().saturating_add(FIRST_ROOM);
     let mut text = String::with_capacity(alloc, room)?;
     text.push_str(field)?;
-    text.push_str(not(negated))?;
-    text.push_str(" IN (")?;
+    text.push_str(in_words(negated))?;
     Ok(text)
 }
 
@@ -328,13 +345,12 @@ pub(crate) fn in_query<'a>(
         ≡ condition_bytes (InQuery negated field.now query.now)) }
     ensures memory { FailsOnlyByMemory result }
 {
-    let not = not(negated);
+    let words = in_words(negated);
     Ok(concat(
         alloc,
         &[
             Part(field),
-            Part(not),
-            Part(" IN ("),
+            Part(words),
             Part(query),
             Part(")"),
         ],
@@ -353,13 +369,12 @@ pub(crate) fn between<'a>(
         ≡ condition_bytes (Between negated field.now least.now greatest.now)) }
     ensures memory { FailsOnlyByMemory result }
 {
-    let not = not(negated);
+    let words = between_words(negated);
     Ok(concat(
         alloc,
         &[
             Part(field),
-            Part(not),
-            Part(" BETWEEN "),
+            Part(words),
             Part(least),
             Part(" AND "),
             Part(greatest),
