@@ -1,5 +1,5 @@
 -- Texts between brackets of our own.
-use Rattle.std.proofs.Common.{◌≡◌, ◌==◌, ◌⊎◌, inl, inr, Option, None, Some, if◌then◌else◌, refl, sym, arith, ◌∙◌, ap, ◌++◌, ℕ, Bool, true, false, List, [], ◌∷◌, codes, append-nil, append_assoc}
+use Rattle.std.proofs.Common.{◌≡◌, ◌==◌, ◌⊎◌, inl, inr, Option, None, Some, if◌then◌else◌, refl, sym, arith, ◌∙◌, ap, ◌++◌, ℕ, Bool, true, false, List, [], ◌∷◌, codes, append_assoc}
 use Rattle.std.specs.Prelude.{nat_eq}
 use Rattle.std.specs.List.{starts_with}
 use Rattle.std.proofs.lemmas.Bool.{and_from, cases_Bool, false≢true, not_from_false, or_from, or_parts, true≢false}
@@ -9,45 +9,28 @@ use Rattle.sql_parts.specs.Operands.{ServesAsOperand}
 use Rattle.sql_parts.specs.Tokens.{Token, Name, Str, Word, Symbol, begins_with, first, inside, is_blank, is_one_of, is_word_byte, tokens, tokens_from, unquoted}
 use Rattle.sql_parts.proofs.fragments.DepthFacts.{has_top_level-is, is_balanced, is_balanced-is, is_even, is_operand, is_operand-is}
 use Rattle.sql_parts.proofs.fragments.MisfitLemmas.{serves}
+use Rattle.sql_parts.proofs.tokens.JoinFacts.{enclosed-tokens}
 use Rattle.sql_builder.specs.Layout.{byte_units}
 use Rattle.sql_builder.specs.Phrases as phrase
-use Rattle.sql_builder.specs.Pieces.{Pieces, fixed_piece, raw_piece}
-use Rattle.sql_builder.specs.RawFragments.{has_closed_fragments}
-use Rattle.sql_builder.specs.Shape.{pieces_tokens}
 use Rattle.sql_builder.specs.WhereTokens.{in_brackets}
-use Rattle.sql_builder.proofs.pieces.ShapeLemmas.{Inside, brackets-inside, pieces_tokens-brackets, raw-inside, shaped, words-first, words-last}
 use Rattle.sql_builder.proofs.tokens.BalancedFacts.{balanced_closed, even_text, is_balanced-append, is_even-append, is_even-brackets, is_operand-brackets, no_clause-brackets}
 use Rattle.sql_builder.proofs.tokens.WhereTokenFacts.{has_clause}
 use Rattle.sql_typed.specs.Conditions.{bracket_fronts, may_begin_bracketed}
 use Rattle.sql_typed.specs.Unions.{united_text}
 
--- what is balanced is closed
-raw-closed : (text : List ℕ) → balanced text ≡ true → has_closed_fragments (raw_piece text) ≡ true
-raw-closed text is = and_from _ _ (balanced_closed text is) refl
-
 -- what is balanced is an operand in brackets
 pub brackets_serve : (text : List ℕ) → balanced text ≡ true → ServesAsOperand (phrase.in_brackets byte_units text)
+unfolding in_brackets
 brackets_serve text is =
     let ts : List Token = tokens text in
     let even = even_text text is in
     let written = phrase.in_brackets byte_units text in
-    let are : tokens written ≡ in_brackets ts =
-    (shaped (phrase.in_brackets fixed_piece (raw_piece text)) (brackets-inside (raw_piece text) (raw-inside text))).shape_is (raw-closed text is)
-    ∙ pieces_tokens-brackets (raw_piece text) ∙ ap in_brackets (append-nil ts) in
+    let are : tokens written ≡ in_brackets ts = enclosed-tokens (codes "(") text (codes ")") refl refl (balanced_closed text is) refl in
     serves written
     (and_from _ _ (is_operand-is (tokens written) ∙ ap is_operand are ∙ is_operand-brackets ts even)
     (not_from_false _ (has_top_level-is is_clause_word (tokens written) ∙ ap has_clause are ∙ no_clause-brackets ts even)))
 
 -- ---- a query behind a UNION
-
-table-pieces : List ℕ → Pieces
-table-pieces query = fixed_piece (codes "SELECT * FROM (") ++ (raw_piece query ++ fixed_piece (codes ") AS u"))
-
-table-inside : (query : List ℕ) → Inside (table-pieces query)
-unfolding table-pieces
-table-inside query =
-    words-first (codes "SELECT * FROM (") (raw_piece query ++ fixed_piece (codes ") AS u")) (record { is_closed = refl; plain = refl }) refl
-    (words-last (codes ") AS u") (raw_piece query) (record { is_closed = refl; plain = refl }) refl (raw-inside query))
 
 -- before and behind its brackets
 abbrev opening : List Token
@@ -56,19 +39,16 @@ opening = Word (codes "SELECT") ∷ Symbol 42 ∷ Word (codes "FROM") ∷ []
 abbrev naming : List Token
 naming = Word (codes "AS") ∷ Word (codes "u") ∷ []
 
-table-are : (query : List ℕ) → pieces_tokens (table-pieces query) ≡ opening ++ (in_brackets (tokens query) ++ naming)
-unfolding table-pieces in_brackets
-table-are query = simp append_assoc
-
 table-balanced : (ts : List Token) → is_even ts ≡ true → is_balanced (opening ++ (in_brackets ts ++ naming)) ≡ true
 table-balanced ts even = is_balanced-append opening (in_brackets ts ++ naming) refl (is_even-append (in_brackets ts) naming (is_even-brackets ts even) refl)
 
 pub united_balanced : (needs_brackets : Bool) (query : List ℕ) → balanced query ≡ true → balanced (united_text needs_brackets query) ≡ true
-unfolding table-pieces
+unfolding in_brackets
 united_balanced false query is = is
 united_balanced true query is =
     is_balanced-is (tokens (united_text true query))
-    ∙ ap is_balanced ((shaped (table-pieces query) (table-inside query)).shape_is (raw-closed query is) ∙ table-are query)
+    ∙ ap is_balanced (enclosed-tokens (codes "SELECT * FROM (") query (codes ") AS u") refl refl (balanced_closed query is) refl
+    ∙ ap (λ ts. opening ++ (Symbol 40 ∷ ts)) (sym (append_assoc (tokens query) (Symbol 41 ∷ []) naming)))
     ∙ table-balanced (tokens query) (even_text query is)
 
 -- ---- a text that begins with `(`

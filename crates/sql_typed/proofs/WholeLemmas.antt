@@ -2,7 +2,7 @@
 use Rattle.std.proofs.Common.{◌≡◌, ◌==◌, ◌∙◌, ◌++◌, ap, append-nil, append_assoc, codes, length, refl, sym, subst, ℕ, true, false, not, List, [], ◌∷◌, map}
 use Rattle.std.specs.Prelude.{flat_map}
 use Rattle.std.specs.List.{list_all, list_any}
-use Rattle.std.proofs.lemmas.Bool.{and_from, and_parts, not_from_false, not-true, or_left, true≢false}
+use Rattle.std.proofs.lemmas.Bool.{and_from, and_parts, not_from_false, not-true, true≢false}
 use Rattle.std.proofs.lemmas.List.Folds.{list_all-append}
 use Rattle.sql_parts.specs.Fragments.{balanced}
 use Rattle.sql_parts.specs.Operands.{ServesAsOperand}
@@ -10,6 +10,8 @@ use Rattle.sql_parts.specs.Text.{join_with}
 use Rattle.sql_parts.specs.Tokens.{begins_with, closed, ends_with, has_semicolon, is_edge, is_semicolon, tokens}
 use Rattle.sql_parts.proofs.fragments.DepthFacts.{is_balanced, is_balanced-is}
 use Rattle.sql_parts.proofs.fragments.MisfitLemmas.{balanced_whole}
+use Rattle.sql_parts.proofs.tokens.JoinFacts.{clean-before, clean-behind}
+use Rattle.sql_parts.proofs.tokens.TokenFacts.{seam}
 use Rattle.sql_builder.specs.Builder.{ClauseTexts, with_call}
 use Rattle.sql_builder.specs.Calls.{CallText, Select, Sql, StartText, clauses}
 use Rattle.sql_builder.specs.Layout.{concat_sections, statement_sections}
@@ -32,7 +34,6 @@ use Rattle.sql_builder.proofs.tokens.BalancedFacts.{even_text, is_balanced-appen
 use Rattle.sql_typed.specs.Fits.{IsFitBy, Made}
 use Rattle.sql_typed.specs.Whole.{HasWholeFront, asking, conflict_text, is_whole, may_follow, may_join}
 use Rattle.sql_typed.proofs.FitLemmas.{texts_fit}
-use Rattle.sql_typed.proofs.InterferenceLemmas.{clauses_keep}
 
 -- what is balanced is whole
 pub balanced_is_whole : (text : List ℕ) → balanced text ≡ true → is_whole text ≡ true
@@ -116,9 +117,9 @@ pub balanced_followed : (text words other : List ℕ) → balanced text ≡ true
 balanced_followed text words other is may even also =
     let ends = and_parts (may_follow words) (ends_with is_edge words) may in
     let begins = and_parts (is_whole words) (begins_with is_edge words) ends.0 in
-    let behind = and_from _ _ (and_from _ _ (and_from _ _ (and_parts (closed words) _ begins.0).0 begins.1) (or_left _ _ ends.1)) (balanced_whole other also).0 in
-    let tokens_are = clauses_keep text ((words, other) ∷ []) (balanced_whole text is).0 (and_from _ _ behind refl)
-    ∙ ap (λ ts. tokens text ++ ts) (append-nil (tokens words ++ tokens other)) in
+    let tokens_are : tokens (text ++ (words ++ other)) ≡ tokens text ++ (tokens words ++ tokens other) =
+    seam text (words ++ other) (balanced_whole text is).0 (clean-before text words other begins.1)
+    ∙ ap (λ ts. tokens text ++ ts) (seam words other (and_parts (closed words) _ begins.0).0 (clean-behind words other ends.1)) in
     is_balanced-is (tokens (text ++ (words ++ other))) ∙ ap is_balanced tokens_are
     ∙ is_balanced-append (tokens text) (tokens words ++ tokens other) (sym (is_balanced-is (tokens text)) ∙ is)
     (is_even-append (tokens words) (tokens other) (even_text words even) (even_text other also))

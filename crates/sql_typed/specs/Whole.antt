@@ -1,9 +1,8 @@
 -- Texts of which statements are made, one behind another, and what clauses print that the builder hasn't.
-use Rattle.std.specs.Prelude.{◌≡◌, ℕ, ◌&&◌, ◌||◌, ◌++◌, Bool, not, IsTrue, List, [], ◌∷◌, codes, flat_map, map}
-use Rattle.std.specs.List.{list_all}
+use Rattle.std.specs.Prelude.{◌≡◌, ℕ, ◌&&◌, ◌++◌, Bool, not, IsTrue, List, [], ◌∷◌, codes}
 use Rattle.sql_parts.specs.StringTexts.{outline}
 use Rattle.sql_parts.specs.Text.{join_with}
-use Rattle.sql_parts.specs.Tokens.{Token, begins_with, closed, ends_with, has_semicolon, is_edge, is_empty, tokens}
+use Rattle.sql_parts.specs.Tokens.{begins_with, closed, ends_with, has_semicolon, is_edge}
 use Rattle.sql_builder.specs.Builder.{ClauseTexts}
 use Rattle.sql_builder.specs.Calls.{CallText, Select, Sql}
 use Rattle.sql_builder.specs.Statement.{text_at}
@@ -69,35 +68,7 @@ combined_text words needs query other_needs other = united_text needs query ++ (
 
 -- ---- texts of strings
 
--- words, and a text behind them
-abbrev pub Clause : Type 0
-Clause = List ℕ × List ℕ
-
--- a text, and clauses behind it
-abbrev pub with_clauses : List ℕ → List Clause → List ℕ
-with_clauses text [] = text
-with_clauses text (clause ∷ clauses) = text ++ (clause.0 ++ with_clauses clause.1 clauses)
-
--- Words and text are closed. An edge is before the words, and one is between them and the text, where there is a text.
-abbrev pub may_be_behind : Clause → Bool
-may_be_behind clause = closed clause.0 && begins_with is_edge clause.0 && (ends_with is_edge clause.0 || is_empty clause.1) && closed clause.1
-
--- the words of a clause, and the tokens of its text, but for the texts of strings
-abbrev pub clause_outline : Clause → List ℕ × List Token
-clause_outline clause = (clause.0, outline clause.1)
-
--- a closed text and clauses behind it keep their tokens,
-abbrev pub ClausesKeepTokens : Type 0
-ClausesKeepTokens = (text : List ℕ) (clauses : List Clause) → IsTrue (closed text) → IsTrue (list_all may_be_behind clauses)
-    → tokens (with_clauses text clauses) ≡ tokens text ++ flat_map (λ clause. tokens clause.0 ++ tokens clause.1) clauses
-
--- so with other texts that differ in those of strings alone, the tokens are the same, but for these;
-abbrev pub ClausesFollowTheirTexts : Type 0
-ClausesFollowTheirTexts = (one other : List ℕ) (clauses others : List Clause) → outline one ≡ outline other → map clause_outline clauses ≡ map clause_outline others
-    → IsTrue (closed one && list_all may_be_behind clauses) → IsTrue (closed other && list_all may_be_behind others)
-    → outline (with_clauses one clauses) ≡ outline (with_clauses other others)
-
--- and what statements are without their `;` differs as they do
+-- statements that are the same but for texts of strings are so without their `;`
 abbrev pub FrontsFollowTheirStatements : Type 0
 FrontsFollowTheirStatements = (one other : List ℕ) → IsTrue (closed one) → IsTrue (closed other)
     → outline (one ++ codes ";") ≡ outline (other ++ codes ";") → outline one ≡ outline other

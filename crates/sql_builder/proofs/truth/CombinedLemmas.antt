@@ -1,7 +1,7 @@
 -- The texts of conditions are fragments, and what is true of those that are made of others.
 use Rattle.std.proofs.Common.{◌≡◌, refl, sym, ◌∙◌, ap, subst, ℕ, Bool, true, false, not, ◌&&◌, List, [], ◌∷◌, ◌++◌, map, pos, codes, append-nil}
 use Rattle.std.specs.List.{AllByRecursion, list_all}
-use Rattle.std.proofs.lemmas.Bool.{and_from, and_parts, not-true, not_from_false, or_from}
+use Rattle.std.proofs.lemmas.Bool.{and_from, and_parts, not-true, not_from_false, or_from, or_right}
 use Rattle.sql_parts.specs.Fragments.{balanced, is_clause_word, is_joining, operand}
 use Rattle.sql_parts.specs.Literal as literal
 use Rattle.sql_parts.specs.Operands.{ServesAsOperand, is_fragment}
@@ -10,7 +10,9 @@ use Rattle.sql_parts.specs.Text.{join_with}
 use Rattle.sql_parts.specs.Tokens.{Token, Str, Word, closed, ends_with, is_edge, tokens}
 use Rattle.sql_parts.proofs.fragments.DepthFacts.{has_top_level, has_top_level-is, is_balanced, is_balanced-is, is_even, is_operand-is}
 use Rattle.sql_parts.proofs.fragments.OperandFacts.{literal-serves}
-use Rattle.sql_parts.proofs.tokens.TokenFacts.{between-tokens}
+use Rattle.sql_parts.proofs.fragments.StringTextFacts.{closed-alike}
+use Rattle.sql_parts.proofs.tokens.JoinFacts.{enclosed-tokens}
+use Rattle.sql_parts.proofs.tokens.TokenFacts.{between-tokens, seam}
 use Rattle.sql_parts.specs.declared.delimiters.Quotes.TheVariants.{Single}
 use Rattle.sql_builder.specs.Calls.{Cond, SelectFrom, Sql}
 use Rattle.sql_builder.specs.Condition.{ConditionText, Compare, condition_bytes, condition_pieces, condition_raw_texts, has_operands, not_text}
@@ -25,8 +27,7 @@ use Rattle.sql_builder.specs.declared.condition.Family.TheVariants.{And}
 use Rattle.sql_builder.specs.declared.condition.Relation.TheVariants.{Eq}
 use Rattle.sql_builder.proofs.fragments.FitLemmas.{fit_conditions}
 use Rattle.sql_builder.proofs.pieces.ClauseShapeLemmas.{condition_keeps}
-use Rattle.sql_builder.proofs.pieces.ShapeLemmas.{Inside, Whole, brackets-inside, pieces_tokens-brackets, raw-inside, shaped, text-append}
-use Rattle.sql_builder.proofs.pieces.ShapeLemmas.{closing-last, words-first}
+use Rattle.sql_builder.proofs.pieces.ShapeLemmas.{Inside, brackets-inside, pieces_tokens-brackets, raw-inside, shaped, text-append}
 use Rattle.sql_builder.proofs.reading.ClauseWordLemmas.{are_fit-is, fit-balanced, fragments_closed}
 use Rattle.sql_builder.proofs.tokens.BalancedFacts.{IsPlain, balanced_closed, balanced_even, even_closes, even_text, has_top_level-append, is_balanced-brackets, is_condition-append, is_condition-joined}
 use Rattle.sql_builder.proofs.tokens.BalancedFacts.{is_even-append, is_even-brackets, no_clause-brackets}
@@ -36,18 +37,18 @@ use Rattle.sql_builder.proofs.truth.ConditionGroupLemmas.{condition-fit, pieces_
 use Rattle.sql_builder.proofs.truth.ConnectiveLemmas.{none-brackets, or3-False, truth_brackets}
 use Rattle.sql_builder.proofs.truth.TruthLemmas.{of_not}
 use Rattle.sql_builder.proofs.truth.WhereLemmas.{bracketed_groups, condition_closes, condition_no_clause, truth_group, truth_joined}
-use Rattle.sql_parts.specs.StringTexts.{blank, outline}
+use Rattle.sql_parts.specs.StringTexts.{blank, blank_token, outline}
 use Rattle.sql_builder.specs.Combined.{CombinedFollowTheirParts, ConditionsFollowTheirPieces, ExistsFollowsItsQuery, IsCombined, MasksFollowTheirField, NegationsFollowTheirPart}
 use Rattle.sql_builder.specs.Combined.{combined_text, constant_text, exists_text, joined_text, like_text, negation_text}
 use Rattle.sql_builder.specs.Interference.{piece_outline}
 use Rattle.sql_builder.proofs.conditions.ConditionLemmas as conditions
-use Rattle.sql_builder.proofs.conditions.ConditionLemmas.{condition_printed, like-between, condition_atom}
+use Rattle.sql_builder.proofs.conditions.ConditionLemmas.{condition_printed, condition_atom}
 use Rattle.sql_builder.proofs.interference.OutlineLemmas.{pieces-outline}
 use Rattle.sql_builder.proofs.fragments.PropertyLemmas as pieces
 use Rattle.sql_builder.proofs.pieces.LayoutMapLemmas.{joined_in_form}
 use Rattle.std.proofs.lemmas.List.{map-append}
 use Rattle.sql_builder.proofs.fragments.NeutralLemmas.{condition-inside}
-use Rattle.sql_builder.proofs.fragments.PropertyLemmas.{Passes, are_between, between, inside-joins, passes-joins, whatever, within}
+use Rattle.sql_builder.proofs.fragments.PropertyLemmas.{Passes, are_between, inside-joins, passes-joins, whatever, within}
 use Rattle.sql_builder.proofs.lists.AllFacts.{all-weaker, map-all, tested-all}
 use Rattle.std.proofs.lemmas.List.Folds.{list_all-map}
 
@@ -89,27 +90,18 @@ operands_balanced text serves (value ∷ values) = and_from _ _ (serves value).i
 
 -- ---- a mask in which `!` escapes
 
-abbrev escape : Pieces
-escape = fixed_piece (codes " ESCAPE '!'")
-
-like-pieces : Bool → List ℕ → List ℕ → Pieces
-like-pieces negated field mask = raw_piece field ++ (fixed_piece (not_text negated ++ codes " LIKE ") ++ (raw_piece mask ++ escape))
-
-like-inside : (negated : Bool) (field mask : List ℕ) → Inside (like-pieces negated field mask)
-unfolding like-pieces
-like-inside negated field mask =
-    between inside-joins (not_text negated ++ codes " LIKE ") (raw_piece field) (raw_piece mask ++ escape) (like-between negated) (raw-inside field)
-    (inside-joins.append (raw_piece mask) escape (raw-inside mask) (inside-joins.ending (codes " ESCAPE '!'") refl refl))
-
-like-closed : (negated : Bool) (field mask : List ℕ) → is_fragment field ≡ true → is_fragment mask ≡ true
-    → has_closed_fragments (like-pieces negated field mask) ≡ true
-unfolding like-pieces
-like-closed negated field mask is masks =
-    and_from _ _ (text_closed field is) (and_from _ _ (text_closed mask masks) refl)
-
 -- what is behind a mask
 abbrev ending : List Token
 ending = Word (codes "ESCAPE") ∷ Str (codes "!") ∷ []
+
+like-tokens : (negated : Bool) (field mask : List ℕ) → closed field ≡ true → closed mask ≡ true
+    → tokens (like_text negated field mask) ≡ tokens field ++ (tokens (not_text negated ++ codes " LIKE ") ++ (tokens mask ++ ending))
+like-tokens true field mask shut also =
+    seam field (codes " NOT LIKE " ++ (mask ++ codes " ESCAPE '!'")) shut (or_right _ true refl)
+    ∙ ap (λ ts. tokens field ++ ts) (enclosed-tokens (codes " NOT LIKE ") mask (codes " ESCAPE '!'") refl refl also refl)
+like-tokens false field mask shut also =
+    seam field (codes " LIKE " ++ (mask ++ codes " ESCAPE '!'")) shut (or_right _ true refl)
+    ∙ ap (λ ts. tokens field ++ ts) (enclosed-tokens (codes " LIKE ") mask (codes " ESCAPE '!'") refl refl also refl)
 
 -- a mask and what is behind it, between which no test finds another top-level token
 masked : (test : Token → Bool) (mask : List ℕ) → is_fragment mask ≡ true → has_top_level test (tokens mask) ≡ false → has_top_level test ending ≡ false
@@ -117,8 +109,7 @@ masked : (test : Token → Bool) (mask : List ℕ) → is_fragment mask ≡ true
 masked test mask is none last = has_top_level-append test (tokens mask) ending (even_text mask (and_parts (balanced mask) _ is).0) ∙ or_from _ _ none last
 
 like-condition : (negated : Bool) (field mask : List ℕ) → is_condition (tokens field) ≡ true → is_fragment mask ≡ true
-    → is_condition (pieces_tokens (like-pieces negated field mask)) ≡ true
-unfolding like-pieces
+    → is_condition (tokens field ++ (tokens (not_text negated ++ codes " LIKE ") ++ (tokens mask ++ ending))) ≡ true
 like-condition negated field mask is masks = by negated
   where
     even : is_even (tokens mask ++ ending) ≡ true
@@ -127,16 +118,15 @@ like-condition negated field mask is masks = by negated
     plain : has_clause (tokens mask ++ ending) ≡ false
     plain = masked is_clause_word mask masks (not-true _ (and_parts (is_balanced (tokens mask)) _ (condition-of mask masks)).1) refl
 
-    by : (negated : Bool) → is_condition (pieces_tokens (like-pieces negated field mask)) ≡ true
+    by : (negated : Bool) → is_condition (tokens field ++ (tokens (not_text negated ++ codes " LIKE ") ++ (tokens mask ++ ending))) ≡ true
     by true = is_condition-append (tokens field) (not_word ∷ like_word ∷ (tokens mask ++ ending)) is even plain
     by false = is_condition-append (tokens field) (like_word ∷ (tokens mask ++ ending)) is even plain
 
 pub like_fragment : (negated : Bool) (field mask : List ℕ) → is_fragment field ≡ true → is_fragment mask ≡ true
     → is_fragment (like_text negated field mask) ≡ true
-unfolding like-pieces
 like_fragment negated field mask is masks =
-    from-pieces (like-pieces negated field mask) (like-inside negated field mask) (like-closed negated field mask is masks)
-    (like-condition negated field mask (condition-of field is) masks)
+    fragment-is (like_text negated field mask) ∙ ap is_condition (like-tokens negated field mask (text_closed field is) (text_closed mask masks))
+    ∙ like-condition negated field mask (condition-of field is) masks
 
 -- ---- atoms
 
@@ -150,24 +140,20 @@ pub constant_is_atom : (holds : Bool) → IsAtom (tokens (constant_text holds))
 constant_is_atom true = condition_is_atom (Compare Eq (codes "1") (codes "1")) refl
 constant_is_atom false = condition_is_atom (Compare Eq (codes "1") (codes "0")) refl
 
-like-atom : (negated : Bool) (field mask : List ℕ) → operand field ≡ true → ServesAsOperand mask → IsAtom (pieces_tokens (like-pieces negated field mask))
-unfolding like-pieces
+like-atom : (negated : Bool) (field mask : List ℕ) → operand field ≡ true → ServesAsOperand mask
+    → IsAtom (tokens field ++ (tokens (not_text negated ++ codes " LIKE ") ++ (tokens mask ++ ending)))
 like-atom negated field mask is serves = by negated
   where
     plain : has_top_level is_joining (tokens mask ++ ending) ≡ false
     plain = masked is_joining mask (fits_as refl serves) (operand_plain (tokens mask) (sym (is_operand-is (tokens mask)) ∙ serves.is_operand)) refl
 
-    by : (negated : Bool) → IsAtom (pieces_tokens (like-pieces negated field mask))
+    by : (negated : Bool) → IsAtom (tokens field ++ (tokens (not_text negated ++ codes " LIKE ") ++ (tokens mask ++ ending)))
     by true = atom_plain (tokens field) not_word (like_word ∷ (tokens mask ++ ending)) (sym (is_operand-is (tokens field)) ∙ is) plain
     by false = atom_plain (tokens field) like_word (tokens mask ++ ending) (sym (is_operand-is (tokens field)) ∙ is) plain
 
 pub like_is_atom : (negated : Bool) (field mask : List ℕ) → ServesAsOperand field → ServesAsOperand mask → IsAtom (tokens (like_text negated field mask))
-unfolding like-pieces
 like_is_atom negated field mask serves masks =
-    subst IsAtom
-    (sym ((shaped (like-pieces negated field mask) (like-inside negated field mask)).shape_is
-    (like-closed negated field mask (fits_as refl serves) (fits_as refl masks))))
-    (like-atom negated field mask serves.is_operand masks)
+    subst IsAtom (sym (like-tokens negated field mask serves.is_closed masks.is_closed)) (like-atom negated field mask serves.is_operand masks)
 
 -- ---- conditions joined by a word
 
@@ -337,43 +323,33 @@ alike one other same inside also shut = pieces-outline one other same (shaped on
 
 -- ---- NOT and EXISTS
 
-opened : List ℕ → List ℕ → Pieces
-opened words text = fixed_piece words ++ (raw_piece text ++ fixed_piece (codes ")"))
-
-opened-inside : (words text : List ℕ) → Whole words → ends_with is_edge words ≡ true → Inside (opened words text)
-unfolding opened
-opened-inside words text is ends = words-first words (raw_piece text ++ fixed_piece (codes ")")) is ends (closing-last (raw_piece text) (raw-inside text))
-
-opened-alike : (words one other : List ℕ) → Whole words → ends_with is_edge words ≡ true → outline one ≡ outline other → closed one ≡ true
+opened-alike : (words one other : List ℕ) → closed words ≡ true → ends_with is_edge words ≡ true → outline one ≡ outline other → closed one ≡ true
     → outline (words ++ (one ++ codes ")")) ≡ outline (words ++ (other ++ codes ")"))
-unfolding opened
 opened-alike words one other is ends same shut =
-    alike (opened words one) (opened words other)
-    (ap (λ (text : List Token). outlines (fixed_piece words) ++ (text ∷ outlines (fixed_piece (codes ")")))) same)
-    (opened-inside words one is ends) (opened-inside words other is ends) (and_from _ _ shut refl)
+    parted one shut ∙ ap (λ ts. outline words ++ (ts ++ right_bracket ∷ [])) same ∙ sym (parted other (closed-alike one other same shut))
+  where
+    parted : (text : List ℕ) → closed text ≡ true → outline (words ++ (text ++ codes ")")) ≡ outline words ++ (outline text ++ right_bracket ∷ [])
+    parted text shut =
+        ap blank (enclosed-tokens words text (codes ")") is ends shut refl) ∙ map-append blank_token (tokens words) (tokens text ++ right_bracket ∷ [])
+        ∙ ap (λ ts. outline words ++ ts) (map-append blank_token (tokens text) (right_bracket ∷ []))
 
 front-condition : (front ts : List Token) → is_condition front ≡ true → is_even ts ≡ true → is_condition (front ++ in_brackets ts) ≡ true
 front-condition front ts is even = is_condition-append front (in_brackets ts) is (is_even-brackets ts even) (no_clause-brackets ts even)
 
-negation-inside : (text : List ℕ) → Inside (opened (codes "NOT (") text)
-negation-inside text = opened-inside (codes "NOT (") text (record { is_closed = refl; plain = refl }) refl
-
-negation-are : (text : List ℕ) → pieces_tokens (opened (codes "NOT (") text) ≡ not_word ∷ in_brackets (tokens text)
-unfolding opened in_brackets
-negation-are text = refl
+negation-tokens : (text : List ℕ) → is_fragment text ≡ true → tokens (negation_text text) ≡ not_word ∷ in_brackets (tokens text)
+unfolding in_brackets
+negation-tokens text is = enclosed-tokens (codes "NOT (") text (codes ")") refl refl (text_closed text is) refl
 
 pub negation_fragment : (text : List ℕ) → is_fragment text ≡ true → is_fragment (negation_text text) ≡ true
-unfolding opened
 negation_fragment text is =
-    from-pieces (opened (codes "NOT (") text) (negation-inside text) (fragment_closed text is)
-    (ap is_condition (negation-are text) ∙ front-condition (not_word ∷ []) (tokens text) refl (even_text text (and_parts (balanced text) _ is).0))
+    fragment-is (negation_text text) ∙ ap is_condition (negation-tokens text is)
+    ∙ front-condition (not_word ∷ []) (tokens text) refl (even_text text (and_parts (balanced text) _ is).0)
 
 pub negation_truth : (text : List ℕ) → is_fragment text ≡ true → (facts : Valuation) → truth facts (tokens (negation_text text)) ≡ not3 (truth facts (tokens text))
-unfolding opened
 negation_truth text is facts =
     let ts = tokens text in
     let here = condition-of text is in
-    ap (truth facts) ((shaped (opened (codes "NOT (") text) (negation-inside text)).shape_is (fragment_closed text is) ∙ negation-are text)
+    ap (truth facts) (negation-tokens text is)
     ∙ of_not facts (in_brackets ts) (not_from_false _ (has_top_level-is is_joining (in_brackets ts) ∙ none-brackets is_joining ts refl (condition_closes ts here)))
     ∙ ap not3 (truth-in facts ts here)
 
@@ -381,16 +357,12 @@ exists_word : Token
 exists_word = Word (codes "EXISTS")
 
 exists-tokens : (query : List ℕ) → balanced query ≡ true → tokens (exists_text false query) ≡ exists_word ∷ in_brackets (tokens query)
-unfolding opened in_brackets exists_word
-exists-tokens query is =
-    (shaped (opened (codes "EXISTS (") query) (opened-inside (codes "EXISTS (") query (record { is_closed = refl; plain = refl }) refl)).shape_is
-    (and_from _ _ (balanced_closed query is) refl)
+unfolding in_brackets exists_word
+exists-tokens query is = enclosed-tokens (codes "EXISTS (") query (codes ")") refl refl (balanced_closed query is) refl
 
 not-exists-tokens : (query : List ℕ) → balanced query ≡ true → tokens (exists_text true query) ≡ not_word ∷ exists_word ∷ in_brackets (tokens query)
-unfolding opened in_brackets exists_word
-not-exists-tokens query is =
-    (shaped (opened (codes "NOT EXISTS (") query) (opened-inside (codes "NOT EXISTS (") query (record { is_closed = refl; plain = refl }) refl)).shape_is
-    (and_from _ _ (balanced_closed query is) refl)
+unfolding in_brackets exists_word
+not-exists-tokens query is = enclosed-tokens (codes "NOT EXISTS (") query (codes ")") refl refl (balanced_closed query is) refl
 
 pub exists_fragment : (negated : Bool) (query : List ℕ) → balanced query ≡ true → is_fragment (exists_text negated query) ≡ true
 unfolding exists_word
@@ -427,15 +399,21 @@ condition_outline one other same shut =
     ∙ ap outline (condition_printed other)
 
 pub mask_outline : MasksFollowTheirField
-unfolding like-pieces
 mask_outline negated one other mask other_mask same is =
-    alike (like-pieces negated one (quoted mask)) (like-pieces negated other (quoted other_mask))
-    (λ i. same i ∷ blank (tokens (not_text negated ++ codes " LIKE ")) ∷ quotes i ∷ blank (tokens (codes " ESCAPE '!'")) ∷ [])
-    (like-inside negated one (quoted mask)) (like-inside negated other (quoted other_mask))
-    (like-closed negated one (quoted mask) is (fits_as refl (literal-serves (literal.words mask))))
+    parted one mask (text_closed one is) ∙ (λ i. same i ++ (words ++ (quotes i ++ blank ending)))
+    ∙ sym (parted other other_mask (closed-alike one other same (text_closed one is)))
   where
+    words : List Token
+    words = blank (tokens (not_text negated ++ codes " LIKE "))
+
     quotes : outline (quoted mask) ≡ outline (quoted other_mask)
     quotes = ap blank (between-tokens Single mask) ∙ sym (ap blank (between-tokens Single other_mask))
+
+    parted : (field mask : List ℕ) → closed field ≡ true → outline (like_text negated field (quoted mask)) ≡ outline field ++ (words ++ (outline (quoted mask) ++ blank ending))
+    parted field mask shut =
+        ap blank (like-tokens negated field (quoted mask) shut (literal-serves (literal.words mask)).is_closed) ∙ map-append blank_token (tokens field) _
+        ∙ ap (λ ts. outline field ++ ts) (map-append blank_token (tokens (not_text negated ++ codes " LIKE ")) _
+        ∙ ap (λ ts. words ++ ts) (map-append blank_token (tokens (quoted mask)) ending))
 
 bracketed-outlines : (one other : List (List ℕ)) → map outline one ≡ map outline other
     → map outlines (map bracketed one) ≡ map outlines (map bracketed other)
@@ -478,10 +456,10 @@ combined_outline true (t ∷ ts) (u ∷ us) same all = joined-alike and_joins t 
 combined_outline false (t ∷ ts) (u ∷ us) same all = joined-alike or_joins t ts (u ∷ us) same all
 
 pub negation_outline : NegationsFollowTheirPart
-negation_outline one other same is = opened-alike (codes "NOT (") one other (record { is_closed = refl; plain = refl }) refl same (text_closed one is)
+negation_outline one other same is = opened-alike (codes "NOT (") one other refl refl same (text_closed one is)
 
 pub exists_outline : ExistsFollowsItsQuery
 exists_outline true one other same is =
-    opened-alike (codes "NOT EXISTS (") one other (record { is_closed = refl; plain = refl }) refl same (balanced_closed one is)
+    opened-alike (codes "NOT EXISTS (") one other refl refl same (balanced_closed one is)
 exists_outline false one other same is =
-    opened-alike (codes "EXISTS (") one other (record { is_closed = refl; plain = refl }) refl same (balanced_closed one is)
+    opened-alike (codes "EXISTS (") one other refl refl same (balanced_closed one is)

@@ -5,13 +5,13 @@ use Rattle.std.specs.Ordering.{int_eq}
 use Rattle.std.specs.Prelude.{int_le, nat_lt, if◌then◌else◌}
 use Rattle.std.proofs.lemmas.List.Sums.{sum_by-cons}
 use Rattle.std.proofs.lemmas.List.{length-map, take-map}
-use Rattle.sql_parts.specs.StringTexts.{BlankSomewhere, IgnoresStrings, are_strings, blank, blank_at, blank_token, nowhere}
+use Rattle.sql_parts.specs.StringTexts.{BlankSomewhere, IgnoresStrings, are_strings, blank, blank_at, blank_token, nowhere, outline}
 use Rattle.sql_parts.specs.Fragments.{any_token, has_ands, has_left_sides, has_top_level, has_right_sides, is_at, is_balanced, is_before, is_between}
 use Rattle.sql_parts.specs.Fragments.{is_closing}
 use Rattle.sql_parts.specs.Fragments.{is_dangling, is_joining, brackets_match, is_opening, is_operand, is_whole, is_word, depth_at, lowers, needs_left}
 use Rattle.sql_parts.specs.Fragments.{needs_right}
 use Rattle.sql_parts.specs.Fragments.{places, raises, weight}
-use Rattle.sql_parts.specs.Tokens.{Token, Word, Str, Name, Symbol, Open, begins_with, ends_with, is_empty}
+use Rattle.sql_parts.specs.Tokens.{Token, Word, Str, Name, Symbol, Open, begins_with, closed, ends_with, is_empty, is_open, tokens}
 
 -- a test that says the same of a string token whatever its text is
 abbrev pub Ignores : (Token → Bool) → Type 0
@@ -149,3 +149,8 @@ nowhere-first (t ∷ ts) places more = ap (λ rest. t ∷ rest) (nowhere-first t
 pub strings-first : (ts : List Token) (places : List Bool) (more : List Token) → are_strings (nowhere ts ++ places) (ts ++ more) ≡ are_strings places more
 strings-first [] places more = refl
 strings-first (t ∷ ts) places more = strings-first ts places more
+
+-- a text is closed where one is that is the same but for texts of strings
+pub closed-alike : (one other : List ℕ) → outline one ≡ outline other → closed one ≡ true → closed other ≡ true
+closed-alike one other same is =
+    ap not (sym (any-blank is_open (λ t. refl) (tokens other)) ∙ ap (list_any is_open) (sym same) ∙ any-blank is_open (λ t. refl) (tokens one)) ∙ is

@@ -25,6 +25,12 @@ clean-behind one other ends = or_left _ _ (or_right (is_empty one || is_empty ot
 pub clean-before : (one other more : List ℕ) → begins_with is_edge other ≡ true → clean one (other ++ more) ≡ true
 clean-before one other more begins = or_right _ _ (begins-append is_edge other more begins)
 
+-- a text between others, the edges of which are beside it
+pub enclosed-tokens : (front text behind : List ℕ) → closed front ≡ true → ends_with is_edge front ≡ true → closed text ≡ true → begins_with is_edge behind ≡ true
+    → tokens (front ++ (text ++ behind)) ≡ tokens front ++ (tokens text ++ tokens behind)
+enclosed-tokens front text behind shut ends also begins =
+    seam front (text ++ behind) shut (clean-behind front (text ++ behind) ends) ∙ ap (λ ts. tokens front ++ ts) (seam text behind also (or_right _ _ begins))
+
 pub joined-tokens : (between text : List ℕ) (texts : List (List ℕ)) → Edged between → AllByRecursion (λ t. closed t ≡ true) (text ∷ texts)
     → tokens (join_with between (text ∷ texts)) ≡ join_with (tokens between) (map tokens (text ∷ texts))
 joined-tokens between text [] edged each = ap tokens (append-nil text) ∙ sym (append-nil (tokens text))

@@ -1,11 +1,10 @@
 -- Worked rows of clauses behind a text: what the definitions give, by computing.
 use Rattle.std.specs.Prelude.{◌≡◌, ℕ, List, [], ◌∷◌, ◌++◌, codes, refl, true, false}
-use Rattle.sql_parts.specs.Holes.{filled}
+use Rattle.sql_parts.specs.Holes.{filled, holes_apart}
 use Rattle.sql_parts.specs.Quoting.{quoted}
 use Rattle.sql_parts.specs.StringTexts.{outline}
 use Rattle.sql_parts.specs.Tokens.{Word, tokens}
-use Rattle.sql_typed.specs.Whole.{combined_text, conflict_text, inserted_text, is_whole, lock_text, may_be_behind, may_follow, may_join, named_text, set_text}
-use Rattle.sql_typed.specs.Whole.{with_clauses}
+use Rattle.sql_typed.specs.Whole.{combined_text, conflict_text, inserted_text, is_whole, lock_text, may_follow, may_join, named_text, set_text}
 use Rattle.sql_typed.specs.declared.printed.Lock.TheVariants.{Update, Share}
 use Rattle.sql_typed.specs.declared.printed.Wait.TheVariants.{NoWait, SkipLocked}
 
@@ -52,9 +51,12 @@ except = refl
 abbrev upsert : List ℕ → List ℕ
 upsert text = codes "INSERT INTO t (a) VALUES (1) ON CONFLICT (a)" ++ set_text (codes " DO UPDATE SET ") (codes "b") (quoted text)
 
-as_clauses : upsert (codes "c")
-    ≡ with_clauses (codes "INSERT INTO t (a) VALUES (1) ON CONFLICT (a)") ((codes " DO UPDATE SET ", codes "b") ∷ (codes " = ", codes "'c'") ∷ [])
-as_clauses = refl
+as_a_template : upsert (codes "c")
+    ≡ filled (codes "INSERT INTO t (a) VALUES (1)" ∷ codes "b" ∷ codes "'c'" ∷ []) (codes "? ON CONFLICT (a) DO UPDATE SET ? = ?")
+as_a_template = refl
+
+words_that_join : holes_apart (codes "? ON CONFLICT (a) DO UPDATE SET ? = ?") ≡ true
+words_that_join = refl
 
 hostile_upsert : outline (upsert (codes "c' WHERE 1 = 0; DROP TABLE t; --")) ≡ outline (upsert [])
 hostile_upsert = refl
@@ -62,8 +64,8 @@ hostile_upsert = refl
 hostile_template : outline (filled (quoted (codes "?' OR '1' = '1") ∷ []) (codes "DELETE FROM t WHERE a = ?;")) ≡ tokens (codes "DELETE FROM t WHERE a = '';")
 hostile_template = refl
 
-words_without_an_edge : may_be_behind (codes " DO UPDATE SET", codes "b") ≡ false
-words_without_an_edge = refl
+words_that_touch : holes_apart (codes "? ON CONFLICT (a) DO UPDATE SET? = ?") ≡ false
+words_that_touch = refl
 
-no_tokens_stay : tokens (with_clauses (codes "t") ((codes " SET", codes "b") ∷ [])) ≡ Word (codes "t") ∷ Word (codes "SETb") ∷ []
+no_tokens_stay : tokens (filled (codes "t" ∷ codes "b" ∷ []) (codes "? SET?")) ≡ Word (codes "t") ∷ Word (codes "SETb") ∷ []
 no_tokens_stay = refl
