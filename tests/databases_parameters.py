@@ -2,14 +2,15 @@
 """Runs statements by types with hostile texts as values beside them, by each database's own protocol, and compares what they find.
 
 tests/databases_parameters.rt.txt makes the statements, with `?1`, `$1` and `?`, and their values in order. Every text is bound in each
-argument that takes a value: both sides of each condition, masks of LIKE, lists, bounds, rows, `set`, RETURNING, HAVING, ON, LIMIT and
-OFFSET, fields, and queries in queries. A statement's text has to be the same for all of them, and the values of `?` those of the numbers
-in their order. Then SQLite (by Python's sqlite3), PostgreSQL (by libpq's PQexecParams, in the binary format, and as texts), MariaDB with
-its defaults (by prepared statements of its C library) and the kit's `sqlite` run each, and have to find or store just what is meant.
+argument that takes a value: both sides of each condition, masks of LIKE, lists, bounds, rows, `set`, RETURNING, HAVING, ON, GROUP BY,
+ORDER BY, LIMIT and OFFSET, fields, holes of templates, and queries in queries. A statement's text has to be the same for all of them, and
+the values of `?` those of the numbers in their order. Then SQLite (by Python's sqlite3), PostgreSQL (by libpq's PQexecParams, in the
+binary format, and as texts), MariaDB with its defaults (by prepared statements of its C library) and the kit's `sqlite` run each, and
+have to find or store just what is meant.
 
 Some is otherwise, and counted: a text with a zero byte is refused by PostgreSQL, and cut there by libpq where it goes as a text; SQLite's
 LIKE reads masks and texts up to their first zero byte; and MariaDB compares two values by the collation of the client's character set,
-without case. What the kit's SQL doesn't have, it refuses. What is not installed is printed as SKIPPED. The program is proved and built
+without case. A text in LIMIT is refused, or its number is how many rows there are. What the kit's SQL doesn't have, it refuses. What is not installed is printed as SKIPPED. The program is proved and built
 first, in a temporary folder. The status is 0 where all was so, and some was measured."""
 
 import collections
@@ -57,6 +58,12 @@ CALLS = {
     "count": lambda text, rows: [(b"3",)],
     **dict.fromkeys(("limit", "or_where", "on", "on_eq", "having", "tables", "union"), lambda text, rows: rows),
     "union_all": lambda text, rows: rows * 2,
+    "group_by": lambda text, rows: [(b"3",)],
+    # the first of all
+    "order_asc": lambda text, rows: [(b"0",)],
+    "condition of a template": lambda text, rows: rows,
+    "operand of a template": lambda text, rows: [(text.encode(),)],
+    "statement of a template": lambda text, rows: [],
 }
 # What is in the table `one` behind some.
 LEAVES = {
@@ -64,6 +71,7 @@ LEAVES = {
     "row": lambda text: [*EMPTY, (b"4", text.encode())],
     "values": lambda text: [*EMPTY, (b"4", text.encode())],
     "delete": lambda text: [EMPTY[0], EMPTY[2]],
+    "statement of a template": lambda text: [*EMPTY, (b"4", text.encode())],
 }
 CONDITIONS = {
     **{it.__name__: it for it in (operator.eq, operator.ne, operator.gt, operator.ge, operator.lt, operator.le)},
@@ -92,6 +100,8 @@ CONDITIONS = {
 NAMES = [*CALLS, *CONDITIONS, *(it + OF_TEXT for it in CONDITIONS)]
 FITS = [*CONDITIONS.values()]
 MASKS = ("containing", "starting_with", "ending_with")
+# What the kit's SQL takes no value in.
+NOT_IN_KIT = ("group_by", "order_asc")
 # Conditions on the text that compare it with another value.
 BY_ORDER = ("between", "between, the other", "not_between", "not_between, the other", "any of two")
 # The most values that PostgreSQL and MariaDB take. Debian's SQLite takes more.
@@ -273,6 +283,19 @@ def check_bound(db, number, tally):
         tally.expect(f"{db.name}: {statement} with {value!r}", found, finds[number])
 
 
+def check_limit(db, number, tally):
+    """Gives how many texts a database refuses in LIMIT. Of each other one it has to take the number at the front for that of the rows."""
+    refused, statement = 0, f"SELECT id FROM one ORDER BY id LIMIT {('?1', '$1', '?')[number]}"
+    for text in TEXTS:
+        try:
+            found = b"".join(it[0] for it in db.run_with(statement, [text])).decode()
+        except Refused:
+            refused += 1
+            continue
+        tally.expect(f"{db.name}: LIMIT by {text!r}", found, "123"[: int(re.match("[0-9]*", text)[0] or 0)])
+    return refused
+
+
 def check_positional(db, positional, tally):
     """Compares what MariaDB makes of each of POSITIONAL."""
     for (statement, gives, takes, finds), (text, values) in zip(POSITIONAL, positional):
@@ -305,13 +328,13 @@ def show(name, results, tally, has_zeros):
 
 def may_be(name, statement, result, is_refused_zero):
     """Whether this result is right, or known to come."""
-    if name.startswith("the kit") and statement.is_masked:
+    if name.startswith("the kit") and (statement.is_masked or statement.name in NOT_IN_KIT):
         return result == "refused"
     return result in ("same", "cut", "collated") or is_refused_zero and (result == "refused" or "as texts" in name)
 
 
 def main():
-    tally = Tally("databases_parameters")
+    tally, limited = Tally("databases_parameters"), {}
     statements, positional = made()
     check(statements, tally)
     row("database", "texts", "statements", "as meant", "LIKE to a zero byte", "without case", "otherwise", "refused")
@@ -335,6 +358,7 @@ def main():
                 texts = tuple(it for it in TEXTS if has_zeros or ZERO not in it)
                 prepare(db, texts)
                 check_bound(db, number, tally)
+                limited[db.name] = check_limit(db, number, tally)
                 if product == "MariaDB":
                     check_positional(db, positional, tally)
                 for way, run in runs.items():
@@ -349,7 +373,8 @@ def main():
     results = [(it, of_kit(it, tuple(TEXTS))) for it in statements]
     show("the kit's sqlite", results, tally, True)
     refused = {it.name for it, result in results if result == "refused"}
-    print(f"\nThe kit's sqlite refuses: {', '.join(it for it in NAMES if it in refused)}\n")
+    print(f"\nThe kit's sqlite refuses: {', '.join(it for it in NAMES if it in refused)}")
+    print(f"How many texts are refused in LIMIT: {', '.join(f'{it} of {name}' for name, it in limited.items())}\n")
     return tally.end()
 
 
