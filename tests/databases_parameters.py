@@ -10,8 +10,9 @@ have to find or store just what is meant.
 
 Some is otherwise, and counted: a text with a zero byte is refused by PostgreSQL, and cut there by libpq where it goes as a text; SQLite's
 LIKE reads masks and texts up to their first zero byte; and MariaDB compares two values by the collation of the client's character set,
-without case. A text in LIMIT is refused, or its number is how many rows there are. What the kit's SQL doesn't have, it refuses. What is not installed is printed as SKIPPED. The program is proved and built
-first, in a temporary folder. The status is 0 where all was so, and some was measured."""
+without case. A text in LIMIT is refused, or its digits at the front say how many rows there are. What the kit's SQL doesn't have, it
+refuses. What is not installed is printed as SKIPPED. The program is proved and built first, in a temporary folder. The status is 0 where
+all was so, and some was measured."""
 
 import collections
 import functools
