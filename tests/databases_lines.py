@@ -1,10 +1,11 @@
 #!/usr/bin/env python3
-"""Runs the lines of SQL that a service writes, and templates with hostile texts in each hole, on real databases.
+"""Runs the lines of SQL that a service writes, and templates and clauses with hostile texts in each argument, on real databases.
 
 tests/databases_lines.rt.txt makes both by types. Each line has to find or leave the same rows on all databases that have such SQL. The others
-have to refuse it, but for what OTHERWISE names. Each text of tests/databases_parameters.py goes into each hole of each
-template, as a `Value` and as a parameter: the statement has to be the template with the text's literal or a placeholder in each hole, and to
-find or store just what is meant. MariaDB is measured with NO_BACKSLASH_ESCAPES for `Value`s, and with its defaults for parameters.
+have to refuse it, but for what OTHERWISE names. Each text of tests/databases_parameters.py goes into each hole of each template, and into
+each argument of an upsert, WITH, INSERT of a query, INTERSECT, EXCEPT, EXISTS and a lock that takes a value, as a `Value` and as a
+parameter: the statement has to be the text below with the text's literal or a placeholder for each `?`, and to find and store just what is
+meant. MariaDB is measured with NO_BACKSLASH_ESCAPES for `Value`s, and with its defaults for parameters.
 
 A text with a zero byte may be refused, and MariaDB's lower() goes beyond ASCII. What is not installed is printed as SKIPPED. The program is
 proved and built first, in a temporary folder. The status is 0 where all was so, and some was measured."""
@@ -50,8 +51,12 @@ LINES = {
     "JSON of MariaDB": ("MariaDB", ids(1)),
     "JSON keys": ("PostgreSQL", ids(1, 2)),
     "upsert": ("SQLite PostgreSQL kit", [], TITLES, [("it's",), ("Жар-птица 🙂",), ("SEA",)]),
-    "upsert of MariaDB": ("MariaDB", [], TITLES, [("it's",), ("Жар-птица 🙂",), ("SEA",)]),
+    "upsert of two fields": ("SQLite PostgreSQL kit", [("Eve",)], TITLES, [("it's",), ("Жар-птица 🙂",), ("SEA",)]),
+    "upsert of nothing": ("SQLite PostgreSQL kit", [], TITLES, [("It's 50% off",), ("Жар-птица 🙂",), ("SEA",)]),
+    "upsert of MariaDB": ("MariaDB", [("Eve",)], TITLES, [("it's",), ("Жар-птица 🙂",), ("SEA",)]),
     "WITH": (ALL, ids(1)),
+    "WITH of two queries": (ALL, ids(1)),
+    "WITH RECURSIVE": (ALL, ids(1, 2, 3)),
     "parameters": (ALL, ids(1)),
     "schema of SQLite": ("SQLite", ids(1, 2, 3)),
     "schema of PostgreSQL": ("PostgreSQL", ids(1, 2, 3)),
@@ -71,6 +76,11 @@ LINES = {
     "rows": (ALL, [], "SELECT title FROM old", [("it's",), ("b",)]),
     "Unicode": (ALL, ids(2)),
     "locks": ("PostgreSQL MariaDB", ids(1)),
+    "locks that skip": ("PostgreSQL MariaDB", ids(1)),
+    "locks that fail": ("PostgreSQL MariaDB", ids(1)),
+    "shared locks": ("PostgreSQL", ids(1)),
+    "INTERSECT": (ALL, ids(1)),
+    "EXCEPT": (ALL, ids(3)),
     "EXISTS": (ALL, ids(3)),
     "NOT EXISTS": (ALL, ids(1, 2)),
     "a query that is compared with": (ALL, ids(2)),
@@ -96,27 +106,79 @@ def all_ids(texts, fits):
     return [number for number, it in enumerate(texts) if fits(it)]
 
 
-# The statements of templates with what each finds, in the order of tests/databases_lines.rt.txt; behind some this row of `one` has the text.
+def by(fits):
+    """What finds the rows of the texts that fit."""
+    return lambda texts, text, low: [(b"%d" % it,) for it in all_ids(texts, lambda one: fits(one, text, low))]
+
+
+def found_first(texts, text, low):
+    return [(b"%d" % it,) for it in first(texts, lambda one: one == text)]
+
+
+def given(texts, text, low):
+    return [(text.encode(),)]
+
+
+def none(texts, text, low):
+    return []
+
+
+def second(text):
+    return kept(text, 2)
+
+
+def fourth(text):
+    return [*EMPTY, (b"4", text.encode())]
+
+
+def unchanged(text):
+    return EMPTY
+
+
+same = by(lambda it, text, low: it == text)
+TWO, FOUR = "INSERT INTO one (id, x) VALUES (2, ?)", "INSERT INTO one (id, x) VALUES (4, ?)"
+THOSE = "SELECT id FROM texts WHERE x = ?"
+OF_ONE = "EXISTS (SELECT one.id FROM one WHERE (one.id = 1) AND (texts.x = ?));"
+# The statements in the order of tests/databases_lines.rt.txt, with what each finds, and what it leaves in the table `one`.
 TEMPLATES = {
-    "SELECT id FROM texts WHERE instr(x, ?) > 0;": lambda texts, text, low: all_ids(texts, lambda it: text in it),
-    "SELECT id FROM texts WHERE strpos(x, ?) > 0;": lambda texts, text, low: all_ids(texts, lambda it: text in it),
-    "SELECT id FROM texts WHERE lower(x) = lower(?);": lambda texts, text, low: all_ids(texts, lambda it: low(it) == low(text)),
-    "SELECT id FROM texts WHERE lower(x) = (lower(?));": lambda texts, text, low: all_ids(texts, lambda it: low(it) == low(text)),
-    "SELECT id FROM texts WHERE CASE WHEN (x = ?) THEN ? ELSE 'b' END = ?;": lambda texts, text, low: all_ids(
-        texts, lambda it: (text if it == text else "b") == text
+    "SELECT id FROM texts WHERE instr(x, ?) > 0;": (by(lambda it, text, low: text in it), unchanged),
+    "SELECT id FROM texts WHERE strpos(x, ?) > 0;": (by(lambda it, text, low: text in it), unchanged),
+    "SELECT id FROM texts WHERE lower(x) = lower(?);": (by(lambda it, text, low: low(it) == low(text)), unchanged),
+    "SELECT id FROM texts WHERE lower(x) = (lower(?));": (by(lambda it, text, low: low(it) == low(text)), unchanged),
+    "SELECT id FROM texts WHERE CASE WHEN (x = ?) THEN ? ELSE 'b' END = ?;": (by(lambda it, text, low: it == text or text == "b"), unchanged),
+    "SELECT id FROM texts ORDER BY CASE WHEN x = ? THEN 0 ELSE 1 END, id LIMIT 1;": (found_first, unchanged),
+    "UPDATE one SET x = COALESCE(?, x) WHERE id = 2;": (none, second),
+    f"WITH u AS ({THOSE}) SELECT id FROM u;": (same, unchanged),
+    f"{TWO} ON CONFLICT (id) DO UPDATE SET x = ?;": (none, second),
+    f"{TWO} ON CONFLICT (id) DO UPDATE SET x = ? RETURNING x;": (given, second),
+    f"{TWO} ON CONFLICT (id) DO UPDATE SET id = 2, x = ? RETURNING ?;": (given, second),
+    f"{TWO} ON CONFLICT (id) DO UPDATE SET x = excluded.x;": (none, second),
+    f"{TWO} ON CONFLICT (id) DO NOTHING;": (none, unchanged),
+    f"{FOUR} ON CONFLICT DO NOTHING RETURNING x;": (given, fourth),
+    f"{TWO} ON DUPLICATE KEY UPDATE x = ?, x = ?;": (none, second),
+    f"{TWO} ON DUPLICATE KEY UPDATE id = 2, x = VALUES(x) RETURNING x;": (given, second),
+    "INSERT INTO one (id, x) SELECT 4, x FROM texts WHERE x = ?;": (none, fourth),
+    "INSERT INTO one (id, x) SELECT 2, x FROM texts WHERE x = ? ON CONFLICT (id) DO UPDATE SET x = ?;": (none, second),
+    f"WITH u AS ({THOSE}), v AS ({THOSE}) SELECT id FROM texts WHERE (x = ?) AND (id IN (SELECT id FROM u)) AND (id IN (SELECT id FROM v));": (
+        same,
+        unchanged,
     ),
-    "SELECT id FROM texts ORDER BY CASE WHEN x = ? THEN 0 ELSE 1 END, id LIMIT 1;": lambda texts, text, low: first(texts, lambda it: it == text),
-    "UPDATE one SET x = COALESCE(?, x) WHERE id = 2;": 2,
-    "INSERT INTO one (id, x) VALUES (2, ?) ON CONFLICT (id) DO UPDATE SET x = ?;": 2,
-    "INSERT INTO one (id, x) VALUES (2, ?) ON DUPLICATE KEY UPDATE x = ?;": 2,
-    "WITH u AS (SELECT id FROM texts WHERE x = ?) SELECT id FROM u;": lambda texts, text, low: all_ids(texts, lambda it: it == text),
+    "WITH u AS (SELECT x FROM texts WHERE x = ?) INSERT INTO one (id, x) SELECT 2, x FROM u WHERE x = ? ON CONFLICT (id) DO UPDATE SET x = excluded.x;": (
+        none,
+        second,
+    ),
+    f"{THOSE} INTERSECT {THOSE};": (same, unchanged),
+    "SELECT id FROM texts EXCEPT SELECT id FROM texts WHERE x <> ?;": (same, unchanged),
+    f"{THOSE} FOR UPDATE SKIP LOCKED;": (same, unchanged),
+    f"SELECT id FROM texts WHERE {OF_ONE}": (same, unchanged),
+    f"SELECT id FROM texts WHERE NOT {OF_ONE}": (by(lambda it, text, low: it != text), unchanged),
 }
 # What a database doesn't have.
 LACKS = {
-    "SQLite": ("strpos", "DUPLICATE"),
+    "SQLite": ("strpos", "DUPLICATE", "LOCKED"),
     "PostgreSQL": ("instr", "DUPLICATE"),
     "MariaDB": ("strpos", "CONFLICT"),
-    KIT: ("strpos", "DUPLICATE"),
+    KIT: ("strpos", "DUPLICATE", "LOCKED", "?) INSERT"),
 }
 WIDTH = 9
 
@@ -140,11 +202,8 @@ class Attack:
 
     def finds(self, texts, low):
         """The rows that are meant to be found, and what is to be in the table `one` then."""
-        finds = TEMPLATES[self.template]
-        if isinstance(finds, int):
-            return [], kept(self.text, finds)
-        return [(b"%d" % it,) for it in finds(tuple(texts), self.text, low)], EMPTY
-
+        finds, leaves = TEMPLATES[self.template]
+        return finds(texts, self.text, low), leaves(self.text)
     def is_lacking(self, product):
         return any(it in self.template for it in LACKS[product])
 
@@ -229,7 +288,7 @@ def came(db, run, attack, texts, low):
         found = run(attack)
     except Refused:
         return "refused"
-    if isinstance(TEMPLATES[attack.template], int):
+    if "INTO one" in attack.template or "UPDATE one" in attack.template:
         now = db.run("SELECT id, x FROM one ORDER BY id")
         refill(db)
     else:
