@@ -324,6 +324,7 @@ impl<T: SqlArg> SqlArg for &T {
 impl<T: SqlArg> SqlArg for Option<T> {
     ghost literal = { literal_or_null T.literal };
 
+    #[inline(always)]
     fn sql_arg(&self, alloc: Global) -> Result<String, SqlBuilderError> {
         match self {
             None => Ok(String::from_str(alloc, "NULL")?),

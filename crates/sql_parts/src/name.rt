@@ -2,7 +2,7 @@
 ghost use Rattle.std.specs.Prelude.{◌≡◌, ◌++◌, Some, codes, flat_map, map, string_bytes, IfOk, IsTrue, OnErr, OnOk};
 ghost use Rattle.std.specs.List.{list_all};
 ghost use Rattle.sql_parts.specs.Error.{FailsOnlyByMemory};
-ghost use Rattle.sql_parts.specs.Name.{alias_text, fits_form, is_plain, name_of, name_parts, name_text, name_token, name_tokens, safe_form, safe_text};
+ghost use Rattle.sql_parts.specs.Name.{alias_text, fits_form, is_plain, is_plain_byte, name_of, name_parts, name_text, name_token, name_tokens, safe_form, safe_text};
 ghost use Rattle.sql_parts.specs.Name.{safe_tokens};
 ghost use Rattle.sql_parts.specs.Name.{str_token, tokens_in, with_alias, with_part, with_change, written_in};
 ghost use Rattle.sql_parts.specs.Quoting.{baquoted, between, brquoted, dquoted, quoted};
@@ -74,11 +74,21 @@ impl Form {
     }
 }
 
+// Most bytes are letters, which two comparisons tell.
+fn is_plain_byte(byte: u8) -> bool
+    ensures { result ≡ is_plain_byte byte }
+{
+    if byte >= b'a' {
+        byte <= b'z'
+    } else {
+        matches!(byte, b'0'..=b'9' | b'_')
+    }
+}
+
 fn is_plain(text: &str) -> bool
     ensures { result ≡ is_plain text.now }
 {
-    text.bytes()
-        .all(|byte| matches!(byte, b'a'..=b'z' | b'0'..=b'9' | b'_'))
+    text.bytes().all(|byte| is_plain_byte(byte))
 }
 
 fn are_plain(parts: &[String]) -> bool
