@@ -305,7 +305,7 @@ CALLS = [
     ),
     # the crate keeps conditions in one text, so there is no aim
     *(
-        Copied(f"`clone` of a SELECT of {count:,} ORs", "clone_ors", turns, 100, repeated("x" * count))
+        Copied(f"`clone` of a SELECT of {count:,} ORs", "clone_ors", turns, 1_000, repeated("x" * count))
         for count, turns in ((1, 100_000), (3, 100_000), (10, 50_000), (1_000, 1_000))
     ),
 ]
@@ -325,7 +325,7 @@ TYPED = [
 
 BOUND = [
     Bound("a SELECT with five conditions", "bound_search", 100_000, 1.0),
-    Bound("an INSERT of 100 rows", "bound_rows", 5_000, 1.0, repeated("x" * 100)),
+    Bound("an INSERT of 100 rows of five values", "bound_rows", 5_000, 1.0, repeated("x" * 100)),
     Bound("IN of 1,000", "bound_in", 500, 1.0, repeated("x" * 1_000)),
 ]
 
