@@ -203,7 +203,11 @@ fn in_words(negated: bool) -> &'static str
 fn between_words(negated: bool) -> &'static str
     ensures { result.now ≡ not_text negated ++ codes " BETWEEN " }
 {
-    if negated { " NOT BETWEEN " } else { " BETWEEN " }
+    if negated {
+        " NOT BETWEEN "
+    } else {
+        " BETWEEN "
+    }
 }
 
 // LIKE, and what precedes the mask.
@@ -346,15 +350,7 @@ pub(crate) fn in_query<'a>(
     ensures memory { FailsOnlyByMemory result }
 {
     let words = in_words(negated);
-    Ok(concat(
-        alloc,
-        &[
-            Part(field),
-            Part(words),
-            Part(query),
-            Part(")"),
-        ],
-    )?)
+    Ok(concat(alloc, &[Part(field), Part(words), Part(query), Part(")")])?)
 }
 
 /// A field between a least and a greatest value.
