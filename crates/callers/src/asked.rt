@@ -6,6 +6,7 @@ ghost use Rattle.sql_builder.specs.Meaning.{HasTruthOf, condition_groups};
 ghost use Rattle.sql_builder.specs.Shape.{EndsInOneSemicolon};
 ghost use Rattle.sql_builder.specs.Statement.{statement};
 ghost use Rattle.sql_builder.specs.Tokens.{closed, tokens};
+ghost use Rattle.sql_typed.specs.Faults.{FailsAs};
 ghost use Rattle.sql_typed.specs.Results.{Gives};
 ghost use Rattle.callers.specs.Asked.{asked, count, from_price, like_mask, list_values, number_values, of_ids, of_title, text_values, to_price, with_values};
 
@@ -179,6 +180,7 @@ pub fn search<'a>(
     ensures truth { IfOk result (λ s. HasTruthOf
         (condition_groups (asked values.old.style (length values.old.values.items) wanted.now).calls)
         (string_bytes s)) }
+    ensures error { FailsAs (asked values.old.style (length values.old.values.items) wanted.now) Sql result }
 {
     let books = asking(alloc, wanted, values)?;
     books.sql()
