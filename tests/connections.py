@@ -9,6 +9,7 @@ import pwd
 import shutil
 import sqlite3
 import subprocess
+import sys
 import tempfile
 import time
 
@@ -25,6 +26,25 @@ class Skipped(Exception):
 
 class Broken(Exception):
     """What is installed and does not run."""
+
+
+@contextlib.contextmanager
+def measuring(product, tally):
+    """Measures a product: prints that it isn't installed, or fails if it doesn't run."""
+    try:
+        yield
+    except Skipped as why:
+        print(f"SKIPPED: {product}: {why}", flush=True)
+    except Broken as why:
+        tally.fail(product, why)
+
+
+def end_with(main):
+    """Ends the program with the status of this function, or with why something is broken."""
+    try:
+        sys.exit(main())
+    except Broken as why:
+        sys.exit(f"FAILED: {why}")
 
 
 def library(*names):

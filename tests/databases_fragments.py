@@ -17,7 +17,7 @@ import tempfile
 
 sys.dont_write_bytecode = True
 from built import proved
-from connections import Broken, Refused, Skipped, maria, postgres, sqlite
+from connections import Refused, maria, measuring, postgres, sqlite
 from tally import Tally
 
 SEPARATOR, PLACES = "\x1e", 13
@@ -133,14 +133,9 @@ def main():
     for text in (*HARMLESS, *LET_IN):
         tally.expect(f"by types {text!r} is refused", REFUSED in made[text][1], False)
     for name, opened in (("SQLite", sqlite), ("PostgreSQL", postgres), ("MariaDB", maria)):
-        try:
-            with opened() as db:
-                db.set(db.settings[0])
-                shown[db.name.split(",")[0]] = [*measure(db, made, tally)]
-        except Skipped as why:
-            print(f"SKIPPED: {name}: {why}", flush=True)
-        except Broken as why:
-            tally.fail(name, why)
+        with measuring(name, tally), opened() as db:
+            db.set(db.settings[0])
+            shown[db.name.split(",")[0]] = [*measure(db, made, tally)]
     tally.count(shown, "no database was measured")
     print(f"| fragment | {' | '.join(shown)} | by types |\n|---{'|---' * len(shown)}|---|")
     for number, text in enumerate((*HOSTILE, *LET_IN)):

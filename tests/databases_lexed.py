@@ -21,7 +21,7 @@ import sys
 import tempfile
 
 sys.dont_write_bytecode = True
-from connections import Broken, Skipped, ran, sqlite
+from connections import Skipped, end_with, ran, sqlite
 from hostile import all_of
 from tally import Tally
 
@@ -160,7 +160,4 @@ def main():
 
 
 if __name__ == "__main__":
-    try:
-        sys.exit(main())
-    except Broken as why:
-        sys.exit(f"FAILED: {why}")
+    end_with(main)

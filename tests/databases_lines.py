@@ -18,7 +18,7 @@ import tempfile
 
 sys.dont_write_bytecode = True
 from built import proved
-from connections import Broken, Refused, Skipped, maria, postgres, sqlite
+from connections import Broken, Refused, end_with, maria, measuring, postgres, sqlite
 from databases_parameters import EMPTY, SEPARATOR, TEXTS, ZERO, kept, refill, row, rows_of, values_of
 from tally import Tally
 
@@ -364,14 +364,9 @@ def main():
         "MariaDB": (maria, lambda db, it: db.run_with(it.positional, it.values)),
     }
     for product, (opened, bound) in products.items():
-        try:
-            with opened() as db:
-                ways = {"as parameters": functools.partial(bound, db), "as values": lambda it, db=db: db.run(it.value)}
-                results[product] = measure(db, product, lines, attacks, ways, tally)
-        except Skipped as why:
-            print(f"SKIPPED: {product}: {why}", flush=True)
-        except Broken as why:
-            tally.fail(product, why)
+        with measuring(product, tally), opened() as db:
+            ways = {"as parameters": functools.partial(bound, db), "as values": lambda it, db=db: db.run(it.value)}
+            results[product] = measure(db, product, lines, attacks, ways, tally)
     for way in ("as values", "as parameters"):
         show(f"the kit's sqlite, {way}", KIT, [(it, of_kit(it, way)) for it in attacks], tally)
     results[KIT] = {it.name: kit_line(it) for it in lines}
@@ -380,7 +375,4 @@ def main():
 
 
 if __name__ == "__main__":
-    try:
-        sys.exit(main())
-    except Broken as why:
-        sys.exit(f"FAILED: {why}")
+    end_with(main)

@@ -24,7 +24,7 @@ import tempfile
 
 sys.dont_write_bytecode = True
 from built import proved
-from connections import Broken, Refused, Skipped, maria, postgres, sqlite
+from connections import Broken, Refused, end_with, maria, measuring, postgres, sqlite
 from hostile import CHARACTERS, PIECES, all_of, attacks
 from tally import Tally
 
@@ -352,25 +352,20 @@ def main():
         "MariaDB": (maria, {"": lambda db, it: db.run_with(it.positional, it.ordered)}),
     }
     for number, (product, (opened, runs)) in enumerate(ways.items()):
-        try:
-            with opened() as db:
-                db.set(db.settings[0])
-                has_zeros = product != "PostgreSQL"
-                texts = tuple(it for it in TEXTS if has_zeros or ZERO not in it)
-                prepare(db, texts)
-                check_bound(db, number, tally)
-                limited[db.name] = check_limit(db, number, tally)
-                if product == "MariaDB":
-                    check_positional(db, positional, tally)
-                for way, run in runs.items():
-                    results = [(it, came(db, functools.partial(run, db), it, texts)) for it in statements]
-                    show(db.name + way, results, tally, has_zeros)
-                    most = [takes(db, functools.partial(run, db), it) for it in (MOST, MOST + 1)]
-                    tally.expect(f"{db.name}: whether it takes {MOST} values, and one more", most, [True, product == "SQLite"])
-        except Skipped as why:
-            print(f"SKIPPED: {product}: {why}", flush=True)
-        except Broken as why:
-            tally.fail(product, why)
+        with measuring(product, tally), opened() as db:
+            db.set(db.settings[0])
+            has_zeros = product != "PostgreSQL"
+            texts = tuple(it for it in TEXTS if has_zeros or ZERO not in it)
+            prepare(db, texts)
+            check_bound(db, number, tally)
+            limited[db.name] = check_limit(db, number, tally)
+            if product == "MariaDB":
+                check_positional(db, positional, tally)
+            for way, run in runs.items():
+                results = [(it, came(db, functools.partial(run, db), it, texts)) for it in statements]
+                show(db.name + way, results, tally, has_zeros)
+                most = [takes(db, functools.partial(run, db), it) for it in (MOST, MOST + 1)]
+                tally.expect(f"{db.name}: whether it takes {MOST} values, and one more", most, [True, product == "SQLite"])
     results = [(it, of_kit(it, tuple(TEXTS))) for it in statements]
     show("the kit's sqlite", results, tally, True)
     refused = {it.name for it, result in results if result == "refused"}
@@ -380,7 +375,4 @@ def main():
 
 
 if __name__ == "__main__":
-    try:
-        sys.exit(main())
-    except Broken as why:
-        sys.exit(f"FAILED: {why}")
+    end_with(main)

@@ -16,7 +16,7 @@ import sys
 import tempfile
 
 sys.dont_write_bytecode = True
-from connections import Broken, Refused, Skipped, maria, postgres, sqlite
+from connections import Refused, maria, measuring, postgres, sqlite
 from tally import Tally
 
 CR, LF = "\r", "\n"
@@ -155,14 +155,9 @@ def main():
     tally = Tally("databases_programs")
     print(f"| database | way | {' | '.join(TEXTS)} |\n|---|---{'|---' * len(TEXTS)}|")
     for product, opened in (("SQLite", sqlite), ("PostgreSQL", postgres), ("MariaDB", maria)):
-        try:
-            with opened() as db, tempfile.TemporaryDirectory(prefix="programs-") as folder:
-                db.set(db.settings[-1] if product == "MariaDB" else db.settings[0])
-                measure(db, product, folder, tally)
-        except Skipped as why:
-            print(f"SKIPPED: {product}: {why}", flush=True)
-        except Broken as why:
-            tally.fail(product, why)
+        with measuring(product, tally), opened() as db, tempfile.TemporaryDirectory(prefix="programs-") as folder:
+            db.set(db.settings[-1] if product == "MariaDB" else db.settings[0])
+            measure(db, product, folder, tally)
     return tally.end()
 
 

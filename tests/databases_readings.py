@@ -16,7 +16,7 @@ from dataclasses import dataclass
 
 sys.dont_write_bytecode = True
 from blocks import Page, Table, code_spans
-from connections import Broken, Refused, Skipped, maria, postgres, sqlite
+from connections import Refused, maria, measuring, postgres, sqlite
 from tally import Tally
 
 ROOT = os.path.dirname(os.path.dirname(os.path.realpath(__file__)))
@@ -263,14 +263,9 @@ def main():
     tally = Tally("databases_readings")
     tally.expect("statements of tests/readings.md that are not measured", [*{*on_page()} - {it.statement for it in READINGS}], [])
     for number, (name, opened) in enumerate(PRODUCTS.items()):
-        try:
-            with opened() as db:
-                db.set(db.settings[-1] if name == "MariaDB" else db.settings[0])
-                measure(db, number, tally)
-        except Skipped as why:
-            print(f"SKIPPED: {name}: {why}", flush=True)
-        except Broken as why:
-            tally.fail(name, why)
+        with measuring(name, tally), opened() as db:
+            db.set(db.settings[-1] if name == "MariaDB" else db.settings[0])
+            measure(db, number, tally)
     return tally.end()
 
 

@@ -19,7 +19,7 @@ from typing import Any, Callable
 
 sys.dont_write_bytecode = True
 from built import printed
-from connections import Broken, Refused, Skipped, maria, postgres, sqlite
+from connections import Refused, end_with, maria, measuring, postgres, sqlite
 from tally import Tally
 
 NUMBERS, TEXTS = (None, 0, 1, 2), (None, "", "a", "ab", "b'a", "a%b")
@@ -262,21 +262,15 @@ def main():
     print(f"{count} statements over {len(ROWS)} rows, of which {some} find some of the rows and not all")
     tally = Tally("databases_where")
     for name, opened in (("SQLite", sqlite), ("PostgreSQL", postgres), ("MariaDB", maria)):
-        try:
-            with opened() as db:
-                # a mask's backslashes are no matter here: there are none
-                db.set(db.settings[0])
-                prepare(db)
-                before = tally.passed
-                compare(db, statements, wanted, tally)
-                print(f"{db.name}: {tally.passed - before} of {count} statements found the rows that their groups mean", flush=True)
-        except Skipped as why:
-            print(f"SKIPPED: {name}: {why}", flush=True)
+        with measuring(name, tally), opened() as db:
+            # a mask's backslashes are no matter here: there are none
+            db.set(db.settings[0])
+            prepare(db)
+            before = tally.passed
+            compare(db, statements, wanted, tally)
+            print(f"{db.name}: {tally.passed - before} of {count} statements found the rows that their groups mean", flush=True)
     return tally.end()
 
 
 if __name__ == "__main__":
-    try:
-        sys.exit(main())
-    except Broken as why:
-        sys.exit(f"FAILED: {why}")
+    end_with(main)
