@@ -1,5 +1,5 @@
-//! What prints twice. `tests/allocations` runs each of these with each of its allocations failing, and reads
-//! what is shown.
+//! What prints twice. `tests/program/allocations` runs each of these with each of its allocations failing, and
+//! reads what is shown.
 
 use crate::every_call::{Finish, Made, query, query_values, sql, subquery};
 use sql_builder::arg::Value;

@@ -1,5 +1,5 @@
-//! Names and texts that are chosen to be slow to bind, each in two sizes: `tests/hostile` compares what
-//! they take.
+//! Names and texts that are chosen to be slow to bind, each in two sizes: `tests/program/hostile` compares
+//! what they take.
 
 use sql_builder::SqlBuilderError;
 use sql_builder::prelude::*;

@@ -1,5 +1,5 @@
-//! Tests of `sql_builder` that aren't rows. Rows of statements are lines, in `tests/rows` and `tests/conditions.md`, and rows of
-//! calls are in `tests/calls.md` and `tests/every_call.md`.
+//! Tests of `sql_builder` that aren't rows. Rows of statements are lines, in `tests/rows/statements` and
+//! `docs/reference/conditions.md`, and rows of calls are in `tests/rows/calls.md` and `docs/reference/every_call.md`.
 #![tactic(auto)]
 
 #[cfg(test)]

@@ -1,5 +1,5 @@
 //! Statements by types: each call once, and an attack as a value that is set and in a condition.
-//! `tests/databases` puts each attack of SECURITY into each argument.
+//! `tests/databases/texts.py` puts each attack of SECURITY into each argument.
 
 use crate::every_call::is_made;
 use callers::form::{Form, search};

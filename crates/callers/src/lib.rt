@@ -1,6 +1,6 @@
 //! Examples for those who call `sql_parts` and `sql_builder` in code with contracts of its own: each
 //! is proved. `docs/CALLING.md` reads them one by one. Beside them, how two databases read a text, as
-//! the readers that the laws speak of: `tests/databases_lexed.py` runs them beside their lexers.
+//! the readers that the laws speak of: `tests/databases/lexed.py` runs them beside their lexers.
 #![tactic(auto)]
 
 pub mod asked;

@@ -28,7 +28,7 @@ use std::process::ExitCode;
 const BUFFER_SIZE: usize = 65536;
 
 // No contract can say which stream is which, that nothing else calls them, nor what the process ends
-// with: `tests/program` does, by its rows of what is printed, said and returned, and by
+// with: `tests/program/check` does, by its rows of what is printed, said and returned, and by
 // `try_streams`. Beside tests only `main` makes watches.
 fn main(rt: HostRuntime) -> ExitCode {
     let mut input = Watched::new(rt.stdin());

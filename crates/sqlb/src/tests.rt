@@ -522,7 +522,7 @@ const STORED_TWICE_PRINTS: &[u8] = b"SELECT id, name FROM company WHERE salary >
     SELECT id, name FROM company WHERE salary > 25000;\n";
 
 /// Shows what a run has written into a few places, and its fault, on standard output.
-/// `tests/allocations` runs it with each of its allocations failing, and reads what is shown.
+/// `tests/program/allocations` runs it with each of its allocations failing, and reads what is shown.
 #[test]
 fn shows_what_is_written_into_places(rt: HostRuntime) -> Result<(), Fail> {
     let mut reader = Watched::new(STORED_TWICE);

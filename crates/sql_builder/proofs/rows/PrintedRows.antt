@@ -1,4 +1,4 @@
--- Worked rows, what the definitions give by computing; tests run the others (`tests/rows`, `tests/conditions.md`, `tests/every_call.md`).
+-- Worked rows, what the definitions give by computing; tests run the others (`tests/rows`, and tables of `docs/reference`).
 use Rattle.std.specs.Prelude.{◌≡◌, [], ◌∷◌, ◌++◌, Ok, Err, codes, refl, true, false}
 use Rattle.sql_parts.specs.declared.error.SqlBuilderError.TheVariants.{NoTableName, NoGroupBy}
 use Rattle.sql_builder.specs.Calls.{SelectFrom, UpdateTable, Left, LeftOuter, Right, RightOuter, Inner, Cross, AndTable, Join, Fields, Field}

@@ -1,0 +1,336 @@
+#!/usr/bin/python3
+"""Parses random statements of sqlb by PostgreSQL's own parser, which needs no server, and compares them with what is meant.
+
+Each statement is a SELECT, UPDATE, DELETE or INSERT with hostile texts: in every kind of condition, in conditions of their own with OR,
+AND, NOT, BETWEEN, CASE and nested queries, in values and in fields. It is also written by hand, without its WHERE. It has to be one
+statement; its string constants are the texts; its WHERE is the AND of its groups, each the OR of its conditions, as each condition is
+parsed alone (AND and OR flattened); its other clauses are those of the statement by hand; and the kinds of its tokens are those of the
+same statement with empty texts. First corrupted statements are parsed, each of which one of these comparisons has to refuse.
+
+The parser is the Python module pglast (python3-pglast in Debian, hence Debian's Python); where it is not installed, that is printed as
+SKIPPED. sqlb has to be built. The arguments are how many statements are made (80,000 without one) and a seed. The last line counts what
+passed and failed, and the status is 0 where nothing failed and something passed."""
+
+import itertools
+import json
+import os
+import random
+import sys
+from dataclasses import dataclass, field
+
+sys.path.append(os.path.realpath(f"{__file__}/../../lib"))
+from built import printed
+from hostile import fits_line, mixed, texts
+from tally import Tally
+from where import Condition, Maker, quoted, texts_of, where_lines
+
+try:
+    from pglast.parser import ParseError, parse_sql_json, scan
+except ImportError as why:
+    print(f"SKIPPED: PostgreSQL's parser: {why}")
+    sys.exit(1)
+
+# How many statements are made at once.
+BATCH = 5000
+# Conditions that PostgreSQL reads otherwise than most, and their string constants.
+SPECIAL = {
+    "a = 1 /* /* ' */ ' */": [],
+    "b = 2 /* OR ' */": [],
+    "d = $$it's$$": ["it's"],
+    "d = $a$ $$ ' $a$": [" $$ ' "],
+    "d = E'\\''": ["'"],
+    "d = U&'\\0027'": ["'"],
+    'w."a""\'b" IS NULL': [],
+    "d = '\\'": ["\\"],
+    "a OPERATOR(pg_catalog.=) ANY (ARRAY[1, 2])": [],
+}
+JOINS = {"left": "LEFT ", "left_outer": "LEFT OUTER ", "right": "RIGHT ", "right_outer": "RIGHT OUTER ", "inner": "INNER ", "cross": "CROSS "}
+
+
+@dataclass
+class Written:
+    """A statement as lines of sqlb and by hand, without its WHERE; the groups of its WHERE, and the texts that are quoted in it."""
+
+    lines: list
+    text: str = ""
+    texts: list = field(default_factory=list)
+    groups: list = field(default_factory=list)
+
+    def add(self, text, *lines, texts=()):
+        self.text += text
+        self.lines += lines
+        self.texts += texts
+
+    def listed(self, call, parts):
+        """Adds parts, each by its call and its text, with commas between them."""
+        for number, (text, texts) in enumerate(parts):
+            self.add(f"{', ' if number else ''}{text}", f"{call}\t{text}", texts=texts)
+
+    def where(self, groups):
+        self.add("", *where_lines(groups), texts=texts_of(itertools.chain(*groups)))
+        self.groups = groups
+
+    def all_lines(self):
+        return "\n".join([*self.lines, "sql\n"])
+
+
+class StatementMaker(Maker):
+    """Makes statements by chance, and gives them these texts."""
+
+    def __init__(self, chance, all_texts):
+        super().__init__(chance)
+        self.all_texts = all_texts
+
+    def text(self):
+        return next(self.all_texts)
+
+    def plain(self):
+        if self.chance.random() < 0.1:
+            text, constants = self.chance.choice([*SPECIAL.items()])
+            return Condition("", [text], text, None, constants)
+        return super().plain()
+
+    def toss(self):
+        return self.chance.random() < 0.5
+
+    def some_groups(self):
+        return [] if self.chance.random() < 0.1 else self.groups(3, self.condition)
+
+    def value(self):
+        """A value as it is written, and the texts that are quoted in it."""
+        kind, text = self.chance.randrange(4), self.text()
+        if kind == 0:
+            return self.number()[0], []
+        if kind == 1:
+            return quoted(text), [text]
+        if kind == 2:
+            return f"d || {quoted(text)}", [text]
+        condition = self.condition()
+        return f"CASE WHEN {condition.text} THEN {quoted(text)} END", [*condition.texts, text]
+
+    def query(self):
+        """A query as it is written, and the texts that are quoted in it."""
+        (value, texts), condition = self.value(), self.condition()
+        return f"SELECT {value} FROM w WHERE {condition.text}", [*texts, *condition.texts]
+
+    def statement(self):
+        return self.chance.choice((self.select, self.select, self.update, self.delete, self.insert))()
+
+    def select(self):
+        made = Written(["select_from\tw"])
+        made.add(*("SELECT DISTINCT ", "distinct") if self.toss() else ("SELECT ",))
+        fields = [self.value() for _ in range(self.chance.randrange(3))]
+        made.listed("field", fields)
+        if not fields:
+            made.add("COUNT(a) AS n", "count_as\ta\tn") if self.toss() else made.add("*")
+        made.add(" FROM w")
+        for _ in range(self.chance.randrange(2)):
+            made.add(", w AS x", "and_table\tw AS x")
+        for number in range(self.chance.choice((0, 0, 1, 2))):
+            self.join(made, f"v{number}")
+        made.where(self.some_groups())
+        if self.toss():
+            made.add(" GROUP BY ")
+            made.listed("group_by", [self.value() for _ in range(self.chance.randint(1, 2))])
+            if self.toss():
+                self.condition_of(made, " HAVING ", "having\t")
+        unions = self.chance.choice((0, 0, 0, 1, 2))
+        for _ in range(unions):
+            query, texts = self.query()
+            made.add(*self.chance.choice(((f" UNION {query}", f"union\t{query}"), (f" UNION ALL {query}", f"union_all\t{query}"))), texts=texts)
+        if not unions and self.toss():
+            (value, texts), (word, call) = self.value(), self.chance.choice((("", "order_asc"), (" DESC", "order_desc")))
+            made.add(f" ORDER BY {value}{word}", f"{call}\t{value}", texts=texts)
+        if self.toss():
+            made.add(" LIMIT 5 OFFSET 6", "limit\t5", "offset\t6")
+        return made
+
+    def join(self, made, table):
+        call, words = self.chance.choice([*JOINS.items()])
+        if call != "cross" and self.chance.random() < 0.2:
+            made.add(f" NATURAL {words}JOIN {table}", "natural", call, f"join\t{table}")
+        else:
+            made.add(f" {words}JOIN {table}", call, f"join\t{table}")
+            if call != "cross":
+                self.condition_of(made, " ON ", "on\t")
+
+    def condition_of(self, made, words, call):
+        condition = self.condition()
+        made.add(f"{words}{condition.text}", f"{call}{condition.text}", texts=condition.texts)
+
+    def update(self):
+        made = Written(["update_table\tw"])
+        made.add("UPDATE w SET ")
+        for number in range(self.chance.randint(1, 3)):
+            made.add(", " if number else "")
+            if self.toss():
+                text = self.text()
+                made.add(f"d = {quoted(text)}", f"set_str\td\t{text}", texts=[text])
+            else:
+                value, texts = self.value()
+                made.add(f"a = {value}", f"set\ta\t{value}", texts=texts)
+        return self.changing(made)
+
+    def delete(self):
+        made = Written(["delete_from\tw"])
+        made.add("DELETE FROM w")
+        return self.changing(made)
+
+    def changing(self, made):
+        made.where(self.some_groups())
+        self.returning(made)
+        return made
+
+    def returning(self, made):
+        if self.toss():
+            value, texts = self.value()
+            made.add(f" RETURNING {value}", f"returning\t{value}", texts=texts)
+
+    def insert(self):
+        made = Written(["insert_into\tw"])
+        made.add("INSERT INTO w (a, d) ", "fields\ta\td")
+        if self.toss():
+            query, texts = self.query()
+            made.add(query, f"select\t{query}", texts=texts)
+        else:
+            for number in range(self.chance.randint(1, 3)):
+                (one, texts), (other, more) = self.value(), self.value()
+                made.add(f"{', ' if number else 'VALUES '}({one}, {other})", f"values\t{one}\t{other}", texts=[*texts, *more])
+        self.returning(made)
+        return made
+
+
+# ---- parse trees
+
+
+def parsed(text):
+    """The parse trees of a text's statements, without places and with AND and OR flattened, and its string constants in order."""
+    found = []
+
+    def cleaned(node):
+        place = node.pop("location", 0)
+        if isinstance(node.get("sval"), dict):  # of a constant; that of a name is a text
+            found.append((place, node["sval"].get("sval", "")))
+        if "boolop" in node:
+            node["args"] = flattened(node["boolop"], node["args"])
+        return node
+
+    trees = [it["stmt"] for it in json.loads(parse_sql_json(text), object_hook=cleaned)["stmts"]]
+    return trees, [it[1] for it in sorted(found)]
+
+
+def flattened(sign, trees):
+    """These trees, with the parts of each that has this sign itself."""
+    parts = []
+    for it in trees:
+        inner = it.get("BoolExpr", {})
+        parts += inner["args"] if sign != "NOT_EXPR" and inner.get("boolop") == sign else [it]
+    return parts
+
+
+def joined(sign, trees):
+    """The AND or OR of trees: of one alone itself."""
+    parts = flattened(sign, trees)
+    return parts[0] if len(parts) == 1 else {"BoolExpr": {"boolop": sign, "args": parts}}
+
+
+def parted(tree):
+    """A statement's WHERE, and the statement without it."""
+    [inner] = tree.values()
+    # the first SELECT of UNIONs
+    while "larg" in inner:
+        inner = inner["larg"]
+    return inner.pop("whereClause", None), tree
+
+
+def where_of(groups):
+    """The tree of the AND of these groups, each the OR of its conditions, of which each is parsed alone."""
+    alone = lambda it: parted(parsed(f"SELECT WHERE {it.text}")[0][0])[0]
+    return joined("AND_EXPR", [joined("OR_EXPR", map(alone, group)) for group in groups]) if groups else None
+
+
+def kinds(text):
+    return [it.name for it in scan(text)]
+
+
+def differing(statement, emptied, made):
+    """The first thing of a statement that is not as it is meant, or None."""
+    trees, constants = parsed(statement)
+    if len(trees) != 1:
+        return f"{len(trees)} statements"
+    if constants != made.texts:
+        return "its string constants"
+    where, others = parted(trees[0])
+    if where != where_of(made.groups):
+        return "its WHERE"
+    if others != parted(parsed(made.text)[0][0])[1]:
+        return "its other clauses"
+    return "the kinds of its tokens" if kinds(statement) != kinds(emptied) else None
+
+
+def wrong(statement, emptied, made):
+    try:
+        return differing(statement, emptied, made)
+    except ParseError as why:
+        return f"not parsed: {why}"
+
+
+# ---- what is compared
+
+
+def corrupted(tally):
+    """Statements that were right before, of which each has to be refused for its own reason."""
+    number = lambda name, value: Condition("_eq", [name, value], f"{name} = {value}", None)
+    like = Condition("_like", ["d", "it's"], "d LIKE 'it''s'", None, ["it's"])
+    made = Written(["select_from\tw", "field\ta", "order_asc\ta"], "SELECT a FROM w ORDER BY a")
+    made.where([[number("a", "1"), like], [number("b", "2"), number("c", "3")]])
+    [right] = printed([made.all_lines()])
+    empty = right.replace("it''s", "")
+    tally.expect("the statement that is corrupted", wrong(right, empty, made), None)
+    for old, new, wanted in (
+        (") AND (", " AND ", "its WHERE"),
+        (") AND (", ") OR (", "its WHERE"),
+        ("b = 2", "b = 3", "its WHERE"),
+        ("it''s", "its", "its string constants"),
+        ("'it''s'", "d", "its string constants"),
+        ("it''s", "it's", "not parsed: "),
+        (" ORDER BY a", "", "its other clauses"),
+        ("SELECT a", "SELECT b", "its other clauses"),
+        (";", "; SELECT 1;", "2 statements"),
+        ("a = 1", "a /**/ = 1", "the kinds of its tokens"),
+    ):
+        why = wrong(right.replace(old, new), empty, made)
+        tally.count(old in right and why and why.startswith(wanted), f"{old} as {new}: {why}, not {wanted}")
+
+
+def hostile_texts(chance, fixed):
+    """Texts for lines of sqlb: some of these, and others that are made anew."""
+    while True:
+        text = chance.choice(fixed) if chance.random() < 0.2 else mixed(chance)
+        if fits_line(text):
+            yield text
+
+
+def main():
+    count = int(sys.argv[1]) if len(sys.argv) > 1 else 80000
+    seed = int(sys.argv[2]) if len(sys.argv) > 2 else 52
+    tally, fixed = Tally("databases_parsed"), texts()
+    corrupted(tally)
+    before, number_of_texts, longest = tally.passed, 0, 0
+    maker = lambda number, all_texts: StatementMaker(random.Random(f"{seed} {number}"), all_texts).statement()
+    for start in range(0, count, BATCH):
+        numbers = range(start, min(start + BATCH, count))
+        all_made = [maker(it, hostile_texts(random.Random(f"texts {seed} {it}"), fixed)) for it in numbers]
+        all_empty = [maker(it, itertools.repeat("")) for it in numbers]
+        lines = [it.all_lines() for it in (*all_made, *all_empty)]
+        statements = printed(lines)
+        for number, made, statement, emptied in zip(numbers, all_made, statements, statements[len(numbers) :]):
+            why = wrong(statement, emptied, made)
+            tally.count(why is None, f"statement {number} of seed {seed}: {why}\n  {statement[:2000]!r}")
+            number_of_texts, longest = number_of_texts + len(made.texts), max(longest, len(statement))
+    print(f"{tally.passed - before} of {count} statements with {number_of_texts} string constants are as they are meant")
+    return tally.end()
+
+
+if __name__ == "__main__":
+    sys.exit(main())

@@ -1,0 +1,473 @@
+#!/usr/bin/env python3
+"""Puts hostile texts into statements, runs these on real databases, reads each text back and compares.
+
+Texts go through sqlb by `set_str`, `_in_quoted` and LIKE, and through tests/databases/texts.rt.txt by `quote`, each call of binding and
+`escape_like`, whose masks have to find the texts that are, begin with, end with or contain the text. The attacks of docs/SECURITY.md and docs/reference/readings.md are
+also put as a `Value` into each argument of sql_typed that takes one, and there change nothing of the statement but literals, which a
+database may refuse as a name, or to group or order by; one that is no column is refused by `Operand::of_trusted`, and one that is finds no
+further rows. The first table that is printed counts the statements that gave their texts back as they went in, those that gave something
+else, those that were refused, and those that dropped a table that only texts name: there a text left its literal. So it does of scripts
+of two statements that the database's command-line program is given, with a zero byte in the first one's text. The second table counts
+what each database makes of literals where a backslash escapes, and of masks with ESCAPE, and how often it is what specs/Backslash.antt
+and specs/Like.antt of sql_parts say, which are said here once more and held to their worked rows (proofs/rows/BackslashRows.antt,
+proofs/rows/LikeRows.antt).
+The third table has fragments that a database may read otherwise than by the rules of docs/PROVED.md, whether `is_balanced` and
+`has_clause_word` let them in, and what each database answers to a SELECT of them: where they are let in and a second row comes, the
+database has found a UNION in them.
+
+What is installed is measured: SQLite by libsqlite3, PostgreSQL by libpq and a cluster of its own, MariaDB or MySQL by its client
+library and a server of its own, each in a temporary folder, and not as root. What is not installed is printed as SKIPPED. sqlb is
+proved and built first, unless the argument is --built. The status is 1 where a text did not come back that has to (each one, but for
+one with a backslash where a backslash escapes, and one with a zero byte, which may be refused), where a definition is not what a
+database does, and where none was measured."""
+
+import collections
+import operator
+import os
+import re
+import subprocess
+import sys
+import tempfile
+
+sys.path.append(os.path.realpath(f"{__file__}/../../lib"))
+from built import build, printed, proved
+from connections import Broken, Refused, Skipped, end_with, maria, measuring, postgres, sqlite
+from hostile import all_of, attacks, fits_line, texts
+from repository import ROOT
+from tally import Tally
+
+SEPARATOR, TAB, BACKSLASH = "\x1e", "\t", "\\"
+# The calls of tests/databases/texts.rt.txt, in its order.
+CALLS = ("quote", "bind", "binds", "bind_num", "bind_nums", "bind_name", "bind_names")
+# The calls of LIKE, and which texts fit a mask without wildcards.
+LIKES = {
+    "and_where_like": str.__eq__,
+    "and_where_like_left": str.startswith,
+    "and_where_like_right": str.endswith,
+    "and_where_like_any": str.__contains__,
+}
+# The masks of tests/databases/texts.rt.txt, in its order, which follow its calls.
+MASKS = (str.__eq__, str.startswith, str.endswith, str.__contains__)
+# Behind these is whether the text is let in, and then statements by types. These store it in this row, or have it as a name too.
+LET_IN = len(CALLS) + len(MASKS)
+STORES = {"set": 2, "set_str": 2, "values": 4, "row": 4, "operand": 4}
+NAMES = {"the name of set": 2, "the name of set_str": 2, "an inserted name": 4}
+COLUMN = LET_IN + 1 + len(STORES) + len(NAMES)
+# What these give of a text and the numbers of the rows that have it: first those that a database may refuse.
+ALL_ROWS = [(b"1",), (b"2",), (b"3",)]
+MAY_GIVE = {
+    "column": lambda text, rows: [(b"2",)],
+    **dict.fromkeys(("group_by", "order_asc", "order_desc"), lambda text, rows: ALL_ROWS),
+    "the name of count_as": lambda text, rows: [(b"3",)],
+    "the name of subquery_as": lambda text, rows: rows,
+}
+GIVES = {
+    **dict.fromkeys(("field", "subquery", "delete"), lambda text, rows: [(text.encode(),)]),
+    **dict.fromkeys(("count", "count_as"), lambda text, rows: [(b"3",)]),
+    **dict.fromkeys(("or_where", "on", "on_eq", "on_eq, the other way", "having", "tables", "print_to", "union"), lambda text, rows: rows),
+    "union_all": lambda text, rows: 2 * rows,
+}
+# Then conditions on a column, with the texts that each finds, and the same on the text.
+WIDTH = COLUMN + len(MAY_GIVE) + len(GIVES)
+FILTERS = (
+    *(operator.eq, operator.ne, operator.gt, operator.ge, operator.lt, operator.le),
+    lambda it, text: is_like(it, f"{text}%"),
+    lambda it, text: not is_like(it, f"%{text}%"),
+    *(lambda it, text, fits=fits, finds=finds: fits(it, text) == finds for fits in (str.__contains__, str.startswith, str.endswith) for finds in (True, False)),
+    lambda it, text: it in (text, "b"),
+    lambda it, text: it not in (text, "b"),
+    lambda it, text: text <= it <= "b",
+    lambda it, text: "'" <= it <= text,
+    lambda it, text: not text <= it <= "b",
+    lambda it, text: not "'" <= it <= text,
+    *(operator.eq, operator.eq, operator.eq, operator.ne, operator.eq, operator.eq, operator.eq),
+)
+# A text that is the same in each literal, and in no other part of a statement.
+HARMLESS = "é"
+# What can come of a statement.
+CAME = ("same", "other", "refused", "dropped")
+
+# Texts with a zero byte are those of up to three of these, and this one.
+OF_ZEROS, ZERO_ATTACK = "\0'a", "\0'; DROP TABLE t; --"
+# The second text of a script, which a program runs that takes its quote for the end of the first.
+SECOND = "; DROP TABLE t; --"
+
+# Literals are a quote and all of up to six of these; a letter behind a backslash stands for itself in each database.
+OF_LITERALS = "'\\aé"
+# Masks are all of up to four of these, and texts for them all of up to three. `!` escapes.
+OF_MASKS = "%_!aé"
+# Worked rows of the definitions: a text and the literal that it begins with; a mask, a text and whether it matches.
+LITERAL_ROW = r"^literal-\w+ : literal (.*) ≡ (?:None|Some \((.*), (\d+)\))$"
+MASK_ROW = r'^matches-\w+ : matches \(code "!"\) (.*?) (\(.*\)|\[\]) ≡ (true|false)$'
+
+# What a database may read otherwise, and a fragment that shows it.
+HIDDEN = "UNION ALL SELECT NULL"
+FRAGMENTS = (
+    ("a backslash before a quote", f"'\\'' {HIDDEN} -- '"),
+    ("the same behind `E`", f"E'\\'' {HIDDEN} -- '"),
+    ("the same between double quotes", f'"\\"" {HIDDEN} -- "'),
+    ("dollar quotes", f"$$'$$ {HIDDEN} -- '"),
+    ("a comment in a comment", f"1 /* /* */ ' */ {HIDDEN} -- '"),
+    ("a comment that begins with `!`", f"1 /*! {HIDDEN} */"),
+    ("`#`", f"1 # '\n {HIDDEN} -- '"),
+    ("`--` before a digit", f"1 --1 {HIDDEN}\n"),
+    ("a carriage return behind `--`", f"1 -- \r {HIDDEN}\n"),
+    ("square brackets of an array", f"ARRAY['] '] {HIDDEN} -- '"),
+    ("a comment without an end", "1 /* a"),
+    ("a backslash before a letter", "'a\\qb'"),
+    ("a backslash in a mask", "'a\\b' LIKE 'a\\b'"),
+    ("double quotes", '"a"'),
+    ("backquotes", "1 AS `a`"),
+    ("square brackets", "1 AS [a]"),
+    ("square brackets with a doubled one", "1 AS [a]]b]"),
+    ("a text beside a text", "'a' 'b'"),
+)
+
+
+def literal(text):
+    """What the literal at the beginning of a text stands for where a backslash escapes, and its length, or None where it has no end."""
+    if not text.startswith("'"):
+        return None
+    stands, at = "", 1
+    while at < len(text):
+        pair = text[at : at + 2]
+        if len(pair) == 2 and (pair[0] == BACKSLASH or pair == "''"):
+            stands, at = stands + pair[1], at + 2
+        elif pair[0] == "'":
+            return stands, at + 1
+        else:
+            stands, at = stands + pair[0], at + 1
+    return None
+
+
+def pattern(mask):
+    """The regular expression of a mask in which `!` escapes, or None where nothing is behind the last `!`."""
+    parts = re.findall(r"!.|[^!]|!$", mask, re.DOTALL)
+    if parts and parts[-1] == "!":
+        return None
+    wildcards = {"%": ".*", "_": "."}
+    return re.compile("".join(wildcards.get(it, re.escape(it[-1])) for it in parts), re.DOTALL)
+
+
+def is_like(text, mask):
+    """Whether a mask without an escape character matches a text."""
+    return bool(pattern(mask.replace("!", "!!")).fullmatch(text))
+
+
+def written(term):
+    """The text that a term of a worked row is."""
+    codes = re.search(r'"(.*)"', term)
+    if not codes:
+        return bytes(int(it) for it in re.findall(r"\d+", term)).decode()
+    text = codes[1].replace("\\\\", "\\")
+    return f"'{text}'" if term.startswith("(quoted") else text
+
+
+def worked(file, shape):
+    """The worked rows of a definition, in which a proof by computing says what it gives."""
+    with open(f"{ROOT}/crates/sql_parts/proofs/rows/{file}.antt", encoding="utf-8") as it:
+        found = re.findall(shape, it.read(), re.M)
+    if not found:
+        raise Broken(f"proofs/rows/{file}.antt has no such row: {shape}")
+    return found
+
+
+def differing_rows():
+    """The worked rows that `literal` and `pattern`, which say the definitions once more, do not give."""
+    for text, stands, length in worked("BackslashRows", LITERAL_ROW):
+        wanted = (written(stands), int(length)) if length else None
+        if literal(written(text)) != wanted:
+            yield text
+    for mask, text, fits in worked("LikeRows", MASK_ROW):
+        expression = pattern(written(mask))
+        if (expression is not None and bool(expression.fullmatch(written(text)))) != (fits == "true"):
+            yield f"{mask} {text}"
+
+
+def update(number, text):
+    """The lines of sqlb that put a text into a row."""
+    return f"update_table\tone\nset_str\tx\t{text}\nand_where_eq\tid\t{number}\nsql\n"
+
+
+def output(path, text):
+    return subprocess.run([path], input=text.encode(), stdout=subprocess.PIPE, check=True).stdout.decode()
+
+
+class Statements:
+    """What sqlb and tests/databases/texts.rt.txt make of the texts."""
+
+    def __init__(self, calls):
+        self.calls, self.attacks = calls, attacks()
+        self.all = texts()
+        self.rows = [*dict.fromkeys([*self.all, *self.attacks])]
+        self.lines = [*filter(fits_line, self.all)]
+        self.zeros = [*(it for it in all_of(OF_ZEROS, 3) if "\0" in it), ZERO_ATTACK]
+        self.made = self.called(self.all)
+        self.typed = list(zip(self.called(self.attacks), self.attacks))
+        self.kept = [*self.keeping(), *self.storing()]
+        self.found = [*self.finding(), *self.matching(), *self.asking()]
+        self.given = [*self.giving()]
+        self.scripts = {"a zero byte": self.scripted(self.zeros), "a digit": self.scripted([it.replace("\0", "0") for it in self.zeros])}
+
+    def called(self, texts):
+        """Of each text its statements by CALLS, those by MASKS, whether it is let in, and its statements by types."""
+        made, width = output(self.calls, SEPARATOR.join(texts)).split(SEPARATOR), WIDTH + 2 * len(FILTERS)
+        if len(made) != width * len(texts) + 1:
+            raise Broken(f"tests/databases/texts.rt.txt wrote {len(made) - 1} answers for {len(texts)} texts")
+        return [made[it : it + width] for it in range(0, len(made) - 1, width)]
+
+    def keeping(self):
+        """Statements that put a text into a row: the name of the call, the statement, the text, the row."""
+        lines = [*self.lines, *self.zeros]
+        yield from (("set_str", *it, 2) for it in zip(printed([update(2, it) for it in lines]), lines))
+        made, texts = [*self.made, *self.called(self.zeros)], [*self.all, *self.zeros]
+        for number, call in enumerate(CALLS):
+            name = "quote" if call == "quote" else "the six calls of binding"
+            yield from ((name, statements[number], text, 2) for statements, text in zip(made, texts))
+
+    def storing(self):
+        """The same of statements by types."""
+        for number, (call, row) in enumerate([*STORES.items(), *NAMES.items()], LET_IN + 1):
+            name = "a name or constant by types" if call in NAMES else "set, set_str, values and row by types"
+            yield from ((name, statements[number], text, row) for statements, text in self.typed)
+
+    def giving(self):
+        """The statements by types that give rows: the name of the call, the statement, the text, and what it gives."""
+        for number, (call, gives) in enumerate({**MAY_GIVE, **GIVES}.items(), COLUMN):
+            name = "other arguments by types" if call in GIVES else "a column by types" if call == "column" else "a name or constant by types"
+            yield from ((name, statements[number], text, gives, call == "delete") for statements, text in self.typed)
+
+    def scripted(self, texts):
+        """Scripts that put each text into a row, and SECOND into the next one."""
+        made = printed([update(number, it) for text in texts for number, it in ((2, text), (3, SECOND))])
+        return [("\n".join(made[at : at + 2]) + "\n", text) for at, text in zip(range(0, len(made), 2), texts)]
+
+    def finding(self):
+        """Statements that ask for the rows of texts: the name of the call, the statement, the texts in it, those that it asks for."""
+        start, end = "select_from\ttexts\nfield\tid\n", "\norder_asc\tid\nsql\n"
+        for some in (*([it for it in self.lines if (BACKSLASH in it) == escaped] for escaped in (False, True)), self.zeros):
+            some = [[*some[it : it + 3], "a"] for it in range(len(some))]
+            made = printed([f"{start}and_where_in_quoted\tx\t{TAB.join(it)}{end}" for it in some])
+            yield from (("_in_quoted", *it, {*it[1]} - {*self.zeros}) for it in zip(made, some))
+        # what a wildcard or a backslash means in a mask is no matter of quoting
+        masks = [it for it in self.lines if len(it) <= 100 and not {"%", "_", BACKSLASH} & {*it}]
+        for number, (call, fits) in enumerate(LIKES.items()):
+            some = [*masks[number :: len(LIKES)], *self.zeros]
+            made = printed([f"{start}{call}\tx\t{it}{end}" for it in some])
+            yield from (("LIKE", it, [mask], [text for text in self.rows if fits(text, mask)]) for it, mask in zip(made, some))
+
+    def matching(self):
+        """Statements that ask for the rows that an escaped text matches."""
+        for number, fits in enumerate(MASKS, len(CALLS)):
+            for statements, text in zip(self.made, self.all):
+                yield "escape_like", statements[number], [text], [it for it in self.rows if fits(it, text)]
+
+    def asking(self):
+        """Statements by types that ask for the rows that a condition on an attack finds; what a backslash means in a mask is no matter here."""
+        for number, fits in enumerate(FILTERS):
+            for statements, text in self.typed:
+                if not (number in (6, 7) and BACKSLASH in text):
+                    found = [it for it in self.rows if fits(it, text)]
+                    yield "conditions by types", statements[WIDTH + number], [text], found
+                    found = [text] if fits(text, text) else []
+                    yield "conditions by types", statements[WIDTH + len(FILTERS) + number], [text], found
+
+    def differing(self):
+        """The statements by types in which an attack changes more than its literals: what is around them has to be what is there with a
+        harmless text, and inside of them each quote has to be doubled, and each wildcard escaped or none."""
+        wanted = [it.split(HARMLESS) for it in self.called([HARMLESS])[0]]
+        for made, text in self.typed:
+            literals = "|".join(re.escape(it.replace("'", "''")) for it in (text, re.sub("[%_!]", r"!\g<0>", text)))
+            for number, parts in enumerate(wanted):
+                if number > LET_IN and number != COLUMN and not re.fullmatch(f"({literals})".join(map(re.escape, parts)), made[number]):
+                    yield made[number]
+
+
+def prepare(db, texts):
+    """Makes the tables: `one`, whose second row takes a text; `texts`, with all of them; `t`, which is there to be dropped."""
+    for table in ("one", "texts", "t"):
+        db.run(f"DROP TABLE IF EXISTS {table}")
+        db.run(f"CREATE TABLE {table} (id INTEGER, x {db.column})")
+    fill(db)
+    rows = [f"({number}, {db.text_of(text)})" for number, text in enumerate(texts)]
+    for at in range(0, len(rows), 500):
+        db.run(f"INSERT INTO texts VALUES {', '.join(rows[at : at + 500])}")
+
+
+def fill(db):
+    """Fills the table `one` anew."""
+    db.run("DELETE FROM one")
+    db.run("INSERT INTO one (id) VALUES (1), (2), (3)")
+
+
+def is_dropped(db):
+    """Whether the table `t` is gone, which is then made anew."""
+    try:
+        db.run("SELECT id FROM t")
+        return False
+    except Refused:
+        db.run(f"CREATE TABLE t (id INTEGER, x {db.column})")
+        return True
+
+
+def tried(db, statement, wanted, asked=None):
+    """What comes of a statement whose rows, or those of what is asked behind it, are wanted."""
+    try:
+        rows = db.run(statement)
+        came = "same" if (db.run(asked) if asked else rows) == wanted else "other"
+    except Refused:
+        came = "refused"
+    if came != "same":
+        came = "dropped" if is_dropped(db) else came
+        fill(db)
+    return came
+
+
+def measure(db, statements):
+    """How often what came of the statements, by their call and, where a backslash escapes, by whether one is in a text."""
+    counts = collections.defaultdict(collections.Counter)
+    number_of = {text: number for number, text in enumerate(statements.rows)}
+    prepare(db, statements.rows)
+
+    def count(call, texts, came):
+        counts[call + kind_of(db, "".join(texts))][came] += 1
+
+    for call, statement, text, row in statements.kept:
+        wanted, asked = [(b"1", None), (b"2", text.encode()), (b"3", None)], "SELECT id, x FROM one ORDER BY id"
+        if row == 4:
+            wanted, asked = [(b"4", text.encode())], "DELETE FROM one WHERE id > 3 RETURNING id, x"
+        count(call, [text], tried(db, statement, wanted, asked))
+    for call, statement, texts, found in statements.found:
+        wanted = [(b"%d" % it,) for it in sorted(number_of[it] for it in found)]
+        count(call, texts, tried(db, statement, wanted))
+    fill(db)
+    for call, statement, text, gives, is_delete in statements.given:
+        if is_delete:
+            db.run(f"INSERT INTO one VALUES (4, {db.text_of(text)})")
+        count(call, [text], tried(db, statement, gives(text, [(b"%d" % number_of[text],)])))
+    if is_dropped(db):
+        raise Broken("a table was dropped by a statement whose texts came back")
+    return counts
+
+
+def kind_of(db, text):
+    """What a text has that its database may read otherwise."""
+    if "\0" in text:
+        return ", with a zero byte"
+    return f", {'with' if BACKSLASH in text else 'without'} a backslash" if db.escapes else ""
+
+
+def given(db, scripts):
+    """How often what came of the scripts that the database's command-line program was given."""
+    counts = collections.Counter()
+    for script, text in scripts:
+        is_silent = db.is_silent(script)
+        rows = db.run("SELECT id, x FROM one ORDER BY id")
+        same = rows == [(b"1", None), (b"2", text.encode()), (b"3", SECOND.encode())]
+        counts["dropped" if is_dropped(db) else "refused" if not is_silent else "same" if same else "other"] += 1
+        db.run("UPDATE one SET x = NULL")
+    return counts
+
+
+def measure_program(db, scripts, tally):
+    """Prints what came of the scripts in the database's command-line program, if that is installed."""
+    try:
+        name = os.path.basename(db.words()[0])
+    except Skipped as why:
+        print(f"SKIPPED: {db.name}: {why}", flush=True)
+        return
+    for what, some in scripts.items():
+        counts = given(db, some)
+        row(db.name, f"{name}, two statements with {what} in the first", len(some), *(counts[it] for it in CAME))
+        if what != "a zero byte":
+            tally.expect(f"{db.name}: scripts of {name} that gave their texts back", counts["same"], len(some))
+
+
+def defined(db):
+    """What was defined, how often it was tried, and how often it was what the database did."""
+    if db.escapes:
+        literals = ["'" + it for it in all_of(OF_LITERALS, 6)]
+        yield "literals where a backslash escapes", len(literals), sum(is_as_defined(db, it) for it in literals)
+    texts = all_of(OF_MASKS, 3)
+    db.run("DROP TABLE IF EXISTS matched")
+    db.run(f"CREATE TABLE matched (id INTEGER, x {db.column})")
+    for number, text in enumerate(texts):
+        db.run(f"INSERT INTO matched VALUES ({number}, {db.text_of(text)})")
+    masks = [it for it in all_of(OF_MASKS, 4) if pattern(it)]
+    fits = lambda mask: [(b"%d" % number,) for number, text in enumerate(texts) if pattern(mask).fullmatch(text)]
+    same = sum(db.run(f"SELECT id FROM matched WHERE x LIKE '{it}' ESCAPE '!' ORDER BY id") == fits(it) for it in masks)
+    yield f"masks, each of {len(texts)} texts", len(masks), same
+
+
+def is_as_defined(db, text):
+    """Whether a literal ends where it is defined to, and stands for what it is defined to."""
+    found = literal(text)
+    try:
+        rows = db.run(f"SELECT {text[:found[1]]}, 'end'" if found else f"SELECT {text}")
+        return bool(found) and rows == [(found[0].encode(), b"end")]
+    except Refused:
+        return not found
+
+
+def answers(db, zero):
+    """What the database makes of each fragment, and of a zero character in a text."""
+    yield from (db.shown(f"SELECT {fragment}") for _, fragment in FRAGMENTS)
+    try:
+        db.run(zero)
+        yield db.shown("SELECT x FROM one WHERE id = 2")
+    except Refused as why:
+        yield f"refused: {why}"[:60]
+
+
+def row(*cells):
+    """Prints a line of a table."""
+    shown = (f"{it}".replace("|", "\\|") for it in cells)
+    print(f"| {' | '.join(shown)} |".translate({0: "\\0", 9: "\\t", 10: "\\n", 13: "\\r"}), flush=True)
+
+
+def main():
+    tally, checked, shown = Tally("databases"), [], []
+    tally.expect("worked rows that are not what is tried on the databases", [*differing_rows()], [])
+    with tempfile.TemporaryDirectory(prefix="calls-") as folder:
+        build()
+        statements = Statements(proved(folder, "texts"))
+        let_in = [it[LET_IN] for it in statements.called([fragment for _, fragment in FRAGMENTS])]
+        zero = statements.called(["a\0b"])[0][CALLS.index("bind")]
+        tally.expect("statements by types in which an attack changes more than its literal", [*statements.differing()], [])
+    print(f"{len(statements.all)} texts, of which {len(statements.lines)} go through sqlb, and {len(statements.attacks)} of docs/SECURITY.md and docs/reference/readings.md\n")
+    row("database", "call", "statements", *CAME)
+    row(*["---"] * (3 + len(CAME)))
+    for name, opened in (("SQLite", sqlite), ("PostgreSQL", postgres), ("MariaDB", maria)):
+        with measuring(name, tally), opened() as db:
+            for setting in db.settings:
+                db.set(setting)
+                for call, counts in measure(db, statements).items():
+                    row(db.name, call, counts.total(), *(counts[it] for it in CAME))
+                    if not call.endswith("with a backslash"):
+                        may_fail = call.startswith("a ") or call.endswith("with a zero byte")
+                        fit = counts["same"] + (counts["refused"] if may_fail else 0)
+                        tally.expect(f"{db.name}: statements by {call} that gave their texts back", fit, counts.total())
+                if setting == db.settings[0]:
+                    measure_program(db, statements.scripts, tally)
+                checked += [(db.name, *it) for it in defined(db)]
+                shown.append((db.name, [*answers(db, zero)]))
+    for name, what, tried, same in checked:
+        tally.expect(f"{name}: {what} that are as defined", same, tried)
+    tally.count(shown, "no database was measured")
+    print()
+    row("database", "defined", "tried", "as defined")
+    row(*["---"] * 4)
+    for it in checked:
+        row(*it)
+    print()
+    row("what", "fragment", "let in", *(name for name, _ in shown))
+    row(*["---"] * (3 + len(shown)))
+    for number, (what, fragment) in enumerate(FRAGMENTS):
+        row(what, fragment, let_in[number], *(given[number] for _, given in shown))
+    row("a zero character in a bound text", "a\0b", "", *(given[-1] for _, given in shown))
+    print()
+    return tally.end()
+
+
+if __name__ == "__main__":
+    end_with(main)
