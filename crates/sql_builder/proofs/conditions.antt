@@ -1,2 +1,5 @@
 pub mod ConditionLemmas
 pub mod QuotedMaskFacts
+-- Each name of these files, for one line of imports.
+unfoldable pub use ConditionLemmas.*
+unfoldable pub use QuotedMaskFacts.*

@@ -8,3 +8,15 @@ pub mod PreservationLemmas
 pub mod PropertyLemmas
 pub mod TextTestLemmas
 pub mod UnfitLemmas
+-- Each name of these files, for one line of imports.
+unfoldable pub use ClauseFacts.*
+unfoldable pub use FitLemmas.*
+unfoldable pub use FitListLemmas.*
+unfoldable pub use InsertFitLemmas.*
+unfoldable pub use NeutralLemmas.*
+unfoldable pub use PassLemmas.*
+unfoldable pub use PreservationLemmas.*
+unfoldable pub use PropertyLemmas.*
+unfoldable pub use TextTestLemmas.*
+unfoldable pub use UnfitLemmas.*
+pub use Rattle.sql_builder.proofs.fragments.FitLemmas.{balanced_fragments}

@@ -33,6 +33,43 @@ pub mod Subqueries
 pub mod Pieces
 pub mod Truths
 pub mod WhereTokens
+-- Each name of these files, for one line of imports.
+unfoldable pub use BesideStatements.*
+unfoldable pub use BoundStatements.*
+unfoldable pub use Builder.*
+unfoldable pub use Calls.*
+unfoldable pub use Clauses.*
+unfoldable pub use Combined.*
+unfoldable pub use Concat.*
+unfoldable pub use Condition.*
+unfoldable pub use Filters.*
+unfoldable pub use FitCalls.*
+unfoldable pub use RawFragments.*
+unfoldable pub use RawTexts.*
+unfoldable pub use TextTests.*
+unfoldable pub use Unfits.*
+unfoldable pub use Inserts.*
+unfoldable pub use Interference.*
+unfoldable pub use BuilderLaws.*
+unfoldable pub use Layout.*
+unfoldable pub use Meaning.*
+unfoldable pub use TokenParts.*
+unfoldable pub use Unions.*
+unfoldable pub use Phrases.*
+unfoldable pub use Printed.*
+unfoldable pub use PrintedLists.*
+unfoldable pub use Reading.*
+unfoldable pub use Shape.*
+unfoldable pub use Statement.*
+unfoldable pub use StatementLaws.*
+unfoldable pub use StatementReaders.*
+unfoldable pub use Steps.*
+unfoldable pub use Subqueries.*
+unfoldable pub use Pieces.*
+unfoldable pub use Truths.*
+unfoldable pub use WhereTokens.*
+pub use Rattle.sql_builder.specs.Phrases.{in_brackets}
+pub use Rattle.sql_builder.specs.TokenParts.{parts_at}
 -- what the contracts here cite of the library below, for callers that list this one alone
 pub use Rattle.sql_parts.specs.Backslash
 pub use Rattle.sql_parts.specs.StringTexts

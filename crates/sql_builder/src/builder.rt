@@ -1,9 +1,7 @@
 //! The builder: calls add clauses to it, and it prints a statement of them.
 ghost use Rattle.std.specs.Prelude.{◌≡◌, [], map, IfOk, string_bytes};
 ghost use Rattle.sql_parts.specs.Error.{FailsOnlyByMemory};
-ghost use Rattle.sql_builder.specs.Builder.{started};
-ghost use Rattle.sql_builder.specs.Calls.{SelectFrom, SelectValues, InsertInto, UpdateTable, DeleteFrom};
-ghost use Rattle.sql_builder.specs.Clauses.{new_clauses};
+ghost use Rattle.sql_builder.specs.{started, SelectFrom, SelectValues, InsertInto, UpdateTable, DeleteFrom, new_clauses};
 
 use crate::clauses::{GroupedCondition, JoinOperator, Kind, copy_conditions};
 use crate::concat::copied;

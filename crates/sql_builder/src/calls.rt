@@ -1,17 +1,10 @@
 //! Lists of calls, as values, and the statement that a list makes.
 ghost use Rattle.std.specs.Prelude.{◌≡◌, [], ◌⊎◌, ◌≤◌, ◌+◌, ◌-◌, ◌^◌, ◌++◌, length, map, min, IfErr, IfOk, IfSome, IsNone, IsOk, IsTrue, Ok, OnErr, OnOk, string_bytes, string_capacity, string_len};
 ghost use Rattle.sql_parts.specs.Error.{FailsOnlyByMemory, IsMemory};
-ghost use Rattle.sql_builder.specs.Builder.{started, IsCallError, with_call};
-ghost use Rattle.sql_builder.specs.Calls.{SelectValues, kind_of, call_view, finish_view, of_list, start_on, start_view};
-ghost use Rattle.sql_builder.specs.Meaning.{HasBalancedFragments, HasFitFragments, HasTruthOf, condition_groups, is_nested, is_unenclosed, prints_where};
-ghost use Rattle.sql_builder.specs.RawFragments.{has_fit_conditions, is_fit};
-ghost use Rattle.sql_builder.specs.RawTexts.{Bare};
-ghost use Rattle.sql_builder.specs.Reading.{clause_list, read};
-ghost use Rattle.sql_builder.specs.Shape.{HasClosedFragments, shape};
-ghost use Rattle.sql_builder.specs.Statement.{error_at, statement, text_at};
-ghost use Rattle.sql_builder.specs.StatementLaws.{made_by};
-ghost use Rattle.sql_builder.specs.Subqueries.{makes_table};
-ghost use Rattle.sql_builder.specs.Unions.{needs_brackets};
+ghost use Rattle.sql_builder.specs.{started, IsCallError, with_call, SelectValues, kind_of, call_view, finish_view, of_list, start_on, start_view};
+ghost use Rattle.sql_builder.specs.{HasBalancedFragments, HasFitFragments, HasTruthOf, condition_groups, is_nested, is_unenclosed, prints_where};
+ghost use Rattle.sql_builder.specs.{has_fit_conditions, is_fit, Bare, clause_list, read, HasClosedFragments, shape, error_at, statement, text_at, made_by};
+ghost use Rattle.sql_builder.specs.{makes_table, needs_brackets};
 ghost use Rattle.sql_parts.specs.Tokens.{closed, tokens};
 
 use crate::builder::SqlBuilder;

@@ -3,10 +3,7 @@
 ghost use Rattle.std.specs.Prelude.{◌≡◌, [], ◌∷◌, codes, false, map, true, IfErr};
 ghost use Rattle.sql_parts.specs.Error.{FailsOnlyByMemory};
 ghost use Rattle.sql_parts.specs.Quoting.{quoted};
-ghost use Rattle.sql_builder.specs.Shape.{AddsText};
-ghost use Rattle.sql_builder.specs.Pieces.{fixed_piece, quoted_piece, raw_piece};
-ghost use Rattle.sql_builder.specs.Layout.{byte_units};
-ghost use Rattle.sql_builder.specs.Phrases.{count, count_as, equation};
+ghost use Rattle.sql_builder.specs.{AddsText, fixed_piece, quoted_piece, raw_piece, byte_units, count, count_as, equation};
 
 use crate::builder::SqlBuilder;
 use crate::clauses::JoinOperator;

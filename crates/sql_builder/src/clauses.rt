@@ -1,8 +1,7 @@
 //! What a builder keeps of its clauses.
 ghost use Rattle.std.specs.List.{list_any};
 ghost use Rattle.std.specs.Prelude.{◌≡◌, map, IfOk};
-ghost use Rattle.sql_builder.specs.Builder.{condition_in_group};
-ghost use Rattle.sql_builder.specs.Phrases.{operator_text};
+ghost use Rattle.sql_builder.specs.{condition_in_group, operator_text};
 
 use std::alloc::{AllocError, Global};
 

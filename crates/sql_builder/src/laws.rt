@@ -1,22 +1,22 @@
 //! Laws of lists of calls, of clauses and of truth, each the contract of a function that does
 //! nothing.
 ghost use Rattle.std.specs.Prelude.{IfOk, IsTrue, List, codes};
-ghost use Rattle.sql_builder.specs.BesideStatements.{BindGivesTheNext, ValuesAreBesideStatements};
-ghost use Rattle.sql_builder.specs.BoundStatements.{CombinedBindByParts, ConditionsBindByFragments, ConditionsBindByPieces, ExistsBindsByQuery, MasksBindByParts, NegationsBindByPart, StatementsBindByCalls, StatementsBindByClauses, StatementsBindByPieces};
-ghost use Rattle.sql_builder.specs.Calls.{CallText, Sql, StartText, having_in, limit_in, offset_in, returning_in};
-ghost use Rattle.sql_builder.specs.TextTests.{ClosedTextsMakeClosedFragments, FitTextsMakeClosedFragments, PlainTextsEndInOneSemicolon, PlainTextsMakePlainFragments, SelectsNeedGroupBy, TextsAreFitCallByCall, TextsPassCallByCall};
-ghost use Rattle.sql_builder.specs.Unfits.{QuotedTextsDecideNoTest, TestsPassBalancedTexts, TestsPassFitTexts};
-ghost use Rattle.sql_builder.specs.Inserts.{BuildersOfInsertsReadBack, BuildersOfQueriesAreOne, FitTextsMakeFitTargets, InsertsReadBack, QueriesAreOne};
-ghost use Rattle.sql_builder.specs.Interference.{ConditionsKeepTheirOutline, EquationsKeepTheirOutline, FragmentsDoNotInterfere, IgnoresQuotedTexts, OutlinesDecideOutlines, QuotedTextsAreStrings, QuotedTextsDoNotInterfere, QuotedTextsKeepTheirPlaces, QuotesKeepTheirOutline, blank_clauses, clauses_but};
-ghost use Rattle.sql_builder.specs.BuilderLaws.{BuildersEndInOneSemicolon, ConditionsAreAtoms, ConditionsKeepTokens, BracketsMakeOperands, CountsKeepTokens, EquationsKeepTokens, FieldsJoin, FitTextsMakeBalancedFragments, FitTextsMakeFitConditions, FitTextsMakeFitFragments, IsValued, OnlyLastCounts, QuotedEquationsKeepTokens, StatementsReadBack, TruthOfAnd, TruthOfBrackets, TruthOfNot, TruthOfOr, TruthOfWhere, a_without_c, brackets_and_not, range_and_case};
-ghost use Rattle.sql_builder.specs.Truths.{False, True, Unknown};
-ghost use Rattle.sql_builder.specs.Shape.{EndsInOneSemicolon};
-ghost use Rattle.sql_builder.specs.RawFragments.{has_closed_fragments, has_no_semicolons};
-ghost use Rattle.sql_builder.specs.Statement.{pieces, statement};
-ghost use Rattle.sql_builder.specs.StatementLaws.{BuildersFollowCalls, BuildersPrintStatements, StatementsAreClosed, StatementsHaveTruth, StatementsKeepTokens, StatementsNest};
-ghost use Rattle.sql_builder.specs.StatementReaders.{ClosedFragmentsOpenStrings, NoTextsDecide, PlainTextsArePrinted, QuotedBytesAreBytes, ReadersIgnoreQuotedFragments, ReadersIgnoreQuotedTexts, printed_by};
-ghost use Rattle.sql_builder.specs.Subqueries.{SubqueriesNestAsTables};
-ghost use Rattle.sql_builder.specs.Pieces.{pieces_text};
+ghost use Rattle.sql_builder.specs.{BindGivesTheNext, ValuesAreBesideStatements, CombinedBindByParts, ConditionsBindByFragments, ConditionsBindByPieces};
+ghost use Rattle.sql_builder.specs.{ExistsBindsByQuery, MasksBindByParts, NegationsBindByPart, StatementsBindByCalls, StatementsBindByClauses};
+ghost use Rattle.sql_builder.specs.{StatementsBindByPieces, CallText, Sql, StartText, having_in, limit_in, offset_in, returning_in};
+ghost use Rattle.sql_builder.specs.{ClosedTextsMakeClosedFragments, FitTextsMakeClosedFragments, PlainTextsEndInOneSemicolon, PlainTextsMakePlainFragments};
+ghost use Rattle.sql_builder.specs.{SelectsNeedGroupBy, TextsAreFitCallByCall, TextsPassCallByCall, QuotedTextsDecideNoTest, TestsPassBalancedTexts};
+ghost use Rattle.sql_builder.specs.{TestsPassFitTexts, BuildersOfInsertsReadBack, BuildersOfQueriesAreOne, FitTextsMakeFitTargets, InsertsReadBack};
+ghost use Rattle.sql_builder.specs.{QueriesAreOne, ConditionsKeepTheirOutline, EquationsKeepTheirOutline, FragmentsDoNotInterfere, IgnoresQuotedTexts};
+ghost use Rattle.sql_builder.specs.{OutlinesDecideOutlines, QuotedTextsAreStrings, QuotedTextsDoNotInterfere, QuotedTextsKeepTheirPlaces};
+ghost use Rattle.sql_builder.specs.{QuotesKeepTheirOutline, blank_clauses, clauses_but, BuildersEndInOneSemicolon, ConditionsAreAtoms, ConditionsKeepTokens};
+ghost use Rattle.sql_builder.specs.{BracketsMakeOperands, CountsKeepTokens, EquationsKeepTokens, FieldsJoin, FitTextsMakeBalancedFragments};
+ghost use Rattle.sql_builder.specs.{FitTextsMakeFitConditions, FitTextsMakeFitFragments, IsValued, OnlyLastCounts, QuotedEquationsKeepTokens};
+ghost use Rattle.sql_builder.specs.{StatementsReadBack, TruthOfAnd, TruthOfBrackets, TruthOfNot, TruthOfOr, TruthOfWhere, a_without_c, brackets_and_not};
+ghost use Rattle.sql_builder.specs.{range_and_case, False, True, Unknown, EndsInOneSemicolon, has_closed_fragments, has_no_semicolons, pieces, statement};
+ghost use Rattle.sql_builder.specs.{BuildersFollowCalls, BuildersPrintStatements, StatementsAreClosed, StatementsHaveTruth, StatementsKeepTokens};
+ghost use Rattle.sql_builder.specs.{StatementsNest, ClosedFragmentsOpenStrings, NoTextsDecide, PlainTextsArePrinted, QuotedBytesAreBytes};
+ghost use Rattle.sql_builder.specs.{ReadersIgnoreQuotedFragments, ReadersIgnoreQuotedTexts, printed_by, SubqueriesNestAsTables, pieces_text};
 ghost use Rattle.sql_parts.specs.Fragments.{balanced, dangling, has_clause_word, operand};
 ghost use Rattle.sql_parts.specs.StringTexts.{IgnoresBoundTexts, IgnoresStrings, length_in_tokens, outline, semicolon_count};
 ghost use Rattle.sql_parts.specs.Tokens.{closed, tokens};

@@ -3,8 +3,7 @@ ghost use Rattle.std.specs.Prelude.{◌≡◌, ◌++◌, OnErr, OnOk, codes, fla
 ghost use Rattle.std.specs.Io.{StartsWith};
 ghost use Rattle.sql_parts.specs.Error.{FailsOnlyByMemory};
 ghost use Rattle.sql_parts.specs.Quoting.{quoted};
-ghost use Rattle.sql_builder.specs.Layout.{byte_units};
-ghost use Rattle.sql_builder.specs.Phrases.{comma_list, row};
+ghost use Rattle.sql_builder.specs.{byte_units, comma_list, row};
 
 use sql_parts::text::{Texts, ToText};
 use sql_parts::{SqlBuilderError, push_quoted};

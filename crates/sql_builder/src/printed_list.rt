@@ -1,8 +1,6 @@
 //! Lists that are stored in one text, as they are printed: the joins, and the queries of UNION.
 ghost use Rattle.std.specs.Prelude.{◌≡◌, ◌++◌, [], ◌==◌, ℕ, List, codes, flat_map, length, IfOk, OnErr, OnOk};
-ghost use Rattle.sql_builder.specs.Concat.{concat_bytes};
-ghost use Rattle.sql_builder.specs.PrintedLists.{HasByte, union_has_byte};
-ghost use Rattle.sql_builder.specs.Layout.{union_opening};
+ghost use Rattle.sql_builder.specs.{concat_bytes, HasByte, union_has_byte, union_opening};
 
 use crate::concat::{Part, append, copied};
 use crate::ghost_list::{Bytes, GhostList};

@@ -3,17 +3,11 @@
 ghost use Rattle.std.specs.Prelude.{◌≡◌, [], ◌∷◌, ◌++◌, IfOk, IfSome, IsNone, IsOk, OnErr, OnOk, length, map, string_bytes, string_capacity};
 ghost use Rattle.std.specs.List.{list_any};
 ghost use Rattle.sql_parts.specs.Error.{FailsOnlyByMemory};
-ghost use Rattle.sql_builder.specs.Builder.{condition_in_group, group_texts};
-ghost use Rattle.sql_builder.specs.Calls.{Query, Sql, Subquery, SubqueryAs, finish_view};
-ghost use Rattle.sql_builder.specs.Concat.{Fits, Prints};
-ghost use Rattle.sql_builder.specs.Layout.{byte_units, fields_or_star, query, query_error, query_values, sql_error, select_opening, sql, subquery, subquery_as};
-ghost use Rattle.sql_builder.specs.Meaning.{HasTruthOfGroups, Nests, ReadsBack};
-ghost use Rattle.sql_builder.specs.Phrases.{comma_list};
-ghost use Rattle.sql_builder.specs.Printed.{delete_bytes, further_bytes, further_condition, group_by_bytes, insert_bytes, inserted_bytes, optional_bytes, order_by_bytes, query_end, query_start, statement_bytes, update_bytes, where_bytes, where_end, where_opening};
-ghost use Rattle.sql_builder.specs.Shape.{HasShape, IsClosedAs, as_fragments};
-ghost use Rattle.sql_builder.specs.Statement.{error_at, text_at, unless_error};
-ghost use Rattle.sql_builder.specs.Subqueries.{NestsAsTable};
-ghost use Rattle.sql_builder.specs.Pieces.{fixed_piece, raw_piece};
+ghost use Rattle.sql_builder.specs.{condition_in_group, group_texts, Query, Sql, Subquery, SubqueryAs, finish_view, Fits, Prints, byte_units, fields_or_star};
+ghost use Rattle.sql_builder.specs.{query, query_error, query_values, sql_error, select_opening, sql, subquery, subquery_as, HasTruthOfGroups, Nests, ReadsBack};
+ghost use Rattle.sql_builder.specs.{comma_list, delete_bytes, further_bytes, further_condition, group_by_bytes, insert_bytes, inserted_bytes, optional_bytes};
+ghost use Rattle.sql_builder.specs.{order_by_bytes, query_end, query_start, statement_bytes, update_bytes, where_bytes, where_end, where_opening, HasShape};
+ghost use Rattle.sql_builder.specs.{IsClosedAs, as_fragments, error_at, text_at, unless_error, NestsAsTable, fixed_piece, raw_piece};
 
 use crate::builder::SqlBuilder;
 use crate::calls::{Finish, print};

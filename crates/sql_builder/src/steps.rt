@@ -3,10 +3,8 @@
 ghost use Rattle.std.specs.Prelude.{◌≡◌, [], ◌∷◌, ◌++◌, map, codes, drop, string_bytes, IfErr, IfOk, OnOk, OnErr};
 ghost use Rattle.sql_parts.specs.Error.{FailsOnlyByMemory};
 ghost use Rattle.sql_parts.specs.Quoting.{escaped};
-ghost use Rattle.sql_builder.specs.Builder.{with_condition, with_condition_bytes, with_order, with_returning, IsBinaryError, IsNullaryError, IsUnaryError, with_binary, with_nullary, with_row, with_unary, with_variadic};
-ghost use Rattle.sql_builder.specs.Concat.{concat_bytes};
-ghost use Rattle.sql_builder.specs.Condition.{borrowed_view, condition_bytes};
-ghost use Rattle.sql_builder.specs.Steps.{AddsBinary, Applies};
+ghost use Rattle.sql_builder.specs.{with_condition, with_condition_bytes, with_order, with_returning, IsBinaryError, IsNullaryError, IsUnaryError, with_binary};
+ghost use Rattle.sql_builder.specs.{with_nullary, with_row, with_unary, with_variadic, concat_bytes, borrowed_view, condition_bytes, AddsBinary, Applies};
 
 use crate::builder::SqlBuilder;
 use crate::clauses::{GroupedCondition, JoinOperator};

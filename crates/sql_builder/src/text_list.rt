@@ -2,9 +2,7 @@
 ghost use Rattle.std.specs.Prelude.{◌≡◌, ◌++◌, [], ◌∷◌, ◌==◌, codes, if◌then◌else◌, length, IfOk, OnErr, OnOk};
 ghost use Rattle.sql_parts.specs.Error.{FailsOnlyByMemory};
 ghost use Rattle.sql_parts.specs.Text.{join_with};
-ghost use Rattle.sql_builder.specs.Concat.{HasRoom, Writes, concat_bytes};
-ghost use Rattle.sql_builder.specs.Layout.{byte_units};
-ghost use Rattle.sql_builder.specs.Phrases.{row};
+ghost use Rattle.sql_builder.specs.{HasRoom, Writes, concat_bytes, byte_units, row};
 
 use crate::concat::{Part, copied, push_all, push_text, total_len};
 use crate::ghost_list::{Bytes, GhostList};

@@ -1,7 +1,6 @@
 -- The constants that the chain calls pass to their steps.
-use Rattle.sql_parts.proofs.chains.Prelude.{refl}
+use Rattle.sql_builder.proofs.Imports.{refl, variant}
 use Rattle.sql_parts.proofs.chains.LoanLemmas.{Variant}
-use Rattle.sql_parts.proofs.chains.VariantLemmas.{variant}
 use Rattle.sql_builder.specs.contracts.condition.Family as family
 use Rattle.sql_builder.proofs.condition.Family.TheLaws as family_laws
 use Rattle.sql_builder.specs.declared.condition.Family.TheVariants as family_case

@@ -1,28 +1,22 @@
 -- The chain calls of each step. A chain call's proof is one use of these.
-use Rattle.sql_parts.proofs.chains.Prelude.{◌≡◌, ℕ, List, [], ◌∷◌, MutBor, plain, a_type, dcons, dnil, bounded, inst_fn, Ura, Logic, RattleType, SProp}
+use Rattle.sql_builder.proofs.Imports.{◌≡◌, ℕ, List, [], ◌∷◌, MutBor, plain, a_type, dcons, dnil, bounded, inst_fn, Ura, Logic, RattleType, SProp, Args, Callee}
+use Rattle.sql_builder.proofs.Imports.{Dict, Fn, Running, Denots, types_at, codes, map}
 use Rattle.sql_parts.proofs.chains.LoanLemmas.{Argument, Constant, Effect, BorrowedType, Variant, also, boolean, constant, generic, passed_laws, passed_row}
 use Rattle.sql_parts.proofs.chains.LoanLemmas.{release_name, release_triple, slice}
 use Rattle.sql_builder.proofs.chains.ConstantFacts.{Choice}
 use Rattle.sql_parts.proofs.chains.ChainCallLemmas as calls
-use mir.Syntax.{Args, Callee, Dict, Fn}
 use contract.BorrowLft.{⊑_refl}
 use contract.Lifetimes.{Lfts, Outlives}
-use contract.Running.{Running}
 use prog.Model.{Model}
 use prog.Wired.{Wired}
 use denote.Param.Glue.{Met as Drops}
 use denote.Param.Laws.{Laws}
-use denote.RattleType.{Denots}
-use denote.Signature.{types_at}
 use denote.Triple.Statement.{Triple}
-use Rattle.std.specs.Prelude.{codes, map}
 use Rattle.sql_parts.specs.Error.{IsMemory}
 use Rattle.sql_parts.specs.declared.text.ToText.{Ghosts}
 use Rattle.sql_parts.specs.contracts.text.ToText.TheBound.{Met}
-use Rattle.sql_builder.specs.Builder.{ClauseTexts, with_order, with_returning, IsBinaryError, IsUnaryError, with_unary, with_variadic}
-use Rattle.sql_builder.specs.Condition.{ConditionText}
-use Rattle.sql_builder.specs.Meaning.{AddsCondition}
-use Rattle.sql_builder.specs.Steps.{AddsConditionOpaque, AddsBinary}
+use Rattle.sql_builder.specs.{ClauseTexts, with_order, with_returning, IsBinaryError, IsUnaryError, with_unary, with_variadic, ConditionText, AddsCondition}
+use Rattle.sql_builder.specs.{AddsConditionOpaque, AddsBinary}
 use Rattle.sql_builder.specs.contracts.builder.SqlBuilder.{the_row}
 use Rattle.sql_builder.proofs.builder.SqlBuilder.TheLaws as builder_laws
 use Rattle.sql_parts.proofs.loan.release.Met.{met as release_met}

@@ -1,34 +1,20 @@
 -- What a condition is: what it prints, what holds of it as of its texts, and that it is an atom where they are operands.
-use Rattle.std.proofs.Common.{◌≡◌, refl, ap, subst, sym, ◌∙◌, ℕ, Bool, true, false, ◌&&◌, List, [], ◌∷◌, ◌++◌, map, codes}
-use Rattle.std.specs.List.{list_all}
-use Rattle.std.proofs.lemmas.Bool.{and_from, and_parts, false≢true}
-use Rattle.std.proofs.lemmas.List.{append-nil}
-use Rattle.sql_parts.specs.Fragments.{balanced, is_joining, operand}
-use Rattle.sql_parts.specs.Quoting.{quoted}
-use Rattle.sql_parts.specs.Tokens.{Symbol, tokens}
-use Rattle.sql_parts.proofs.fragments.DepthFacts.{has_top_level, is_even, is_operand, is_operand-is}
-use Rattle.sql_builder.specs.Condition.{ConditionText, Raw, Compare, Like, IsNull, IsNotNull, InList, InQuoted, InQuery, Between, condition_bytes}
-use Rattle.sql_builder.specs.Condition.{condition_raw_texts, condition_pieces, has_operands, mask_text, not_text, relation_text}
-use Rattle.sql_builder.specs.RawFragments.{has_balanced_fragments}
-use Rattle.sql_builder.specs.Layout.{byte_units}
-use Rattle.sql_builder.specs.Meaning.{IsAtomIfOperands}
-use Rattle.sql_builder.specs.Phrases.{comma_list}
+use Rattle.sql_builder.proofs.Imports.{◌≡◌, refl, ap, subst, sym, ◌∙◌, ℕ, Bool, true, false, ◌&&◌, List, [], ◌∷◌, ◌++◌, map, codes, list_all, and_from}
+use Rattle.sql_builder.proofs.Imports.{and_parts, false≢true, append-nil, balanced, is_joining, operand, quoted, Symbol, tokens, has_top_level, is_even}
+use Rattle.sql_builder.proofs.Imports.{is_operand, is_operand-is, Raw, Pieces, Relation, Eq, Ne, Gt, Ge, Lt, Le}
+use Rattle.sql_builder.specs.{ConditionText, Compare, Like, IsNull, IsNotNull, InList, InQuoted, InQuery, Between, condition_bytes, condition_raw_texts}
+use Rattle.sql_builder.specs.{condition_pieces, has_operands, mask_text, not_text, relation_text, has_balanced_fragments, byte_units, IsAtomIfOperands}
+use Rattle.sql_builder.specs.{comma_list, fixed_piece, pieces_text, quoted_piece, raw_piece, RawText, Bare, Enclosed, cond_tokens, pieces_tokens, IsAtom}
+use Rattle.sql_builder.specs.{condition_quoted_texts}
 use Rattle.sql_builder.specs.Pieces as text
-use Rattle.sql_builder.specs.Pieces.{Pieces, fixed_piece, pieces_text, quoted_piece, raw_piece}
-use Rattle.sql_builder.specs.RawTexts.{RawText, Bare, Enclosed}
-use Rattle.sql_builder.specs.Shape.{cond_tokens, pieces_tokens}
-use Rattle.sql_builder.specs.Truths.{IsAtom}
-use Rattle.sql_builder.specs.declared.condition.Relation.{Relation}
-use Rattle.sql_builder.specs.declared.condition.Relation.TheVariants.{Eq, Ne, Gt, Ge, Lt, Le}
-use Rattle.sql_builder.specs.Interference.{condition_quoted_texts}
 use Rattle.sql_builder.proofs.fragments.PropertyLemmas.{all-whatever, whatever, Each, Passes, PreservedByCalls, are_between, between, listed, neutral-list}
 use Rattle.sql_builder.proofs.fragments.PropertyLemmas.{neutral-quoted, neutral-raw, one, passes-joins, quoteds-pass, raws-pass, within}
-use Rattle.sql_builder.proofs.lists.AllFacts.{map-all}
+use Rattle.sql_builder.proofs.lists.{map-all}
 use Rattle.sql_builder.proofs.pieces.LayoutMapLemmas.{joined_in_form}
 use Rattle.sql_builder.proofs.pieces.ShapeLemmas.{pieces_tokens-brackets, text-append, texts_of_raw}
 use Rattle.sql_builder.proofs.reading.ClauseWordLemmas.{shape-even}
 use Rattle.sql_builder.proofs.reading.SectionLemmas.{Neutral}
-use Rattle.sql_builder.proofs.tokens.WhereTokenFacts.{and_word, between_word, in_word, not_word}
+use Rattle.sql_builder.proofs.tokens.{and_word, between_word, in_word, not_word}
 use Rattle.sql_builder.proofs.truth.AtomLemmas.{atom_between, atom_in, atom_like, atom_not_between, atom_not_in, atom_not_like, atom_not_null, atom_null}
 use Rattle.sql_builder.proofs.truth.AtomLemmas.{atom_plain, operand_plain}
 

@@ -1,9 +1,6 @@
 -- A mask of LIKE, quoted with its percent signs.
-use Rattle.std.proofs.Common.{◌≡◌, ℕ, List, ◌++◌, Bool, true, false, codes, if◌then◌else◌, append_assoc}
-use Rattle.std.proofs.lemmas.List.{append-nil}
-use Rattle.std.proofs.lemmas.Grind.{flat_map-append}
-use Rattle.sql_parts.specs.Quoting.{escaped, quoted}
-use Rattle.sql_builder.specs.Condition.{has_trailing, has_leading, mask_text, percent_sign}
+use Rattle.sql_builder.proofs.Imports.{◌≡◌, ℕ, List, ◌++◌, Bool, true, false, codes, if◌then◌else◌, append_assoc, append-nil, flat_map-append, escaped, quoted}
+use Rattle.sql_builder.specs.{has_trailing, has_leading, mask_text, percent_sign}
 use Rattle.sql_builder.specs.declared.condition.Percent.{Percent}
 
 -- a percent sign is no quote, so it is not doubled

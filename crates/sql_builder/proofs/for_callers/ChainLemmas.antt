@@ -1,25 +1,12 @@
 -- The builder that a chain of calls makes, and the statement of its calls.
-use Rattle.std.proofs.Common.{◌≡◌, ℕ, List, [], ◌∷◌, ◌++◌, false, Result, Ok, Err, IfOk, String, string_bytes, refl, sym, ap, ◌∙◌, subst, append_assoc}
-use Rattle.std.proofs.Common.{append-nil}
-use Rattle.std.specs.List.{list_any}
-use Rattle.std.specs.Result.{result_map_both}
-use Rattle.std.specs.Prelude.{IfSome, IsTrue}
-use Rattle.sql_parts.specs.Tokens.{Token, Symbol, closed, is_semicolon, tokens}
-use Rattle.sql_parts.specs.declared.error.SqlBuilderError.{SqlBuilderError}
-use Rattle.sql_builder.specs.Builder.{ClauseTexts, started, with_call}
+use Rattle.sql_builder.proofs.Imports.{◌≡◌, ℕ, List, [], ◌∷◌, ◌++◌, false, Result, Ok, Err, IfOk, String, string_bytes, refl, sym, ap, ◌∙◌, subst, append_assoc}
+use Rattle.sql_builder.proofs.Imports.{append-nil, list_any, result_map_both, IfSome, IsTrue, Token, Symbol, closed, is_semicolon, tokens, SqlBuilderError}
+use Rattle.sql_builder.specs.{ClauseTexts, started, with_call, CallText, FinishText, StartText, clauses, AddsCondition, but_last, answer_of, EndsInOneSemicolon}
+use Rattle.sql_builder.specs.{HasClosedFragments, shape, layout_at, error_at, statement, text_at, made_by, AddsBinary, fixed_piece, pieces_text, raw_piece}
 use Rattle.sql_builder.specs.Calls as call
-use Rattle.sql_builder.specs.Calls.{CallText, FinishText, StartText, clauses}
-use Rattle.sql_builder.specs.Meaning.{AddsCondition}
-use Rattle.sql_builder.specs.TokenParts.{but_last}
-use Rattle.sql_builder.specs.Interference.{answer_of}
-use Rattle.sql_builder.specs.Shape.{EndsInOneSemicolon, HasClosedFragments, shape}
-use Rattle.sql_builder.specs.Statement.{layout_at, error_at, statement, text_at}
-use Rattle.sql_builder.specs.StatementLaws.{made_by}
-use Rattle.sql_builder.specs.Steps.{AddsBinary}
-use Rattle.sql_builder.specs.Pieces.{fixed_piece, pieces_text, raw_piece}
 use Rattle.sql_builder.specs.declared.steps.BinaryClause.TheVariants as binary
-use Rattle.sql_builder.proofs.statements.RunLemmas.{clauses-push, clauses_start, statement_printed, text_of_layout}
-use Rattle.sql_builder.proofs.statements.StatementLawLemmas.{of_statement, statements_are_closed, statements_keep_tokens}
+use Rattle.sql_builder.proofs.statements.{clauses-push, clauses_start, statement_printed, text_of_layout, of_statement, statements_are_closed}
+use Rattle.sql_builder.proofs.statements.{statements_keep_tokens}
 
 -- the clauses after calls, one after another
 abbrev pub with_calls : List CallText → ClauseTexts → ClauseTexts

@@ -1,16 +1,9 @@
 -- Calls after which a statement still has no error but `Memory`.
-use Rattle.std.proofs.Common.{◌≡◌, ℕ, List, [], ◌∷◌, ◌++◌, Option, None, Some, Bool, true, false, refl}
-use Rattle.std.specs.Prelude.{IsNone}
-use Rattle.sql_parts.specs.declared.error.SqlBuilderError.{SqlBuilderError}
-use Rattle.sql_parts.specs.declared.error.SqlBuilderError.TheVariants.{NoValues, NoSetFields, NoGroupBy}
-use Rattle.sql_builder.specs.Builder.{ClauseTexts, with_call}
+use Rattle.sql_builder.proofs.Imports.{◌≡◌, ℕ, List, [], ◌∷◌, ◌++◌, Option, None, Some, Bool, true, false, refl, IsNone, SqlBuilderError, NoValues, NoSetFields}
+use Rattle.sql_builder.proofs.Imports.{NoGroupBy, Kind, SelectFrom, SelectValues, InsertInto, UpdateTable, DeleteFrom, And, Or}
+use Rattle.sql_builder.specs.{ClauseTexts, with_call, CallText, byte_units, query_error, empty_error, no_group_by_error, no_rows_error, no_table_error}
+use Rattle.sql_builder.specs.{sql_error, error_of, further_table}
 use Rattle.sql_builder.specs.Calls as call
-use Rattle.sql_builder.specs.Calls.{CallText}
-use Rattle.sql_builder.specs.Layout.{byte_units, query_error, empty_error, no_group_by_error, no_rows_error, no_table_error, sql_error, error_of}
-use Rattle.sql_builder.specs.Phrases.{further_table}
-use Rattle.sql_builder.specs.declared.clauses.Kind.{Kind}
-use Rattle.sql_builder.specs.declared.clauses.Kind.TheVariants.{SelectFrom, SelectValues, InsertInto, UpdateTable, DeleteFrom}
-use Rattle.sql_builder.specs.declared.condition.Family.TheVariants.{And, Or}
 
 -- the calls after which a statement may have an error that it had not before: HAVING, and fields in the place of others
 abbrev pub may_cause_error : CallText → Bool

@@ -1,34 +1,17 @@
 -- A SELECT whose calls leave it whole, call by call, also where a call is made only if a value is given.
-use Rattle.std.proofs.Common.{◌≡◌, refl, sym, ◌∙◌, ap, ℕ, Bool, true, false, not, ◌&&◌, List, [], ◌∷◌, ◌++◌, Option, None, Some, IfOk, option_map, pos, negsuc}
-use Rattle.std.proofs.Common.{if◌then◌else◌}
-use Rattle.std.specs.Prelude.{IsNone}
-use Rattle.std.specs.List.{list_all, list_any}
-use Rattle.std.specs.Option.{option_to_list}
-use Rattle.std.proofs.lemmas.Bool.{and_parts, and_from, not-true, or_from}
-use Rattle.std.proofs.lemmas.List.Folds.{list_all-append}
+use Rattle.sql_builder.proofs.Imports.{◌≡◌, refl, sym, ◌∙◌, ap, ℕ, Bool, true, false, not, ◌&&◌, List, [], ◌∷◌, ◌++◌, Option, None, Some, IfOk, option_map, pos}
+use Rattle.sql_builder.proofs.Imports.{negsuc, if◌then◌else◌, IsNone, list_all, list_any, option_to_list, and_parts, and_from, not-true, or_from}
+use Rattle.sql_builder.proofs.Imports.{list_all-append, LiteralValue, literal_text, null, truth, whole, words, is_empty, is_semicolon, tokens, Family, Relation}
 use Rattle.sql_parts.specs.Templates.{literal_tokens}
-use Rattle.sql_parts.specs.Literal.{LiteralValue, literal_text, null, truth, whole, words}
-use Rattle.sql_parts.specs.Tokens.{is_empty, is_semicolon, tokens}
 use Rattle.sql_parts.proofs.fragments.OperandFacts.{literal-serves}
 use Rattle.sql_parts.proofs.tokens.LiteralFacts.{literal-is}
-use Rattle.sql_builder.specs.Builder.{ClauseTexts, started, with_call}
-use Rattle.sql_builder.specs.Calls.{CallText, Cond, SelectFrom, Sql, StartText, call_raw_texts}
-use Rattle.sql_builder.specs.Condition.{Compare}
-use Rattle.sql_builder.specs.RawFragments.{has_fit_texts, is_fit}
-use Rattle.sql_builder.specs.RawTexts.{Bare}
-use Rattle.sql_builder.specs.TextTests.{call_passes, is_having, is_plain, texts_pass}
-use Rattle.sql_builder.specs.Layout.{sql_error}
-use Rattle.sql_builder.specs.Meaning.{HasTruthOf, condition_groups}
-use Rattle.sql_builder.specs.Shape.{EndsInOneSemicolon, HasClosedFragments}
-use Rattle.sql_builder.specs.Statement.{statement}
-use Rattle.sql_builder.specs.StatementLaws.{made_by}
-use Rattle.sql_builder.specs.declared.condition.Family.{Family}
-use Rattle.sql_builder.specs.declared.condition.Relation.{Relation}
+use Rattle.sql_builder.specs.{ClauseTexts, started, with_call, CallText, Cond, SelectFrom, Sql, StartText, call_raw_texts, Compare, has_fit_texts, is_fit, Bare}
+use Rattle.sql_builder.specs.{call_passes, is_having, is_plain, texts_pass, sql_error, HasTruthOf, condition_groups, EndsInOneSemicolon, HasClosedFragments}
+use Rattle.sql_builder.specs.{statement, made_by}
 use Rattle.sql_builder.proofs.for_callers.ChainLemmas.{Chain, with_calls}
-use Rattle.sql_builder.proofs.lists.AllFacts.{all-weaker}
-use Rattle.sql_builder.proofs.fragments.FitLemmas.{fit_conditions, fit_fragments}
-use Rattle.sql_builder.proofs.fragments.TextTestLemmas.{fit_texts_are_closed, plain_texts_end, selects_need_group_by}
-use Rattle.sql_builder.proofs.statements.StatementLawLemmas.{statements_have_truth}
+use Rattle.sql_builder.proofs.lists.{all-weaker}
+use Rattle.sql_builder.proofs.fragments.{fit_conditions, fit_fragments, fit_texts_are_closed, plain_texts_end, selects_need_group_by}
+use Rattle.sql_builder.proofs.statements.{statements_have_truth}
 
 -- ---- calls that are made only if a value is given
 

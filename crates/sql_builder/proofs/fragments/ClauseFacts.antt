@@ -1,10 +1,7 @@
 -- What holds of the pieces of each clause.
-use Rattle.std.proofs.Common.{ℕ, Bool, List, Option, None, Some, map, []}
-use Rattle.std.specs.Prelude.{IfSome, option_map}
-use Rattle.std.specs.List.{AllByRecursion}
-use Rattle.sql_builder.specs.Clauses.{Clauses, map_clauses}
-use Rattle.sql_builder.specs.Pieces.{Pieces, raw_piece}
-use Rattle.sql_builder.proofs.lists.AllFacts.{map-all}
+use Rattle.sql_builder.proofs.Imports.{ℕ, Bool, List, Option, None, Some, map, [], IfSome, option_map, AllByRecursion, Clauses, Pieces}
+use Rattle.sql_builder.specs.{map_clauses, raw_piece}
+use Rattle.sql_builder.proofs.lists.{map-all}
 
 -- P holds of each clause's pieces, but F of those of fields and U of those of a union's query
 pub record PartsAre (P F U : Pieces → Type 0) (r : Clauses Pieces) : Type 0 where

@@ -1,50 +1,28 @@
 -- Texts that are fit, one by one, make fragments that are fit.
-use Rattle.sql_builder.specs.RawTexts.{RawText, Bare, Enclosed}
-use Rattle.sql_builder.specs.TextTests.{all_pass, raw_text, texts_pass}
-use Rattle.sql_builder.proofs.conditions.ConditionLemmas.{condition-preserved}
-use Rattle.sql_builder.specs.Interference.{condition_quoted_texts}
+use Rattle.sql_builder.specs.{RawText, Bare, Enclosed, all_pass, raw_text, texts_pass, condition_quoted_texts, CallText, FinishText, StartText, SelectFrom}
+use Rattle.sql_builder.specs.{SelectValues, InsertInto, UpdateTable, DeleteFrom, Sql, Query, QueryValues, Subquery, SubqueryAs, Cond, SetFields, clauses}
+use Rattle.sql_builder.specs.{start_fields, call_raw_texts, finish_raw_texts, start_raw_texts, not_text, condition_pieces, until, are_fit, has_fit_fragments}
+use Rattle.sql_builder.specs.{begins_union, encloses_fields, has_balanced_fragments, has_fit_conditions, has_fit_texts, own, own_tokens, is_fit}
+use Rattle.sql_builder.specs.{FitTextsMakeBalancedFragments, FitTextsMakeFitConditions, FitTextsMakeFitFragments, Section, concat_sections, insert_sections}
+use Rattle.sql_builder.specs.{is_unenclosed, comma_list, in_brackets, unless_error, Piece, fixed_piece, quoted_piece, raw_piece}
+use Rattle.sql_builder.proofs.conditions.{condition-preserved}
 use Rattle.sql_builder.proofs.fragments.PropertyLemmas.{all-whatever, calls-whatever, whatever, Each, PreservedByCalls, listed, neutral-append}
 use Rattle.sql_builder.proofs.fragments.PropertyLemmas.{neutral-brackets, neutral-none, neutral-raw, PreservedByWords, by_append}
-use Rattle.std.proofs.Common.{◌≡◌, refl, sym, ◌∙◌, ap, subst, ℕ, suc, ℤ, Bool, true, false, not, ◌&&◌, List, [], ◌∷◌, ◌++◌, Option, None, Some, IfOk, map, pos}
-use Rattle.std.proofs.Common.{codes}
-use Rattle.std.specs.Prelude.{IsTrue}
-use Rattle.std.specs.List.{list_all}
-use Rattle.std.proofs.lemmas.Bool.{and_parts, and_from, false≢true}
-use Rattle.sql_parts.specs.Fragments.{balanced, has_clause_word, is_clause_word}
-use Rattle.sql_parts.specs.Tokens.{Token, tokens}
-use Rattle.sql_parts.specs.declared.error.SqlBuilderError.{SqlBuilderError}
-use Rattle.sql_parts.proofs.fragments.DepthFacts.{at_end, has_top_level-is, is_balanced, is_balanced-is, is_zero}
-use Rattle.sql_builder.specs.Calls.{CallText, FinishText, StartText, SelectFrom, SelectValues, InsertInto, UpdateTable, DeleteFrom, Sql, Query, QueryValues}
-use Rattle.sql_builder.specs.Calls.{Subquery, SubqueryAs, Cond, SetFields, clauses, start_fields, call_raw_texts, finish_raw_texts, start_raw_texts}
-use Rattle.sql_builder.specs.Clauses.{Clauses}
-use Rattle.sql_builder.specs.Condition.{not_text, condition_pieces}
-use Rattle.sql_builder.specs.Filters.{until}
-use Rattle.sql_builder.specs.RawFragments.{are_fit, has_fit_fragments, begins_union, encloses_fields, has_balanced_fragments, has_fit_conditions}
-use Rattle.sql_builder.specs.RawFragments.{has_fit_texts, own, own_tokens, is_fit}
-use Rattle.sql_builder.specs.BuilderLaws.{FitTextsMakeBalancedFragments, FitTextsMakeFitConditions, FitTextsMakeFitFragments}
-use Rattle.sql_builder.specs.Layout.{Section, concat_sections, insert_sections}
-use Rattle.sql_builder.specs.Meaning.{is_unenclosed}
-use Rattle.sql_builder.specs.Phrases.{comma_list, in_brackets}
-use Rattle.sql_builder.specs.Statement.{unless_error}
+use Rattle.sql_builder.proofs.Imports.{◌≡◌, refl, sym, ◌∙◌, ap, subst, ℕ, suc, ℤ, Bool, true, false, not, ◌&&◌, List, [], ◌∷◌, ◌++◌, Option, None, Some, IfOk}
+use Rattle.sql_builder.proofs.Imports.{map, pos, codes, IsTrue, list_all, and_parts, and_from, false≢true, balanced, has_clause_word, is_clause_word, Token}
+use Rattle.sql_builder.proofs.Imports.{tokens, SqlBuilderError, at_end, has_top_level-is, is_balanced, is_balanced-is, is_zero, Clauses, Pieces, list_all-map}
 use Rattle.sql_builder.specs.Pieces as printed
-use Rattle.sql_builder.specs.Pieces.{Piece, Pieces, fixed_piece, quoted_piece, raw_piece}
-use Rattle.sql_builder.proofs.tokens.BalancedFacts.{is_even-append}
-use Rattle.sql_builder.proofs.lists.AllFacts.{map-all, tested-all}
+use Rattle.sql_builder.proofs.tokens.{is_even-append, at_end-append, has_clause}
+use Rattle.sql_builder.proofs.lists.{map-all, tested-all}
 use Rattle.sql_builder.proofs.fragments.ClauseFacts.{PartsAre}
 use Rattle.sql_builder.proofs.fragments.PreservationLemmas.{clauses-preserved}
-use Rattle.sql_builder.proofs.reading.ClauseWordLemmas.{are_fit-is, are_fit_from, even-ends, or_so}
-use Rattle.sql_builder.proofs.reading.LayoutLemmas.{Split, bare_query-split, bare_values-split, sql-split, PreservedByReading, laid-layout, plain-split}
-use Rattle.sql_builder.proofs.reading.SectionLemmas.{AllOpen, Neutral, Opens, section_pieces, sections-front, until-after, ending-semicolon}
+use Rattle.sql_builder.proofs.reading.{are_fit-is, are_fit_from, even-ends, or_so, Split, bare_query-split, bare_values-split, sql-split, PreservedByReading}
+use Rattle.sql_builder.proofs.reading.{laid-layout, plain-split, AllOpen, Neutral, Opens, section_pieces, sections-front, until-after, ending-semicolon, layout}
 use Rattle.sql_builder.proofs.reading.ClauseWordLemmas as own_words
-use Rattle.sql_builder.proofs.tokens.DepthFacts.{at_end-append}
-use Rattle.sql_builder.proofs.reading.ReadBackLemmas.{layout}
-use Rattle.sql_builder.proofs.tokens.WhereTokenFacts.{has_clause}
 use Rattle.sql_builder.proofs.fragments.PassLemmas.{printed-passes, calls-enclosed, weaker-texts}
-use Rattle.sql_builder.proofs.pieces.LayoutShapeLemmas.{inside-layout}
+use Rattle.sql_builder.proofs.pieces.{inside-layout, insert-laid, statement-laid}
 use Rattle.sql_builder.specs.declared.clauses.Kind.TheVariants as kind
 use Rattle.sql_builder.proofs.fragments.NeutralLemmas.{InsideParts, clauses-inside}
-use Rattle.sql_builder.proofs.pieces.LayoutPropertyLemmas.{insert-laid, statement-laid}
-use Rattle.std.proofs.lemmas.List.Folds.{list_all-map}
 
 fit-both : (l : ℤ) (x y : Pieces) → are_fit_from l x ≡ true → are_fit_from (at_end l (own x)) y ≡ true → are_fit_from l (x ++ y) ≡ true
 fit-both l [] y one other = other

@@ -1,22 +1,14 @@
 -- Lists of calls whose texts all fit, call by call, and their only `;`.
-use Rattle.std.proofs.Common.{◌≡◌, refl, ◌∙◌, ap, ℕ, Bool, true, false, not, List, [], ◌∷◌, ◌++◌, map}
-use Rattle.std.specs.List.{list_all}
-use Rattle.std.proofs.lemmas.Bool.{and_from, and_parts}
-use Rattle.sql_parts.specs.Fragments.{balanced, has_clause_word}
-use Rattle.sql_parts.specs.Operands.{is_fragment}
+use Rattle.sql_builder.proofs.Imports.{◌≡◌, refl, ◌∙◌, ap, ℕ, Bool, true, false, not, List, [], ◌∷◌, ◌++◌, map, list_all, and_from, and_parts, balanced}
+use Rattle.sql_builder.proofs.Imports.{has_clause_word, is_fragment, BinaryClause, list_all-map}
 use Rattle.sql_builder.specs.Calls as call
-use Rattle.sql_builder.specs.Calls.{CallText, call_raw_texts, binary_call, field_text, start_on, start_raw_texts, unary_call}
-use Rattle.sql_builder.specs.RawFragments.{is_fit}
-use Rattle.sql_builder.specs.FitCalls.{call_fits}
-use Rattle.sql_builder.specs.RawTexts.{Bare, Enclosed}
-use Rattle.sql_builder.proofs.lists.AllFacts.{all-weaker}
-use Rattle.sql_builder.specs.declared.steps.BinaryClause.{BinaryClause}
+use Rattle.sql_builder.specs.{CallText, call_raw_texts, binary_call, field_text, start_on, start_raw_texts, unary_call, is_fit, call_fits, Bare, Enclosed}
+use Rattle.sql_builder.proofs.lists.{all-weaker}
 use Rattle.sql_builder.specs.declared.steps.BinaryClause.TheVariants as binary
 use Rattle.sql_builder.specs.declared.steps.UnaryClause.{UnaryClause}
 use Rattle.sql_builder.specs.declared.steps.UnaryClause.TheVariants as unary
 use Rattle.sql_builder.specs.declared.calls.TableStart.{TableStart}
 use Rattle.sql_builder.specs.declared.calls.TableStart.TheVariants as on
-use Rattle.std.proofs.lemmas.List.Folds.{list_all-map}
 
 -- ---- calls
 

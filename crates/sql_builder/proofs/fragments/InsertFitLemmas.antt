@@ -1,24 +1,15 @@
 -- Texts of an INSERT of a query that are fit make its fragments fit, whatever the query is.
-use Rattle.std.proofs.Common.{◌≡◌, refl, sym, ◌∙◌, ap, Bool, true, false, ◌||◌, List, [], ◌∷◌, ◌++◌, Option, None, Some, map, codes}
-use Rattle.std.specs.Prelude.{IfSome, filter_map, flat_map, if◌then◌else◌}
-use Rattle.std.specs.List.{cons_option, last_or, list_all, list_any}
-use Rattle.std.proofs.lemmas.Bool.{and_from, and_parts}
+use Rattle.sql_builder.proofs.Imports.{◌≡◌, refl, sym, ◌∙◌, ap, Bool, true, false, ◌||◌, List, [], ◌∷◌, ◌++◌, Option, None, Some, map, codes, IfSome}
+use Rattle.sql_builder.proofs.Imports.{filter_map, flat_map, if◌then◌else◌, cons_option, last_or, list_all, list_any, and_from, and_parts, Pieces, list_all-map}
 use Rattle.sql_builder.specs.Calls as call
-use Rattle.sql_builder.specs.Calls.{CallText, clauses, drops_fields, fields_in, fields_of, is_select, returning_in, table_in, call_raw_texts}
-use Rattle.sql_builder.specs.Filters.{last_given, since}
-use Rattle.sql_builder.specs.RawFragments.{are_fit, is_fit}
-use Rattle.sql_builder.specs.RawTexts.{Bare}
-use Rattle.sql_builder.specs.Inserts.{FitTextsMakeFitTargets, is_fit_returning}
-use Rattle.sql_builder.specs.Layout.{insert_target}
-use Rattle.sql_builder.specs.Phrases.{comma_list}
-use Rattle.sql_builder.specs.Pieces.{Pieces, fixed_piece}
+use Rattle.sql_builder.specs.{CallText, clauses, drops_fields, fields_in, fields_of, is_select, returning_in, table_in, call_raw_texts, last_given, since}
+use Rattle.sql_builder.specs.{are_fit, is_fit, Bare, FitTextsMakeFitTargets, is_fit_returning, insert_target, comma_list, fixed_piece}
 use Rattle.sql_builder.proofs.fragments.FitLemmas.{Fit, fit-layout, insert_fit-preserved, fields-fit}
 use Rattle.sql_builder.proofs.fragments.PropertyLemmas.{calls-whatever}
 use Rattle.sql_builder.proofs.fragments.PreservationLemmas.{clauses-preserved}
-use Rattle.sql_builder.proofs.reading.ClauseWordLemmas.{are_fit-is}
-use Rattle.sql_builder.proofs.pieces.LayoutPropertyLemmas.{target-kept}
-use Rattle.sql_builder.proofs.lists.AllFacts.{all-weaker}
-use Rattle.std.proofs.lemmas.List.Folds.{list_all-map}
+use Rattle.sql_builder.proofs.reading.{are_fit-is}
+use Rattle.sql_builder.proofs.pieces.{target-kept}
+use Rattle.sql_builder.proofs.lists.{all-weaker}
 
 -- a call without its query
 abbrev blank : CallText → CallText

@@ -1,19 +1,13 @@
 -- What calls write of their own has no clause word, its brackets close, and it keeps its tokens, whatever texts they are given.
-use Rattle.sql_builder.specs.RawTexts.{RawText}
-use Rattle.sql_builder.proofs.conditions.ConditionLemmas.{condition-preserved}
-use Rattle.sql_builder.specs.Interference.{condition_quoted_texts}
+use Rattle.sql_builder.specs.{RawText, condition_quoted_texts, CallText, StartText, clauses, start_fields, call_raw_texts, start_raw_texts, map_clauses}
+use Rattle.sql_builder.specs.{ConditionText, not_text, condition_pieces, condition_raw_texts, comma_list, count, count_as, in_brackets, fixed_piece}
+use Rattle.sql_builder.specs.{quoted_piece, raw_piece}
+use Rattle.sql_builder.proofs.conditions.{condition-preserved}
 use Rattle.sql_builder.proofs.fragments.PropertyLemmas.{all-whatever, calls-whatever, whatever, Behind, PreservedByCalls, PreservedByWords, inside-joins}
 use Rattle.sql_builder.proofs.fragments.PropertyLemmas.{listed, neutral-brackets, neutral-joins, neutral-quoted, neutral-raw, words-behind}
-use Rattle.std.proofs.Common.{◌≡◌, refl, ℕ, Bool, true, false, List, [], ◌∷◌, ◌++◌, map, codes}
-use Rattle.std.specs.List.{list_all}
-use Rattle.std.proofs.lemmas.Bool.{and_from}
+use Rattle.sql_builder.proofs.Imports.{◌≡◌, refl, ℕ, Bool, true, false, List, [], ◌∷◌, ◌++◌, map, codes, list_all, and_from, Clauses, Pieces}
 use Rattle.sql_builder.specs.Calls as call
-use Rattle.sql_builder.specs.Calls.{CallText, StartText, clauses, start_fields, call_raw_texts, start_raw_texts}
-use Rattle.sql_builder.specs.Clauses.{Clauses, map_clauses}
-use Rattle.sql_builder.specs.Condition.{ConditionText, not_text, condition_pieces, condition_raw_texts}
-use Rattle.sql_builder.specs.Phrases.{comma_list, count, count_as, in_brackets}
-use Rattle.sql_builder.specs.Pieces.{Pieces, fixed_piece, quoted_piece, raw_piece}
-use Rattle.sql_builder.proofs.lists.AllFacts.{map-all}
+use Rattle.sql_builder.proofs.lists.{map-all}
 use Rattle.sql_builder.proofs.fragments.ClauseFacts.{PartsAre, raw-parts}
 use Rattle.sql_builder.proofs.fragments.PreservationLemmas.{clauses-preserved}
 use Rattle.sql_builder.proofs.pieces.ShapeLemmas.{Inside, brackets-inside, closing-last, quoted-inside, raw-inside, words-between, words-first}

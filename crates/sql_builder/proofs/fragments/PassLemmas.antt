@@ -1,27 +1,18 @@
 -- Each fragment that is printed passes a test that each raw text passes.
-use Rattle.std.proofs.Common.{◌≡◌, refl, ◌∙◌, sym, ℕ, Bool, true, false, List, ◌++◌, map, codes, ◌&&◌, [], ◌∷◌, ap}
-use Rattle.std.specs.List.{list_all}
-use Rattle.std.proofs.lemmas.Bool.{and_parts, and_from}
-use Rattle.std.proofs.lemmas.List.Folds.{list_all-map}
-use Rattle.sql_builder.specs.Calls.{CallText, FinishText, StartText, SelectFrom, SelectValues, InsertInto, UpdateTable, DeleteFrom, Sql, Query, QueryValues}
-use Rattle.sql_builder.specs.Calls.{Subquery, SubqueryAs, SetFields, clauses, start_fields, call_raw_texts, field_text, finish_raw_texts, start_raw_texts}
+use Rattle.sql_builder.proofs.Imports.{◌≡◌, refl, ◌∙◌, sym, ℕ, Bool, true, false, List, ◌++◌, map, codes, ◌&&◌, [], ◌∷◌, ap, list_all, and_parts, and_from}
+use Rattle.sql_builder.proofs.Imports.{list_all-map, Clauses, Token, Pieces}
+use Rattle.sql_builder.specs.{CallText, FinishText, StartText, SelectFrom, SelectValues, InsertInto, UpdateTable, DeleteFrom, Sql, Query, QueryValues, Subquery}
+use Rattle.sql_builder.specs.{SubqueryAs, SetFields, clauses, start_fields, call_raw_texts, field_text, finish_raw_texts, start_raw_texts, not_text, RawText}
+use Rattle.sql_builder.specs.{Enclosed, all_pass, raw_text, call_passes, texts_pass, call_quoted_texts, Section, concat_sections, query, statement_sections}
+use Rattle.sql_builder.specs.{comma_list, Piece, fixed_piece, quoted_piece, raw_piece}
 use Rattle.sql_builder.specs.Calls as call
-use Rattle.sql_builder.specs.Clauses.{Clauses}
-use Rattle.sql_builder.specs.Condition.{not_text}
-use Rattle.sql_builder.specs.RawTexts.{RawText, Enclosed}
-use Rattle.sql_builder.specs.TextTests.{all_pass, raw_text, call_passes, texts_pass}
-use Rattle.sql_builder.specs.Interference.{call_quoted_texts}
-use Rattle.sql_parts.specs.Tokens.{Token}
-use Rattle.sql_builder.specs.Layout.{Section, concat_sections, query, statement_sections}
-use Rattle.sql_builder.specs.Phrases.{comma_list}
-use Rattle.sql_builder.specs.Pieces.{Piece, fixed_piece, quoted_piece, raw_piece, Pieces}
 use Rattle.sql_builder.proofs.fragments.ClauseFacts.{PartsAre}
-use Rattle.sql_builder.proofs.pieces.LayoutPropertyLemmas.{PreservedByLayout, query-laid, statement-laid, values-laid}
+use Rattle.sql_builder.proofs.pieces.{PreservedByLayout, query-laid, statement-laid, values-laid}
 use Rattle.sql_builder.proofs.fragments.PreservationLemmas.{clauses-preserved}
-use Rattle.sql_builder.proofs.reading.ReadBackLemmas.{layout}
+use Rattle.sql_builder.proofs.reading.{layout}
 use Rattle.sql_builder.proofs.fragments.PropertyLemmas.{Passes, PreservedByCalls, listed, passes-append, passes-joins, quoteds-pass, quoted-passes, raw-passes}
 use Rattle.sql_builder.proofs.fragments.PropertyLemmas.{raws-pass, within}
-use Rattle.sql_builder.proofs.lists.AllFacts.{all-weaker, each-same}
+use Rattle.sql_builder.proofs.lists.{all-weaker, each-same}
 
 module _ (test fine : List ℕ → Bool) where
   -- ---- what calls make

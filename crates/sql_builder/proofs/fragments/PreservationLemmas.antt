@@ -1,26 +1,17 @@
 -- What holds of what each call adds to each clause, for any property of pieces that each step preserves.
-use Rattle.sql_builder.specs.RawTexts.{RawText, Bare, Enclosed}
-use Rattle.std.proofs.Common.{◌≡◌, refl, ℕ, Bool, true, false, ◌&&◌, List, [], ◌∷◌, ◌++◌, Option, None, Some, map, codes, cond, ◌∙◌, flat_map, sym}
-use Rattle.std.specs.Prelude.{IfSome, filter_map}
-use Rattle.std.specs.List.{AllByRecursion, cons_option, last_or, list_all, list_any}
-use Rattle.std.proofs.lemmas.Bool.{and_parts, and_from}
-use Rattle.sql_builder.specs.Calls.{CallText, StartText, clauses, condition_in, conditions_of, constraint_in, drops_fields, fields_in, group_fields_in}
-use Rattle.sql_builder.specs.Calls.{group_pieces, groups, having_in, is_join, is_select, is_values, join_after, join_in, limit_in, natural_of, offset_in}
-use Rattle.sql_builder.specs.Calls.{opens_group, operator_of, order_fields_in, query_in, returning_in, rows_in, sets_in, start_fields, start_table, table_in}
-use Rattle.sql_builder.specs.Calls.{unions_in, call_raw_texts, field_text, start_raw_texts}
-use Rattle.sql_builder.specs.Condition.{ConditionText, condition_pieces, condition_raw_texts}
-use Rattle.sql_builder.specs.Interference.{call_quoted_texts, condition_quoted_texts}
-use Rattle.sql_builder.specs.Filters.{Group, cut, in_place, last_given, since, until}
-use Rattle.sql_builder.specs.Phrases.{equation, join_words, order}
-use Rattle.sql_builder.specs.Pieces.{Pieces, fixed_piece, quoted_piece, raw_piece}
-use Rattle.sql_builder.specs.declared.condition.Family.{Family}
-use Rattle.sql_builder.specs.declared.clauses.JoinOperator.{JoinOperator}
+use Rattle.sql_builder.specs.{RawText, Bare, Enclosed, CallText, StartText, clauses, condition_in, conditions_of, constraint_in, drops_fields, fields_in}
+use Rattle.sql_builder.specs.{group_fields_in, group_pieces, groups, having_in, is_join, is_select, is_values, join_after, join_in, limit_in, natural_of}
+use Rattle.sql_builder.specs.{offset_in, opens_group, operator_of, order_fields_in, query_in, returning_in, rows_in, sets_in, start_fields, start_table}
+use Rattle.sql_builder.specs.{table_in, unions_in, call_raw_texts, field_text, start_raw_texts, ConditionText, condition_pieces, condition_raw_texts}
+use Rattle.sql_builder.specs.{call_quoted_texts, condition_quoted_texts, Group, cut, in_place, last_given, since, until, equation, join_words, order}
+use Rattle.sql_builder.specs.{fixed_piece, quoted_piece, raw_piece}
+use Rattle.sql_builder.proofs.Imports.{◌≡◌, refl, ℕ, Bool, true, false, ◌&&◌, List, [], ◌∷◌, ◌++◌, Option, None, Some, map, codes, cond, ◌∙◌, flat_map, sym}
+use Rattle.sql_builder.proofs.Imports.{IfSome, filter_map, AllByRecursion, cons_option, last_or, list_all, list_any, and_parts, and_from, Pieces, Family}
+use Rattle.sql_builder.proofs.Imports.{JoinOperator, list_all-map, ends_with, is_edge}
 use Rattle.sql_builder.proofs.fragments.ClauseFacts.{PartsAre}
-use Rattle.sql_builder.proofs.lists.AllFacts.{append-all, cut-all, tested-all}
-use Rattle.std.proofs.lemmas.List.Folds.{list_all-map}
+use Rattle.sql_builder.proofs.lists.{append-all, cut-all, tested-all}
 use Rattle.sql_builder.proofs.fragments.PropertyLemmas.{PreservedByCalls, are_own, between, one, Each, joined}
-use Rattle.sql_builder.proofs.conditions.ConditionLemmas.{condition-preserved}
-use Rattle.sql_parts.specs.Tokens.{ends_with, is_edge}
+use Rattle.sql_builder.proofs.conditions.{condition-preserved}
 use Rattle.sql_builder.specs.Calls as call
 use Rattle.sql_builder.specs.declared.clauses.JoinOperator.TheVariants as operator
 

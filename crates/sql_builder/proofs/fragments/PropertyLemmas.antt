@@ -1,28 +1,17 @@
 -- What calls may do with the texts that they are given, for any property of pieces that each step preserves.
-use Rattle.std.proofs.Common.{◌≡◌, ◌∙◌, ap, ℕ, Bool, true, ◌&&◌, not, List, [], ◌∷◌, ◌++◌, map, codes, refl}
-use Rattle.std.specs.Prelude.{◌==◌, flat_map}
-use Rattle.std.specs.List.{AllByRecursion, list_all, list_any}
-use Rattle.std.proofs.lemmas.Bool.{and_from, and_parts, not-true, or_from}
-use Rattle.std.proofs.lemmas.List.Folds.{list_all-append, list_any-append}
-use Rattle.sql_parts.specs.Fragments.{is_clause_word}
-use Rattle.sql_parts.specs.Text.{join_with}
-use Rattle.sql_parts.specs.Tokens.{Token, begins_with, closed, ends_with, has_semicolon, is_edge}
-use Rattle.sql_parts.proofs.fragments.DepthFacts.{is_even}
-use Rattle.sql_builder.specs.Calls.{CallText, field_text}
-use Rattle.sql_builder.specs.Condition.{not_text}
-use Rattle.sql_builder.specs.Interference.{call_quoted_texts}
-use Rattle.sql_builder.specs.RawFragments.{own}
-use Rattle.sql_builder.specs.RawTexts.{RawText, Bare, Enclosed}
-use Rattle.sql_builder.specs.Phrases.{comma_list, count, count_as, in_brackets, row}
+use Rattle.sql_builder.proofs.Imports.{◌≡◌, ◌∙◌, ap, ℕ, Bool, true, ◌&&◌, not, List, [], ◌∷◌, ◌++◌, map, codes, refl, ◌==◌, flat_map, AllByRecursion, list_all}
+use Rattle.sql_builder.proofs.Imports.{list_any, and_from, and_parts, not-true, or_from, list_all-append, list_any-append, is_clause_word, join_with, Token}
+use Rattle.sql_builder.proofs.Imports.{begins_with, closed, ends_with, has_semicolon, is_edge, is_even, Pieces}
+use Rattle.sql_builder.specs.{CallText, field_text, not_text, call_quoted_texts, own, RawText, Bare, Enclosed, comma_list, count, count_as, in_brackets, row}
+use Rattle.sql_builder.specs.{Piece, fixed_piece, quoted_piece, raw_piece}
 use Rattle.sql_builder.specs.Pieces as printed
-use Rattle.sql_builder.specs.Pieces.{Piece, Pieces, fixed_piece, quoted_piece, raw_piece}
 use Rattle.sql_builder.specs.WhereTokens as where_tokens
 use Rattle.sql_builder.proofs.pieces.ShapeLemmas.{Following, Inside, Whole, following-append, inside-inside, none-following, none-inside, words-first}
 use Rattle.sql_builder.proofs.pieces.ShapeLemmas.{words-following, words-inside}
 use Rattle.sql_builder.proofs.reading.ClauseWordLemmas.{own-append}
 use Rattle.sql_builder.proofs.reading.SectionLemmas.{Neutral}
-use Rattle.sql_builder.proofs.tokens.BalancedFacts.{is_even-append, is_even-brackets}
-use Rattle.sql_builder.proofs.lists.AllFacts.{tested-all}
+use Rattle.sql_builder.proofs.tokens.{is_even-append, is_even-brackets}
+use Rattle.sql_builder.proofs.lists.{tested-all}
 
 -- no byte is a `$`
 abbrev pub lacks_dollar : List ℕ → Bool

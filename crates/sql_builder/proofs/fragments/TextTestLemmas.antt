@@ -1,32 +1,19 @@
 -- What tests of each raw text make of the statement.
-use Rattle.std.proofs.Common.{◌≡◌, refl, ◌∙◌, ap, ℕ, Bool, true, false, not, ◌&&◌, ◌||◌, if◌then◌else◌, List, [], ◌∷◌, ◌++◌, Option, None, Some, map}
-use Rattle.std.proofs.Common.{option_map}
-use Rattle.std.specs.Prelude.{IsTrue, filter_map, flat_map, is_some}
-use Rattle.std.specs.List.{cons_option, last_or, list_all, list_any}
-use Rattle.std.proofs.lemmas.Bool.{false≢true}
-use Rattle.std.proofs.lemmas.List.Folds.{list_all-append}
-use Rattle.std.proofs.lemmas.Result.{IfOk-weaker}
-use Rattle.sql_parts.specs.Tokens.{closed, is_empty, tokens}
-use Rattle.sql_parts.specs.declared.error.SqlBuilderError.TheVariants.{NoGroupBy}
-use Rattle.sql_builder.specs.Calls.{CallText, FinishText, StartText, Sql, clauses, group_fields_in, having_in, call_raw_texts, finish_raw_texts}
-use Rattle.sql_builder.specs.Calls.{start_raw_texts}
-use Rattle.sql_builder.specs.Filters.{last_given}
-use Rattle.sql_builder.specs.RawFragments.{encloses_fields, has_balanced_fragments, has_closed_fragments, has_no_semicolons, is_fit}
-use Rattle.sql_builder.specs.TextTests.{ClosedTextsMakeClosedFragments, FitTextsMakeClosedFragments, PlainTextsEndInOneSemicolon, PlainTextsMakePlainFragments}
-use Rattle.sql_builder.specs.TextTests.{SelectsNeedGroupBy, TextsAreFitCallByCall, TextsPassCallByCall, all_pass, call_passes, is_group_by, is_having}
-use Rattle.sql_builder.specs.TextTests.{is_plain, texts_pass}
-use Rattle.sql_builder.specs.Layout.{no_group_by_error}
-use Rattle.sql_builder.specs.Shape.{EndsInOneSemicolon}
-use Rattle.sql_builder.specs.Statement.{pieces}
-use Rattle.sql_builder.specs.Pieces.{Pieces, pieces_text}
+use Rattle.sql_builder.proofs.Imports.{◌≡◌, refl, ◌∙◌, ap, ℕ, Bool, true, false, not, ◌&&◌, ◌||◌, if◌then◌else◌, List, [], ◌∷◌, ◌++◌, Option, None, Some, map}
+use Rattle.sql_builder.proofs.Imports.{option_map, IsTrue, filter_map, flat_map, is_some, cons_option, last_or, list_all, list_any, false≢true, list_all-append}
+use Rattle.sql_builder.proofs.Imports.{IfOk-weaker, closed, is_empty, tokens, NoGroupBy, Pieces}
+use Rattle.sql_builder.specs.{CallText, FinishText, StartText, Sql, clauses, group_fields_in, having_in, call_raw_texts, finish_raw_texts, start_raw_texts}
+use Rattle.sql_builder.specs.{last_given, encloses_fields, has_balanced_fragments, has_closed_fragments, has_no_semicolons, is_fit}
+use Rattle.sql_builder.specs.{ClosedTextsMakeClosedFragments, FitTextsMakeClosedFragments, PlainTextsEndInOneSemicolon, PlainTextsMakePlainFragments}
+use Rattle.sql_builder.specs.{SelectsNeedGroupBy, TextsAreFitCallByCall, TextsPassCallByCall, all_pass, call_passes, is_group_by, is_having, is_plain}
+use Rattle.sql_builder.specs.{texts_pass, no_group_by_error, EndsInOneSemicolon, pieces, pieces_text}
 use Rattle.sql_builder.proofs.fragments.NeutralLemmas.{clauses-inside}
 use Rattle.sql_builder.proofs.fragments.FitLemmas.{balanced_fragments, unless}
-use Rattle.sql_builder.proofs.pieces.LayoutShapeLemmas.{sql-semicolon}
-use Rattle.sql_builder.proofs.reading.ClauseWordLemmas.{fragments_closed}
+use Rattle.sql_builder.proofs.pieces.{sql-semicolon}
+use Rattle.sql_builder.proofs.reading.{fragments_closed, layout}
 use Rattle.sql_builder.proofs.fragments.PropertyLemmas.{calls-whatever, whatever, Passes}
 use Rattle.sql_builder.proofs.fragments.PassLemmas.{printed-passes}
-use Rattle.sql_builder.proofs.reading.ReadBackLemmas.{layout}
-use Rattle.sql_builder.proofs.statements.StatementLawLemmas.{of_pieces}
+use Rattle.sql_builder.proofs.statements.{of_pieces}
 
 -- ---- one call after another
 

@@ -1,30 +1,17 @@
 -- The raw texts of a list of calls are fit, or balanced, exactly where its tests pass; and what a list whose texts are balanced prints.
-use Rattle.std.proofs.Common.{◌≡◌, refl, sym, ◌∙◌, ap, subst, ℕ, ◌+◌, Bool, true, false, map, ◌&&◌, List, [], ◌∷◌, Option, None, Some, IfOk, Result, Ok, Err}
-use Rattle.std.specs.Prelude.{IsTrue, is_none, is_ok}
-use Rattle.std.specs.List.{list_all}
-use Rattle.std.specs.Result.{result_and}
+use Rattle.sql_builder.proofs.Imports.{◌≡◌, refl, sym, ◌∙◌, ap, subst, ℕ, ◌+◌, Bool, true, false, map, ◌&&◌, List, [], ◌∷◌, Option, None, Some, IfOk, Result}
+use Rattle.sql_builder.proofs.Imports.{Ok, Err, IsTrue, is_none, is_ok, list_all, result_and, IfOk-weaker, balanced, tokens, balanced_whole, met, Raw}
 use Rattle.std.proofs.Math.Bool.{and_assoc}
-use Rattle.std.proofs.lemmas.Result.{IfOk-weaker}
-use Rattle.sql_parts.specs.Fragments.{balanced}
 use Rattle.sql_parts.specs.Misfits.{meets, misfit}
-use Rattle.sql_parts.specs.Tokens.{tokens}
 use Rattle.sql_parts.specs.declared.misfits.Demand.{Demand}
 use Rattle.sql_parts.specs.declared.misfits.Demand.TheVariants as demand
 use Rattle.sql_parts.specs.declared.misfits.Misfit.{Misfit}
-use Rattle.sql_parts.proofs.fragments.MisfitLemmas.{balanced_whole, met}
 use Rattle.sql_builder.specs.Calls as call
-use Rattle.sql_builder.specs.Calls.{CallText, FinishText, StartText, Sql, call_raw_texts, clauses, finish_raw_texts, start_raw_texts}
-use Rattle.sql_builder.specs.Condition.{ConditionText, Raw, Compare, Like, IsNull, IsNotNull, InList, InQuoted, InQuery, Between, blank_condition}
-use Rattle.sql_builder.specs.Condition.{condition_raw_texts}
-use Rattle.sql_builder.specs.Interference.{blank_call}
-use Rattle.sql_builder.specs.Meaning.{HasBalancedFragments}
-use Rattle.sql_builder.specs.RawFragments.{encloses_fields, has_balanced_fragments, has_closed_fragments, is_fit}
-use Rattle.sql_builder.specs.RawTexts.{RawText, Bare, Enclosed}
-use Rattle.sql_builder.specs.Shape.{EndsInOneSemicolon, HasClosedFragments}
-use Rattle.sql_builder.specs.Statement.{pieces, statement}
-use Rattle.sql_builder.specs.TextTests.{all_pass, is_plain, raw_text, texts_pass}
-use Rattle.sql_builder.specs.Unfits.{QuotedTextsDecideNoTest, TestsPassBalancedTexts, TestsPassFitTexts, calls_test, list_test, raw_test, texts_test}
-use Rattle.sql_builder.specs.Unfits.{unless_misfit}
+use Rattle.sql_builder.specs.{CallText, FinishText, StartText, Sql, call_raw_texts, clauses, finish_raw_texts, start_raw_texts, ConditionText, Compare, Like}
+use Rattle.sql_builder.specs.{IsNull, IsNotNull, InList, InQuoted, InQuery, Between, blank_condition, condition_raw_texts, blank_call, HasBalancedFragments}
+use Rattle.sql_builder.specs.{encloses_fields, has_balanced_fragments, has_closed_fragments, is_fit, RawText, Bare, Enclosed, EndsInOneSemicolon}
+use Rattle.sql_builder.specs.{HasClosedFragments, pieces, statement, all_pass, is_plain, raw_text, texts_pass, QuotedTextsDecideNoTest, TestsPassBalancedTexts}
+use Rattle.sql_builder.specs.{TestsPassFitTexts, calls_test, list_test, raw_test, texts_test, unless_misfit}
 use Rattle.sql_builder.specs.declared.checks.Place.{Place}
 use Rattle.sql_builder.specs.declared.checks.Place.TheVariants as place
 use Rattle.sql_builder.specs.declared.checks.Unfit.{Unfit}
@@ -32,9 +19,8 @@ use Rattle.sql_builder.proofs.fragments.FitLemmas.{unless}
 use Rattle.sql_builder.proofs.fragments.PassLemmas.{printed-passes, calls-enclosed, weaker-texts}
 use Rattle.sql_builder.proofs.fragments.PropertyLemmas.{calls-whatever, whatever}
 use Rattle.sql_builder.proofs.fragments.TextTestLemmas.{plain_texts_end}
-use Rattle.sql_builder.proofs.lists.AllFacts.{each-same}
-use Rattle.sql_builder.proofs.reading.ClauseWordLemmas.{fragments_closed}
-use Rattle.sql_builder.proofs.reading.ReadBackLemmas.{layout}
+use Rattle.sql_builder.proofs.lists.{each-same}
+use Rattle.sql_builder.proofs.reading.{fragments_closed, layout}
 
 -- with nothing behind it
 pub alone : (tested : Result (Unit {0}) Unfit) → tested ≡ result_and tested (Ok tt)

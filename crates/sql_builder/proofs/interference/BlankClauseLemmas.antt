@@ -1,16 +1,10 @@
 -- The clauses that tokens parse back as, but for the texts of string tokens.
-use Rattle.std.proofs.Common.{◌≡◌, refl, sym, ◌∙◌, ap, ℤ, Bool, true, false, cond, List, [], ◌∷◌, map, pos}
-use Rattle.std.specs.Prelude.{if◌then◌else◌}
-use Rattle.std.proofs.Math.IntN.{suc_ℤ, pred_ℤ}
-use Rattle.sql_parts.specs.StringTexts.{IgnoresStrings, blank, blank_token}
+use Rattle.sql_builder.proofs.Imports.{◌≡◌, refl, sym, ◌∙◌, ap, ℤ, Bool, true, false, cond, List, [], ◌∷◌, map, pos, if◌then◌else◌, suc_ℤ, pred_ℤ}
+use Rattle.sql_builder.proofs.Imports.{IgnoresStrings, blank, blank_token, Nested, TopLevel, Placed, as_placed, is_clause_word, at_top_level, lowers, raises}
+use Rattle.sql_builder.proofs.Imports.{token_of, Token, Word, Str, Name, Symbol, Open, ends_with, is_semicolon, ignores, after, is_zero, placed_from, placed-is}
 use Rattle.sql_parts.specs.Fragments as fragments
-use Rattle.sql_parts.specs.Fragments.{Nested, TopLevel, Placed, as_placed, is_clause_word, at_top_level, lowers, raises, token_of}
-use Rattle.sql_parts.specs.Tokens.{Token, Word, Str, Name, Symbol, Open, ends_with, is_semicolon}
-use Rattle.sql_parts.proofs.fragments.StringTextFacts.{Ignores, ends-blank, ignores, test-blank, token-twice}
-use Rattle.sql_parts.proofs.fragments.DepthFacts.{after, is_zero, placed_from, placed-is}
-use Rattle.sql_builder.specs.Interference.{blank_clause, blank_clauses}
-use Rattle.sql_builder.specs.TokenParts.{Parts, before_top_level, but_last, parts_at, with_front}
-use Rattle.sql_builder.specs.Reading.{Clause, is_union, read, without_semicolon}
+use Rattle.sql_parts.proofs.fragments.StringTextFacts.{Ignores, ends-blank, test-blank, token-twice}
+use Rattle.sql_builder.specs.{blank_clause, blank_clauses, Parts, before_top_level, but_last, parts_at, with_front, Clause, is_union, read, without_semicolon}
 
 -- ---- the `;` at the end
 

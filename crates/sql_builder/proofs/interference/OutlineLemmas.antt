@@ -1,34 +1,16 @@
 -- The outline of what a builder prints, by those of its texts.
-use Rattle.std.proofs.Common.{◌≡◌, refl, sym, ◌∙◌, ap, ℕ, Bool, true, false, not, Ok, Err, List, [], ◌∷◌, ◌++◌, Option, None, Some, map, append-nil}
-use Rattle.std.specs.List.{list_all, list_any}
-use Rattle.std.specs.Prelude.{IfOk, IsTrue, flat_map, option_map}
-use Rattle.std.specs.Result.{result_map_both}
-use Rattle.std.proofs.lemmas.Bool.{and_from, or_parts}
-use Rattle.std.proofs.lemmas.List.Folds.{list_all-map, list_any-append}
-use Rattle.std.proofs.lemmas.List.{map-append}
-use Rattle.std.proofs.lemmas.Simd.{map-map}
-use Rattle.sql_parts.specs.StringTexts.{blank, blank_token, outline, tokens_but}
-use Rattle.sql_parts.specs.Tokens.{Token, is_open, tokens}
-use Rattle.sql_parts.specs.declared.error.SqlBuilderError.{SqlBuilderError}
-use Rattle.sql_parts.proofs.fragments.StringTextFacts.{any-blank, somewhere}
-use Rattle.sql_builder.specs.Builder.{ClauseTexts}
-use Rattle.sql_builder.specs.Calls.{FinishText, clauses}
-use Rattle.sql_builder.specs.Clauses.{Clauses, map_clauses}
-use Rattle.sql_builder.specs.Condition.{condition_pieces}
-use Rattle.sql_builder.specs.Interference.{ConditionsKeepTheirOutline, EquationsKeepTheirOutline, FragmentsDoNotInterfere, OutlinesDecideOutlines}
-use Rattle.sql_builder.specs.Interference.{piece_outline, places_in}
-use Rattle.sql_builder.specs.Phrases.{equation}
-use Rattle.sql_builder.specs.Shape.{as_fragments, piece_tokens, pieces_tokens}
-use Rattle.sql_builder.specs.RawFragments.{has_closed_fragments, is_closed_piece}
-use Rattle.sql_builder.specs.Statement.{layout_at, error_at, text_at, text_unless_error, unless_error}
+use Rattle.sql_builder.proofs.Imports.{◌≡◌, refl, sym, ◌∙◌, ap, ℕ, Bool, true, false, not, Ok, Err, List, [], ◌∷◌, ◌++◌, Option, None, Some, map, append-nil}
+use Rattle.sql_builder.proofs.Imports.{list_all, list_any, IfOk, IsTrue, flat_map, option_map, result_map_both, and_from, or_parts, list_all-map}
+use Rattle.sql_builder.proofs.Imports.{list_any-append, map-append, map-map, blank, blank_token, outline, tokens_but, Token, is_open, tokens, SqlBuilderError}
+use Rattle.sql_builder.proofs.Imports.{any-blank, somewhere, Clauses, Pieces}
+use Rattle.sql_builder.specs.{ClauseTexts, FinishText, clauses, map_clauses, condition_pieces, ConditionsKeepTheirOutline, EquationsKeepTheirOutline}
+use Rattle.sql_builder.specs.{FragmentsDoNotInterfere, OutlinesDecideOutlines, piece_outline, places_in, equation, as_fragments, piece_tokens, pieces_tokens}
+use Rattle.sql_builder.specs.{has_closed_fragments, is_closed_piece, layout_at, error_at, text_at, text_unless_error, unless_error, fixed_piece, pieces_text}
+use Rattle.sql_builder.specs.{quoted_piece, raw_piece}
 use Rattle.sql_builder.specs.Pieces as text
-use Rattle.sql_builder.specs.Pieces.{Pieces, fixed_piece, pieces_text, quoted_piece, raw_piece}
-use Rattle.sql_builder.proofs.pieces.ClauseShapeLemmas.{printed-shaped, quoted_equation_keeps}
-use Rattle.sql_builder.proofs.conditions.ConditionLemmas.{condition_printed}
-use Rattle.sql_builder.proofs.pieces.LayoutMapLemmas.{layout_in_form}
-use Rattle.sql_builder.proofs.pieces.LayoutShapeLemmas.{builder-shape}
+use Rattle.sql_builder.proofs.pieces.{printed-shaped, quoted_equation_keeps, layout_in_form, builder-shape, Shaped, pieces_tokens-append, shaped}
+use Rattle.sql_builder.proofs.conditions.{condition_printed}
 use Rattle.sql_builder.proofs.interference.QuotedTextLemmas.{blanks, condition-blank, same_tokens}
-use Rattle.sql_builder.proofs.pieces.ShapeLemmas.{Shaped, pieces_tokens-append, shaped}
 use Rattle.sql_builder.proofs.fragments.NeutralLemmas.{condition-inside}
 
 -- ---- clauses in one form after another

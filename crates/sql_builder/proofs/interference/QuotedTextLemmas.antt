@@ -1,38 +1,21 @@
 -- Texts that are quoted in place of others leave all other tokens of a statement as they are.
-use Rattle.std.proofs.Common.{◌≡◌, refl, sym, ◌∙◌, ap, ℕ, Bool, true, false, List, [], ◌∷◌, ◌++◌, Option, None, Some, Result, Ok, Err, map, codes}
-use Rattle.std.specs.Option.{option_or}
-use Rattle.std.specs.Prelude.{◌&&◌, IfOk, IsTrue, if◌then◌else◌, option_map}
-use Rattle.std.specs.Result.{result_map_both}
-use Rattle.std.proofs.lemmas.List.{append_assoc, map-append}
-use Rattle.sql_parts.specs.StringTexts.{IgnoresStrings, are_strings, blank_at, nowhere, tokens_but}
-use Rattle.sql_parts.specs.Tokens.{Token, Str, tokens}
-use Rattle.sql_parts.specs.declared.error.SqlBuilderError.{SqlBuilderError}
-use Rattle.sql_parts.proofs.fragments.StringTextFacts.{nowhere-first, somewhere, strings-first}
-use Rattle.sql_builder.specs.Builder.{extend_last, join_last}
+use Rattle.sql_builder.proofs.Imports.{◌≡◌, refl, sym, ◌∙◌, ap, ℕ, Bool, true, false, List, [], ◌∷◌, ◌++◌, Option, None, Some, Result, Ok, Err, map, codes}
+use Rattle.sql_builder.proofs.Imports.{option_or, ◌&&◌, IfOk, IsTrue, if◌then◌else◌, option_map, result_map_both, append_assoc, map-append, IgnoresStrings}
+use Rattle.sql_builder.proofs.Imports.{tokens_but, Token, Str, tokens, SqlBuilderError, somewhere, Clauses, Pieces, JoinOperator, Kind, And, Or, Family}
+use Rattle.sql_parts.specs.StringTexts.{are_strings, blank_at, nowhere}
+use Rattle.sql_parts.proofs.fragments.StringTextFacts.{nowhere-first, strings-first}
+use Rattle.sql_builder.specs.{extend_last, join_last, CallText, FinishText, StartText, clauses, map_clauses, ConditionText, Like, InQuoted, condition_pieces}
+use Rattle.sql_builder.specs.{not_text, blank_condition, DifferInQuotedTexts, IgnoresQuotedTexts, QuotedTextsAreStrings, blank_call, answer_of, places_in}
+use Rattle.sql_builder.specs.{places_unless_error, quoted_places, error_of, empty_error, no_group_by_error, no_rows_error, no_table_error, comma_list, join}
+use Rattle.sql_builder.specs.{pieces_tokens, has_closed_fragments, is_closed_piece, layout_at, pieces, error_at, statement, text_unless_error, unless_error}
+use Rattle.sql_builder.specs.{Piece, fixed_piece, pieces_text, quoted_piece, raw_piece}
 use Rattle.sql_builder.specs.Calls as call
-use Rattle.sql_builder.specs.Calls.{CallText, FinishText, StartText, clauses}
-use Rattle.sql_builder.specs.Clauses.{Clauses, map_clauses}
-use Rattle.sql_builder.specs.Condition.{ConditionText, Like, InQuoted, condition_pieces, not_text, blank_condition}
-use Rattle.sql_builder.specs.Interference.{DifferInQuotedTexts, IgnoresQuotedTexts, QuotedTextsAreStrings, blank_call, answer_of, places_in}
-use Rattle.sql_builder.specs.Interference.{places_unless_error, quoted_places}
-use Rattle.sql_builder.specs.Layout.{error_of, empty_error, no_group_by_error, no_rows_error, no_table_error}
-use Rattle.sql_builder.specs.Phrases.{comma_list, join}
-use Rattle.sql_builder.specs.Shape.{pieces_tokens}
-use Rattle.sql_builder.specs.RawFragments.{has_closed_fragments, is_closed_piece}
-use Rattle.sql_builder.specs.Statement.{layout_at, pieces, error_at, statement, text_unless_error, unless_error}
 use Rattle.sql_builder.specs.Pieces as text
-use Rattle.sql_builder.specs.Pieces.{Piece, Pieces, fixed_piece, pieces_text, quoted_piece, raw_piece}
-use Rattle.sql_builder.specs.declared.clauses.JoinOperator.{JoinOperator}
 use Rattle.sql_builder.specs.declared.clauses.Kind.TheVariants as kind
-use Rattle.sql_builder.specs.declared.clauses.Kind.{Kind}
-use Rattle.sql_builder.specs.declared.condition.Family.TheVariants.{And, Or}
-use Rattle.sql_builder.specs.declared.condition.Family.{Family}
-use Rattle.sql_builder.proofs.pieces.ClauseShapeLemmas.{printed-shaped}
-use Rattle.sql_builder.proofs.pieces.LayoutMapLemmas.{joined_in_form, layout_in_form}
+use Rattle.sql_builder.proofs.pieces.{printed-shaped, joined_in_form, layout_in_form, Shaped}
 use Rattle.sql_builder.proofs.statements.NextCallLemmas.{joins_after, clauses_after, one_more_clauses, or_pieces, with_condition_in}
 use Rattle.sql_builder.proofs.statements.LaterCallLemmas.{more_calls}
-use Rattle.sql_builder.proofs.pieces.ShapeLemmas.{Shaped}
-use Rattle.sql_builder.proofs.lists.PushLemmas.{add, add_is}
+use Rattle.sql_builder.proofs.lists.{add, add_is}
 
 -- ---- pieces
 

@@ -1,45 +1,25 @@
 -- Readers go through the same states outside of the texts that calls quote.
-use Rattle.std.proofs.Common.{◌≡◌, refl, sym, ◌∙◌, ap, subst, ℕ, Bool, true, List, [], ◌∷◌, ◌++◌, Option, None, Some, Result, Ok, Err, map, length}
-use Rattle.std.specs.Prelude.{IfOk, IsTrue, ◌&&◌}
-use Rattle.std.specs.List.{list_all}
-use Rattle.std.specs.Result.{result_map_both}
-use Rattle.std.proofs.lemmas.List.{append-nil, map-append}
-use Rattle.std.proofs.lemmas.Grind.{flat_map-append}
+use Rattle.sql_builder.proofs.Imports.{◌≡◌, refl, sym, ◌∙◌, ap, subst, ℕ, Bool, true, List, [], ◌∷◌, ◌++◌, Option, None, Some, Result, Ok, Err, map, length}
+use Rattle.sql_builder.proofs.Imports.{IfOk, IsTrue, ◌&&◌, list_all, result_map_both, append-nil, map-append, flat_map-append, SqlBuilderError, token_reader}
+use Rattle.sql_builder.proofs.Imports.{Clauses, Pieces, parts_at, and_from, and_parts, list_all-append, list_all-map}
 use Rattle.sql_parts.specs.Readers.{Part, Constant, Doubled, Reader, DifferInDoubledTexts, IsInsideAtEach, emptied, has_plain_text, marks, outer_states}
 use Rattle.sql_parts.specs.Readers.{part_bytes, parts_bytes}
-use Rattle.sql_parts.specs.declared.error.SqlBuilderError.{SqlBuilderError}
 use Rattle.sql_parts.proofs.tokens.ReaderLemmas.{marks-length, readers-alike}
-use Rattle.sql_parts.specs.TokenReader.{token_reader}
-use Rattle.sql_builder.specs.Calls.{FinishText, clauses, CallText, finish_raw_texts, start_raw_texts}
-use Rattle.sql_builder.specs.Clauses.{Clauses, map_clauses}
-use Rattle.sql_builder.specs.Layout.{byte_units}
+use Rattle.sql_builder.specs.{FinishText, clauses, CallText, finish_raw_texts, start_raw_texts, map_clauses, byte_units, fixed_piece, raw_piece}
+use Rattle.sql_builder.specs.{has_closed_fragments, error_at, layout_at, pieces, statement, text_unless_error, unless_error, made_by}
+use Rattle.sql_builder.specs.{ClosedFragmentsOpenStrings, QuotedBytesAreBytes, ReadersIgnoreQuotedFragments, ReadersIgnoreQuotedTexts, bytes_unless_error}
+use Rattle.sql_builder.specs.{constant_part, every_byte, parts_in, printed_by, text_of_parts, NoTextsDecide, PlainTextsArePrinted, quotes_plain_texts}
+use Rattle.sql_builder.specs.{mask_text, blank_call, call_quoted_texts}
 use Rattle.sql_builder.specs.Pieces as text
-use Rattle.sql_builder.specs.Pieces.{Pieces, fixed_piece, raw_piece}
-use Rattle.sql_builder.specs.RawFragments.{has_closed_fragments}
-use Rattle.sql_builder.specs.Statement.{error_at, layout_at, pieces, statement, text_unless_error, unless_error}
-use Rattle.sql_builder.specs.StatementLaws.{made_by}
-use Rattle.sql_builder.specs.StatementReaders.{ClosedFragmentsOpenStrings, QuotedBytesAreBytes, ReadersIgnoreQuotedFragments, ReadersIgnoreQuotedTexts}
-use Rattle.sql_builder.specs.StatementReaders.{bytes_unless_error, constant_part, every_byte, parts_at, parts_in, printed_by, text_of_parts, NoTextsDecide}
-use Rattle.sql_builder.specs.StatementReaders.{PlainTextsArePrinted, quotes_plain_texts}
 use Rattle.sql_builder.proofs.interference.QuotedTextLemmas.{blanks, failed, laid, same_errors, same_layouts, map-twice}
-use Rattle.sql_builder.proofs.pieces.PartLemmas.{parts_in-bytes}
-use Rattle.sql_builder.proofs.pieces.ClauseShapeLemmas.{printed-shaped}
-use Rattle.sql_builder.proofs.pieces.ShapeLemmas.{Shaped}
-use Rattle.sql_builder.proofs.pieces.LayoutMapLemmas.{layout_in_form}
-use Rattle.sql_builder.proofs.statements.StatementLawLemmas.{builders_print_statements}
-use Rattle.std.proofs.lemmas.Bool.{and_from, and_parts}
-use Rattle.std.proofs.lemmas.List.Folds.{list_all-append, list_all-map}
+use Rattle.sql_builder.proofs.pieces.{parts_in-bytes, printed-shaped, Shaped, layout_in_form}
+use Rattle.sql_builder.proofs.statements.{builders_print_statements}
 use Rattle.sql_builder.specs.Calls as call
 use Rattle.sql_builder.specs.Condition as condition
-use Rattle.sql_builder.specs.Condition.{mask_text}
-use Rattle.sql_builder.specs.Interference.{blank_call, call_quoted_texts}
 use Rattle.sql_builder.specs.declared.condition.Percent.{Percent}
 use Rattle.sql_builder.specs.declared.condition.Percent.TheVariants as sign
-use Rattle.sql_builder.proofs.fragments.FitLemmas.{unless}
-use Rattle.sql_builder.proofs.fragments.NeutralLemmas.{all-any, calls-any}
-use Rattle.sql_builder.proofs.fragments.PassLemmas.{printed-passes}
-use Rattle.sql_builder.proofs.fragments.PropertyLemmas.{piece_passes, whatever}
-use Rattle.sql_builder.proofs.lists.AllFacts.{all-weaker}
+use Rattle.sql_builder.proofs.fragments.{unless, all-any, calls-any, printed-passes, piece_passes, whatever}
+use Rattle.sql_builder.proofs.lists.{all-weaker}
 
 -- ---- parts of pieces
 

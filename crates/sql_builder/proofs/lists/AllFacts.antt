@@ -1,8 +1,7 @@
 -- What holds of each element of a list.
-use Rattle.std.proofs.Common.{List, [], ◌∷◌, ◌++◌, map, ◌≡◌, refl, Bool, true, false, ◌&&◌}
-use Rattle.std.specs.List.{AllByRecursion, list_all, list_any}
-use Rattle.std.proofs.lemmas.Bool.{and_parts, and_from, or_from, or_parts}
-use Rattle.sql_builder.specs.Filters.{Group, begins, cut, lead_and_groups}
+use Rattle.sql_builder.proofs.Imports.{List, [], ◌∷◌, ◌++◌, map, ◌≡◌, refl, Bool, true, false, ◌&&◌, AllByRecursion, list_all, list_any, and_parts, and_from}
+use Rattle.sql_builder.proofs.Imports.{or_from, or_parts}
+use Rattle.sql_builder.specs.{Group, begins, cut, lead_and_groups}
 
 pub append-all : {X : Type 0} (P : X → Type 0) (one other : List X) → AllByRecursion P one → AllByRecursion P other → AllByRecursion P (one ++ other)
 append-all P [] other all too = too

@@ -1,16 +1,9 @@
 -- A list in groups: cut before each element that opens a group, the texts of a group's elements joined.
-use Rattle.std.proofs.Common.{◌≡◌, refl, ap, sym, ◌∙◌, Bool, true, false, List, [], ◌∷◌, ◌++◌, map, flat_map, append_assoc, codes, ℕ, ◌≤◌, ◌||◌, length, arith}
-use Rattle.std.proofs.Common.{string_bytes}
-use Rattle.std.specs.List.{list_any}
-use Rattle.std.proofs.lemmas.List.{map-append, append-nil, length-map}
-use Rattle.std.proofs.lemmas.Grind.{flat_map-append}
-use Rattle.sql_parts.specs.Text.{join_with}
-use Rattle.sql_builder.specs.Builder.{condition_in_group, extend_last, group_texts, join_last}
-use Rattle.sql_builder.specs.Layout.{byte_units, concat_sections, where_sections}
-use Rattle.sql_builder.specs.Printed.{further_bytes, further_condition, where_bytes, where_end, where_opening}
-use Rattle.sql_builder.proofs.output.PrintingLemmas.{several}
-use Rattle.sql_builder.specs.declared.clauses.GroupedCondition.{GroupedCondition}
-use Rattle.sql_builder.specs.Filters.{Group, cut, lead_and_groups}
+use Rattle.sql_builder.proofs.Imports.{◌≡◌, refl, ap, sym, ◌∙◌, Bool, true, false, List, [], ◌∷◌, ◌++◌, map, flat_map, append_assoc, codes, ℕ, ◌≤◌, ◌||◌}
+use Rattle.sql_builder.proofs.Imports.{length, arith, string_bytes, list_any, map-append, append-nil, length-map, flat_map-append, join_with, GroupedCondition}
+use Rattle.sql_builder.specs.{condition_in_group, extend_last, group_texts, join_last, byte_units, concat_sections, where_sections, further_bytes}
+use Rattle.sql_builder.specs.{further_condition, where_bytes, where_end, where_opening, Group, cut, lead_and_groups}
+use Rattle.sql_builder.proofs.output.{several}
 use Rattle.sql_builder.proofs.lists.PushLemmas.{cut-push, into_last, put_in}
 
 -- the groups after one more element

@@ -1,13 +1,7 @@
 -- One more element at the end, for each way to read a whole list.
-use Rattle.std.proofs.Common.{◌≡◌, List, [], ◌∷◌, ◌++◌, Option, None, Some, Bool, true, false, ◌||◌, ◌&&◌, not, if◌then◌else◌, flat_map, filter_map, refl, ap}
-use Rattle.std.proofs.Common.{sym, ◌∙◌}
-use Rattle.std.proofs.lemmas.List.{append-nil}
-use Rattle.std.proofs.lemmas.Grind.{flat_map-append}
-use Rattle.std.proofs.lemmas.List.Elements.{filter_map-append}
-use Rattle.std.specs.List.{list_any, last_or, cons_option}
-use Rattle.std.specs.Option.{option_or}
-use Rattle.sql_builder.specs.Builder.{extend_last}
-use Rattle.sql_builder.specs.Filters.{any_unfollowed, begins, cut, Group, last_given, lead_and_groups, since}
+use Rattle.sql_builder.proofs.Imports.{◌≡◌, List, [], ◌∷◌, ◌++◌, Option, None, Some, Bool, true, false, ◌||◌, ◌&&◌, not, if◌then◌else◌, flat_map, filter_map}
+use Rattle.sql_builder.proofs.Imports.{refl, ap, sym, ◌∙◌, append-nil, flat_map-append, filter_map-append, list_any, last_or, cons_option, option_or}
+use Rattle.sql_builder.specs.{extend_last, any_unfollowed, begins, cut, Group, last_given, lead_and_groups, since}
 
 -- ys behind xs, so that it is xs itself where there are none
 abbrev pub add : {X : Type 0} → List X → List X → List X

@@ -1,10 +1,7 @@
 -- One more step of a function that goes over a list: what it has written, how long that is, and where there is room for it.
-use Rattle.std.proofs.Common.{◌≡◌, ◌≢◌, ℕ, zero, suc, ◌+◌, ◌<◌, ◌≤◌, List, [], ◌∷◌, ◌++◌, length, length-append, flat_map, map, take}
-use Rattle.std.proofs.Common.{get_or, refl, sym, ap, ◌∙◌, append_assoc, arith}
-use Rattle.std.proofs.lemmas.Grind.{flat_map-append}
-use Rattle.std.proofs.lemmas.List.{append-nil, map-append, take_more}
-use Rattle.sql_builder.specs.Builder.{extend_last}
-use Rattle.sql_builder.specs.Concat.{Fits, Prints}
+use Rattle.sql_builder.proofs.Imports.{◌≡◌, ◌≢◌, ℕ, zero, suc, ◌+◌, ◌<◌, ◌≤◌, List, [], ◌∷◌, ◌++◌, length, length-append, flat_map, map, take, get_or, refl}
+use Rattle.sql_builder.proofs.Imports.{sym, ap, ◌∙◌, append_assoc, arith, flat_map-append, append-nil, map-append, take_more}
+use Rattle.sql_builder.specs.{extend_last, Fits, Prints}
 
 -- one more element of a loop over xs, of which each adds h of its value
 pub one_more : {X Y A : Type 0} (h : Y → List A) (v : X → Y) (xs : List X) (i : ℕ) (x : X) → i < length xs

@@ -1,16 +1,9 @@
 -- What the helpers that print need: a layout's sections one after another.
-use Rattle.std.proofs.Common.{if◌then◌else◌, ◌≡◌, ◌≢◌, ℕ, ◌≤◌, Bool, List, [], ◌∷◌, ◌++◌, Option, None, Some, length, map, flat_map, codes, refl, ap, sym}
-use Rattle.std.proofs.Common.{◌∙◌, append_assoc, arith}
-use Rattle.std.specs.Prelude.{nat_eq, not, ◌&&◌}
-use Rattle.std.proofs.lemmas.Bool.Decides.{nat_tests}
-use Rattle.std.proofs.lemmas.List.{append-nil}
-use Rattle.std.proofs.lemmas.Grind.{flat_map-append}
-use Rattle.sql_builder.specs.Builder.{ClauseTexts}
-use Rattle.sql_builder.specs.Layout.{byte_units, concat_sections, fields_or_star, group_by_sections, insert_sections, optional_section, order_by_sections}
-use Rattle.sql_builder.specs.Layout.{query, union_opening, union_sections, where_sections}
-use Rattle.sql_builder.specs.Phrases.{comma_list, in_brackets}
-use Rattle.sql_builder.specs.Printed.{delete_bytes, insert_bytes, inserted_bytes, optional_bytes, query_end, query_start, update_bytes, where_bytes}
-use Rattle.sql_parts.specs.Text.{join_with}
+use Rattle.sql_builder.proofs.Imports.{if◌then◌else◌, ◌≡◌, ◌≢◌, ℕ, ◌≤◌, Bool, List, [], ◌∷◌, ◌++◌, Option, None, Some, length, map, flat_map, codes, refl, ap}
+use Rattle.sql_builder.proofs.Imports.{sym, ◌∙◌, append_assoc, arith, nat_eq, not, ◌&&◌, nat_tests, append-nil, flat_map-append, join_with}
+use Rattle.sql_builder.specs.{ClauseTexts, byte_units, concat_sections, fields_or_star, group_by_sections, insert_sections, optional_section, order_by_sections}
+use Rattle.sql_builder.specs.{query, union_opening, union_sections, where_sections, comma_list, in_brackets, delete_bytes, insert_bytes, inserted_bytes}
+use Rattle.sql_builder.specs.{optional_bytes, query_end, query_start, update_bytes, where_bytes}
 
 -- the brackets of two neighbours in one text
 bracketed : (gs : List (List ℕ))

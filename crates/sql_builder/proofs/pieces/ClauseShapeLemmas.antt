@@ -1,31 +1,17 @@
 -- What a list of calls prints, and what a condition and a call with two texts print, keep their tokens.
-use Rattle.std.proofs.Common.{◌≡◌, ℕ, List, [], ◌∷◌, Option, None, Some, subst, IfOk, ap, sym, ◌∙◌, codes, refl}
-use Rattle.std.specs.Prelude.{IsTrue}
-use Rattle.sql_builder.specs.Builder.{ClauseTexts, with_binary, with_condition, with_condition_bytes, with_fields, with_on, with_set}
-use Rattle.sql_parts.specs.Tokens.{closed, tokens}
-use Rattle.sql_parts.specs.declared.error.SqlBuilderError.{SqlBuilderError}
-use Rattle.sql_parts.specs.Quoting.{quoted}
-use Rattle.sql_builder.specs.Layout.{byte_units, sql}
-use Rattle.sql_builder.specs.Calls.{StartText, CallText, FinishText, clauses}
+use Rattle.sql_builder.proofs.Imports.{◌≡◌, ℕ, List, [], ◌∷◌, Option, None, Some, subst, IfOk, ap, sym, ◌∙◌, codes, refl, IsTrue, closed, tokens}
+use Rattle.sql_builder.proofs.Imports.{SqlBuilderError, quoted, Clauses, Pieces, Family, BinaryClause, append-nil}
+use Rattle.sql_builder.specs.{ClauseTexts, with_binary, with_condition, with_condition_bytes, with_fields, with_on, with_set, byte_units, sql, StartText}
+use Rattle.sql_builder.specs.{CallText, FinishText, clauses, ConditionText, condition_bytes, condition_pieces, count_as, equation, map_clauses}
+use Rattle.sql_builder.specs.{EndsInOneSemicolon, AddsText, KeepsTokens, as_fragments, has_closed_fragments, has_no_semicolons, layout_at, pieces, error_at}
+use Rattle.sql_builder.specs.{unless_error, fixed_piece, pieces_text, quoted_piece, raw_piece, AddsCondition, IsAtomIfOperands, AddsBinary, AddsConditionOpaque}
+use Rattle.sql_builder.specs.{IsAtom}
 use Rattle.sql_builder.specs.Calls as call
-use Rattle.sql_builder.specs.Condition.{ConditionText, condition_bytes, condition_pieces}
-use Rattle.sql_builder.specs.Phrases.{count_as, equation}
-use Rattle.sql_builder.specs.Clauses.{Clauses, map_clauses}
-use Rattle.sql_builder.specs.Shape.{EndsInOneSemicolon, AddsText, KeepsTokens, as_fragments}
-use Rattle.sql_builder.specs.RawFragments.{has_closed_fragments, has_no_semicolons}
-use Rattle.sql_builder.specs.Statement.{layout_at, pieces, error_at, unless_error}
-use Rattle.sql_builder.specs.Pieces.{Pieces, fixed_piece, pieces_text, quoted_piece, raw_piece}
-use Rattle.sql_builder.specs.Meaning.{AddsCondition, IsAtomIfOperands}
-use Rattle.sql_builder.specs.Steps.{AddsBinary, AddsConditionOpaque}
-use Rattle.sql_builder.specs.Truths.{IsAtom}
-use Rattle.sql_builder.specs.declared.condition.Family.{Family}
 use Rattle.sql_builder.proofs.reading.ClauseWordLemmas.{fragments_closed}
-use Rattle.sql_builder.specs.declared.steps.BinaryClause.{BinaryClause}
 use Rattle.sql_builder.specs.declared.steps.BinaryClause.TheVariants as binary
-use Rattle.std.proofs.lemmas.List.{append-nil}
 use Rattle.sql_builder.proofs.pieces.LayoutShapeLemmas.{sql-semicolon, fragments-printed, layout-shaped}
 use Rattle.sql_builder.proofs.pieces.ShapeLemmas.{Inside, Shaped, quoted-inside, raw-inside, shape_closed, shaped}
-use Rattle.sql_builder.proofs.conditions.ConditionLemmas.{condition_atom, condition_printed, operands_balanced}
+use Rattle.sql_builder.proofs.conditions.{condition_atom, condition_printed, operands_balanced}
 use Rattle.sql_builder.proofs.fragments.NeutralLemmas.{clauses-inside, condition-inside, count_as-inside, raw-inside-parts}
 use Rattle.sql_builder.proofs.fragments.PropertyLemmas.{between, inside-joins}
 

@@ -1,17 +1,10 @@
 -- The layout in one kind of unit becomes that in another by a map that keeps `++` and the builder's words.
-use Rattle.std.proofs.Common.{◌≡◌, ℕ, List, [], ◌∷◌, ◌++◌, Option, None, Some, Bool, map, codes, flat_map, refl, ap, ◌∙◌}
-use Rattle.std.proofs.lemmas.List.{map-append}
-use Rattle.std.specs.Prelude.{option_map}
-use Rattle.sql_builder.specs.Calls.{FinishText, Sql, Query, QueryValues, Subquery, SubqueryAs}
-use Rattle.sql_builder.specs.Clauses.{Clauses, map_clauses}
-use Rattle.sql_builder.specs.Layout.{concat_sections, fields_or_star, group_by_sections, insert_sections, insert_target, list_sections, optional_section}
-use Rattle.sql_builder.specs.Layout.{order_by_sections, query, query_sections, query_values, Section, section, sql, statement_sections, subquery, subquery_as}
-use Rattle.sql_builder.specs.Layout.{table_and_joins, union_sections, values_sections, where_sections}
-use Rattle.sql_builder.specs.Phrases.{comma_list, in_brackets, row}
-use Rattle.sql_builder.specs.Statement.{layout_at}
-use Rattle.sql_parts.specs.Text.{join_with}
-use Rattle.sql_builder.specs.declared.clauses.Kind.{Kind}
-use Rattle.sql_builder.specs.declared.clauses.Kind.TheVariants.{SelectFrom, SelectValues, InsertInto, UpdateTable, DeleteFrom}
+use Rattle.sql_builder.proofs.Imports.{◌≡◌, ℕ, List, [], ◌∷◌, ◌++◌, Option, None, Some, Bool, map, codes, flat_map, refl, ap, ◌∙◌, map-append, option_map}
+use Rattle.sql_builder.proofs.Imports.{Clauses, join_with, Kind, SelectFrom, SelectValues, InsertInto, UpdateTable, DeleteFrom}
+use Rattle.sql_builder.specs.{FinishText, Sql, Query, QueryValues, Subquery, SubqueryAs, map_clauses, concat_sections, fields_or_star, group_by_sections}
+use Rattle.sql_builder.specs.{insert_sections, insert_target, list_sections, optional_section, order_by_sections, query, query_sections, query_values, Section}
+use Rattle.sql_builder.specs.{section, sql, statement_sections, subquery, subquery_as, table_and_joins, union_sections, values_sections, where_sections}
+use Rattle.sql_builder.specs.{comma_list, in_brackets, row, layout_at}
 
 module _ {A B : Type 0} (word : List ℕ → List A) (word' : List ℕ → List B) (f : List A → List B)
     (nil : f [] ≡ []) (app : (x y : List A) → f (x ++ y) ≡ f x ++ f y)

@@ -1,22 +1,12 @@
 -- What is laid out of clauses, for any property of sections that their openings and their bodies give.
-use Rattle.std.proofs.Common.{◌≡◌, refl, ℕ, Bool, true, false, not, ◌&&◌, List, [], ◌∷◌, ◌++◌, Option, None, Some, map, codes, pos}
-use Rattle.std.specs.Prelude.{IfSome}
-use Rattle.std.specs.List.{AllByRecursion, list_any}
-use Rattle.std.proofs.lemmas.Bool.{and_parts, not-true}
-use Rattle.sql_parts.specs.Fragments.{is_clause_word}
-use Rattle.sql_parts.specs.Text.{join_with}
-use Rattle.sql_parts.specs.Tokens.{Token, begins_with, closed, ends_with, has_semicolon, is_edge, tokens}
-use Rattle.sql_parts.proofs.fragments.DepthFacts.{is_even}
-use Rattle.sql_builder.specs.Clauses.{Clauses}
-use Rattle.sql_builder.specs.Layout.{Section, delete_sections, fields_or_star, group_by_sections, insert_sections, insert_target, optional_section}
-use Rattle.sql_builder.specs.Layout.{order_by_sections, query_sections, range_sections, returning_sections, section, select_opening, statement_sections}
-use Rattle.sql_builder.specs.Layout.{table_and_joins, union_opening, union_sections, update_sections, values_sections, where_sections}
-use Rattle.sql_builder.specs.Phrases.{comma_list, in_brackets}
-use Rattle.sql_builder.specs.Pieces.{Piece, Pieces, fixed_piece}
-use Rattle.sql_builder.specs.Reading.{clause_bodies, is_union}
-use Rattle.sql_builder.specs.Shape.{pieces_tokens}
-use Rattle.sql_builder.specs.declared.clauses.Kind.{Kind}
-use Rattle.sql_builder.specs.declared.clauses.Kind.TheVariants.{SelectFrom, SelectValues, InsertInto, UpdateTable, DeleteFrom}
+use Rattle.sql_builder.proofs.Imports.{◌≡◌, refl, ℕ, Bool, true, false, not, ◌&&◌, List, [], ◌∷◌, ◌++◌, Option, None, Some, map, codes, pos, IfSome}
+use Rattle.sql_builder.proofs.Imports.{AllByRecursion, list_any, and_parts, not-true, is_clause_word, join_with, Token, begins_with, closed, ends_with}
+use Rattle.sql_builder.proofs.Imports.{has_semicolon, is_edge, tokens, is_even, Clauses, Pieces, Kind, SelectFrom, SelectValues, InsertInto, UpdateTable}
+use Rattle.sql_builder.proofs.Imports.{DeleteFrom}
+use Rattle.sql_builder.specs.{Section, delete_sections, fields_or_star, group_by_sections, insert_sections, insert_target, optional_section, order_by_sections}
+use Rattle.sql_builder.specs.{query_sections, range_sections, returning_sections, section, select_opening, statement_sections, table_and_joins, union_opening}
+use Rattle.sql_builder.specs.{union_sections, update_sections, values_sections, where_sections, comma_list, in_brackets, Piece, fixed_piece, clause_bodies}
+use Rattle.sql_builder.specs.{is_union, pieces_tokens}
 use Rattle.sql_builder.proofs.fragments.ClauseFacts.{PartsAre}
 use Rattle.sql_builder.proofs.fragments.PropertyLemmas.{Each, PreservedByWords, before-each, joined, lacks_dollar, listed}
 use Rattle.sql_builder.proofs.pieces.ShapeLemmas.{Whole}

@@ -1,16 +1,9 @@
 -- The pieces that are printed keep their tokens, whatever the clauses are made of that do.
-use Rattle.std.proofs.Common.{◌≡◌, ℕ, Bool, true, false, List, [], ◌∷◌, ◌++◌, Option, None, Some, map, codes, refl, ap, sym, ◌∙◌}
-use Rattle.std.specs.Prelude.{option_map}
-use Rattle.std.proofs.lemmas.List.{append-nil}
-use Rattle.sql_parts.specs.Tokens.{closed, tokens}
-use Rattle.sql_builder.specs.Calls.{FinishText, Sql, Query, QueryValues, Subquery, SubqueryAs}
-use Rattle.sql_builder.specs.Clauses.{Clauses, map_clauses}
-use Rattle.sql_builder.specs.Layout.{byte_units, concat_sections, query, query_values, sql, statement_sections, subquery, subquery_as, union_opening}
-use Rattle.sql_builder.specs.Shape.{EndsInOneSemicolon, HasShape, IsClosedAs, as_fragments}
-use Rattle.sql_builder.specs.RawFragments.{has_closed_fragments, has_no_semicolons}
-use Rattle.sql_builder.specs.Statement.{layout_at, text_at}
-use Rattle.sql_builder.specs.Pieces.{Pieces, fixed_piece, pieces_text, raw_piece}
-use Rattle.sql_builder.specs.declared.clauses.Kind.{Kind}
+use Rattle.sql_builder.proofs.Imports.{◌≡◌, ℕ, Bool, true, false, List, [], ◌∷◌, ◌++◌, Option, None, Some, map, codes, refl, ap, sym, ◌∙◌, option_map}
+use Rattle.sql_builder.proofs.Imports.{append-nil, closed, tokens, Clauses, Pieces, Kind}
+use Rattle.sql_builder.specs.{FinishText, Sql, Query, QueryValues, Subquery, SubqueryAs, map_clauses, byte_units, concat_sections, query, query_values, sql}
+use Rattle.sql_builder.specs.{statement_sections, subquery, subquery_as, union_opening, EndsInOneSemicolon, HasShape, IsClosedAs, as_fragments}
+use Rattle.sql_builder.specs.{has_closed_fragments, has_no_semicolons, layout_at, text_at, fixed_piece, pieces_text, raw_piece}
 use Rattle.sql_builder.proofs.pieces.ShapeLemmas.{Inside, Shaped, brackets-inside, ends_in_semicolon, raw-inside, shape_closed, shaped, statement-shaped}
 use Rattle.sql_builder.proofs.pieces.ShapeLemmas.{closing-last, words-first, words-between}
 use Rattle.sql_builder.proofs.statements.RunLemmas.{text_of_layout}

@@ -1,15 +1,10 @@
 -- Where the reader of tokens opens a string among pieces.
-use Rattle.std.proofs.Common.{◌≡◌, ℕ, true, [], ◌∷◌, ◌++◌, refl, sym, ap, ◌∙◌, subst, inl, inr, ◌⊎◌, append_assoc}
-use Rattle.std.proofs.lemmas.Bool.{false≢true}
-use Rattle.std.proofs.lemmas.Grind.{flat_map-append}
-use Rattle.sql_parts.specs.Quoting.{doubled}
+use Rattle.sql_builder.proofs.Imports.{◌≡◌, ℕ, true, [], ◌∷◌, ◌++◌, refl, sym, ap, ◌∙◌, subst, inl, inr, ◌⊎◌, append_assoc, false≢true, flat_map-append}
+use Rattle.sql_builder.proofs.Imports.{doubled, token_reader, begins_with, is_edge, IsShut, edge-alike, Pieces}
 use Rattle.sql_parts.specs.Readers.{IsInsideAtEach, after, parts_bytes}
-use Rattle.sql_parts.specs.TokenReader.{token_reader}
-use Rattle.sql_parts.specs.Tokens.{begins_with, is_edge}
 use Rattle.sql_parts.proofs.tokens.ReaderLemmas.{inside-append}
-use Rattle.sql_parts.proofs.tokens.TokenReaderLemmas.{IsShut, edge-alike}
-use Rattle.sql_builder.specs.Pieces.{Pieces, Fixed, Quoted, Raw, pieces_text}
-use Rattle.sql_builder.specs.StatementReaders.{every_byte, parts_in, piece_parts}
+use Rattle.sql_builder.specs.{Fixed, Quoted, pieces_text, every_byte, parts_in, piece_parts}
+use Rattle.sql_builder.specs.Pieces.{Raw}
 
 -- the parts of pieces have their bytes
 pub parts_in-bytes : (printed : Pieces) → parts_bytes (parts_in printed) ≡ pieces_text printed

@@ -1,23 +1,14 @@
 -- Pieces of a statement keep their tokens side by side, since the builder's words between them end and begin with edges.
-use Rattle.std.proofs.Common.{◌≡◌, ℕ, Bool, true, false, not, List, [], ◌∷◌, ◌++◌, codes, refl, sym, ap, ◌∙◌, subst, inl, inr, ◌⊎◌, append_assoc, map}
-use Rattle.std.proofs.lemmas.List.{append-nil}
-use Rattle.std.proofs.lemmas.Grind.{flat_map-append}
-use Rattle.std.proofs.lemmas.Bool.{and_parts, not-true, or_from, or_left, or_right}
-use Rattle.std.proofs.lemmas.List.Folds.{list_all-append, list_any-append}
-use Rattle.std.specs.List.{list_all, list_any}
-use Rattle.sql_parts.specs.Quoting.{quoted}
+use Rattle.sql_builder.proofs.Imports.{◌≡◌, ℕ, Bool, true, false, not, List, [], ◌∷◌, ◌++◌, codes, refl, sym, ap, ◌∙◌, subst, inl, inr, ◌⊎◌, append_assoc, map}
+use Rattle.sql_builder.proofs.Imports.{append-nil, flat_map-append, and_parts, not-true, or_from, or_left, or_right, list_all-append, list_any-append, list_all}
+use Rattle.sql_builder.proofs.Imports.{list_any, quoted, token_reader, Symbol, Token, begins_with, clean, closed, ends_with, has_semicolon, is_edge, is_empty}
+use Rattle.sql_builder.proofs.Imports.{is_open, is_semicolon, tokens, Single, begins-append, clean-behind, between-tokens, between_closed, closed-shut, seam}
+use Rattle.sql_builder.proofs.Imports.{IsShut, edge-ends, opens-every, shut-behind, Pieces}
 use Rattle.sql_parts.specs.Readers.{after}
-use Rattle.sql_parts.specs.TokenReader.{token_reader}
-use Rattle.sql_parts.specs.Tokens.{Symbol, Token, begins_with, clean, closed, ends_with, has_semicolon, is_edge, is_empty, is_open, is_semicolon, tokens}
-use Rattle.sql_parts.specs.declared.delimiters.Quotes.TheVariants.{Single}
-use Rattle.sql_parts.proofs.tokens.JoinFacts.{begins-append, clean-behind}
-use Rattle.sql_parts.proofs.tokens.TokenFacts.{between-tokens, between_closed, closed-shut, seam}
-use Rattle.sql_parts.proofs.tokens.TokenReaderLemmas.{IsShut, edge-ends, opens-every, shut-behind}
 use Rattle.sql_builder.proofs.pieces.PartLemmas.{Opens, opens-append, opens-shut, state_behind}
-use Rattle.sql_builder.specs.Phrases.{in_brackets}
-use Rattle.sql_builder.specs.Shape.{EndsInOneSemicolon, piece_tokens, pieces_tokens}
-use Rattle.sql_builder.specs.RawFragments.{has_closed_fragments, has_no_semicolons, is_closed_piece, is_without_semicolon}
-use Rattle.sql_builder.specs.Pieces.{Piece, Pieces, Fixed, Quoted, Raw, fixed_piece, piece_text, pieces_text, quoted_piece, raw_piece}
+use Rattle.sql_builder.specs.{in_brackets, EndsInOneSemicolon, piece_tokens, pieces_tokens, has_closed_fragments, has_no_semicolons, is_closed_piece}
+use Rattle.sql_builder.specs.{is_without_semicolon, Piece, Fixed, Quoted, fixed_piece, piece_text, pieces_text, quoted_piece, raw_piece}
+use Rattle.sql_builder.specs.Pieces.{Raw}
 use Rattle.sql_builder.specs.WhereTokens as where_tokens
 
 abbrev pub has_open : List Token → Bool

@@ -1,27 +1,14 @@
 -- Fragments that are fit leave the nesting depth, and the top-level clause keywords, to the builder's own words.
-use Rattle.std.proofs.Common.{◌≡◌, refl, sym, ◌∙◌, ap, subst, ℕ, zero, suc, Bool, true, false, not, ◌&&◌, ◌||◌, List, [], ◌∷◌, ◌++◌, map, ℤ, pos, negsuc}
-use Rattle.std.proofs.Common.{append-nil}
-use Rattle.std.specs.Prelude.{flat_map}
-use Rattle.std.specs.List.{list_all, list_any}
-use Rattle.std.proofs.lemmas.Bool.{and_parts, and_from, or_parts, false≢true, not-true, not_from_false}
-use Rattle.std.proofs.lemmas.Grind.{flat_map-append}
-use Rattle.std.proofs.lemmas.List.Folds.{list_all-append}
-use Rattle.sql_parts.specs.Tokens.{Token, Str, tokens}
-use Rattle.sql_builder.specs.Shape.{pieces_tokens}
-use Rattle.sql_builder.specs.RawFragments.{has_closed_fragments, is_balanced_piece, own_tokens, are_fit, are_fit_after, is_fit_after, own}
-use Rattle.sql_builder.specs.RawFragments.{has_balanced_fragments}
-use Rattle.sql_builder.specs.Pieces.{Pieces, Fixed, Quoted, Raw, Piece}
-use Rattle.sql_builder.proofs.tokens.DepthFacts.{at_end-append, at_end-closes, placed_from-append, stays_from, stays-both, stays-parts, stays-closes}
-use Rattle.sql_builder.proofs.tokens.DepthFacts.{closes-stays, stays-high, stays-up, ends-up, placed-above}
-use Rattle.sql_builder.proofs.tokens.PartFacts.{tokens-placed_from}
-use Rattle.sql_builder.proofs.tokens.BalancedFacts.{balanced_even, even_text, balanced_closed}
-use Rattle.sql_builder.proofs.tokens.WhereTokenFacts.{has_clause}
-use Rattle.sql_builder.specs.TokenParts.{Parts, parts_at, with_front}
-use Rattle.sql_builder.specs.Reading.{own_placed}
-use Rattle.sql_parts.proofs.fragments.DepthFacts.{after, at_end, closes_from, is_at_least_0, is_balanced, is_even, is_zero, placed, placed_from, end-is}
-use Rattle.sql_parts.proofs.fragments.DepthFacts.{has_top_level-is, is_balanced-is}
-use Rattle.sql_parts.specs.Fragments.{as_placed, Nested, TopLevel, Placed, is_clause_word, at_top_level, is_whole, token_of, balanced}
-use Rattle.std.proofs.lemmas.List.{map-append}
+use Rattle.sql_builder.proofs.Imports.{◌≡◌, refl, sym, ◌∙◌, ap, subst, ℕ, zero, suc, Bool, true, false, not, ◌&&◌, ◌||◌, List, [], ◌∷◌, ◌++◌, map, ℤ, pos}
+use Rattle.sql_builder.proofs.Imports.{negsuc, append-nil, flat_map, list_all, list_any, and_parts, and_from, or_parts, false≢true, not-true, not_from_false}
+use Rattle.sql_builder.proofs.Imports.{flat_map-append, list_all-append, Token, Str, tokens, Pieces, after, at_end, closes_from, is_at_least_0, is_balanced}
+use Rattle.sql_builder.proofs.Imports.{is_even, is_zero, placed, placed_from, end-is, has_top_level-is, is_balanced-is, as_placed, Nested, TopLevel, Placed}
+use Rattle.sql_builder.proofs.Imports.{is_clause_word, at_top_level, is_whole, token_of, balanced, map-append}
+use Rattle.sql_builder.specs.{pieces_tokens, has_closed_fragments, is_balanced_piece, own_tokens, are_fit, are_fit_after, is_fit_after, own}
+use Rattle.sql_builder.specs.{has_balanced_fragments, Fixed, Quoted, Piece, Parts, parts_at, with_front, own_placed}
+use Rattle.sql_builder.specs.Pieces.{Raw}
+use Rattle.sql_builder.proofs.tokens.{at_end-append, at_end-closes, placed_from-append, stays_from, stays-both, stays-parts, stays-closes, closes-stays}
+use Rattle.sql_builder.proofs.tokens.{stays-high, stays-up, ends-up, placed-above, tokens-placed_from, balanced_even, even_text, balanced_closed, has_clause}
 
 pub own-append : (x y : Pieces) → own (x ++ y) ≡ own x ++ own y
 own-append x y = flat_map-append own_tokens x y

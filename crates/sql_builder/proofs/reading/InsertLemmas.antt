@@ -1,46 +1,29 @@
 -- An INSERT of a query parses back as its own clause, those of the query, and RETURNING.
-use Rattle.std.proofs.Common.{◌≡◌, refl, sym, ◌∙◌, ap, subst, ℕ, Bool, true, false, List, [], ◌∷◌, ◌++◌, Option, None, Some, pos, codes, append-nil}
-use Rattle.std.proofs.Common.{append_assoc, map, ◌&&◌, ◌||◌}
-use Rattle.std.specs.Prelude.{IfSome, IfOk, flat_map, option_map, IsTrue, if◌then◌else◌}
-use Rattle.std.specs.List.{list_all, list_any}
-use Rattle.std.proofs.lemmas.Bool.{and_from, and_parts, or_from, not_from_false, false≢true}
+use Rattle.sql_builder.proofs.Imports.{◌≡◌, refl, sym, ◌∙◌, ap, subst, ℕ, Bool, true, false, List, [], ◌∷◌, ◌++◌, Option, None, Some, pos, codes, append-nil}
+use Rattle.sql_builder.proofs.Imports.{append_assoc, map, ◌&&◌, ◌||◌, IfSome, IfOk, flat_map, option_map, IsTrue, if◌then◌else◌, list_all, list_any, and_from}
+use Rattle.sql_builder.proofs.Imports.{and_parts, or_from, not_from_false, false≢true, Placed, balanced, is_clause_word, at_top_level, is_whole, Token, Symbol}
+use Rattle.sql_builder.proofs.Imports.{begins_with, tokens, has_top_level, has_top_level-is, is_even, placed, placed-is, is_balanced, is_balanced-is}
+use Rattle.sql_builder.proofs.Imports.{SqlBuilderError, Clauses, Pieces}
 use Rattle.sql_parts.specs.Fragments as fragments
-use Rattle.sql_parts.specs.Fragments.{Placed, balanced, is_clause_word, at_top_level, is_whole}
-use Rattle.sql_parts.specs.Tokens.{Token, Symbol, begins_with, tokens}
-use Rattle.sql_parts.proofs.fragments.DepthFacts.{has_top_level, has_top_level-is, is_even, placed, placed-is, is_balanced, is_balanced-is}
-use Rattle.sql_parts.specs.declared.error.SqlBuilderError.{SqlBuilderError}
 use Rattle.sql_builder.specs.Calls as call
-use Rattle.sql_builder.specs.Calls.{Sql, clauses, query_of, Query}
-use Rattle.sql_builder.specs.Clauses.{Clauses}
-use Rattle.sql_builder.specs.RawFragments.{are_fit, has_balanced_fragments, own, begins_union, has_fit_fragments}
-use Rattle.sql_builder.specs.Inserts.{BuildersOfInsertsReadBack, InsertsReadBack, has_fit_target, insert_clauses, is_fit_returning, lead_of, is_one_query}
-use Rattle.sql_builder.specs.Inserts.{returning_clauses, BuildersOfQueriesAreOne, QueriesAreOne, returning_after}
-use Rattle.sql_builder.specs.Layout.{byte_units, insert_sections, concat_sections, insert_target, optional_section, returning_sections, section, sql}
-use Rattle.sql_builder.specs.Layout.{statement_sections, query, query_sections}
-use Rattle.sql_builder.specs.TokenParts.{Parts, parts_at, before_top_level, with_front}
-use Rattle.sql_builder.specs.Reading.{Clause, is_union, own_placed, read, without_semicolon}
-use Rattle.sql_builder.specs.Shape.{HasShape, as_fragments, pieces_tokens}
-use Rattle.sql_builder.specs.Statement.{error_at, text_unless_error, unless_error}
-use Rattle.sql_builder.specs.StatementLaws.{made_by}
-use Rattle.sql_builder.specs.Pieces.{Pieces, fixed_piece, pieces_text, raw_piece}
-use Rattle.sql_builder.proofs.tokens.BalancedFacts.{even_closes, even_text, has_top_level-append, is_even-append}
+use Rattle.sql_builder.specs.{Sql, clauses, query_of, Query, are_fit, has_balanced_fragments, own, begins_union, has_fit_fragments, BuildersOfInsertsReadBack}
+use Rattle.sql_builder.specs.{InsertsReadBack, has_fit_target, insert_clauses, is_fit_returning, lead_of, is_one_query, returning_clauses}
+use Rattle.sql_builder.specs.{BuildersOfQueriesAreOne, QueriesAreOne, returning_after, byte_units, insert_sections, concat_sections, insert_target}
+use Rattle.sql_builder.specs.{optional_section, returning_sections, section, sql, statement_sections, query, query_sections, Parts, parts_at, before_top_level}
+use Rattle.sql_builder.specs.{with_front, Clause, is_union, own_placed, read, without_semicolon, HasShape, as_fragments, pieces_tokens, error_at}
+use Rattle.sql_builder.specs.{text_unless_error, unless_error, made_by, fixed_piece, pieces_text, raw_piece, until}
+use Rattle.sql_builder.proofs.tokens.{even_closes, even_text, has_top_level-append, is_even-append, at_end-closes, semicolon-none, semicolon-one}
 use Rattle.sql_builder.proofs.fragments.NeutralLemmas.{NeutralParts, clauses-neutral, raw-neutral}
 use Rattle.sql_builder.proofs.fragments.PropertyLemmas.{passes-append, whatever}
-use Rattle.sql_builder.proofs.pieces.ClauseShapeLemmas.{printed-shaped}
+use Rattle.sql_builder.proofs.pieces.{printed-shaped, sql_shape, query_shape, pieces_tokens-append, fields-enclosed, target-kept}
 use Rattle.sql_builder.proofs.truth.ConnectiveLemmas.{placed-then}
-use Rattle.sql_builder.proofs.pieces.LayoutShapeLemmas.{sql_shape, query_shape}
-use Rattle.sql_builder.specs.Filters.{until}
 use Rattle.sql_builder.proofs.reading.NestingLemmas.{query-balanced}
 use Rattle.sql_builder.proofs.reading.LayoutLemmas.{query-opens, neutral-layout}
 use Rattle.sql_builder.proofs.reading.SectionLemmas.{Neutral, Front, any_union, before-append, neutral-front, front-append, lead_on, opening_clauses, joined}
 use Rattle.sql_builder.proofs.reading.SectionLemmas.{own-top_level, parts-joined, section-clauses, starts-lead, union-flags, with_last, sections-front}
 use Rattle.sql_builder.proofs.reading.SectionLemmas.{until-after, union-flag, with_last-nil}
 use Rattle.sql_builder.proofs.reading.ClauseWordLemmas.{are_fit-is, are_fit_from, fit-balanced, fit-flags, fragments_closed, flags, same-parts, shape-even}
-use Rattle.sql_builder.proofs.tokens.DepthFacts.{at_end-closes}
-use Rattle.sql_builder.proofs.tokens.PartFacts.{semicolon-none, semicolon-one}
-use Rattle.sql_builder.proofs.pieces.ShapeLemmas.{pieces_tokens-append}
-use Rattle.sql_builder.proofs.statements.StatementLawLemmas.{of_pieces}
-use Rattle.sql_builder.proofs.pieces.LayoutPropertyLemmas.{fields-enclosed, target-kept}
+use Rattle.sql_builder.proofs.statements.{of_pieces}
 
 -- ---- tokens that have no top-level UNION
 

@@ -1,33 +1,20 @@
 -- The builder's own words in each statement: what parses back, and the bodies of WHERE.
-use Rattle.std.proofs.Common.{◌≡◌, refl, sym, ◌∙◌, ap, subst, ℕ, Bool, true, false, List, [], ◌∷◌, ◌++◌, None, codes, append-nil, append_assoc}
+use Rattle.sql_builder.proofs.Imports.{◌≡◌, refl, sym, ◌∙◌, ap, subst, ℕ, Bool, true, false, List, [], ◌∷◌, ◌++◌, None, codes, append-nil, append_assoc}
+use Rattle.sql_builder.proofs.Imports.{flat_map, flat_map-append, Token, tokens, begins_with, Clauses, Pieces, Kind, SelectFrom, SelectValues, InsertInto}
+use Rattle.sql_builder.proofs.Imports.{UpdateTable, DeleteFrom, is_even, is_clause_word}
 use Rattle.sql_builder.proofs.fragments.PropertyLemmas.{neutral-brackets, neutral-joins, PreservedByWords}
-use Rattle.std.specs.Prelude.{flat_map}
-use Rattle.std.proofs.lemmas.Grind.{flat_map-append}
-use Rattle.sql_parts.specs.Tokens.{Token, tokens, begins_with}
-use Rattle.sql_builder.specs.Clauses.{Clauses}
-use Rattle.sql_builder.specs.Layout.{Section, concat_sections, delete_sections, fields_or_star, group_by_sections, insert_sections, query, query_sections}
-use Rattle.sql_builder.specs.Layout.{query_values, range_sections, section, select_opening, sql, statement_sections, table_and_joins, union_opening}
-use Rattle.sql_builder.specs.Layout.{union_sections, update_sections, values_sections, where_sections}
-use Rattle.sql_builder.specs.Phrases.{in_brackets}
-use Rattle.sql_builder.specs.Shape.{pieces_tokens}
-use Rattle.sql_builder.specs.Pieces.{Piece, Pieces, Fixed, fixed_piece, pieces_text}
-use Rattle.sql_builder.specs.declared.clauses.Kind.{Kind}
-use Rattle.sql_builder.specs.declared.clauses.Kind.TheVariants.{SelectFrom, SelectValues, InsertInto, UpdateTable, DeleteFrom}
-use Rattle.sql_builder.proofs.tokens.BalancedFacts.{is_even-append}
-use Rattle.sql_builder.proofs.reading.SectionLemmas.{AllOpen, Neutral, Ending, Front, clauses_in, clauses-sections, ending-none, ending-semicolon}
-use Rattle.sql_builder.proofs.reading.SectionLemmas.{ending-union, list-back, opening_clauses, read-back, section-clauses, section_pieces, sections-front}
-use Rattle.sql_builder.proofs.reading.SectionLemmas.{with_last}
+use Rattle.sql_builder.specs.{Section, concat_sections, delete_sections, fields_or_star, group_by_sections, insert_sections, query, query_sections}
+use Rattle.sql_builder.specs.{query_values, range_sections, section, select_opening, sql, statement_sections, table_and_joins, union_opening, union_sections}
+use Rattle.sql_builder.specs.{update_sections, values_sections, where_sections, in_brackets, pieces_tokens, Piece, Fixed, fixed_piece, pieces_text, own}
+use Rattle.sql_builder.specs.{has_fit_fragments, Clause, piece_clauses, read, clause_bodies}
+use Rattle.sql_builder.proofs.tokens.{is_even-append}
+use Rattle.sql_builder.proofs.reading.SectionLemmas.{AllOpen, Neutral, Ending, Front, clauses_in, clauses-sections, ending-none, ending-semicolon, ending-union}
+use Rattle.sql_builder.proofs.reading.SectionLemmas.{list-back, opening_clauses, read-back, section-clauses, section_pieces, sections-front, with_last}
 use Rattle.sql_builder.proofs.reading.ClauseWordLemmas.{own-append}
-use Rattle.sql_builder.specs.RawFragments.{own, has_fit_fragments}
-use Rattle.sql_builder.specs.Reading.{Clause, piece_clauses, read, clause_bodies}
-use Rattle.sql_parts.proofs.fragments.DepthFacts.{is_even}
-use Rattle.sql_parts.specs.Fragments.{is_clause_word}
 use Rattle.sql_builder.proofs.fragments.ClauseFacts.{PartsAre, without_unions}
 use Rattle.sql_builder.proofs.fragments.NeutralLemmas.{NeutralParts, neutral-target, InsideParts}
-use Rattle.sql_builder.proofs.pieces.ShapeLemmas.{Inside}
-use Rattle.sql_builder.proofs.pieces.LayoutPropertyLemmas.{PreservedByLayout, delete-laid, fields-enclosed, insert-laid, kind_bodies, query-laid}
-use Rattle.sql_builder.proofs.pieces.LayoutPropertyLemmas.{statement-laid, update-laid, values-laid, where_bodies}
-use Rattle.sql_builder.proofs.pieces.LayoutShapeLemmas.{inside-layout}
+use Rattle.sql_builder.proofs.pieces.{Inside, PreservedByLayout, delete-laid, fields-enclosed, insert-laid, kind_bodies, query-laid, statement-laid}
+use Rattle.sql_builder.proofs.pieces.{update-laid, values-laid, where_bodies, inside-layout}
 
 -- ---- sections, and the bodies of WHERE
 

@@ -1,24 +1,14 @@
 -- Queries whose fragments are balanced serve as fragments.
-use Rattle.std.proofs.Common.{◌≡◌, refl, sym, ◌∙◌, ap, false, true, not, Bool, List, [], ◌∷◌, ◌++◌, ℕ, codes, append_assoc}
-use Rattle.std.proofs.lemmas.List.Folds.{list_all-append}
-use Rattle.std.proofs.lemmas.Bool.{and_parts, and_from, not_from_false}
-use Rattle.sql_parts.specs.Tokens.{Token, Word, Symbol, tokens, is_empty}
-use Rattle.sql_builder.specs.Calls.{FinishText, Sql, Query, QueryValues, Subquery, SubqueryAs}
-use Rattle.sql_builder.specs.Clauses.{Clauses}
-use Rattle.sql_builder.specs.Layout.{query, select_opening, subquery, subquery_as}
-use Rattle.sql_builder.specs.Shape.{HasShape, pieces_tokens}
-use Rattle.sql_builder.specs.Statement.{layout_at}
-use Rattle.sql_builder.specs.Pieces.{Pieces, fixed_piece, raw_piece}
-use Rattle.sql_builder.proofs.tokens.BalancedFacts.{is_even-append, is_even-brackets, is_operand-brackets, no_clause-brackets}
+use Rattle.sql_builder.proofs.Imports.{◌≡◌, refl, sym, ◌∙◌, ap, false, true, not, Bool, List, [], ◌∷◌, ◌++◌, ℕ, codes, append_assoc, list_all-append, and_parts}
+use Rattle.sql_builder.proofs.Imports.{and_from, not_from_false, Token, Word, Symbol, tokens, is_empty, Clauses, Pieces, is_balanced, is_even, is_operand}
+use Rattle.sql_builder.proofs.Imports.{has_top_level-is, is_balanced-is, is_operand-is, is_clause_word}
+use Rattle.sql_builder.specs.{FinishText, Sql, Query, QueryValues, Subquery, SubqueryAs, query, select_opening, subquery, subquery_as, HasShape, pieces_tokens}
+use Rattle.sql_builder.specs.{layout_at, fixed_piece, raw_piece, own, has_balanced_fragments, is_balanced_piece, Nests}
+use Rattle.sql_builder.proofs.tokens.{is_even-append, is_even-brackets, is_operand-brackets, no_clause-brackets, has_clause}
 use Rattle.sql_builder.proofs.reading.LayoutLemmas.{query-even}
-use Rattle.sql_builder.specs.RawFragments.{own, has_balanced_fragments, is_balanced_piece}
 use Rattle.sql_builder.proofs.reading.ClauseWordLemmas.{own-append, shape-even, fragments_closed}
-use Rattle.sql_builder.proofs.pieces.ShapeLemmas.{pieces_tokens-brackets}
+use Rattle.sql_builder.proofs.pieces.{pieces_tokens-brackets}
 use Rattle.sql_builder.specs.WhereTokens as where_tokens
-use Rattle.sql_builder.proofs.tokens.WhereTokenFacts.{has_clause}
-use Rattle.sql_builder.specs.Meaning.{Nests}
-use Rattle.sql_parts.proofs.fragments.DepthFacts.{is_balanced, is_even, is_operand, has_top_level-is, is_balanced-is, is_operand-is}
-use Rattle.sql_parts.specs.Fragments.{is_clause_word}
 use Rattle.sql_builder.proofs.fragments.NeutralLemmas.{NeutralParts}
 
 -- a query has a first token

@@ -1,26 +1,14 @@
 -- What is printed parses back, and its WHERE is true as the conditions make it.
-use Rattle.std.proofs.Common.{◌≡◌, refl, ◌∙◌, ap, true, List, ℕ, codes, map, sym}
-use Rattle.std.proofs.lemmas.Bool.{false≢true}
-use Rattle.sql_builder.specs.Builder.{ClauseTexts}
-use Rattle.sql_builder.specs.Calls.{FinishText, Sql, Query, QueryValues, Subquery, SubqueryAs}
-use Rattle.sql_builder.specs.Clauses.{Clauses}
-use Rattle.sql_builder.specs.Layout.{byte_units, query, query_values, sql, subquery, subquery_as}
-use Rattle.sql_builder.specs.Shape.{as_fragments}
-use Rattle.sql_builder.specs.Statement.{layout_at, text_at}
-use Rattle.sql_builder.specs.Pieces.{Pieces, fixed_piece, pieces_text, raw_piece}
-use Rattle.sql_builder.specs.declared.clauses.Kind.{Kind}
-use Rattle.sql_builder.specs.declared.clauses.Kind.TheVariants.{SelectFrom, SelectValues, InsertInto, UpdateTable, DeleteFrom}
-use Rattle.sql_builder.proofs.pieces.LayoutShapeLemmas.{query_shape, subquery_as_shape, subquery_shape, fragments-printed}
+use Rattle.sql_builder.proofs.Imports.{◌≡◌, refl, ◌∙◌, ap, true, List, ℕ, codes, map, sym, false≢true, Clauses, Pieces, Kind, SelectFrom, SelectValues}
+use Rattle.sql_builder.proofs.Imports.{InsertInto, UpdateTable, DeleteFrom, tokens}
+use Rattle.sql_builder.specs.{ClauseTexts, FinishText, Sql, Query, QueryValues, Subquery, SubqueryAs, byte_units, query, query_values, sql, subquery}
+use Rattle.sql_builder.specs.{subquery_as, as_fragments, layout_at, text_at, fixed_piece, pieces_text, raw_piece, has_fit_fragments, HasTruthOfGroups}
+use Rattle.sql_builder.specs.{is_unenclosed, prints_where, Nests, ReadsBack, piece_clauses, read, clause_bodies, truth}
+use Rattle.sql_builder.proofs.pieces.{query_shape, subquery_as_shape, subquery_shape, fragments-printed, kind_bodies, where_bodies}
 use Rattle.sql_builder.proofs.fragments.NeutralLemmas.{raw-neutral, NeutralParts, InsideParts, raw-inside-parts}
 use Rattle.sql_builder.proofs.reading.LayoutLemmas.{neutral-layout, bare_query-split, bare_values-split, split-reads, split-wheres, sql-split}
 use Rattle.sql_builder.proofs.truth.ConditionGroupLemmas.{texts-true}
-use Rattle.sql_builder.specs.RawFragments.{has_fit_fragments}
-use Rattle.sql_builder.specs.Meaning.{HasTruthOfGroups, is_unenclosed, prints_where, Nests, ReadsBack}
-use Rattle.sql_builder.specs.Reading.{piece_clauses, read, clause_bodies}
-use Rattle.sql_builder.specs.Truths.{truth}
 use Rattle.sql_builder.proofs.reading.NestingLemmas.{nests}
-use Rattle.sql_parts.specs.Tokens.{tokens}
-use Rattle.sql_builder.proofs.pieces.LayoutPropertyLemmas.{kind_bodies, where_bodies}
 
 -- the pieces that a finish prints
 abbrev pub layout : FinishText → Clauses Pieces → Pieces

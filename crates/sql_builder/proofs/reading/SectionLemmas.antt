@@ -1,31 +1,21 @@
 -- Pieces whose own words are laid as those of a statement are parsed back as their clauses.
-use Rattle.std.proofs.Common.{◌≡◌, refl, sym, ◌∙◌, ap, subst, ℕ, Bool, true, false, not, ◌&&◌, ◌||◌, List, [], ◌∷◌, ◌++◌, map, ℤ, pos, codes, append-nil, inl}
-use Rattle.std.proofs.Common.{inr}
-use Rattle.std.specs.Prelude.{flat_map}
-use Rattle.std.specs.List.{AllByRecursion, list_all, list_any}
-use Rattle.std.proofs.lemmas.Bool.{and_parts, and_from, or_parts, or_from, false≢true, not-true}
-use Rattle.std.proofs.lemmas.Grind.{flat_map-append}
-use Rattle.std.proofs.lemmas.List.Folds.{list_any-append}
-use Rattle.sql_parts.specs.Tokens.{Token, Word, is_open, is_semicolon, tokens, begins_with}
-use Rattle.sql_builder.specs.Filters.{until}
-use Rattle.sql_builder.specs.Layout.{Section, concat_sections, union_opening}
-use Rattle.sql_builder.specs.Shape.{pieces_tokens}
-use Rattle.sql_builder.specs.Pieces.{Piece, Pieces, Fixed, Quoted, Raw, fixed_piece, pieces_text}
-use Rattle.sql_builder.proofs.tokens.BalancedFacts.{even_closes, is_even-append}
+use Rattle.sql_builder.proofs.Imports.{◌≡◌, refl, sym, ◌∙◌, ap, subst, ℕ, Bool, true, false, not, ◌&&◌, ◌||◌, List, [], ◌∷◌, ◌++◌, map, ℤ, pos, codes}
+use Rattle.sql_builder.proofs.Imports.{append-nil, inl, inr, flat_map, AllByRecursion, list_all, list_any, and_parts, and_from, or_parts, or_from, false≢true}
+use Rattle.sql_builder.proofs.Imports.{not-true, flat_map-append, list_any-append, Token, Word, is_open, is_semicolon, tokens, begins_with, Pieces, at_end}
+use Rattle.sql_builder.proofs.Imports.{closes_from, has_top_level, is_even, placed, placed-is, Nested, TopLevel, Placed, is_clause_word, at_top_level, is_whole}
+use Rattle.sql_builder.proofs.Imports.{token_of, map-append}
+use Rattle.sql_builder.specs.{until, Section, concat_sections, union_opening, pieces_tokens, Piece, Fixed, Quoted, fixed_piece, pieces_text, own, begins_union}
+use Rattle.sql_builder.specs.{has_fit_fragments, own_tokens, Parts, before_top_level, parts_at, with_front, Clause, piece_clauses, ends_clauses, is_union}
+use Rattle.sql_builder.specs.{own_placed, read, without_semicolon}
+use Rattle.sql_builder.specs.Pieces.{Raw}
+use Rattle.sql_builder.proofs.tokens.{even_closes, is_even-append, at_end-closes, stays-closes, not_union, semicolon-later, semicolon-none, semicolon-one}
+use Rattle.sql_builder.proofs.tokens.{none-inner, parts-none}
 use Rattle.sql_builder.proofs.truth.ConnectiveLemmas.{placed-then}
-use Rattle.sql_builder.specs.RawFragments.{own, begins_union, has_fit_fragments, own_tokens}
 use Rattle.sql_builder.proofs.reading.ClauseWordLemmas.{fit-balanced, fit-flags, laid-both, laid-plain, laid_from, Flagged, flags, own-append, same-parts}
 use Rattle.sql_builder.proofs.reading.ClauseWordLemmas.{shape-even, are_fit_from, is_fit, are_fit-is, fragments_closed}
-use Rattle.sql_builder.proofs.tokens.DepthFacts.{at_end-closes, stays-closes}
-use Rattle.sql_builder.proofs.tokens.PartFacts.{not_union, semicolon-later, semicolon-none, semicolon-one, none-inner, parts-none}
 use Rattle.sql_builder.proofs.pieces.ShapeLemmas.{Follows, Inside, text-append}
-use Rattle.sql_builder.specs.TokenParts.{Parts, before_top_level, parts_at, with_front}
-use Rattle.sql_builder.specs.Reading.{Clause, piece_clauses, ends_clauses, is_union, own_placed, read, without_semicolon}
-use Rattle.sql_parts.proofs.fragments.DepthFacts.{at_end, closes_from, has_top_level, is_even, placed, placed-is}
-use Rattle.sql_parts.specs.Fragments.{Nested, TopLevel, Placed, is_clause_word, at_top_level, is_whole, token_of}
 use Rattle.sql_parts.specs.Fragments as fragments
-use Rattle.std.proofs.lemmas.List.{map-append}
-use Rattle.sql_builder.proofs.lists.AllFacts.{none-weaker}
+use Rattle.sql_builder.proofs.lists.{none-weaker}
 
 -- the builder's own words before the first UNION
 pub record Front (ts : List Token) : Type 0 where

@@ -1,32 +1,19 @@
 -- A query between brackets serves as a table, with a name behind it too.
-use Rattle.std.proofs.Common.{◌≡◌, sym, ◌∙◌, ap, false, true, not, List, [], ◌∷◌, ◌++◌, ℕ, codes, append-nil, append_assoc}
-use Rattle.std.specs.Prelude.{IsTrue}
-use Rattle.std.proofs.lemmas.Bool.{and_parts, and_from, false≢true, not-true, not_from_false, or_from}
-use Rattle.sql_parts.specs.Fragments.{balanced, has_clause_word, is_clause_word}
-use Rattle.sql_parts.specs.Tokens.{Word, Symbol, tokens}
-use Rattle.sql_parts.proofs.fragments.DepthFacts.{has_top_level-is}
-use Rattle.sql_builder.specs.Builder.{ClauseTexts}
-use Rattle.sql_builder.specs.Calls.{FinishText, Sql, Query, QueryValues, Subquery, SubqueryAs, clauses}
-use Rattle.sql_builder.specs.Clauses.{Clauses}
-use Rattle.sql_builder.specs.RawFragments.{has_balanced_fragments, is_fit}
-use Rattle.sql_builder.specs.RawTexts.{Bare}
-use Rattle.sql_builder.specs.Layout.{byte_units, query, subquery_as}
-use Rattle.sql_builder.specs.Shape.{HasShape, as_fragments, pieces_tokens}
-use Rattle.sql_builder.specs.Statement.{layout_at}
-use Rattle.sql_builder.specs.Subqueries.{NestsAsTable, SubqueriesNestAsTables}
-use Rattle.sql_builder.specs.Pieces.{Pieces, fixed_piece, pieces_text, raw_piece}
+use Rattle.sql_builder.proofs.Imports.{◌≡◌, sym, ◌∙◌, ap, false, true, not, List, [], ◌∷◌, ◌++◌, ℕ, codes, append-nil, append_assoc, IsTrue, and_parts}
+use Rattle.sql_builder.proofs.Imports.{and_from, false≢true, not-true, not_from_false, or_from, balanced, has_clause_word, is_clause_word, Word, Symbol, tokens}
+use Rattle.sql_builder.proofs.Imports.{has_top_level-is, Clauses, Pieces}
+use Rattle.sql_builder.specs.{ClauseTexts, FinishText, Sql, Query, QueryValues, Subquery, SubqueryAs, clauses, has_balanced_fragments, is_fit, Bare, byte_units}
+use Rattle.sql_builder.specs.{query, subquery_as, HasShape, as_fragments, pieces_tokens, layout_at, NestsAsTable, SubqueriesNestAsTables, fixed_piece}
+use Rattle.sql_builder.specs.{pieces_text, raw_piece}
 use Rattle.sql_builder.specs.WhereTokens as where_tokens
-use Rattle.sql_builder.proofs.tokens.BalancedFacts.{has_top_level-append, is_even-brackets, no_clause-brackets}
+use Rattle.sql_builder.proofs.tokens.{has_top_level-append, is_even-brackets, no_clause-brackets, has_clause}
 use Rattle.sql_builder.proofs.fragments.NeutralLemmas.{NeutralParts, clauses-neutral, raw-neutral}
-use Rattle.sql_builder.proofs.pieces.ClauseShapeLemmas.{printed-shaped}
-use Rattle.sql_builder.proofs.pieces.LayoutShapeLemmas.{subquery_as_shape}
+use Rattle.sql_builder.proofs.pieces.{printed-shaped, subquery_as_shape, pieces_tokens-append}
 use Rattle.sql_builder.proofs.reading.NestingLemmas.{inner-balanced, nests}
 use Rattle.sql_builder.proofs.reading.LayoutLemmas.{query-even}
 use Rattle.sql_builder.proofs.reading.ClauseWordLemmas.{fragments_closed, shape-even}
 use Rattle.sql_builder.proofs.reading.ReadBackLemmas.{layout}
-use Rattle.sql_builder.proofs.pieces.ShapeLemmas.{pieces_tokens-append}
-use Rattle.sql_builder.proofs.statements.StatementLawLemmas.{of_pieces}
-use Rattle.sql_builder.proofs.tokens.WhereTokenFacts.{has_clause}
+use Rattle.sql_builder.proofs.statements.{of_pieces}
 
 module _ (r : Clauses Pieces) (parts : NeutralParts r) where
   -- the query in brackets, AS and the name

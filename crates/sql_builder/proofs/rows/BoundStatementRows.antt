@@ -1,19 +1,9 @@
 -- Worked rows of values that are bound to a statement, or beside it: what the definitions give, by computing.
-use Rattle.std.specs.Prelude.{◌≡◌, List, [], ◌∷◌, ◌++◌, Ok, Some, codes, map, pos, refl, true}
-use Rattle.sql_parts.specs.Literal.{LiteralValue, whole, words}
-use Rattle.sql_parts.specs.NumberedTexts.{with_values}
-use Rattle.sql_parts.specs.Templates.{Nums, Value, bound, listed}
+use Rattle.sql_builder.proofs.Imports.{◌≡◌, List, [], ◌∷◌, ◌++◌, Ok, Some, codes, map, pos, refl, true, LiteralValue, whole, words, with_values, Nums, Value}
+use Rattle.sql_builder.proofs.Imports.{bound, listed, And, Eq}
 use Rattle.sql_parts.specs.declared.parameter.Style.TheVariants.{Question, Dollar}
-use Rattle.sql_builder.specs.BesideStatements.{placeholders}
-use Rattle.sql_builder.specs.BoundStatements.{call_with_values, pieces_with_values, start_with_values}
-use Rattle.sql_builder.specs.Calls.{CallText, Cond, GroupBy, Having, SelectFrom, Sql}
-use Rattle.sql_builder.specs.Combined.{combined_text, exists_text, like_text, negation_text}
-use Rattle.sql_builder.specs.Condition.{Compare}
-use Rattle.sql_builder.specs.Pieces.{fixed_piece, quoted_piece, raw_piece}
-use Rattle.sql_builder.specs.Statement.{statement, text_at}
-use Rattle.sql_builder.specs.StatementLaws.{made_by}
-use Rattle.sql_builder.specs.declared.condition.Family.TheVariants.{And}
-use Rattle.sql_builder.specs.declared.condition.Relation.TheVariants.{Eq}
+use Rattle.sql_builder.specs.{placeholders, call_with_values, pieces_with_values, start_with_values, CallText, Cond, GroupBy, Having, SelectFrom, Sql}
+use Rattle.sql_builder.specs.{combined_text, exists_text, like_text, negation_text, Compare, fixed_piece, quoted_piece, raw_piece, statement, text_at, made_by}
 
 placeholders-two : placeholders Dollar (codes "ab") ≡ (record { style = Dollar; number = 1 }) ∷ (record { style = Dollar; number = 2 }) ∷ []
 placeholders-two = refl

@@ -1,11 +1,7 @@
 -- Worked rows of conditions and groups: what the definitions give, by computing.
-use Rattle.std.specs.Prelude.{◌≡◌, [], ◌∷◌, Ok, codes, refl, true, false}
-use Rattle.sql_builder.specs.Calls.{SelectFrom, Cond, Sql}
-use Rattle.sql_builder.specs.Condition.{Raw, Like, InList, InQuoted, condition_pieces, condition_bytes}
-use Rattle.sql_builder.specs.Statement.{statement}
+use Rattle.sql_builder.proofs.Imports.{◌≡◌, [], ◌∷◌, Ok, codes, refl, true, false, Raw, And, Or, Any}
+use Rattle.sql_builder.specs.{SelectFrom, Cond, Sql, Like, InList, InQuoted, condition_pieces, condition_bytes, statement}
 use Rattle.sql_builder.specs.Pieces as piece
-use Rattle.sql_builder.specs.declared.condition.Family.TheVariants.{And, Or}
-use Rattle.sql_builder.specs.declared.condition.Percent.TheVariants.{Any}
 
 in_no_list : condition_bytes (InList false (codes "a") []) ≡ codes "a IN ()"
 in_no_list = refl

@@ -1,15 +1,8 @@
 -- Worked rows of an INSERT of a query as it parses back: what the definitions give, by computing.
-use Rattle.std.specs.Prelude.{◌≡◌, ℕ, List, [], ◌∷◌, Ok, Some, codes, false, refl, true}
-use Rattle.sql_parts.specs.Fragments.{balanced}
-use Rattle.sql_parts.specs.Tokens.{Word, tokens}
+use Rattle.sql_builder.proofs.Imports.{◌≡◌, ℕ, List, [], ◌∷◌, Ok, Some, codes, false, refl, true, balanced, Word, tokens}
 use Rattle.sql_builder.specs.Calls as call
-use Rattle.sql_builder.specs.Calls.{CallText, clauses, query_of}
-use Rattle.sql_builder.specs.Inserts.{has_fit_insert_texts, has_fit_target, insert_clauses, is_one_query, lead_of}
-use Rattle.sql_builder.specs.RawFragments.{has_fit_fragments}
-use Rattle.sql_builder.specs.Layout.{query}
-use Rattle.sql_builder.specs.Reading.{read}
-use Rattle.sql_builder.specs.Statement.{statement}
-use Rattle.sql_builder.specs.Pieces.{fixed_piece, raw_piece}
+use Rattle.sql_builder.specs.{CallText, clauses, query_of, has_fit_insert_texts, has_fit_target, insert_clauses, is_one_query, lead_of, has_fit_fragments}
+use Rattle.sql_builder.specs.{query, read, statement, fixed_piece, raw_piece}
 
 -- INSERT of this query, with the id returned
 abbrev of : List ℕ → List CallText

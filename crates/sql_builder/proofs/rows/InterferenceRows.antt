@@ -1,16 +1,8 @@
 -- Worked rows of texts that are quoted in place of others, and of what has to hold for them not to interfere.
-use Prim.Native.Char.{code}
-use Rattle.std.specs.Prelude.{◌≡◌, ℕ, Bool, List, [], ◌∷◌, Ok, codes, false, refl, true}
-use Rattle.sql_parts.specs.StringTexts.{length_in_tokens, outline, semicolon_count, tokens_but}
-use Rattle.sql_parts.specs.Tokens.{Word, Str, Symbol}
-use Rattle.sql_builder.specs.Calls.{CallText, Cond, SelectFrom, SetStr, Sql, UpdateTable, clauses}
-use Rattle.sql_builder.specs.Condition.{InQuoted, Like, Raw}
-use Rattle.sql_builder.specs.Interference.{DifferInQuotedTexts, answer_of, quoted_places}
-use Rattle.sql_builder.specs.Layout.{sql}
-use Rattle.sql_builder.specs.RawFragments.{has_closed_fragments}
-use Rattle.sql_builder.specs.Pieces.{fixed_piece}
-use Rattle.sql_builder.specs.declared.condition.Family.TheVariants.{And}
-use Rattle.sql_builder.specs.declared.condition.Percent.TheVariants.{Any, Plain}
+use Rattle.sql_builder.proofs.Imports.{code, ◌≡◌, ℕ, Bool, List, [], ◌∷◌, Ok, codes, false, refl, true, length_in_tokens, outline, semicolon_count, tokens_but}
+use Rattle.sql_builder.proofs.Imports.{Word, Str, Symbol, Raw, And, Any, Plain}
+use Rattle.sql_builder.specs.{CallText, Cond, SelectFrom, SetStr, Sql, UpdateTable, clauses, InQuoted, Like, DifferInQuotedTexts, answer_of, quoted_places, sql}
+use Rattle.sql_builder.specs.{has_closed_fragments, fixed_piece}
 
 -- a text that is set, a mask, and two values, beside a string that the caller wrote
 abbrev quoting : List ℕ → List CallText

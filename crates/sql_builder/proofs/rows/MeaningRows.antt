@@ -1,20 +1,8 @@
 -- Worked rows of clauses that parse back and of the truth of WHERE: what the definitions give, by computing.
-use Rattle.std.specs.Prelude.{◌≡◌, [], ◌∷◌, codes, false, refl, true, ℕ, List, map, Ok}
-use Rattle.sql_parts.specs.Tokens.{Word, tokens}
-use Rattle.sql_builder.specs.Calls.{clauses, CallText, Query, SelectFrom, Sql, Subquery, SubqueryAs, Union}
-use Rattle.sql_builder.specs.Condition.{InQuery, Raw}
-use Rattle.sql_builder.specs.Layout.{sql}
-use Rattle.sql_builder.specs.Shape.{pieces_tokens}
-use Rattle.sql_builder.specs.Pieces.{Pieces, fixed_piece}
-use Rattle.sql_builder.specs.declared.condition.Family.TheVariants.{And, Or}
-use Rattle.sql_builder.specs.RawFragments.{has_fit_conditions, has_fit_fragments, has_fit_texts, is_fit}
-use Rattle.sql_builder.specs.Reading.{piece_clauses, read, clause_bodies}
-use Rattle.sql_builder.specs.Truths.{False, True, Unknown, truth, Truth, Valuation}
-use Rattle.sql_builder.specs.BuilderLaws.{IsValued, brackets_and_not, range_and_case, a_without_c}
-use Rattle.sql_parts.specs.Fragments.{balanced}
-use Rattle.sql_builder.specs.RawTexts.{Bare}
-use Rattle.sql_builder.specs.Statement.{statement}
-use Rattle.sql_builder.specs.Subqueries.{makes_table}
+use Rattle.sql_builder.proofs.Imports.{◌≡◌, [], ◌∷◌, codes, false, refl, true, ℕ, List, map, Ok, Word, tokens, Raw, Pieces, And, Or, balanced}
+use Rattle.sql_builder.specs.{clauses, CallText, Query, SelectFrom, Sql, Subquery, SubqueryAs, Union, InQuery, sql, pieces_tokens, fixed_piece}
+use Rattle.sql_builder.specs.{has_fit_conditions, has_fit_fragments, has_fit_texts, is_fit, piece_clauses, read, clause_bodies, False, True, Unknown, truth}
+use Rattle.sql_builder.specs.{Truth, Valuation, IsValued, brackets_and_not, range_and_case, a_without_c, Bare, statement, makes_table}
 use Rattle.sql_builder.specs.Calls as call
 
 -- DELETE FROM t WHERE a OR b;

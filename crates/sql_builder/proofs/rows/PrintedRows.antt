@@ -1,18 +1,8 @@
 -- Worked rows, what the definitions give by computing; tests run the others (`tests/rows`, and tables of `docs/reference`).
-use Rattle.std.specs.Prelude.{◌≡◌, [], ◌∷◌, ◌++◌, Ok, Err, codes, refl, true, false}
-use Rattle.sql_parts.specs.declared.error.SqlBuilderError.TheVariants.{NoTableName, NoGroupBy}
-use Rattle.sql_builder.specs.Calls.{SelectFrom, UpdateTable, Left, LeftOuter, Right, RightOuter, Inner, Cross, AndTable, Join, Fields, Field}
-use Rattle.sql_builder.specs.Calls.{SetTo, SetStr, Returning, ReturningId, Having, Sql, Query, clauses}
-use Rattle.sql_builder.specs.Condition.{Raw, Like}
-use Rattle.sql_builder.specs.Statement.{pieces, statement}
-use Rattle.sql_builder.specs.declared.condition.Family.TheVariants.{And}
-use Prim.Native.Char.{code}
-use Rattle.sql_parts.specs.Tokens.{Word, Str, Symbol}
-use Rattle.sql_builder.specs.Layout.{sql}
-use Rattle.sql_builder.specs.Shape.{cond_tokens, shape}
-use Rattle.sql_builder.specs.RawFragments.{has_closed_fragments}
-use Rattle.sql_builder.specs.Pieces.{fixed_piece}
-use Rattle.sql_builder.specs.declared.condition.Percent.TheVariants.{Any}
+use Rattle.sql_builder.proofs.Imports.{◌≡◌, [], ◌∷◌, ◌++◌, Ok, Err, codes, refl, true, false, NoTableName, NoGroupBy, Raw, And, code, Word, Str, Symbol, Any}
+use Rattle.sql_builder.specs.{SelectFrom, UpdateTable, Left, LeftOuter, Right, RightOuter, Inner, Cross, AndTable, Join, Fields, Field, SetTo, SetStr}
+use Rattle.sql_builder.specs.{Returning, ReturningId, Having, Sql, Query, clauses, Like, pieces, statement, sql, cond_tokens, shape, has_closed_fragments}
+use Rattle.sql_builder.specs.{fixed_piece}
 use Rattle.sql_builder.specs.Pieces as piece
 use Rattle.sql_builder.specs.Calls as call
 

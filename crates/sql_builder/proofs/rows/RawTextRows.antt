@@ -1,18 +1,8 @@
 -- Rows of tests of raw texts, and rows that show that their laws need what they ask for.
-use Rattle.std.specs.Prelude.{◌≡◌, [], ◌∷◌, List, None, Ok, Some, codes, false, refl, true}
-use Rattle.std.specs.Result.{result_map_both}
-use Rattle.sql_parts.specs.Tokens.{closed}
-use Rattle.sql_parts.specs.declared.error.SqlBuilderError.TheVariants.{NoGroupBy, NoTableName}
+use Rattle.sql_builder.proofs.Imports.{◌≡◌, [], ◌∷◌, List, None, Ok, Some, codes, false, refl, true, result_map_both, closed, NoGroupBy, NoTableName, Raw, And}
+use Rattle.sql_builder.proofs.Imports.{Any, Eq}
 use Rattle.sql_builder.specs.Calls as call
-use Rattle.sql_builder.specs.Calls.{CallText}
-use Rattle.sql_builder.specs.Condition.{Compare, Like, Raw}
-use Rattle.sql_builder.specs.TextTests.{call_passes, is_plain, texts_pass}
-use Rattle.sql_builder.specs.RawFragments.{has_closed_fragments, has_no_semicolons}
-use Rattle.sql_builder.specs.Statement.{pieces, error_at}
-use Rattle.sql_builder.specs.StatementLaws.{made_by}
-use Rattle.sql_builder.specs.declared.condition.Family.TheVariants.{And}
-use Rattle.sql_builder.specs.declared.condition.Percent.TheVariants.{Any}
-use Rattle.sql_builder.specs.declared.condition.Relation.TheVariants.{Eq}
+use Rattle.sql_builder.specs.{CallText, Compare, Like, call_passes, is_plain, texts_pass, has_closed_fragments, has_no_semicolons, pieces, error_at, made_by}
 
 -- a mask is quoted, and so no text that is tested
 mask : call_passes closed (call.Cond And (Like false Any (codes "title") (codes "it's; --"))) ≡ true

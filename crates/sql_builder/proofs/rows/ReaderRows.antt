@@ -1,20 +1,10 @@
 -- Worked rows of what readers make of statements, and of a fragment that leaves a comment open.
-use Rattle.std.specs.Prelude.{◌≡◌, ◌++◌, ℕ, Bool, List, [], ◌∷◌, codes, false, refl, true}
-use Rattle.std.specs.List.{list_all}
-use Rattle.std.proofs.lemmas.Bool.{and_from, eqb-false}
+use Rattle.sql_builder.proofs.Imports.{◌≡◌, ◌++◌, ℕ, Bool, List, [], ◌∷◌, codes, false, refl, true, list_all, and_from, eqb-false, token_reader, Single}
+use Rattle.sql_builder.proofs.Imports.{opens-every, Clauses, Raw, parts_at, DeleteFrom, And, Plain}
 use Rattle.sql_parts.specs.Readers.{Part, Reader, IsInsideAtEach, between_parts, marks, outer_states}
-use Rattle.sql_parts.specs.TokenReader.{token_reader}
-use Rattle.sql_parts.specs.declared.delimiters.Quotes.TheVariants.{Single}
-use Rattle.sql_parts.proofs.tokens.TokenReaderLemmas.{opens-every}
-use Rattle.sql_builder.specs.Calls.{CallText, Cond, SelectFrom, SetStr, Sql, UpdateTable}
-use Rattle.sql_builder.specs.Clauses.{Clauses, new_clauses}
-use Rattle.sql_builder.specs.Condition.{Like, Raw}
-use Rattle.sql_builder.specs.Interference.{DifferInQuotedTexts, answer_of}
-use Rattle.sql_builder.specs.StatementReaders.{OpensStrings, constant_part, parts_at, quoted_bytes, text_of_parts}
-use Rattle.sql_builder.specs.declared.clauses.Kind.TheVariants.{DeleteFrom}
-use Rattle.sql_builder.specs.declared.condition.Family.TheVariants.{And}
-use Rattle.sql_builder.specs.declared.condition.Percent.TheVariants.{Plain}
-use Rattle.sql_builder.proofs.interference.StatementReaderLemmas.{fragments-alike}
+use Rattle.sql_builder.specs.{CallText, Cond, SelectFrom, SetStr, Sql, UpdateTable, new_clauses, Like, DifferInQuotedTexts, answer_of, OpensStrings}
+use Rattle.sql_builder.specs.{constant_part, quoted_bytes, text_of_parts}
+use Rattle.sql_builder.proofs.interference.{fragments-alike}
 
 abbrev every : ℕ → Bool
 every byte = true

@@ -1,19 +1,8 @@
 -- Rows of statements, and rows that show that the laws of statements need what they ask for.
-use Rattle.std.specs.Prelude.{◌≡◌, ◌++◌, [], ◌∷◌, List, Ok, codes, false, length, map, refl}
-use Rattle.std.specs.Result.{result_map_both}
-use Rattle.sql_parts.specs.Tokens.{closed, tokens}
+use Rattle.sql_builder.proofs.Imports.{◌≡◌, ◌++◌, [], ◌∷◌, List, Ok, codes, false, length, map, refl, result_map_both, closed, tokens, Raw, And}
 use Rattle.sql_builder.specs.Calls as call
-use Rattle.sql_builder.specs.Calls.{CallText}
-use Rattle.sql_builder.specs.Condition.{Raw}
-use Rattle.sql_builder.specs.BuilderLaws.{fact}
-use Rattle.sql_builder.specs.Meaning.{condition_groups, is_nested, where_truths}
-use Rattle.sql_builder.specs.Reading.{read, clause_bodies}
-use Rattle.sql_builder.specs.Shape.{shape}
-use Rattle.sql_builder.specs.Statement.{statement, text_at}
-use Rattle.sql_builder.specs.StatementLaws.{made_by}
-use Rattle.sql_builder.specs.Builder.{with_call}
-use Rattle.sql_builder.specs.Truths.{False, True, Valuation, truth}
-use Rattle.sql_builder.specs.declared.condition.Family.TheVariants.{And}
+use Rattle.sql_builder.specs.{CallText, fact, condition_groups, is_nested, where_truths, read, clause_bodies, shape, statement, text_at, made_by, with_call}
+use Rattle.sql_builder.specs.{False, True, Valuation, truth}
 
 -- a SELECT with these conditions
 abbrev asked : List CallText

@@ -1,10 +1,9 @@
 -- The placeholders of values are decided by how many these are.
-use Rattle.std.proofs.Common.{◌≡◌, ℕ, suc, ◌+◌, List, [], ◌∷◌, ◌++◌, length, refl, ap, ◌∙◌, arith}
+use Rattle.sql_builder.proofs.Imports.{◌≡◌, ℕ, suc, ◌+◌, List, [], ◌∷◌, ◌++◌, length, refl, ap, ◌∙◌, arith}
 use Rattle.sql_parts.specs.Parameters.{placeholders_behind}
 use Rattle.sql_parts.specs.declared.parameter.Style.{Style}
 use Rattle.sql_parts.proofs.parameters.PlaceholderLemmas.{next-number}
-use Rattle.sql_builder.specs.BesideStatements.{BindGivesTheNext, ValuesAreBesideStatements}
-use Rattle.sql_builder.specs.Statement.{statement}
+use Rattle.sql_builder.specs.{BindGivesTheNext, ValuesAreBesideStatements, statement}
 
 module _ {V : Type 0} {W : Type 0} where
   same-number : (style : Style) (before : ℕ) (one : List V) (other : List W) → length one ≡ length other

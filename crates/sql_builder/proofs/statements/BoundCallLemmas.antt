@@ -1,35 +1,14 @@
 -- What is bound to the statement of a start and calls, or to conditions that are combined, is bound to each of their fragments.
-use Rattle.std.proofs.Common.{◌≡◌, ℕ, Bool, true, false, not, List, [], ◌∷◌, ◌++◌, Option, Some, None, Ok, Err, Result, map, codes, refl, sym, ap, ◌∙◌, inl, inr}
-use Rattle.std.proofs.Common.{append_assoc, append-nil}
-use Rattle.std.specs.Prelude.{◌==◌, IfOk, flat_map}
-use Rattle.std.specs.List.{list_all}
-use Rattle.std.proofs.lemmas.Bool.{and_from, and_parts, cases_Bool}
-use Rattle.std.proofs.lemmas.List.{map-append}
-use Rattle.sql_parts.specs.Literal.{LiteralValue}
-use Rattle.sql_parts.specs.NumberedTexts.{with_values}
-use Rattle.sql_parts.specs.Quoting.{doubled, quoted}
-use Rattle.sql_parts.specs.Templates.{Nums, Value, bound}
-use Rattle.sql_parts.specs.Text.{join_with}
-use Rattle.sql_parts.specs.Tokens.{begins_with, is_edge}
-use Rattle.sql_parts.specs.declared.error.SqlBuilderError.{SqlBuilderError}
-use Rattle.sql_parts.proofs.templates.BoundSeamLemmas.{texts-apart, unmarked-front}
-use Rattle.sql_builder.specs.BoundStatements.{ConditionsBindByFragments, StatementsBindByCalls, call_with_values, condition_with_values, finish_with_values, start_with_values}
-use Rattle.sql_builder.specs.Builder.{ClauseTexts, extend_last, join_last, started, with_call}
+use Rattle.sql_builder.proofs.Imports.{◌≡◌, ℕ, Bool, true, false, not, List, [], ◌∷◌, ◌++◌, Option, Some, None, Ok, Err, Result, map, codes, refl, sym, ap, ◌∙◌}
+use Rattle.sql_builder.proofs.Imports.{inl, inr, append_assoc, append-nil, ◌==◌, IfOk, flat_map, list_all, and_from, and_parts, cases_Bool, map-append}
+use Rattle.sql_builder.proofs.Imports.{LiteralValue, with_values, doubled, quoted, Nums, Value, bound, join_with, begins_with, is_edge, SqlBuilderError}
+use Rattle.sql_builder.proofs.Imports.{texts-apart, unmarked-front, Raw, Family, And, Or, Relation, Eq, Ne, Gt, Ge, Lt, Le}
+use Rattle.sql_builder.specs.{ConditionsBindByFragments, StatementsBindByCalls, call_with_values, condition_with_values, finish_with_values, start_with_values}
+use Rattle.sql_builder.specs.{ClauseTexts, extend_last, join_last, started, with_call, CallText, StartText, map_clauses, combined_text, exists_text}
+use Rattle.sql_builder.specs.{joined_text, like_text, negation_text, ConditionText, Compare, Like, IsNull, IsNotNull, InList, InQuoted, InQuery, Between}
+use Rattle.sql_builder.specs.{condition_bytes, mask_text, not_text, relation_text, call_quoted_texts, condition_quoted_texts, byte_units, comma_list, count}
+use Rattle.sql_builder.specs.{count_as, equation, in_brackets, join_words, order, row, error_at, statement, text_at, unless_error, made_by}
 use Rattle.sql_builder.specs.Calls as call
-use Rattle.sql_builder.specs.Calls.{CallText, StartText}
-use Rattle.sql_builder.specs.Clauses.{map_clauses}
-use Rattle.sql_builder.specs.Combined.{combined_text, exists_text, joined_text, like_text, negation_text}
-use Rattle.sql_builder.specs.Condition.{ConditionText, Raw, Compare, Like, IsNull, IsNotNull, InList, InQuoted, InQuery, Between}
-use Rattle.sql_builder.specs.Condition.{condition_bytes, mask_text, not_text, relation_text}
-use Rattle.sql_builder.specs.Interference.{call_quoted_texts, condition_quoted_texts}
-use Rattle.sql_builder.specs.Layout.{byte_units}
-use Rattle.sql_builder.specs.Phrases.{comma_list, count, count_as, equation, in_brackets, join_words, order, row}
-use Rattle.sql_builder.specs.Statement.{error_at, statement, text_at, unless_error}
-use Rattle.sql_builder.specs.StatementLaws.{made_by}
-use Rattle.sql_builder.specs.declared.condition.Family.{Family}
-use Rattle.sql_builder.specs.declared.condition.Family.TheVariants.{And, Or}
-use Rattle.sql_builder.specs.declared.condition.Relation.{Relation}
-use Rattle.sql_builder.specs.declared.condition.Relation.TheVariants.{Eq, Ne, Gt, Ge, Lt, Le}
 use Rattle.sql_builder.proofs.fragments.PreservationLemmas.{join-words}
 use Rattle.sql_builder.proofs.fragments.PropertyLemmas.{lacks_dollar, own-unmarked}
 use Rattle.sql_builder.proofs.statements.BoundStatementLemmas.{clause-bound, edge-untaken}

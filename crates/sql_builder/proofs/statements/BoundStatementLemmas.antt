@@ -1,35 +1,18 @@
 -- What is bound to a statement is bound to each of its pieces: the builder's own words have no `$`, and begin with none and no digit.
-use Rattle.std.proofs.Common.{◌≡◌, ℕ, Bool, true, false, not, List, [], ◌∷◌, ◌++◌, Option, Some, None, codes, refl, sym, ap, ◌∙◌, inl, inr}
-use Rattle.std.proofs.Common.{append_assoc, append-nil}
-use Rattle.std.specs.Prelude.{◌==◌, IfOk}
-use Rattle.std.specs.List.{list_all, list_any}
-use Rattle.std.proofs.lemmas.Bool.{and_parts, cases_Bool, eqb-true, false≢true, not-true}
-use Rattle.std.proofs.lemmas.Grind.{flat_map-append}
-use Rattle.sql_parts.specs.Literal.{LiteralValue}
-use Rattle.sql_parts.specs.NumberedTexts.{is_taken, with_values}
-use Rattle.sql_parts.specs.Quoting.{quoted}
-use Rattle.sql_parts.specs.Templates.{Nums, Value, bound}
-use Rattle.sql_parts.specs.Tokens.{begins_with, is_edge}
-use Rattle.sql_parts.specs.declared.error.SqlBuilderError.{SqlBuilderError}
-use Rattle.sql_parts.proofs.templates.BoundSeamLemmas.{texts-apart, unmarked-front}
-use Rattle.sql_builder.specs.BoundStatements.{StatementsBindByClauses, StatementsBindByPieces}
-use Rattle.sql_builder.specs.BoundStatements.{finish_with_values, piece_with_values, pieces_with_values}
-use Rattle.sql_builder.specs.Calls.{CallText, FinishText, StartText, Sql, Query, QueryValues, Subquery, SubqueryAs, clauses}
-use Rattle.sql_builder.specs.Clauses.{Clauses, map_clauses}
-use Rattle.sql_builder.specs.Condition.{ConditionText, condition_bytes, condition_pieces, not_text}
-use Rattle.sql_builder.specs.Layout.{byte_units, concat_sections, query, statement_sections, union_opening}
-use Rattle.sql_builder.specs.Phrases.{in_brackets}
-use Rattle.sql_builder.specs.Pieces.{Pieces, fixed_piece, piece_text, pieces_text, quoted_piece, raw_piece}
-use Rattle.sql_builder.specs.Shape.{as_fragments}
-use Rattle.sql_builder.specs.Statement.{error_at, layout_at, text_at, unless_error}
-use Rattle.sql_builder.proofs.conditions.ConditionLemmas.{condition_printed}
+use Rattle.sql_builder.proofs.Imports.{◌≡◌, ℕ, Bool, true, false, not, List, [], ◌∷◌, ◌++◌, Option, Some, None, codes, refl, sym, ap, ◌∙◌, inl, inr}
+use Rattle.sql_builder.proofs.Imports.{append_assoc, append-nil, ◌==◌, IfOk, list_all, list_any, and_parts, cases_Bool, eqb-true, false≢true, not-true}
+use Rattle.sql_builder.proofs.Imports.{flat_map-append, LiteralValue, is_taken, with_values, quoted, Nums, Value, bound, begins_with, is_edge, SqlBuilderError}
+use Rattle.sql_builder.proofs.Imports.{texts-apart, unmarked-front, Clauses, Pieces}
+use Rattle.sql_builder.specs.{StatementsBindByClauses, StatementsBindByPieces, finish_with_values, piece_with_values, pieces_with_values, CallText, FinishText}
+use Rattle.sql_builder.specs.{StartText, Sql, Query, QueryValues, Subquery, SubqueryAs, clauses, map_clauses, ConditionText, condition_bytes, condition_pieces}
+use Rattle.sql_builder.specs.{not_text, byte_units, concat_sections, query, statement_sections, union_opening, in_brackets, fixed_piece, piece_text}
+use Rattle.sql_builder.specs.{pieces_text, quoted_piece, raw_piece, as_fragments, error_at, layout_at, text_at, unless_error}
+use Rattle.sql_builder.proofs.conditions.{condition_printed}
 use Rattle.sql_builder.proofs.fragments.ClauseFacts.{PartsAre, raw-parts}
 use Rattle.sql_builder.proofs.fragments.NeutralLemmas.{any, by_any, clauses-any, condition-any}
 use Rattle.sql_builder.proofs.fragments.PropertyLemmas.{PreservedByCalls, PreservedByWords, are_own, lacks_dollar, own-unmarked, whatever}
 use Rattle.sql_builder.proofs.interference.OutlineLemmas.{maps-clauses}
-use Rattle.sql_builder.proofs.pieces.LayoutMapLemmas.{layout_in_form}
-use Rattle.sql_builder.proofs.pieces.LayoutPropertyLemmas.{PreservedByLayout, query-laid, statement-laid, values-laid}
-use Rattle.sql_builder.proofs.pieces.LayoutShapeLemmas.{fragments-printed}
+use Rattle.sql_builder.proofs.pieces.{layout_in_form, PreservedByLayout, query-laid, statement-laid, values-laid, fragments-printed}
 
 -- no edge is a digit or a `$`
 one-untaken : (bytes : List ℕ) → list_all (λ byte. not (is_taken byte)) bytes ≡ true → (byte : ℕ) → list_any (λ other. byte == other) bytes ≡ true

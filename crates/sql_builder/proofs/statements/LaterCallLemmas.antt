@@ -1,15 +1,10 @@
 -- Calls that come to the same, whatever is called after them.
-use Rattle.std.proofs.Common.{◌≡◌, List, [], ◌∷◌, ◌++◌, Option, None, true, map, refl, ap, sym, ◌∙◌, append_assoc}
-use Rattle.std.proofs.lemmas.Bool.{false≢true}
-use Rattle.std.proofs.lemmas.List.{map-append, append-nil}
-use Rattle.std.specs.Prelude.{is_some}
-use Rattle.sql_builder.specs.Calls.{StartText, CallText, Fields, Having, Limit, Offset, Returning, ReturningId, clauses, having_in, limit_in, offset_in}
-use Rattle.sql_builder.specs.Calls.{returning_in}
-use Rattle.sql_builder.specs.Clauses.{Clauses}
-use Rattle.sql_builder.specs.BuilderLaws.{FieldsJoin, OnlyLastCounts}
-use Rattle.sql_builder.specs.Pieces.{Pieces, raw_piece}
+use Rattle.sql_builder.proofs.Imports.{◌≡◌, List, [], ◌∷◌, ◌++◌, Option, None, true, map, refl, ap, sym, ◌∙◌, append_assoc, false≢true, map-append, append-nil}
+use Rattle.sql_builder.proofs.Imports.{is_some, Clauses, Pieces}
+use Rattle.sql_builder.specs.{StartText, CallText, Fields, Having, Limit, Offset, Returning, ReturningId, clauses, having_in, limit_in, offset_in, returning_in}
+use Rattle.sql_builder.specs.{FieldsJoin, OnlyLastCounts, raw_piece}
 use Rattle.sql_builder.proofs.statements.NextCallLemmas.{clauses_after, one_more_clauses}
-use Rattle.sql_builder.proofs.lists.PushLemmas.{add, add_is}
+use Rattle.sql_builder.proofs.lists.{add, add_is}
 
 -- `apart` forgets some clauses, and what a call makes of the others doesn't rest on these
 abbrev Apart : (Clauses Pieces → Clauses Pieces) → Type 0

@@ -1,28 +1,14 @@
 -- One more call, and the clauses of a list of calls.
-use Rattle.std.proofs.Common.{◌≡◌, List, [], ◌∷◌, ◌++◌, Option, None, Some, ◌||◌, ◌&&◌, not, if◌then◌else◌, codes, map, filter_map, flat_map, refl, ap, sym}
-use Rattle.std.proofs.Common.{◌∙◌, append_assoc, ℕ, Bool, false}
-use Rattle.std.proofs.lemmas.List.{append-nil}
-use Rattle.std.proofs.lemmas.Simd.{map-map}
-use Rattle.std.proofs.lemmas.List.Elements.{filter_map-append}
-use Rattle.std.specs.List.{cons_option}
-use Rattle.std.specs.Option.{option_or}
-use Rattle.sql_builder.specs.Builder.{join_last, extend_last}
-use Rattle.sql_builder.specs.Calls.{StartText, CallText, clauses, condition_in, conditions_of, fields_in, group_fields_in, group_pieces, groups, having_in}
-use Rattle.sql_builder.specs.Calls.{is_distinct, is_join, is_natural, is_select, is_values, limit_in, offset_in, opens_group, operator_in, order_fields_in}
-use Rattle.sql_builder.specs.Calls.{query_in, returning_in, rows_in, drops_fields, sets_in, start_fields, table_in, table_of, start_table, unions_in, Join, On}
-use Rattle.sql_builder.specs.Calls.{OnEq, constraint_in, join_after, join_in, joins_of, natural_of, operator_of}
-use Rattle.sql_builder.specs.Clauses.{Clauses}
-use Rattle.sql_builder.specs.Condition.{ConditionText, condition_pieces}
-use Rattle.sql_builder.specs.Filters.{Group, cut, in_place, until}
-use Rattle.sql_builder.specs.Pieces.{Pieces, fixed_piece, raw_piece}
-use Rattle.sql_builder.specs.declared.condition.Family.{Family}
-use Rattle.sql_builder.specs.declared.condition.Family.TheVariants.{And, Or}
-use Rattle.sql_builder.proofs.lists.PushLemmas.{add, add_is, any-push, any_unfollowed-push, flat-push, flat_since-push, last-push, last_since-push}
-use Rattle.sql_builder.proofs.lists.PushLemmas.{extend_last-nil}
-use Rattle.sql_builder.proofs.lists.GroupLemmas.{group_of, groups-push, one_more}
-use Rattle.sql_parts.specs.Text.{join_with}
-use Rattle.sql_builder.specs.Phrases.{join}
-use Rattle.sql_builder.specs.declared.clauses.JoinOperator.{JoinOperator}
+use Rattle.sql_builder.proofs.Imports.{◌≡◌, List, [], ◌∷◌, ◌++◌, Option, None, Some, ◌||◌, ◌&&◌, not, if◌then◌else◌, codes, map, filter_map, flat_map, refl, ap}
+use Rattle.sql_builder.proofs.Imports.{sym, ◌∙◌, append_assoc, ℕ, Bool, false, append-nil, map-map, filter_map-append, cons_option, option_or, Clauses, Pieces}
+use Rattle.sql_builder.proofs.Imports.{Family, And, Or, join_with, JoinOperator}
+use Rattle.sql_builder.specs.{join_last, extend_last, StartText, CallText, clauses, condition_in, conditions_of, fields_in, group_fields_in, group_pieces}
+use Rattle.sql_builder.specs.{groups, having_in, is_distinct, is_join, is_natural, is_select, is_values, limit_in, offset_in, opens_group, operator_in}
+use Rattle.sql_builder.specs.{order_fields_in, query_in, returning_in, rows_in, drops_fields, sets_in, start_fields, table_in, table_of, start_table, unions_in}
+use Rattle.sql_builder.specs.{Join, On, OnEq, constraint_in, join_after, join_in, joins_of, natural_of, operator_of, ConditionText, condition_pieces, Group}
+use Rattle.sql_builder.specs.{cut, in_place, until, fixed_piece, raw_piece, join}
+use Rattle.sql_builder.proofs.lists.{add, add_is, any-push, any_unfollowed-push, flat-push, flat_since-push, last-push, last_since-push, extend_last-nil}
+use Rattle.sql_builder.proofs.lists.{group_of, groups-push, one_more}
 use Rattle.sql_builder.specs.Calls as call
 
 -- the joins of the calls behind those before them

@@ -1,27 +1,18 @@
 -- A list of calls with one more, and the statement of the calls that were made.
-use Rattle.std.proofs.Common.{◌≡◌, ℕ, ◌+◌, ◌<◌, List, [], ◌∷◌, ◌++◌, Option, None, Some, true, false, codes, map, take, get_or, length, String, string_bytes}
-use Rattle.std.proofs.Common.{Result, Ok, Err, IfOk, IfErr, refl, ap, sym, ◌∙◌, inl, inr}
-use Rattle.std.proofs.lemmas.List.{take_more, map-append, append-nil}
-use Rattle.std.specs.Prelude.{IfSome, IsNone, ◌⊎◌}
-use Rattle.sql_builder.specs.Builder.{extend_last, join_last, started, with_call}
+use Rattle.sql_builder.proofs.Imports.{◌≡◌, ℕ, ◌+◌, ◌<◌, List, [], ◌∷◌, ◌++◌, Option, None, Some, true, false, codes, map, take, get_or, length, String}
+use Rattle.sql_builder.proofs.Imports.{string_bytes, Result, Ok, Err, IfOk, IfErr, refl, ap, sym, ◌∙◌, inl, inr, take_more, map-append, append-nil, IfSome}
+use Rattle.sql_builder.proofs.Imports.{IsNone, ◌⊎◌, Clauses, Pieces, And, Or, SqlBuilderError}
+use Rattle.sql_builder.specs.{extend_last, join_last, started, with_call, StartText, CallText, FinishText, clauses, call_view, map_clauses, ConditionText}
+use Rattle.sql_builder.specs.{condition_bytes, condition_pieces, byte_units, row, layout_at, pieces_at, error_at, text_at, text_unless_error, unless_error}
+use Rattle.sql_builder.specs.{made_by, fixed_piece, pieces_text, raw_piece}
 use Rattle.sql_builder.specs.Calls as call
-use Rattle.sql_builder.specs.Calls.{StartText, CallText, FinishText, clauses, call_view}
-use Rattle.sql_builder.specs.Clauses.{Clauses, map_clauses}
-use Rattle.sql_builder.specs.Condition.{ConditionText, condition_bytes, condition_pieces}
-use Rattle.sql_builder.specs.Layout.{byte_units}
-use Rattle.sql_builder.specs.Phrases.{row}
-use Rattle.sql_builder.specs.Statement.{layout_at, pieces_at, error_at, text_at, text_unless_error, unless_error}
-use Rattle.sql_builder.specs.StatementLaws.{made_by}
-use Rattle.sql_builder.specs.Pieces.{Pieces, fixed_piece, pieces_text, raw_piece}
 use Rattle.sql_builder.specs.declared.calls.Call.{Call}
-use Rattle.sql_builder.specs.declared.condition.Family.TheVariants.{And, Or}
 use Rattle.sql_parts.specs.Error.{FailsOnlyByMemory, IsMemory}
-use Rattle.sql_parts.specs.declared.error.SqlBuilderError.{SqlBuilderError}
 use Rattle.sql_builder.proofs.statements.NextCallLemmas.{clauses_after, one_more_clauses, or_pieces}
 use Rattle.sql_builder.proofs.pieces.LayoutMapLemmas.{layout_in_form, row_in_form}
-use Rattle.sql_builder.proofs.lists.PushLemmas.{add, add_is}
+use Rattle.sql_builder.proofs.lists.{add, add_is}
 use Rattle.sql_builder.proofs.pieces.ShapeLemmas.{text-append, texts_of_raw}
-use Rattle.sql_builder.proofs.conditions.ConditionLemmas.{condition_printed}
+use Rattle.sql_builder.proofs.conditions.{condition_printed}
 
 -- the texts of pieces
 

@@ -1,28 +1,15 @@
 -- What is proved of the statement of a start, calls and a finish.
-use Rattle.std.proofs.Common.{◌≡◌, refl, sym, ◌∙◌, ap, List, ℕ, Option, None, Some, Result, Ok, IfOk, String, string_bytes, map}
-use Rattle.std.specs.Prelude.{IsTrue}
-use Rattle.std.specs.Result.{result_map_both}
-use Rattle.std.proofs.lemmas.Result.{IfOk-at_ok, IfOk-weaker}
-use Rattle.sql_parts.specs.Tokens.{closed, tokens}
-use Rattle.sql_parts.specs.declared.error.SqlBuilderError.{SqlBuilderError}
-use Rattle.sql_builder.specs.Calls.{CallText, FinishText, StartText, clauses}
-use Rattle.sql_builder.specs.Clauses.{Clauses}
-use Rattle.sql_builder.specs.RawFragments.{has_balanced_fragments, has_fit_fragments, has_closed_fragments}
-use Rattle.sql_builder.specs.BuilderLaws.{StatementsReadBack}
-use Rattle.sql_builder.specs.Meaning.{HasTruthOf, condition_groups, is_nested}
-use Rattle.sql_builder.specs.Reading.{piece_clauses, read}
-use Rattle.sql_builder.specs.Shape.{pieces_tokens}
-use Rattle.sql_builder.specs.Statement.{pieces, error_at, statement, text_at, text_unless_error, unless_error}
-use Rattle.sql_builder.specs.StatementLaws.{BuildersFollowCalls, BuildersPrintStatements, StatementsAreClosed, StatementsHaveTruth, StatementsKeepTokens}
-use Rattle.sql_builder.specs.StatementLaws.{StatementsNest, made_by}
-use Rattle.sql_builder.specs.Pieces.{Pieces, pieces_text}
-use Rattle.sql_builder.specs.Truths.{truth}
+use Rattle.sql_builder.proofs.Imports.{◌≡◌, refl, sym, ◌∙◌, ap, List, ℕ, Option, None, Some, Result, Ok, IfOk, String, string_bytes, map, IsTrue}
+use Rattle.sql_builder.proofs.Imports.{result_map_both, IfOk-at_ok, IfOk-weaker, closed, tokens, SqlBuilderError, Clauses, Pieces}
+use Rattle.sql_builder.specs.{CallText, FinishText, StartText, clauses, has_balanced_fragments, has_fit_fragments, has_closed_fragments, StatementsReadBack}
+use Rattle.sql_builder.specs.{HasTruthOf, condition_groups, is_nested, piece_clauses, read, pieces_tokens, pieces, error_at, statement, text_at}
+use Rattle.sql_builder.specs.{text_unless_error, unless_error, BuildersFollowCalls, BuildersPrintStatements, StatementsAreClosed, StatementsHaveTruth}
+use Rattle.sql_builder.specs.{StatementsKeepTokens, StatementsNest, made_by, pieces_text, truth}
 use Rattle.sql_builder.proofs.fragments.NeutralLemmas.{clauses-neutral, clauses-inside}
-use Rattle.sql_builder.proofs.pieces.ClauseShapeLemmas.{printed-shaped}
+use Rattle.sql_builder.proofs.pieces.{printed-shaped, shape_closed}
 use Rattle.sql_builder.proofs.reading.NestingLemmas.{nests}
 use Rattle.sql_builder.proofs.reading.ReadBackLemmas.{layout, layout-reads, text-wheres}
 use Rattle.sql_builder.proofs.statements.RunLemmas.{clauses-push, text_of_layout}
-use Rattle.sql_builder.proofs.pieces.ShapeLemmas.{shape_closed}
 use Rattle.sql_builder.proofs.truth.ConditionGroupLemmas.{calls-true}
 
 module _ (start : StartText) (calls : List CallText) (finish : FinishText) where

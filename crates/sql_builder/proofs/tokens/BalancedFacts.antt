@@ -1,19 +1,14 @@
 -- What is made of balanced lists is balanced, and what is made of conditions is a condition.
-use Rattle.std.proofs.Common.{◌≡◌, refl, sym, ◌∙◌, ℕ, ap, zero, suc, Bool, true, false, not, ◌||◌, List, [], ◌∷◌, ◌++◌, pos, ℤ}
-use Rattle.std.proofs.Math.IntN.{suc_ℤ}
-use Rattle.std.proofs.lemmas.Bool.{and_parts, and_from, or_from, false≢true, not-true, not_from_false}
-use Rattle.std.proofs.lemmas.List.Folds.{list_all-append, list_any-append}
-use Rattle.std.specs.List.{list_any, list_all}
-use Rattle.sql_parts.specs.Tokens.{Token, is_empty, tokens, closed}
-use Rattle.sql_builder.specs.WhereTokens.{group_tokens, in_brackets, joined}
+use Rattle.sql_builder.proofs.Imports.{◌≡◌, refl, sym, ◌∙◌, ℕ, ap, zero, suc, Bool, true, false, not, ◌||◌, List, [], ◌∷◌, ◌++◌, pos, ℤ, suc_ℤ, and_parts}
+use Rattle.sql_builder.proofs.Imports.{and_from, or_from, false≢true, not-true, not_from_false, list_all-append, list_any-append, list_any, list_all, Token}
+use Rattle.sql_builder.proofs.Imports.{is_empty, tokens, closed, after, closes_from, has_top_level, is_at_least_0, is_balanced, is_even, is_operand, placed}
+use Rattle.sql_builder.proofs.Imports.{placed_from, is_balanced-is, is_clause_word, is_joining, at_top_level, is_whole, balanced, balanced_whole}
+use Rattle.sql_builder.specs.{group_tokens, joined}
+use Rattle.sql_builder.specs.WhereTokens.{in_brackets}
 use Rattle.sql_builder.proofs.tokens.WhereTokenFacts.{is_condition, is_group, has_clause, or_word, right_bracket}
 use Rattle.sql_builder.proofs.tokens.DepthFacts.{closes_from-append, at_end-closes, after-suc, high}
 use Rattle.sql_builder.proofs.tokens.PartFacts.{none-append}
 use Rattle.sql_builder.proofs.truth.ConnectiveLemmas.{none-brackets, placed-then}
-use Rattle.sql_parts.proofs.fragments.DepthFacts.{after, closes_from, has_top_level, is_at_least_0, is_balanced, is_even, is_operand, placed, placed_from}
-use Rattle.sql_parts.proofs.fragments.DepthFacts.{is_balanced-is}
-use Rattle.sql_parts.specs.Fragments.{is_clause_word, is_joining, at_top_level, is_whole, balanced}
-use Rattle.sql_parts.proofs.fragments.MisfitLemmas.{balanced_whole}
 
 whole-append : (a b : List Token) → list_all is_whole a ≡ true → list_all is_whole b ≡ true → list_all is_whole (a ++ b) ≡ true
 whole-append a b h k = list_all-append is_whole a b ∙ and_from _ _ h k

@@ -1,10 +1,7 @@
 -- Depth and places of tokens in lists that are joined.
-use Rattle.std.proofs.Common.{◌≡◌, refl, sym, ◌∙◌, ap, subst, zero, suc, Bool, true, false, cond, List, [], ◌∷◌, ◌++◌, map, ℤ, pos, negsuc, ◌&&◌, ℕ}
-use Rattle.std.proofs.lemmas.Bool.{and_parts, and_from, false≢true}
-use Rattle.std.proofs.Math.IntN.{suc_ℤ, pred_ℤ, suc-pred, pred-suc}
-use Rattle.sql_parts.specs.Tokens.{Token}
-use Rattle.sql_parts.proofs.fragments.DepthFacts.{after, at_end, closes_from, is_at_least_0, is_zero, placed_from}
-use Rattle.sql_parts.specs.Fragments.{as_placed, Nested, lowers, raises}
+use Rattle.sql_builder.proofs.Imports.{◌≡◌, refl, sym, ◌∙◌, ap, subst, zero, suc, Bool, true, false, cond, List, [], ◌∷◌, ◌++◌, map, ℤ, pos, negsuc, ◌&&◌, ℕ}
+use Rattle.sql_builder.proofs.Imports.{and_parts, and_from, false≢true, suc_ℤ, pred_ℤ, suc-pred, pred-suc, Token, after, at_end, closes_from, is_at_least_0}
+use Rattle.sql_builder.proofs.Imports.{is_zero, placed_from, as_placed, Nested, lowers, raises}
 
 pub placed_from-append : (l : ℤ) (a b : List Token) → placed_from l (a ++ b) ≡ placed_from l a ++ placed_from (at_end l a) b
 placed_from-append l [] b = refl

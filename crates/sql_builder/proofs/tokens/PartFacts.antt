@@ -1,17 +1,12 @@
 -- The parts of a list that is joined, and tests of its top-level tokens.
-use Rattle.std.proofs.Common.{◌≡◌, refl, ◌∙◌, ap, Bool, true, false, cond, ◌&&◌, ◌||◌, List, [], ◌∷◌, ◌++◌, map, ℤ, ℕ, codes, take, drop}
-use Rattle.std.proofs.lemmas.Bool.{or_parts, or_from, true≢false, and_parts, not-true, cond-false, cond-true}
-use Rattle.std.specs.List.{list_any, list_all}
-use Rattle.sql_parts.specs.Tokens.{Token, ends_with, is_semicolon}
-use Rattle.sql_builder.specs.TokenParts.{Parts, but_last, parts_at, parts_between, all_parts, with_front}
-use Rattle.sql_builder.specs.Truths.{is_and, is_between, is_between_last, is_or, owns_next, without_owned}
-use Rattle.sql_parts.proofs.fragments.DepthFacts.{after, is_zero, placed_from}
-use Rattle.sql_parts.specs.Fragments.{as_placed, Nested, TopLevel, Placed, is_joining, at_top_level, token_of, clause_words, is_clause_word, is_whole, is_word}
+use Rattle.sql_builder.proofs.Imports.{◌≡◌, refl, ◌∙◌, ap, Bool, true, false, cond, ◌&&◌, ◌||◌, List, [], ◌∷◌, ◌++◌, map, ℤ, ℕ, codes, take, drop, or_parts}
+use Rattle.sql_builder.proofs.Imports.{or_from, true≢false, and_parts, not-true, cond-false, cond-true, list_any, list_all, Token, ends_with, is_semicolon}
+use Rattle.sql_builder.proofs.Imports.{after, is_zero, placed_from, as_placed, Nested, TopLevel, Placed, is_joining, at_top_level, token_of, clause_words}
+use Rattle.sql_builder.proofs.Imports.{is_clause_word, is_whole, is_word, append-nil, map-append, list_any-append}
+use Rattle.sql_builder.specs.{Parts, but_last, parts_at, parts_between, all_parts, with_front, is_and, is_between, is_between_last, is_or, owns_next}
+use Rattle.sql_builder.specs.{without_owned, is_union, without_semicolon}
 use Rattle.sql_builder.proofs.tokens.WhereTokenFacts.{semicolon}
-use Rattle.sql_builder.specs.Reading.{is_union, without_semicolon}
-use Rattle.std.proofs.lemmas.List.{append-nil, map-append}
-use Rattle.std.proofs.lemmas.List.Folds.{list_any-append}
-use Rattle.sql_builder.proofs.lists.AllFacts.{none-weaker}
+use Rattle.sql_builder.proofs.lists.{none-weaker}
 
 pub none-append : (test : Token → Bool) (a b : List Placed) → list_any (at_top_level test) a ≡ false → list_any (at_top_level test) b ≡ false
     → list_any (at_top_level test) (a ++ b) ≡ false

@@ -1,10 +1,6 @@
 -- Words and signs as tokens, and the conditions and groups that a WHERE is made of.
-use Prim.Native.Char.{code}
-use Rattle.std.specs.Prelude.{Bool, false, not, ◌&&◌, List, [], ◌∷◌, codes}
-use Rattle.std.specs.List.{list_all}
-use Rattle.sql_parts.specs.Fragments.{is_clause_word}
-use Rattle.sql_parts.specs.Tokens.{Token, Word, Symbol}
-use Rattle.sql_parts.proofs.fragments.DepthFacts.{has_top_level, is_balanced}
+use Rattle.sql_builder.proofs.Imports.{code, Bool, false, not, ◌&&◌, List, [], ◌∷◌, codes, list_all, is_clause_word, Token, Word, Symbol, has_top_level}
+use Rattle.sql_builder.proofs.Imports.{is_balanced}
 
 abbrev pub or_word : Token
 or_word = Word (codes "OR")

@@ -1,20 +1,13 @@
 -- Comparisons are atoms.
-use Rattle.std.proofs.Common.{◌≡◌, refl, ◌∙◌, ap, ℕ, true, false, not, List, [], ◌∷◌, ◌++◌, pos, ℤ}
-use Rattle.std.proofs.lemmas.Bool.{and_parts, and_left, and_right, false≢true, not-true, cond-false}
-use Rattle.std.specs.List.{list_any}
-use Rattle.sql_parts.specs.Tokens.{Token, begins_with, ends_with}
-use Rattle.sql_builder.specs.WhereTokens.{in_brackets}
-use Rattle.sql_builder.proofs.tokens.WhereTokenFacts.{and_word, between_word, has_clause, in_word, is_null_word, like_word, not_word, null_word}
-use Rattle.sql_builder.proofs.tokens.DepthFacts.{at_end-closes}
-use Rattle.sql_builder.proofs.tokens.PartFacts.{but_last-append, none-append, without_owned-plain}
+use Rattle.sql_builder.proofs.Imports.{◌≡◌, refl, ◌∙◌, ap, ℕ, true, false, not, List, [], ◌∷◌, ◌++◌, pos, ℤ, and_parts, and_left, and_right, false≢true}
+use Rattle.sql_builder.proofs.Imports.{not-true, cond-false, list_any, Token, begins_with, ends_with, in_brackets, after, at_end, closes_from, has_top_level}
+use Rattle.sql_builder.proofs.Imports.{is_at_least_1, is_balanced, is_even, is_operand, placed, stays_inside, Nested, TopLevel, is_joining, at_top_level}
+use Rattle.sql_builder.proofs.Imports.{is_symbol}
+use Rattle.sql_builder.proofs.tokens.{and_word, between_word, has_clause, in_word, is_null_word, like_word, not_word, null_word, at_end-closes, but_last-append}
+use Rattle.sql_builder.proofs.tokens.{none-append, without_owned-plain, none-joined, even_closes}
 use Rattle.sql_builder.proofs.truth.FormLemmas.{truth_is, is_bracketed, placed_ands}
 use Rattle.sql_builder.proofs.truth.ConnectiveLemmas.{placed-then, no_or, no_and, none-brackets, without_owned-all}
-use Rattle.sql_builder.proofs.tokens.BalancedFacts.{none-joined, even_closes}
-use Rattle.sql_builder.specs.TokenParts.{but_last}
-use Rattle.sql_builder.specs.Truths.{IsAtom, inside, is_and, is_not, is_or, truth, truth_by, value_in, without_owned}
-use Rattle.sql_parts.proofs.fragments.DepthFacts.{after, at_end, closes_from, has_top_level, is_at_least_1, is_balanced, is_even, is_operand, placed}
-use Rattle.sql_parts.proofs.fragments.DepthFacts.{stays_inside}
-use Rattle.sql_parts.specs.Fragments.{Nested, TopLevel, is_joining, at_top_level, is_symbol}
+use Rattle.sql_builder.specs.{but_last, IsAtom, inside, is_and, is_not, is_or, truth, truth_by, value_in, without_owned}
 
 -- what is known of an operand
 operand_closes : (f : List Token) → is_operand f ≡ true → closes_from (pos 0) f ≡ true

@@ -1,56 +1,34 @@
 -- The texts of conditions are fragments, and what is true of those that are made of others.
-use Rattle.std.proofs.Common.{◌≡◌, refl, sym, ◌∙◌, ap, subst, ℕ, Bool, true, false, not, ◌&&◌, List, [], ◌∷◌, ◌++◌, map, pos, codes, append-nil}
-use Rattle.std.specs.List.{AllByRecursion, list_all}
-use Rattle.std.proofs.lemmas.Bool.{and_from, and_parts, not-true, not_from_false, or_from, or_right}
-use Rattle.sql_parts.specs.Fragments.{balanced, is_clause_word, is_joining, operand}
+use Rattle.sql_builder.proofs.Imports.{◌≡◌, refl, sym, ◌∙◌, ap, subst, ℕ, Bool, true, false, not, ◌&&◌, List, [], ◌∷◌, ◌++◌, map, pos, codes, append-nil}
+use Rattle.sql_builder.proofs.Imports.{AllByRecursion, list_all, and_from, and_parts, not-true, not_from_false, or_from, or_right, balanced, is_clause_word}
+use Rattle.sql_builder.proofs.Imports.{is_joining, operand, ServesAsOperand, is_fragment, quoted, join_with, Token, Str, Word, closed, ends_with, is_edge}
+use Rattle.sql_builder.proofs.Imports.{tokens, has_top_level, has_top_level-is, is_balanced, is_balanced-is, is_even, is_operand-is, closed-alike}
+use Rattle.sql_builder.proofs.Imports.{enclosed-tokens, between-tokens, seam, Single, Pieces, And, Eq, blank, blank_token, outline, map-append, list_all-map}
 use Rattle.sql_parts.specs.Literal as literal
-use Rattle.sql_parts.specs.Operands.{ServesAsOperand, is_fragment}
-use Rattle.sql_parts.specs.Quoting.{quoted}
-use Rattle.sql_parts.specs.Text.{join_with}
-use Rattle.sql_parts.specs.Tokens.{Token, Str, Word, closed, ends_with, is_edge, tokens}
-use Rattle.sql_parts.proofs.fragments.DepthFacts.{has_top_level, has_top_level-is, is_balanced, is_balanced-is, is_even, is_operand-is}
 use Rattle.sql_parts.proofs.fragments.OperandFacts.{literal-serves}
-use Rattle.sql_parts.proofs.fragments.StringTextFacts.{closed-alike}
-use Rattle.sql_parts.proofs.tokens.JoinFacts.{enclosed-tokens}
-use Rattle.sql_parts.proofs.tokens.TokenFacts.{between-tokens, seam}
-use Rattle.sql_parts.specs.declared.delimiters.Quotes.TheVariants.{Single}
-use Rattle.sql_builder.specs.Calls.{Cond, SelectFrom, Sql}
-use Rattle.sql_builder.specs.Condition.{ConditionText, Compare, condition_bytes, condition_pieces, condition_raw_texts, has_operands, not_text}
-use Rattle.sql_builder.specs.Layout.{byte_units}
+use Rattle.sql_builder.specs.{Cond, SelectFrom, Sql, ConditionText, Compare, condition_bytes, condition_pieces, condition_raw_texts, has_operands, not_text}
+use Rattle.sql_builder.specs.{byte_units, fixed_piece, pieces_text, raw_piece, are_fit, has_closed_fragments, is_fit, pieces_tokens, Valuation, and_all, not3}
+use Rattle.sql_builder.specs.{or_all, truth, IsAtom, joined, CombinedFollowTheirParts, ConditionsFollowTheirPieces, ExistsFollowsItsQuery, IsCombined}
+use Rattle.sql_builder.specs.{MasksFollowTheirField, NegationsFollowTheirPart, combined_text, constant_text, exists_text, joined_text, like_text, negation_text}
+use Rattle.sql_builder.specs.{piece_outline}
 use Rattle.sql_builder.specs.Phrases as phrase
-use Rattle.sql_builder.specs.Pieces.{Pieces, fixed_piece, pieces_text, raw_piece}
-use Rattle.sql_builder.specs.RawFragments.{are_fit, has_closed_fragments, is_fit}
-use Rattle.sql_builder.specs.Shape.{pieces_tokens}
-use Rattle.sql_builder.specs.Truths.{Valuation, and_all, not3, or_all, truth, IsAtom}
-use Rattle.sql_builder.specs.WhereTokens.{in_brackets, joined}
-use Rattle.sql_builder.specs.declared.condition.Family.TheVariants.{And}
-use Rattle.sql_builder.specs.declared.condition.Relation.TheVariants.{Eq}
-use Rattle.sql_builder.proofs.fragments.FitLemmas.{fit_conditions}
-use Rattle.sql_builder.proofs.pieces.ClauseShapeLemmas.{condition_keeps}
-use Rattle.sql_builder.proofs.pieces.ShapeLemmas.{Inside, brackets-inside, pieces_tokens-brackets, raw-inside, shaped, text-append}
-use Rattle.sql_builder.proofs.reading.ClauseWordLemmas.{are_fit-is, fit-balanced, fragments_closed}
-use Rattle.sql_builder.proofs.tokens.BalancedFacts.{IsPlain, balanced_closed, balanced_even, even_closes, even_text, has_top_level-append, is_balanced-brackets, is_condition-append, is_condition-joined}
-use Rattle.sql_builder.proofs.tokens.BalancedFacts.{is_even-append, is_even-brackets, no_clause-brackets}
-use Rattle.sql_builder.proofs.tokens.WhereTokenFacts.{and_word, has_clause, is_condition, is_group, left_bracket, like_word, not_word, or_word, right_bracket}
+use Rattle.sql_builder.specs.WhereTokens.{in_brackets}
+use Rattle.sql_builder.proofs.fragments.{fit_conditions, condition-inside, Passes, are_between, inside-joins, passes-joins, whatever, within}
+use Rattle.sql_builder.proofs.pieces.{condition_keeps, Inside, brackets-inside, pieces_tokens-brackets, raw-inside, shaped, text-append, joined_in_form}
+use Rattle.sql_builder.proofs.reading.{are_fit-is, fit-balanced, fragments_closed}
+use Rattle.sql_builder.proofs.tokens.{IsPlain, balanced_closed, balanced_even, even_closes, even_text, has_top_level-append, is_balanced-brackets}
+use Rattle.sql_builder.proofs.tokens.{is_condition-append, is_condition-joined, is_even-append, is_even-brackets, no_clause-brackets, and_word, has_clause}
+use Rattle.sql_builder.proofs.tokens.{is_condition, is_group, left_bracket, like_word, not_word, or_word, right_bracket}
 use Rattle.sql_builder.proofs.truth.AtomLemmas.{atom_plain, operand_plain}
 use Rattle.sql_builder.proofs.truth.ConditionGroupLemmas.{condition-fit, pieces_tokens-joined}
 use Rattle.sql_builder.proofs.truth.ConnectiveLemmas.{none-brackets, or3-False, truth_brackets}
 use Rattle.sql_builder.proofs.truth.TruthLemmas.{of_not}
 use Rattle.sql_builder.proofs.truth.WhereLemmas.{bracketed_groups, condition_closes, condition_no_clause, truth_group, truth_joined}
-use Rattle.sql_parts.specs.StringTexts.{blank, blank_token, outline}
-use Rattle.sql_builder.specs.Combined.{CombinedFollowTheirParts, ConditionsFollowTheirPieces, ExistsFollowsItsQuery, IsCombined, MasksFollowTheirField, NegationsFollowTheirPart}
-use Rattle.sql_builder.specs.Combined.{combined_text, constant_text, exists_text, joined_text, like_text, negation_text}
-use Rattle.sql_builder.specs.Interference.{piece_outline}
 use Rattle.sql_builder.proofs.conditions.ConditionLemmas as conditions
-use Rattle.sql_builder.proofs.conditions.ConditionLemmas.{condition_printed, condition_atom}
-use Rattle.sql_builder.proofs.interference.OutlineLemmas.{pieces-outline}
+use Rattle.sql_builder.proofs.conditions.{condition_printed, condition_atom}
+use Rattle.sql_builder.proofs.interference.{pieces-outline}
 use Rattle.sql_builder.proofs.fragments.PropertyLemmas as pieces
-use Rattle.sql_builder.proofs.pieces.LayoutMapLemmas.{joined_in_form}
-use Rattle.std.proofs.lemmas.List.{map-append}
-use Rattle.sql_builder.proofs.fragments.NeutralLemmas.{condition-inside}
-use Rattle.sql_builder.proofs.fragments.PropertyLemmas.{Passes, are_between, inside-joins, passes-joins, whatever, within}
-use Rattle.sql_builder.proofs.lists.AllFacts.{all-weaker, map-all, tested-all}
-use Rattle.std.proofs.lemmas.List.Folds.{list_all-map}
+use Rattle.sql_builder.proofs.lists.{all-weaker, map-all, tested-all}
 
 -- a text is a fragment where its tokens are a condition
 fragment-is : (text : List ℕ) → is_fragment text ≡ is_condition (tokens text)

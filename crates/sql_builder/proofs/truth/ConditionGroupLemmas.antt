@@ -1,38 +1,21 @@
 -- A WHERE is true as its conditions make it.
-use Rattle.std.proofs.Common.{◌≡◌, refl, sym, ◌∙◌, ap, subst, ℕ, Bool, true, false, not, ◌||◌, List, [], ◌∷◌, ◌++◌, map, pos, codes, append-nil}
-use Rattle.std.specs.Prelude.{filter_map, flat_map}
-use Rattle.std.specs.List.{list_all, list_any, AllByRecursion}
-use Rattle.std.proofs.lemmas.Bool.{and_parts, and_from, false≢true, not_from_false}
-use Rattle.sql_parts.specs.Text.{join_with}
-use Rattle.sql_parts.specs.Tokens.{Token, tokens, is_empty}
-use Rattle.sql_builder.specs.Builder.{ClauseTexts}
-use Rattle.sql_builder.specs.Calls.{CallText, condition_in, group_pieces, opens_group, conditions_of, groups}
-use Rattle.sql_builder.specs.Condition.{ConditionText, condition_pieces}
-use Rattle.sql_builder.specs.Filters.{Group, cut}
-use Rattle.sql_builder.specs.Phrases.{in_brackets}
-use Rattle.sql_builder.specs.Shape.{pieces_tokens, cond_tokens}
+use Rattle.sql_builder.proofs.Imports.{◌≡◌, refl, sym, ◌∙◌, ap, subst, ℕ, Bool, true, false, not, ◌||◌, List, [], ◌∷◌, ◌++◌, map, pos, codes, append-nil}
+use Rattle.sql_builder.proofs.Imports.{filter_map, flat_map, list_all, list_any, AllByRecursion, and_parts, and_from, false≢true, not_from_false, join_with}
+use Rattle.sql_builder.proofs.Imports.{Token, tokens, is_empty, Pieces, Family, is_balanced, placed, Placed, is_clause_word, at_top_level, list_all-map}
+use Rattle.sql_builder.specs.{ClauseTexts, CallText, condition_in, group_pieces, opens_group, conditions_of, groups, ConditionText, condition_pieces, Group}
+use Rattle.sql_builder.specs.{cut, in_brackets, pieces_tokens, cond_tokens, Fixed, fixed_piece, raw_piece, group_tokens, joined, has_fit_conditions}
+use Rattle.sql_builder.specs.{has_fit_groups, are_fit, condition_groups, text_groups, where_truths, own_placed, truth, Valuation}
 use Rattle.sql_builder.specs.Pieces as text
-use Rattle.sql_builder.specs.Pieces.{Pieces, Fixed, fixed_piece, raw_piece}
-use Rattle.sql_builder.specs.declared.condition.Family.{Family}
 use Rattle.sql_builder.proofs.fragments.NeutralLemmas.{condition-neutral}
 use Rattle.sql_builder.proofs.fragments.PropertyLemmas.{neutral-raw}
 use Rattle.sql_builder.proofs.reading.SectionLemmas.{Neutral, neutral-front, own-top_level}
 use Rattle.sql_builder.proofs.reading.ClauseWordLemmas.{Flagged, fit-balanced, fit-flags, flags, shape-even, are_fit_from, is_fit, are_fit-is}
-use Rattle.sql_builder.proofs.pieces.ShapeLemmas.{pieces_tokens-append, pieces_tokens-brackets}
+use Rattle.sql_builder.proofs.pieces.{pieces_tokens-append, pieces_tokens-brackets, where_bodies, where_body}
 use Rattle.sql_builder.proofs.truth.WhereLemmas.{truth_where}
 use Rattle.sql_builder.specs.WhereTokens as where_tokens
-use Rattle.sql_builder.specs.WhereTokens.{group_tokens, joined}
-use Rattle.sql_builder.proofs.tokens.WhereTokenFacts.{are_groups, is_condition, is_group, and_word, has_clause, or_word}
-use Rattle.sql_builder.specs.RawFragments.{has_fit_conditions, has_fit_groups, are_fit}
-use Rattle.sql_builder.specs.Meaning.{condition_groups, text_groups, where_truths}
-use Rattle.sql_builder.specs.Reading.{own_placed}
-use Rattle.sql_builder.specs.Truths.{truth, Valuation}
-use Rattle.sql_parts.proofs.fragments.DepthFacts.{is_balanced, placed}
-use Rattle.sql_parts.specs.Fragments.{Placed, is_clause_word, at_top_level}
-use Rattle.std.proofs.lemmas.List.Folds.{list_all-map}
-use Rattle.sql_builder.proofs.lists.AllFacts.{cut-all, all-weaker, tested}
-use Rattle.sql_builder.proofs.conditions.ConditionLemmas.{begins_raw}
-use Rattle.sql_builder.proofs.pieces.LayoutPropertyLemmas.{where_bodies, where_body}
+use Rattle.sql_builder.proofs.tokens.{are_groups, is_condition, is_group, and_word, has_clause, or_word}
+use Rattle.sql_builder.proofs.lists.{cut-all, all-weaker, tested}
+use Rattle.sql_builder.proofs.conditions.{begins_raw}
 
 -- ---- one condition
 

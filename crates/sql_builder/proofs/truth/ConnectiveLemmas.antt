@@ -1,20 +1,16 @@
 -- The truth of what is joined by OR and AND, and of what is in brackets.
-use Rattle.std.proofs.Common.{◌≡◌, refl, sym, ◌∙◌, ap, subst, Bool, true, false, List, [], ◌∷◌, ◌++◌, map, pos, ℤ, negsuc, append-nil, ◌||◌}
-use Rattle.std.proofs.Math.IntN.{suc_ℤ}
-use Rattle.std.proofs.lemmas.Bool.{and_parts, and_from, or_parts, or_from, false≢true, cond-true, cond-false, not_from_false}
-use Rattle.std.specs.List.{list_any}
-use Rattle.sql_parts.specs.Tokens.{Token}
+use Rattle.sql_builder.proofs.Imports.{◌≡◌, refl, sym, ◌∙◌, ap, subst, Bool, true, false, List, [], ◌∷◌, ◌++◌, map, pos, ℤ, negsuc, append-nil, ◌||◌, suc_ℤ}
+use Rattle.sql_builder.proofs.Imports.{and_parts, and_from, or_parts, or_from, false≢true, cond-true, cond-false, not_from_false, list_any, Token, after}
+use Rattle.sql_builder.proofs.Imports.{at_end, closes_from, has_top_level, is_at_least_0, is_at_least_1, placed, placed_from, stays_inside, Nested, TopLevel}
+use Rattle.sql_builder.proofs.Imports.{Placed, is_joining, at_top_level, is_symbol}
 use Rattle.sql_builder.specs.WhereTokens.{in_brackets}
 use Rattle.sql_builder.proofs.tokens.WhereTokenFacts.{and_word, has_clause, left_bracket, not_word, or_word, right_bracket}
 use Rattle.sql_builder.proofs.tokens.DepthFacts.{placed_from-append, at_end-closes, placed_from-suc, after-suc, at_end-suc, at_end-append}
 use Rattle.sql_builder.proofs.tokens.PartFacts.{but_last-push, ends_with-push, parts_between-separator, parts-none, tokens-placed_from, tokens-without_owned}
 use Rattle.sql_builder.proofs.tokens.PartFacts.{without_owned-plain, none-inner, none-append, none_narrower, without_owned-append}
 use Rattle.sql_builder.proofs.truth.FormLemmas.{truth_is, is_bracketed, placed_ands}
-use Rattle.sql_builder.specs.TokenParts.{parts_between, all_parts}
-use Rattle.sql_builder.specs.Truths.{False, True, Truth, Unknown, not3, or3, or_all, is_and, is_or, and_all, and3, truth, truth_by, value_in, without_owned}
-use Rattle.sql_builder.specs.Truths.{Valuation, is_between, owns_next}
-use Rattle.sql_parts.proofs.fragments.DepthFacts.{after, at_end, closes_from, has_top_level, is_at_least_0, is_at_least_1, placed, placed_from, stays_inside}
-use Rattle.sql_parts.specs.Fragments.{Nested, TopLevel, Placed, is_joining, at_top_level, is_symbol}
+use Rattle.sql_builder.specs.{parts_between, all_parts, False, True, Truth, Unknown, not3, or3, or_all, is_and, is_or, and_all, and3, truth, truth_by, value_in}
+use Rattle.sql_builder.specs.{without_owned, Valuation, is_between, owns_next}
 
 pub or3-False : (x : Truth) → or3 x False ≡ x
 or3-False False = refl

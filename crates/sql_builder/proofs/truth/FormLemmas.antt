@@ -1,18 +1,13 @@
 -- The parts of a form are shorter than the whole, so that more steps change no truth.
-use Prim.Native.Char.{code}
-use Rattle.std.proofs.Common.{not, ◌&&◌, ◌≡◌, refl, sym, ◌∙◌, ap, subst, ℕ, zero, suc, ◌+◌, ◌<◌, ◌≤◌, Bool, true, false, cond, List, [], ◌∷◌, map, length, drop}
-use Rattle.std.proofs.Common.{◌⊎◌, inl, inr, arith, pos, ℤ}
-use Rattle.std.proofs.lemmas.Bool.{or_cases, false≢true}
-use Rattle.std.specs.List.{list_any, AllByRecursion}
-use Rattle.sql_parts.specs.Tokens.{Token, begins_with, ends_with}
-use Rattle.sql_builder.specs.TokenParts.{Parts, but_last, parts_at, parts_between, with_front}
-use Rattle.sql_builder.specs.Truths.{AllOf, AnyOf, Atom, Bracketed, Fact, Form, Negated, Truth, not3, form, form_of, or_all, inside, is_and, is_between_last}
-use Rattle.sql_builder.specs.Truths.{is_not, is_or, and_all, truth, truth_by, truth_within, value_in, without_owned}
+use Rattle.sql_builder.proofs.Imports.{code, not, ◌&&◌, ◌≡◌, refl, sym, ◌∙◌, ap, subst, ℕ, zero, suc, ◌+◌, ◌<◌, ◌≤◌, Bool, true, false, cond, List, [], ◌∷◌}
+use Rattle.sql_builder.proofs.Imports.{map, length, drop, ◌⊎◌, inl, inr, arith, pos, ℤ, or_cases, false≢true, list_any, AllByRecursion, Token, begins_with}
+use Rattle.sql_builder.proofs.Imports.{ends_with, after, has_top_level, has_top_level-is, inside-is, placed, placed-is, placed_from, stays_inside, Nested}
+use Rattle.sql_builder.proofs.Imports.{TopLevel, Placed, is_clause_word, at_top_level, is_symbol, token_of}
+use Rattle.sql_builder.specs.{Parts, but_last, parts_at, parts_between, with_front, AllOf, AnyOf, Atom, Bracketed, Fact, Form, Negated, Truth, not3, form}
+use Rattle.sql_builder.specs.{form_of, or_all, inside, is_and, is_between_last, is_not, is_or, and_all, truth, truth_by, truth_within, value_in, without_owned}
 use Rattle.std.proofs.Math.Bool.{and_assoc}
 use Rattle.sql_builder.specs.Truths as truths
-use Rattle.sql_parts.proofs.fragments.DepthFacts.{after, has_top_level, has_top_level-is, inside-is, placed, placed-is, placed_from, stays_inside}
 use Rattle.sql_builder.proofs.tokens.WhereTokenFacts.{has_clause}
-use Rattle.sql_parts.specs.Fragments.{Nested, TopLevel, Placed, is_clause_word, at_top_level, is_symbol, token_of}
 
 -- the tokens with their places, where the ANDs of BETWEEN do not count
 abbrev pub placed_ands : List Token → List Placed

@@ -1,19 +1,12 @@
 -- The truth of conditions by how they are made, of lists of tokens as their definitions read them.
-use Rattle.std.proofs.Common.{◌≡◌, refl, sym, ◌∙◌, ap, Bool, true, false, not, ◌&&◌, List, [], ◌∷◌, pos}
-use Rattle.std.specs.List.{list_all, list_any}
-use Rattle.std.proofs.lemmas.Bool.{and_parts, and_from, false≢true, not-true, not_from_false}
+use Rattle.sql_builder.proofs.Imports.{◌≡◌, refl, sym, ◌∙◌, ap, Bool, true, false, not, ◌&&◌, List, [], ◌∷◌, pos, list_all, list_any, and_parts, and_from}
+use Rattle.sql_builder.proofs.Imports.{false≢true, not-true, not_from_false, is_clause_word, is_joining, at_top_level, Token, is_empty, closes_from}
+use Rattle.sql_builder.proofs.Imports.{has_top_level, has_top_level-is, is_balanced-is, is_even, is_operand-is, placed, placed-is, in_brackets}
 use Rattle.sql_parts.specs.Fragments as fragments
-use Rattle.sql_parts.specs.Fragments.{is_clause_word, is_joining, at_top_level}
-use Rattle.sql_parts.specs.Tokens.{Token, is_empty}
-use Rattle.sql_parts.proofs.fragments.DepthFacts.{closes_from, has_top_level, has_top_level-is, is_balanced-is, is_even, is_operand-is, placed, placed-is}
-use Rattle.sql_builder.specs.BuilderLaws.{BracketsMakeOperands, TruthOfAnd, TruthOfBrackets, TruthOfNot, TruthOfOr, TruthOfWhere, is_fit_group}
-use Rattle.sql_builder.specs.Truths.{is_and, is_or, owns_next}
-use Rattle.sql_builder.specs.WhereTokens.{in_brackets}
-use Rattle.sql_builder.proofs.tokens.BalancedFacts.{balanced_even, even_closes, is_operand-brackets, no_clause-brackets}
+use Rattle.sql_builder.specs.{BracketsMakeOperands, TruthOfAnd, TruthOfBrackets, TruthOfNot, TruthOfOr, TruthOfWhere, is_fit_group, is_and, is_or, owns_next}
+use Rattle.sql_builder.proofs.tokens.{balanced_even, even_closes, is_operand-brackets, no_clause-brackets, at_end-closes, are_groups, is_condition, is_group}
 use Rattle.sql_builder.proofs.truth.ConnectiveLemmas.{no_and, no_or, truth_and, truth_brackets, truth_not, truth_or, without_owned-all}
-use Rattle.sql_builder.proofs.tokens.DepthFacts.{at_end-closes}
 use Rattle.sql_builder.proofs.truth.WhereLemmas.{truth_where}
-use Rattle.sql_builder.proofs.tokens.WhereTokenFacts.{are_groups, is_condition, is_group}
 
 even : (ts : List Token) → fragments.is_balanced ts ≡ true → is_even ts ≡ true
 even ts h = balanced_even ts (sym (is_balanced-is ts) ∙ h)

@@ -1,18 +1,10 @@
 -- The truth of a WHERE.
-use Rattle.std.proofs.Common.{◌≡◌, refl, sym, ◌∙◌, ap, true, false, not, List, [], ◌∷◌, map, pos}
-use Rattle.std.proofs.lemmas.Bool.{and_parts, false≢true, not-true}
-use Rattle.std.specs.List.{list_any, list_all}
-use Rattle.sql_parts.specs.Tokens.{Token}
-use Rattle.sql_builder.specs.WhereTokens.{in_brackets, joined, group_tokens, where_tokens}
-use Rattle.sql_builder.proofs.tokens.WhereTokenFacts.{is_condition, is_group, are_groups, and_word, has_clause}
-use Rattle.sql_builder.proofs.tokens.DepthFacts.{at_end-closes}
-use Rattle.sql_builder.proofs.tokens.BalancedFacts.{is_condition-group}
-use Rattle.sql_builder.proofs.tokens.PartFacts.{none-append}
+use Rattle.sql_builder.proofs.Imports.{◌≡◌, refl, sym, ◌∙◌, ap, true, false, not, List, [], ◌∷◌, map, pos, and_parts, false≢true, not-true, list_any, list_all}
+use Rattle.sql_builder.proofs.Imports.{Token, in_brackets, closes_from, has_top_level, is_balanced, placed, is_joining, at_top_level}
+use Rattle.sql_builder.specs.{joined, group_tokens, where_tokens, Fact, or3, or_all, is_or, and_all, and3, truth}
+use Rattle.sql_builder.proofs.tokens.{is_condition, is_group, are_groups, and_word, has_clause, at_end-closes, is_condition-group, none-append}
 use Rattle.sql_builder.proofs.truth.ConnectiveLemmas.{truth_or, truth_and, truth_brackets, none-brackets, at_end-brackets, placed-then, or3-False, and3-True}
 use Rattle.sql_builder.proofs.truth.ConnectiveLemmas.{plain-owns}
-use Rattle.sql_builder.specs.Truths.{Fact, or3, or_all, is_or, and_all, and3, truth}
-use Rattle.sql_parts.proofs.fragments.DepthFacts.{closes_from, has_top_level, is_balanced, placed}
-use Rattle.sql_parts.specs.Fragments.{is_joining, at_top_level}
 
 pub condition_closes : (c : List Token) → is_condition c ≡ true → closes_from (pos 0) c ≡ true
 condition_closes c h = (and_parts _ _ (and_parts _ _ (and_parts (is_balanced c) _ h).0).1).1

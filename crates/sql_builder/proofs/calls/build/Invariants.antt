@@ -1,6 +1,5 @@
-use Rattle.std.proofs.Common.{◌≡◌, map, take}
-use Rattle.sql_builder.specs.Calls.{call_view, start_view}
-use Rattle.sql_builder.specs.StatementLaws.{made_by}
+use Rattle.sql_builder.proofs.Imports.{◌≡◌, map, take}
+use Rattle.sql_builder.specs.{call_view, start_view, made_by}
 use Rattle.sql_builder.proofs.calls.build.Given as goal
 
 abbrev pub invariant-loop-call : goal.invariant-loop-call

@@ -1,5 +1,4 @@
-use Rattle.sql_builder.specs.Calls.{finish_view}
-use Rattle.sql_builder.specs.Statement.{text_at}
+use Rattle.sql_builder.specs.{finish_view, text_at}
 use Rattle.sql_builder.proofs.calls.printed_length.Given as goal
 
 abbrev pub ghost-of : goal.ghost-of

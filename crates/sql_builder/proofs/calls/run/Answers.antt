@@ -1,9 +1,8 @@
-use Rattle.std.proofs.Common.{map}
-use Rattle.sql_builder.specs.Calls.{clauses, call_view, finish_view, start_view}
-use Rattle.sql_builder.proofs.statements.RunLemmas.{statement_printed, statement_error}
-use Rattle.sql_builder.proofs.statements.StatementLawLemmas.{of_statement, statements_are_closed, statements_have_truth}
-use Rattle.sql_builder.proofs.statements.StatementLawLemmas.{statements_keep_tokens, statements_nest, statements_read_back}
-use Rattle.sql_builder.proofs.reading.SubqueryLemmas.{subqueries_nest}
+use Rattle.sql_builder.proofs.Imports.{map}
+use Rattle.sql_builder.specs.{clauses, call_view, finish_view, start_view}
+use Rattle.sql_builder.proofs.statements.{statement_printed, statement_error, of_statement, statements_are_closed, statements_have_truth}
+use Rattle.sql_builder.proofs.statements.{statements_keep_tokens, statements_nest, statements_read_back}
+use Rattle.sql_builder.proofs.reading.{subqueries_nest}
 use Rattle.sql_builder.proofs.calls.run.Goals as goal
 
 pub returns-clause-text : goal.returns-clause-text

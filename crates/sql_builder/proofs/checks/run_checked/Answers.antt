@@ -1,12 +1,7 @@
-use Rattle.std.proofs.Common.{IfOk, List, map, Result, subst, sym, ℕ}
-use Rattle.sql_parts.specs.Tokens.{tokens}
-use Rattle.sql_parts.specs.declared.error.SqlBuilderError.{SqlBuilderError}
-use Rattle.sql_builder.specs.Calls.{call_view, finish_view, kind_of, start_view}
-use Rattle.sql_builder.specs.Shape.{EndsInOneSemicolon}
-use Rattle.sql_builder.proofs.fragments.FitLemmas.{balanced_fragments, fit_conditions, fit_fragments, fit_texts_balanced}
-use Rattle.sql_builder.proofs.fragments.TextTestLemmas.{fit_texts_are_closed}
-use Rattle.sql_builder.proofs.fragments.UnfitLemmas.{ends_in_semicolon}
-use Rattle.sql_builder.proofs.reading.ReadBackLemmas.{where_unenclosed}
+use Rattle.sql_builder.proofs.Imports.{IfOk, List, map, Result, subst, sym, ℕ, tokens, SqlBuilderError}
+use Rattle.sql_builder.specs.{call_view, finish_view, kind_of, start_view, EndsInOneSemicolon}
+use Rattle.sql_builder.proofs.fragments.{balanced_fragments, fit_conditions, fit_fragments, fit_texts_balanced, fit_texts_are_closed, ends_in_semicolon}
+use Rattle.sql_builder.proofs.reading.{where_unenclosed}
 use Rattle.sql_builder.proofs.checks.run_checked.Goals as goal
 
 pub returns-clause-shape : goal.returns-clause-shape

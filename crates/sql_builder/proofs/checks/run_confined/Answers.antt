@@ -1,9 +1,7 @@
-use Rattle.std.proofs.Common.{IfOk, List, map, Result, subst, sym, ℕ}
-use Rattle.sql_parts.specs.Tokens.{tokens}
-use Rattle.sql_parts.specs.declared.error.SqlBuilderError.{SqlBuilderError}
-use Rattle.sql_builder.specs.Calls.{call_view, finish_view, start_view}
-use Rattle.sql_builder.specs.Shape.{EndsInOneSemicolon}
-use Rattle.sql_builder.proofs.fragments.UnfitLemmas.{balanced_fragments, closed_fragments, ends_in_semicolon}
+use Rattle.sql_builder.proofs.Imports.{IfOk, List, map, Result, subst, sym, ℕ, tokens, SqlBuilderError}
+use Rattle.sql_builder.specs.{call_view, finish_view, start_view, EndsInOneSemicolon}
+use Rattle.sql_builder.proofs.fragments.UnfitLemmas.{balanced_fragments}
+use Rattle.sql_builder.proofs.fragments.{closed_fragments, ends_in_semicolon}
 use Rattle.sql_builder.proofs.checks.run_confined.Goals as goal
 
 pub returns-clause-shape : goal.returns-clause-shape

@@ -1,6 +1,5 @@
-use Rattle.std.proofs.Common.{◌≡◌, ◌+◌, ◌≤◌, length, map}
-use Rattle.sql_builder.specs.Calls.{call_view}
-use Rattle.sql_builder.specs.Unfits.{calls_test}
+use Rattle.sql_builder.proofs.Imports.{◌≡◌, ◌+◌, ◌≤◌, length, map}
+use Rattle.sql_builder.specs.{call_view, calls_test}
 use Rattle.sql_builder.proofs.checks.test_calls.Given as goal
 
 abbrev pub invariant-loop-rest : goal.invariant-loop-rest

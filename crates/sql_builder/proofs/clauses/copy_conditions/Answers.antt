@@ -1,6 +1,5 @@
-use Rattle.std.proofs.Common.{◌++◌, ◌∷◌, [], ◌∙◌, ap, map, take}
-use Rattle.std.proofs.lemmas.List.{map-append, take_more}
-use Rattle.sql_builder.specs.Builder.{condition_in_group}
+use Rattle.sql_builder.proofs.Imports.{◌++◌, ◌∷◌, [], ◌∙◌, ap, map, take, map-append, take_more}
+use Rattle.sql_builder.specs.{condition_in_group}
 use Rattle.sql_builder.proofs.clauses.copy_conditions.Goals as goal
 
 pub loop-condition-preserved : goal.loop-condition-preserved

@@ -1,8 +1,5 @@
-use Rattle.std.proofs.Common.{sym, ◌∙◌, ap}
-use Rattle.sql_parts.specs.StringTexts.{blank}
-use Rattle.sql_parts.specs.declared.delimiters.Quotes.TheVariants.{Single}
-use Rattle.sql_parts.proofs.tokens.TokenFacts.{between-tokens}
-use Rattle.sql_builder.proofs.interference.OutlineLemmas.{condition-outline, equation-outline, fragments-apart, outlines-decide}
+use Rattle.sql_builder.proofs.Imports.{sym, ◌∙◌, ap, blank, Single, between-tokens}
+use Rattle.sql_builder.proofs.interference.{condition-outline, equation-outline, fragments-apart, outlines-decide}
 use Rattle.sql_builder.proofs.laws.quoted_fragments_do_not_interfere.Goals as goal
 
 pub returns : goal.returns

@@ -1,14 +1,9 @@
-use Rattle.std.specs.List.{count_by, list_any}
-use Rattle.std.proofs.Common.{length, not, refl}
-use Rattle.std.proofs.lemmas.List.{length-map}
-use Rattle.sql_parts.specs.Fragments.{has_top_level, is_balanced, is_clause_word, is_dangling, is_operand}
-use Rattle.sql_parts.specs.StringTexts.{blank, blank_token}
-use Rattle.sql_parts.specs.Tokens.{is_open, is_semicolon}
-use Rattle.sql_parts.proofs.fragments.StringTextFacts.{any-blank, count-blank, has_top_level-blank, ignores, is_balanced-blank, is_dangling-blank}
-use Rattle.sql_parts.proofs.fragments.StringTextFacts.{is_operand-blank}
-use Rattle.sql_builder.specs.Interference.{blank_clauses}
-use Rattle.sql_builder.proofs.interference.BlankClauseLemmas.{blank_clauses-ignore}
-use Rattle.sql_builder.proofs.interference.QuotedTextLemmas.{quoted_places-same, quoted_texts-apart, quoted_texts-ignored, quoted_texts-strings}
+use Rattle.std.specs.List.{count_by}
+use Rattle.sql_builder.proofs.Imports.{list_any, length, not, refl, length-map, is_clause_word, blank, blank_token, is_open, is_semicolon, any-blank, ignores}
+use Rattle.sql_parts.specs.Fragments.{has_top_level, is_balanced, is_dangling, is_operand}
+use Rattle.sql_parts.proofs.fragments.StringTextFacts.{count-blank, has_top_level-blank, is_balanced-blank, is_dangling-blank, is_operand-blank}
+use Rattle.sql_builder.specs.{blank_clauses}
+use Rattle.sql_builder.proofs.interference.{blank_clauses-ignore, quoted_places-same, quoted_texts-apart, quoted_texts-ignored, quoted_texts-strings}
 use Rattle.sql_builder.proofs.laws.quoted_texts_do_not_interfere.Goals as goal
 
 pub returns : goal.returns

@@ -1,5 +1,4 @@
-use Rattle.std.proofs.Common.{◌≡◌, ◌++◌, codes, flat_map, length, map, string_bytes}
-use Rattle.sql_parts.specs.Quoting.{quoted}
+use Rattle.sql_builder.proofs.Imports.{◌≡◌, ◌++◌, codes, flat_map, length, map, string_bytes, quoted}
 use Rattle.sql_builder.proofs.phrases.push_further_quoted.Given as goal
 
 abbrev pub invariant-loop-text : goal.invariant-loop-text

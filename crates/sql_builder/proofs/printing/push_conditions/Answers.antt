@@ -1,11 +1,8 @@
-use Rattle.std.proofs.Common.{◌++◌, map, string_bytes, List, ℕ}
-use Rattle.std.specs.List.{list_any}
-use Rattle.sql_builder.specs.Builder.{condition_in_group}
-use Rattle.sql_builder.specs.Printed.{further_bytes, where_end, where_opening}
-use Rattle.sql_builder.proofs.lists.GroupLemmas.{where_is}
-use Rattle.sql_builder.proofs.output.LoopFacts.{prints_both, room_first, room_rest}
+use Rattle.sql_builder.proofs.Imports.{◌++◌, map, string_bytes, List, ℕ, list_any, GroupedCondition}
+use Rattle.sql_builder.specs.{condition_in_group, further_bytes, where_end, where_opening}
+use Rattle.sql_builder.proofs.lists.{where_is}
+use Rattle.sql_builder.proofs.output.{prints_both, room_first, room_rest}
 use Rattle.sql_builder.proofs.printing.push_conditions.Goals as goal
-use Rattle.sql_builder.specs.declared.clauses.GroupedCondition.{GroupedCondition}
 
 module _ (first : GroupedCondition) (further : List GroupedCondition) where
   -- the parts of WHERE

@@ -1,7 +1,6 @@
-use Rattle.std.proofs.Common.{arith}
-use Rattle.sql_builder.specs.Builder.{condition_in_group}
-use Rattle.sql_builder.specs.Printed.{further_condition}
-use Rattle.sql_builder.proofs.output.LoopFacts.{within_values}
+use Rattle.sql_builder.proofs.Imports.{arith}
+use Rattle.sql_builder.specs.{condition_in_group, further_condition}
+use Rattle.sql_builder.proofs.output.{within_values}
 use Rattle.sql_builder.proofs.printing.push_further_conditions.Goals as goal
 
 pub push_further_condition-requires : goal.push_further_condition-requires

@@ -1,7 +1,5 @@
-use Rattle.std.proofs.Common.{map, take}
-use Rattle.sql_builder.specs.Builder.{condition_in_group}
-use Rattle.sql_builder.specs.Concat.{Prints}
-use Rattle.sql_builder.specs.Printed.{further_bytes}
+use Rattle.sql_builder.proofs.Imports.{map, take}
+use Rattle.sql_builder.specs.{condition_in_group, Prints, further_bytes}
 use Rattle.sql_builder.proofs.printing.push_further_conditions.Given as goal
 
 abbrev pub invariant-loop-condition : goal.invariant-loop-condition

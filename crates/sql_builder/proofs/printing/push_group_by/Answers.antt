@@ -1,9 +1,6 @@
-use Rattle.std.proofs.Common.{◌≢◌, ◌++◌, codes, length, rules}
-use Rattle.sql_builder.specs.Layout.{byte_units}
-use Rattle.sql_builder.specs.Phrases.{comma_list}
-use Rattle.sql_builder.specs.Printed.{optional_bytes}
-use Rattle.sql_builder.proofs.output.LoopFacts.{prints_both}
-use Rattle.sql_builder.proofs.output.PrintingLemmas.{some_group_fields}
+use Rattle.sql_builder.proofs.Imports.{◌≢◌, ◌++◌, codes, length, rules}
+use Rattle.sql_builder.specs.{byte_units, comma_list, optional_bytes}
+use Rattle.sql_builder.proofs.output.{prints_both, some_group_fields}
 use Rattle.sql_builder.proofs.printing.push_group_by.Goals as goal
 
 pub returns-then-not-is_empty : goal.returns-then-not-is_empty

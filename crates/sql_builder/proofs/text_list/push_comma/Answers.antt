@@ -1,5 +1,4 @@
-use Rattle.std.proofs.Common.{string_bytes, sym, le_refl}
-use Rattle.std.proofs.lemmas.List.{append-nil}
+use Rattle.sql_builder.proofs.Imports.{string_bytes, sym, le_refl, append-nil}
 use Rattle.sql_builder.proofs.text_list.push_comma.Goals as goal
 
 pub returns-else-not-is_first : goal.returns-else-not-is_first

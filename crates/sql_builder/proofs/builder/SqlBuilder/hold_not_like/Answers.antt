@@ -1,7 +1,6 @@
-use Rattle.std.proofs.Common.{◌≡◌, refl, string_bytes, true, ap, ◌∙◌}
-use Rattle.sql_builder.specs.Builder.{with_condition, with_condition_bytes}
-use Rattle.sql_builder.specs.Condition.{Like, condition_bytes}
-use Rattle.sql_builder.proofs.pieces.ClauseShapeLemmas.{adds_condition_opaque}
+use Rattle.sql_builder.proofs.Imports.{◌≡◌, refl, string_bytes, true, ap, ◌∙◌}
+use Rattle.sql_builder.specs.{with_condition, with_condition_bytes, Like, condition_bytes}
+use Rattle.sql_builder.proofs.pieces.{adds_condition_opaque}
 use Rattle.sql_builder.proofs.builder.SqlBuilder.hold_not_like.Goals as goal
 
 pub returns : goal.returns

@@ -1,5 +1,4 @@
-use Rattle.sql_builder.specs.Builder.{extend_last}
-use Rattle.sql_builder.specs.Concat.{concat_bytes}
+use Rattle.sql_builder.specs.{extend_last, concat_bytes}
 use Rattle.sql_builder.proofs.builder.SqlBuilder.push_constraint.Given as goal
 
 abbrev pub ghost-of : goal.ghost-of

@@ -1,9 +1,6 @@
-use Rattle.std.proofs.Common.{◌++◌, codes, subst, sym}
-use Rattle.sql_builder.specs.Concat.{Fits, Prints}
-use Rattle.sql_builder.specs.contracts.builder.SqlBuilder.{the_view}
-use Rattle.sql_builder.specs.Printed.{optional_bytes, where_bytes}
-use Rattle.sql_builder.proofs.output.PrintingLemmas.{delete_is}
-use Rattle.sql_builder.proofs.output.LoopFacts.{prints_both, room_rest}
+use Rattle.sql_builder.proofs.Imports.{◌++◌, codes, subst, sym, the_view}
+use Rattle.sql_builder.specs.{Fits, Prints, optional_bytes, where_bytes}
+use Rattle.sql_builder.proofs.output.{delete_is, prints_both, room_rest}
 use Rattle.sql_builder.proofs.builder.SqlBuilder.push_delete.Goals as goal
 
 pub returns : goal.returns

@@ -1,10 +1,6 @@
-use Rattle.std.proofs.Common.{◌++◌, ℕ, arith, codes, length-append}
-use Rattle.sql_builder.specs.contracts.builder.SqlBuilder.{the_view}
-use Rattle.sql_builder.specs.Layout.{byte_units}
-use Rattle.sql_builder.specs.Phrases.{comma_list}
-use Rattle.sql_builder.specs.Printed.{inserted_bytes, optional_bytes}
-use Rattle.sql_builder.proofs.output.PrintingLemmas.{insert_is}
-use Rattle.sql_builder.proofs.output.LoopFacts.{prints_both}
+use Rattle.sql_builder.proofs.Imports.{◌++◌, ℕ, arith, codes, length-append, the_view}
+use Rattle.sql_builder.specs.{byte_units, comma_list, inserted_bytes, optional_bytes}
+use Rattle.sql_builder.proofs.output.{insert_is, prints_both}
 use Rattle.sql_builder.proofs.builder.SqlBuilder.push_insert.Goals as goal
 
 pub returns : goal.returns

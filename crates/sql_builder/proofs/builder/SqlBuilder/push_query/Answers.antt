@@ -1,7 +1,6 @@
-use Rattle.std.proofs.Common.{◌++◌}
-use Rattle.sql_builder.specs.Printed.{query_end, query_start, where_bytes}
-use Rattle.sql_builder.proofs.output.PrintingLemmas.{query_is}
-use Rattle.sql_builder.proofs.output.LoopFacts.{prints_both, room_rest}
+use Rattle.sql_builder.proofs.Imports.{◌++◌}
+use Rattle.sql_builder.specs.{query_end, query_start, where_bytes}
+use Rattle.sql_builder.proofs.output.{query_is, prints_both, room_rest}
 use Rattle.sql_builder.proofs.builder.SqlBuilder.push_query.Goals as goal
 
 pub push_query_end-requires : goal.push_query_end-requires

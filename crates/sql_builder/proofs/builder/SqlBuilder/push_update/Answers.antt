@@ -1,11 +1,6 @@
-use Rattle.std.proofs.Common.{◌++◌, codes, subst, sym}
-use Rattle.sql_builder.specs.Concat.{Fits, Prints}
-use Rattle.sql_builder.specs.contracts.builder.SqlBuilder.{the_view}
-use Rattle.sql_builder.specs.Layout.{byte_units}
-use Rattle.sql_builder.specs.Phrases.{comma_list}
-use Rattle.sql_builder.specs.Printed.{optional_bytes, where_bytes}
-use Rattle.sql_builder.proofs.output.PrintingLemmas.{update_is}
-use Rattle.sql_builder.proofs.output.LoopFacts.{prints_both, room_first}
+use Rattle.sql_builder.proofs.Imports.{◌++◌, codes, subst, sym, the_view}
+use Rattle.sql_builder.specs.{Fits, Prints, byte_units, comma_list, optional_bytes, where_bytes}
+use Rattle.sql_builder.proofs.output.{update_is, prints_both, room_first}
 use Rattle.sql_builder.proofs.builder.SqlBuilder.push_update.Goals as goal
 
 pub returns : goal.returns

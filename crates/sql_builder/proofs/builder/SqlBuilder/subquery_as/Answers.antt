@@ -1,8 +1,7 @@
-use Rattle.std.proofs.Common.{◌≡◌, string_bytes, subst}
-use Rattle.sql_builder.specs.Layout.{byte_units, subquery_as}
-use Rattle.sql_builder.proofs.pieces.LayoutShapeLemmas.{subquery_as_closed, subquery_as_shape}
-use Rattle.sql_builder.proofs.reading.ReadBackLemmas.{subquery_as_nests}
-use Rattle.sql_builder.proofs.reading.SubqueryLemmas.{subquery_as_table}
+use Rattle.sql_builder.proofs.Imports.{◌≡◌, string_bytes, subst}
+use Rattle.sql_builder.specs.{byte_units, subquery_as}
+use Rattle.sql_builder.proofs.pieces.{subquery_as_closed, subquery_as_shape}
+use Rattle.sql_builder.proofs.reading.{subquery_as_nests, subquery_as_table}
 use Rattle.sql_builder.proofs.builder.SqlBuilder.subquery_as.Goals as goal
 
 pub returns : goal.returns

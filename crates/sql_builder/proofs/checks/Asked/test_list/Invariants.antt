@@ -1,7 +1,5 @@
-use Rattle.std.proofs.Common.{◌≡◌, ◌+◌, ◌≤◌, length, map}
-use Rattle.sql_parts.specs.Text.{texts}
-use Rattle.sql_builder.specs.Calls.{field_text}
-use Rattle.sql_builder.specs.Unfits.{texts_test}
+use Rattle.sql_builder.proofs.Imports.{◌≡◌, ◌+◌, ◌≤◌, length, map, texts}
+use Rattle.sql_builder.specs.{field_text, texts_test}
 use Rattle.sql_builder.proofs.checks.Asked.test_list.Given as goal
 
 abbrev pub invariant-loop-rest : goal.invariant-loop-rest

@@ -1,6 +1,4 @@
-use denote.RattleType.{RattleType}
-use denote.Param.Send.{IsSend, owning_send, sendable}
-use Rattle.sql_builder.specs.contracts.ghost_list.GhostList.{the_row, the_type}
+use Rattle.sql_builder.proofs.Imports.{RattleType, IsSend, owning_send, sendable, the_row, the_type}
 
 pub send : (T : RattleType) → IsSend T → IsSend (the_row T)
 send T t = owning_send (the_type T) (search sendable, tt) (λ d. tt) (λ k x w. tt)

@@ -1,22 +1,17 @@
 -- A struct of no bytes is made, with the list that the caller picks. The prover makes no struct with ghost data by itself, so this
 -- follows the code statement by statement.
-use Rattle.std.proofs.Common.{[], ◌∷◌, refl}
+use Rattle.sql_builder.proofs.Imports.{[], ◌∷◌, refl, a_type, named, inst_fn, tables, owns, plain, types_at}
 use Rattle.std.proofs.raw_atomic.Walks.{proved}
-use mir.Syntax.{a_type, named}
 use mir.Val.{Val, vnil, vptr, vstruct, vcons}
-use mir.MapTy.{inst_fn}
 use types.Kit.{‵, raw, ◌⊛◌, ◌$◌, ◌∵◌, !, qed, keep, split, fjoin, suffices, move, done}
 use types.Run.{enter, returns, and_then, no_more}
 use types.ByLocal.{alloc_all, pass_all, free_all, look_at, get, sets}
 use types.Part.{agg}
-use contract.Running.{tables}
 use denote.Exit.{yes}
-use denote.RattleType.{owns}
 use denote.Builtin.{RefOf}
 use denote.Param.{param, layouts}
 use denote.Ref.{shr_vals, shr_Tells}
 use denote.Shadow.{pure_i}
-use denote.Signature.{plain, types_at}
 use denote.Steps.{nothing}
 use denote.Triple.Entry.{alive}
 use denote.Triple.Walked.{says, ends_at, Stays, stay_dropped, walk_of, Goes-dropped}

@@ -1,6 +1,5 @@
-use Rattle.std.proofs.Common.{◌≡◌, [], ◌∷◌, ◌++◌, ◌==◌, false, ℕ, List, arith, flat_map, length, refl}
-use Rattle.std.proofs.lemmas.Bool.Decides.{nat_tests}
-use Rattle.sql_builder.specs.PrintedLists.{HasByte}
+use Rattle.sql_builder.proofs.Imports.{◌≡◌, [], ◌∷◌, ◌++◌, ◌==◌, false, ℕ, List, arith, flat_map, length, refl, nat_tests}
+use Rattle.sql_builder.specs.{HasByte}
 use Rattle.sql_builder.proofs.printed_list.PrintedList.is_empty.Goals as goal
 
 longer : (bytes rest : List ℕ) → HasByte bytes → (length (bytes ++ rest) == 0) ≡ false
