@@ -5,3 +5,4 @@ pub mod parameters
 pub mod rows
 pub mod templates
 pub mod tokens
+pub mod Imports

@@ -9,3 +9,17 @@ pub mod OperandFacts
 pub mod PlaceholderFacts
 pub mod SideLemmas
 pub mod StringTextFacts
+-- Each name of these files, for one line of imports.
+unfoldable pub use BetweenLemmas.*
+unfoldable pub use DepthCountLemmas.*
+unfoldable pub use DepthFacts.*
+unfoldable pub use HoleLemmas.*
+unfoldable pub use KeywordLemmas.*
+unfoldable pub use MisfitLemmas.*
+unfoldable pub use OpenRangeLemmas.*
+unfoldable pub use OperandFacts.*
+unfoldable pub use PlaceholderFacts.*
+unfoldable pub use SideLemmas.*
+unfoldable pub use StringTextFacts.*
+pub use Rattle.sql_parts.proofs.fragments.DepthCountLemmas.{has_top_level-is, is_at_least_0, is_zero}
+pub use Rattle.sql_parts.proofs.fragments.MisfitLemmas.{serves}

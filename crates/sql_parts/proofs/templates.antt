@@ -8,3 +8,15 @@ pub mod PairLemmas
 pub mod PlaceholderLemmas
 pub mod ResolveLemmas
 pub mod UnchangedTextFacts
+-- Each name of these files, for one line of imports.
+unfoldable pub use ApartFacts.*
+unfoldable pub use BoundReaderLemmas.*
+unfoldable pub use BoundSeamLemmas.*
+unfoldable pub use BoundTextFacts.*
+unfoldable pub use CallerFacts.*
+unfoldable pub use HoleFacts.*
+unfoldable pub use PairLemmas.*
+unfoldable pub use PlaceholderLemmas.*
+unfoldable pub use ResolveLemmas.*
+unfoldable pub use UnchangedTextFacts.*
+pub use Rattle.sql_parts.proofs.templates.HoleFacts.{cut-behind}

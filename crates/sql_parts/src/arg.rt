@@ -1,9 +1,7 @@
 //! Literals of SQL, and values that have one.
 ghost use Rattle.std.specs.Prelude.{◌≡◌, ◌++◌, pos, string_bytes, IfOk, OnErr, OnOk};
 ghost use Rattle.std.specs.Cow.{cow_str_bytes};
-ghost use Rattle.sql_parts.specs.Error.{FailsOnlyByMemory};
-ghost use Rattle.sql_parts.specs.Literal.{LiteralValue, literal_or_null, literal_text, literal_value};
-ghost use Rattle.sql_parts.specs.Literal.{truth, whole, words};
+ghost use Rattle.sql_parts.specs.{FailsOnlyByMemory, LiteralValue, literal_or_null, literal_text, literal_value, truth, whole, words};
 
 use crate::delimiters::Quotes;
 use crate::error::SqlBuilderError;

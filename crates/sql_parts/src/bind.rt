@@ -1,8 +1,7 @@
 //! Values in place of the placeholders of a text.
 ghost use Rattle.std.specs.Prelude.{◌≡◌, Err, IfOk, IsSome, List, None, Some, length, map, string_bytes, ℕ};
-ghost use Rattle.sql_parts.specs.Error.{FailsOnlyByMemory};
+ghost use Rattle.sql_parts.specs.{FailsOnlyByMemory, alone, bound, listed, looked_up, resolve, HasBoundTokens, IsClosedIfApart};
 ghost use Rattle.sql_parts.specs.Templates as templates;
-ghost use Rattle.sql_parts.specs.Templates.{alone, bound, listed, looked_up, resolve, HasBoundTokens, IsClosedIfApart};
 ghost use Rattle.sql_parts.specs.declared.error.SqlBuilderError.TheVariants.{NoArguments};
 
 use crate::arg::SqlArg;

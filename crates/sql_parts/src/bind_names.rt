@@ -7,9 +7,7 @@ ghost use Rattle.std.specs.HashMap.{get_by};
 ghost use Rattle.std.specs.Map.{lookup};
 ghost use Rattle.std.specs.Ordering.{nat_cmp};
 ghost use Rattle.std.specs.Str.{bytes_eq};
-ghost use Rattle.sql_parts.specs.Error.{FailsOnlyByMemory};
-ghost use Rattle.sql_parts.specs.Literal.{LiteralValue, literal_text, null};
-ghost use Rattle.sql_parts.specs.Pairs.{ArePlaces, last_value};
+ghost use Rattle.sql_parts.specs.{FailsOnlyByMemory, LiteralValue, literal_text, null, ArePlaces, last_value};
 
 use crate::arg::SqlArg;
 use crate::error::SqlBuilderError;

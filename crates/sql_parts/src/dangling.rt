@@ -1,10 +1,7 @@
 //! What dangles: an OR, AND or NOT where it may not be, and a BETWEEN without its AND.
 ghost use Rattle.std.specs.Prelude.{◌≡◌, ◌&&◌, [], ◌∷◌, List, IfErr, IfOk, IsTrue, false, not, true};
-ghost use Rattle.sql_parts.specs.Error.{IsMemory};
-ghost use Rattle.sql_parts.specs.Fragments.{is_closing, is_opening, needs_left, needs_right, raises};
-ghost use Rattle.sql_parts.specs.Roles.{HasRole};
+ghost use Rattle.sql_parts.specs.{IsMemory, is_closing, is_opening, needs_left, needs_right, raises, HasRole, all_have_ands, open_ranges};
 ghost use Rattle.sql_parts.specs.Tokens as tokens;
-ghost use Rattle.sql_parts.specs.Ranges.{all_have_ands, open_ranges};
 
 use crate::error::SqlBuilderError;
 use crate::roles::Role;

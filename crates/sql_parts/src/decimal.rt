@@ -2,8 +2,7 @@
 ghost use Rattle.std.specs.Prelude.{◌≡◌, ◌+◌, ◌/◌, ◌%◌, ◌^◌, ◌<◌, ◌≤◌, ◌∷◌, ◌++◌, IfOk, OnErr, OnOk, drop, length, string_bytes, suc};
 ghost use Rattle.std.specs.Fmt.{decimal, signed_decimal};
 ghost use Rattle.std.specs.Str.{IsAscii};
-ghost use Rattle.sql_parts.specs.Decimal.{last_digits};
-ghost use Rattle.sql_parts.specs.Text.{decimal_text, number_text};
+ghost use Rattle.sql_parts.specs.{last_digits, decimal_text, number_text};
 
 use std::alloc::{AllocError, Global};
 use std::str;

@@ -1,7 +1,6 @@
 //! The nesting depth at a place of a text, counted token by token.
 ghost use Rattle.std.specs.Prelude.{◌≡◌, ◌==◌, ◌+◌, ◌<◌, nat_lt};
-ghost use Rattle.sql_parts.specs.Fragments.{lowers, raises, weight};
-ghost use Rattle.sql_parts.specs.Roles.{HasRole};
+ghost use Rattle.sql_parts.specs.{lowers, raises, weight, HasRole};
 ghost use Rattle.sql_parts.specs.Tokens as tokens;
 
 use crate::roles::Role;

@@ -1,7 +1,6 @@
 //! Texts whose types say that they fit where a statement takes a fragment or an operand.
 ghost use Rattle.std.specs.Prelude.{◌≡◌, is_ok, string_bytes, IfErr, IfOk, IsTrue, Some};
-ghost use Rattle.sql_parts.specs.Misfits.{misfit};
-ghost use Rattle.sql_parts.specs.Operands.{ServesAsOperand, is_fragment, is_typed_fragment, is_typed_operand};
+ghost use Rattle.sql_parts.specs.{misfit, ServesAsOperand, is_fragment, is_typed_fragment, is_typed_operand};
 ghost use Rattle.sql_parts.specs.declared.misfits.Demand.TheVariants as demand;
 
 use crate::error::SqlBuilderError;

@@ -1,7 +1,6 @@
 //! Templates with holes, and how an operand is written in one.
 ghost use Rattle.std.specs.Prelude.{◌≡◌};
-ghost use Rattle.sql_parts.specs.Holes.{hole_count, holes_apart, is_bracketed, is_dotted, is_unit, unsigned};
-ghost use Rattle.sql_parts.specs.Tokens.{tokens};
+ghost use Rattle.sql_parts.specs.{hole_count, holes_apart, is_bracketed, is_dotted, is_unit, unsigned, tokens};
 
 use crate::lex::{is_balanced, segment_apart};
 use crate::tokenizer::{Token, first_token};

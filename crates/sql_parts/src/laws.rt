@@ -2,23 +2,18 @@
 ghost use Rattle.std.specs.Prelude.{◌≡◌, ◌++◌, ◌∷◌, [], Bool, IsTrue, List, codes, length, nat_eq, not, ℕ, ℤ};
 ghost use Rattle.std.specs.List.{count_by, ends_with, list_any, starts_with};
 ghost use Rattle.std.specs.Str.Iter.{HasSubslice};
-ghost use Rattle.sql_parts.specs.Fragments.{balanced, dangling, has_clause_word, has_top_level, is_balanced, is_clause_word, is_dangling, is_operand, operand};
-ghost use Rattle.sql_parts.specs.StringTexts.{ArgumentsDifferInTexts, BlankSomewhere, BoundTextsAreStrings, BoundTextsDoNotInterfere};
-ghost use Rattle.sql_parts.specs.StringTexts.{BoundTextsKeepTheirPlaces, IgnoresBoundTexts, IgnoresStrings, NamesDifferInTexts, outline, semicolon_count};
-ghost use Rattle.sql_parts.specs.TextLaws.{DifferInTexts, EndsAsWritten, HasOneReading, LeavesTextWithout, MasksMatch, UndoesDoubling, IsInjective, colon};
-ghost use Rattle.sql_parts.specs.TextLaws.{dollar, question_mark, token_count};
-ghost use Rattle.sql_parts.specs.ReaderLaws.{IsInsideUntilItsEnd, LeadsAsNoText, PartsAreAtPlaces, ReadersIgnoreBoundTexts, ReadersIgnoreDoubledTexts, StaysInside};
+ghost use Rattle.sql_parts.specs.{balanced, dangling, has_clause_word, has_top_level, is_balanced, is_clause_word, is_dangling, is_operand, operand};
+ghost use Rattle.sql_parts.specs.{ArgumentsDifferInTexts, BlankSomewhere, BoundTextsAreStrings, BoundTextsDoNotInterfere, BoundTextsKeepTheirPlaces};
+ghost use Rattle.sql_parts.specs.{IgnoresBoundTexts, IgnoresStrings, NamesDifferInTexts, outline, semicolon_count, DifferInTexts, EndsAsWritten, HasOneReading};
+ghost use Rattle.sql_parts.specs.{LeavesTextWithout, MasksMatch, UndoesDoubling, IsInjective, colon, dollar, question_mark, token_count, IsInsideUntilItsEnd};
+ghost use Rattle.sql_parts.specs.{LeadsAsNoText, PartsAreAtPlaces, ReadersIgnoreBoundTexts, ReadersIgnoreDoubledTexts, StaysInside, baquoted, brquoted, dquoted};
+ghost use Rattle.sql_parts.specs.{escaped, quoted, LiteralValue, literal_text, words, safe_text, NamesAreOperands, ServesAsOperand, has_operand_parts};
+ghost use Rattle.sql_parts.specs.Name.{Name};
+ghost use Rattle.sql_parts.specs.{is_operand_alias, NumbersAreBound, PlaceholdersAreBound, TextsBindApart, placeholder_text, prefix, bool_text, decimal_text};
+ghost use Rattle.sql_parts.specs.{number_text, Cycle, First, Names, Nums, Value, bound, apart, literal_tokens, HasNoBackslash, OpensEveryLiteral};
+ghost use Rattle.sql_parts.specs.{OpensWithoutBackslashes, ReadsClosed, Symbol, Word, clean, closed, is_open, is_semicolon, tokens};
 ghost use Rattle.sql_parts.specs.declared.delimiters.Quotes.TheVariants.{Back, Double, Single, Square};
-ghost use Rattle.sql_parts.specs.Quoting.{baquoted, brquoted, dquoted, escaped, quoted};
-ghost use Rattle.sql_parts.specs.Literal.{LiteralValue, literal_text, words};
-ghost use Rattle.sql_parts.specs.Name.{Name, safe_text};
-ghost use Rattle.sql_parts.specs.Operands.{NamesAreOperands, ServesAsOperand, has_operand_parts, is_operand_alias};
-ghost use Rattle.sql_parts.specs.NumberedTexts.{NumbersAreBound, PlaceholdersAreBound, TextsBindApart};
-ghost use Rattle.sql_parts.specs.Parameters.{placeholder_text, prefix};
-ghost use Rattle.sql_parts.specs.Text.{bool_text, decimal_text, number_text};
-ghost use Rattle.sql_parts.specs.Templates.{Cycle, First, Marks, Names, Nums, Value, bound, apart, literal_tokens};
-ghost use Rattle.sql_parts.specs.TokenReader.{HasNoBackslash, OpensEveryLiteral, OpensWithoutBackslashes, ReadsClosed};
-ghost use Rattle.sql_parts.specs.Tokens.{Symbol, Word, clean, closed, is_open, is_semicolon, tokens};
+ghost use Rattle.sql_parts.specs.Templates.{Marks};
 ghost use Rattle.sql_parts.specs.declared.parameter.Style.{Style};
 
 /// States that two texts whose quoted texts are equal are equal, in each of the five forms of

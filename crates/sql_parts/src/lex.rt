@@ -1,14 +1,9 @@
 //! Tests of fragments, which read a text as the tokens of SQL.
 ghost use Rattle.std.specs.Prelude.{◌≡◌, ◌&&◌, IfErr, IfOk, codes, if◌then◌else◌, is_none, not, true};
-ghost use Rattle.sql_parts.specs.Backslash.{has_backslash};
-ghost use Rattle.sql_parts.specs.Error.{FailsOnlyByMemory};
-ghost use Rattle.sql_parts.specs.Fragments.{IsMemoryForNesting, balanced, dangling, has_clause_word, encloses_clauses, has_dialect_word, has_top_level, is_balanced, is_clause_word, is_dialect_word, is_word, operand};
-ghost use Rattle.sql_parts.specs.Misfits.{meets, misfit};
-ghost use Rattle.sql_parts.specs.Placeholders.{marks_of};
-ghost use Rattle.sql_parts.specs.Roles.{HasRole, is_barred};
-ghost use Rattle.sql_parts.specs.Templates.{resolved_from, apart, segment_apart, segments_apart};
+ghost use Rattle.sql_parts.specs.{has_backslash, FailsOnlyByMemory, IsMemoryForNesting, balanced, dangling, has_clause_word, encloses_clauses, has_dialect_word};
+ghost use Rattle.sql_parts.specs.{has_top_level, is_balanced, is_clause_word, is_dialect_word, is_word, operand, meets, misfit, marks_of, HasRole, is_barred};
+ghost use Rattle.sql_parts.specs.{resolved_from, apart, segment_apart, segments_apart, begins_with, ends_with, has_semicolon, is_empty, is_separator};
 ghost use Rattle.sql_parts.specs.Tokens as tokens;
-ghost use Rattle.sql_parts.specs.Tokens.{begins_with, ends_with, has_semicolon, is_empty, is_separator};
 
 use crate::dangling::{OpenRanges, Sides};
 use crate::depth::Depth;

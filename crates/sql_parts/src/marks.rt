@@ -1,9 +1,10 @@
 //! The marks of a statement's text: its numbered placeholders, and `?` without a number.
 ghost use Rattle.std.specs.Prelude.{◌≡◌, ◌≢◌, ◌<◌, ◌∷◌, ◌⊎◌, [], IfSome, MatchOption, None, drop, length};
 ghost use Rattle.std.specs.List.{prefix_len};
-ghost use Rattle.sql_parts.specs.Marks.{IsMark, IsRead};
+ghost use Rattle.sql_parts.specs.{IsMark, is_name_byte, mark_at};
+ghost use Rattle.sql_parts.specs.Marks.{IsRead};
 ghost use Rattle.sql_parts.specs.Positional as positional;
-ghost use Rattle.sql_parts.specs.Positional.{cut, is_name_byte, mark_at};
+ghost use Rattle.sql_parts.specs.Positional.{cut};
 ghost use Rattle.sql_parts.specs.declared.parameter.Style.{Style};
 
 use crate::parameter::{Style, prefix_of};

@@ -1,13 +1,9 @@
 //! Names of tables and columns, as parts with dots between them and perhaps an alias.
 ghost use Rattle.std.specs.Prelude.{◌≡◌, ◌++◌, Some, codes, flat_map, map, string_bytes, IfOk, IsTrue, OnErr, OnOk};
 ghost use Rattle.std.specs.List.{list_all};
-ghost use Rattle.sql_parts.specs.Error.{FailsOnlyByMemory};
-ghost use Rattle.sql_parts.specs.Name.{alias_text, fits_form, is_plain, is_plain_byte, name_of, name_parts, name_text, name_token, name_tokens, safe_form, safe_text};
-ghost use Rattle.sql_parts.specs.Name.{safe_tokens};
-ghost use Rattle.sql_parts.specs.Name.{str_token, tokens_in, with_alias, with_part, with_change, written_in};
-ghost use Rattle.sql_parts.specs.Quoting.{baquoted, between, brquoted, dquoted, quoted};
-ghost use Rattle.sql_parts.specs.Text.{join_with, optional_texts, texts};
-ghost use Rattle.sql_parts.specs.Tokens.{closed, tokens};
+ghost use Rattle.sql_parts.specs.{FailsOnlyByMemory, alias_text, fits_form, is_plain, is_plain_byte, name_of, name_parts, name_text, name_token, name_tokens};
+ghost use Rattle.sql_parts.specs.{safe_form, safe_text, safe_tokens, str_token, tokens_in, with_alias, with_part, with_change, written_in, baquoted, between};
+ghost use Rattle.sql_parts.specs.{brquoted, dquoted, quoted, join_with, optional_texts, texts, closed, tokens};
 
 use crate::error::SqlBuilderError;
 use crate::loan::{Held, release};

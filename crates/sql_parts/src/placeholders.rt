@@ -4,11 +4,10 @@ ghost use Rattle.std.specs.Char.{is_ascii_digit};
 ghost use Rattle.std.specs.Cow.{cow_str_bytes};
 ghost use Rattle.std.specs.List.{prefix_len};
 ghost use Rattle.std.specs.Str.Parse.{digits_value};
-ghost use Rattle.sql_parts.specs.Error.{FailsOnlyByMemory};
-ghost use Rattle.sql_parts.specs.Placeholders.{IsNumber, RepresentsPlace, marks_of, place_of};
-ghost use Rattle.sql_parts.specs.Search.{front_of};
+ghost use Rattle.sql_parts.specs.{FailsOnlyByMemory, IsNumber, RepresentsPlace, marks_of, place_of, front_of, Writes, counted, named, numbered, place_behind};
+ghost use Rattle.sql_parts.specs.{resolved_from};
 ghost use Rattle.sql_parts.specs.Templates as templates;
-ghost use Rattle.sql_parts.specs.Templates.{Writes, counted, followed_by, named, numbered, prefix, place_behind, resolved_from};
+ghost use Rattle.sql_parts.specs.Templates.{followed_by, prefix};
 
 use crate::arg::SqlArg;
 use crate::error::SqlBuilderError;

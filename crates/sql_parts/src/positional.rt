@@ -1,8 +1,8 @@
 //! Values by their order in a statement's text, for databases whose placeholders have no numbers.
 ghost use Rattle.std.specs.Prelude.{◌≡◌, ◌++◌, IfErr, IfOk, IfSome, MatchResult, None, Some, flat_map, is_none, length, map, string_bytes};
-ghost use Rattle.sql_parts.specs.Marks.{IsMark};
+ghost use Rattle.sql_parts.specs.{IsMark, error_of, first_error, marks, positional_text};
 ghost use Rattle.sql_parts.specs.Positional as positional;
-ghost use Rattle.sql_parts.specs.Positional.{IsMemory, error_of, first_error, marks, message_text, positional_text, value_of};
+ghost use Rattle.sql_parts.specs.Positional.{IsMemory, message_text, value_of};
 
 use crate::marks::{Mark, first_mark};
 use crate::parameter::{Parameters, Style};

@@ -2,9 +2,8 @@
 ghost use Rattle.std.specs.Prelude.{◌≡◌, ◌<◌, [], ◌∷◌, ◌++◌, codes, string_bytes, IfOk, IfSome, IsTrue, MatchOption, OnErr, OnOk};
 ghost use Rattle.std.specs.Cow.{cow_str_bytes};
 ghost use Rattle.std.specs.Io.{StartsWith};
-ghost use Rattle.sql_parts.specs.Error.{FailsOnlyByMemory};
-ghost use Rattle.sql_parts.specs.Quoting.{baquoted, between, brquoted, doubled, dquoted, escaped, quoted};
-ghost use Rattle.sql_parts.specs.Tokens.{Name, Str, closed, quoted_token, tokens};
+ghost use Rattle.sql_parts.specs.{FailsOnlyByMemory, baquoted, between, brquoted, doubled, dquoted, escaped, quoted, Str, closed, quoted_token, tokens};
+ghost use Rattle.sql_parts.specs.Tokens.{Name};
 
 use crate::delimiters::{Quotes, push_doubled, split_at_delimiter};
 use crate::error::SqlBuilderError;

@@ -1,10 +1,8 @@
 //! What tokens mean to the tests of fragments.
 ghost use Rattle.std.specs.Prelude.{◌≡◌, ◌<◌, [], ◌∷◌, IfSome, MatchOption, codes, if◌then◌else◌, length};
 ghost use Rattle.std.specs.Str.{str_eq_ignore_ascii_case};
-ghost use Rattle.sql_parts.specs.Fragments.{starts_clause, is_clause_word, is_closing, is_dialect_word, is_joining, is_opening, is_whole, is_word, lowers, needs_left, needs_right, raises};
-ghost use Rattle.sql_parts.specs.Tokenizer.{Represents};
-ghost use Rattle.sql_parts.specs.Roles.{HasRole};
-ghost use Rattle.sql_parts.specs.Tokens.{Token, Symbol, Word, tokens};
+ghost use Rattle.sql_parts.specs.{starts_clause, is_clause_word, is_closing, is_dialect_word, is_joining, is_opening, is_whole, is_word, lowers, needs_left};
+ghost use Rattle.sql_parts.specs.{needs_right, raises, Represents, HasRole, Token, Symbol, Word, tokens};
 
 use crate::tokenizer;
 

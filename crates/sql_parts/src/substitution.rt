@@ -1,10 +1,8 @@
 //! One pass over a template, which puts literals in place of its placeholders.
 ghost use Rattle.std.specs.Prelude.{◌≡◌, ◌<◌, ◌++◌, ⊤, IfOk, None, OnOk, Some, if◌then◌else◌, length, map, string_bytes};
-ghost use Rattle.sql_parts.specs.Error.{FailsOnlyByMemory};
-ghost use Rattle.sql_parts.specs.Literal.{LiteralValue, literal_text};
-ghost use Rattle.sql_parts.specs.Placeholders.{marks_of, value_of};
+ghost use Rattle.sql_parts.specs.{FailsOnlyByMemory, LiteralValue, literal_text, marks_of, value_of, alone, listed, looked_up, resolve, resolved_from, written};
+ghost use Rattle.sql_parts.specs.{HasBoundTokens, IsClosedIfApart, IsSupplied};
 ghost use Rattle.sql_parts.specs.Templates as templates;
-ghost use Rattle.sql_parts.specs.Templates.{alone, listed, looked_up, resolve, resolved_from, written, HasBoundTokens, IsClosedIfApart, IsSupplied};
 
 use crate::arg::SqlArg;
 use crate::bind_names::{BindNames, push_found};

@@ -3,9 +3,7 @@
 ghost use Rattle.std.specs.Prelude.{◌≡◌, ◌++◌, [], ◌∷◌, ℕ, List, MatchOption, map, string_bytes, IfOk, OnErr, OnOk};
 ghost use Rattle.std.specs.Char.{encode_utf8};
 ghost use Rattle.std.specs.Cow.{cow_str_bytes};
-ghost use Rattle.sql_parts.specs.Error.{FailsOnlyByMemory};
-ghost use Rattle.sql_parts.specs.Like.{escape_character, like_escaped};
-ghost use Rattle.sql_parts.specs.Text.{bool_text, decimal_text, has_byte, number_text, optional_text, texts};
+ghost use Rattle.sql_parts.specs.{FailsOnlyByMemory, escape_character, like_escaped, bool_text, decimal_text, has_byte, number_text, optional_text, texts};
 
 use crate::decimal::{push_signed, push_unsigned, signed_text, unsigned_text};
 pub use crate::delimiters::Quotes;

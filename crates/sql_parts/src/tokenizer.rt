@@ -1,9 +1,9 @@
 //! The tokens of a text, read from its front.
 ghost use Rattle.std.specs.Prelude.{◌≡◌, ◌<◌, ℕ, List, [], ◌∷◌, IfSome, MatchOption, None, Some, drop, length, option_map, take};
 ghost use Rattle.std.specs.List.{prefix_len};
-ghost use Rattle.sql_parts.specs.Tokenizer.{IsRead, Represents, behind_bytes, optional_bytes};
+ghost use Rattle.sql_parts.specs.{IsRead, Represents, behind_bytes, optional_bytes, closed, is_word_byte, reach, unquoted};
 ghost use Rattle.sql_parts.specs.Tokens as tokens;
-ghost use Rattle.sql_parts.specs.Tokens.{closed, inside, is_word_byte, reach, unquoted};
+ghost use Rattle.sql_parts.specs.Tokens.{inside};
 ghost use Rattle.sql_parts.specs.declared.tokenizer.Token.TheVariants as seen;
 
 /// A token of a text. What is between quotes isn't stored.

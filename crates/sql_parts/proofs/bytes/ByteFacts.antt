@@ -1,11 +1,7 @@
 -- A search for a byte tells whether a text has it.
-use Rattle.std.proofs.Common.{◌≡◌, ◌≢◌, ℕ, ◌<◌, List, false, Option, Some, None, get_or, length, inl, inr, sym}
-use Rattle.std.specs.Prelude.{◌==◌, MatchOption, slice_index}
-use Rattle.std.specs.Option.{is_some}
-use Rattle.std.proofs.lemmas.Bool.Decides.{eqb_tells}
-use Rattle.std.proofs.lemmas.List.Elements.{All-from_get_or}
-use Rattle.std.proofs.lemmas.List.Folds.{list_any_at, list_any_none}
-use Rattle.sql_parts.specs.Text.{has_byte}
+use Rattle.sql_parts.proofs.Imports.{◌≡◌, ◌≢◌, ℕ, ◌<◌, List, false, Option, Some, None, get_or, length, inl, inr, sym, ◌==◌, MatchOption, slice_index, is_some}
+use Rattle.sql_parts.proofs.Imports.{eqb_tells, All-from_get_or, list_any_at, list_any_none}
+use Rattle.sql_parts.specs.{has_byte}
 
 pub found_byte : (text : List ℕ) (byte : ℕ) (found : Option ℕ)
     → MatchOption found ((k : ℕ) → k < length text → slice_index text k ≢ byte)

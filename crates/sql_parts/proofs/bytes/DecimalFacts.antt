@@ -1,14 +1,8 @@
 -- The decimal text of a number is what `Display` writes of it, for every integer type.
-use Rattle.std.proofs.Common.{◌≡◌, ℕ, zero, suc, ◌+◌, ◌%◌, ◌/◌, ◌<◌, ◌^◌, List, [], ◌∷◌, ◌++◌, map, ℤ, sym, ap, ◌∙◌, arith}
-use Rattle.std.specs.Prelude.{pos, negsuc, FitsSigned, codes, if◌then◌else◌}
-use Rattle.std.specs.Int.{w128}
-use Rattle.std.specs.Fmt.{decimal, signed_decimal}
-use Rattle.std.specs.Int.Digits.{digits_of}
-use Rattle.std.proofs.lemmas.Fmt.{decimal_by_steps_wide, decimal_digit}
-use Rattle.std.proofs.lemmas.Int.Digits.{digits_of_step}
-use Rattle.std.proofs.lemmas.List.{map_push}
-use Rattle.std.proofs.lemmas.Bool.{ne_eqb}
-use Rattle.sql_parts.specs.Text.{decimal_text, number_text}
+use Rattle.sql_parts.proofs.Imports.{◌≡◌, ℕ, zero, suc, ◌+◌, ◌%◌, ◌/◌, ◌<◌, ◌^◌, List, [], ◌∷◌, ◌++◌, map, ℤ, sym, ap, ◌∙◌, arith, pos, negsuc, FitsSigned}
+use Rattle.sql_parts.proofs.Imports.{codes, if◌then◌else◌, w128, decimal, signed_decimal, digits_of, decimal_digit, digits_of_step, map_push, ne_eqb}
+use Rattle.std.proofs.lemmas.Fmt.{decimal_by_steps_wide}
+use Rattle.sql_parts.specs.{decimal_text, number_text}
 
 -- the digits of a number that is not 0, as bytes
 abbrev glyphs : ℕ → List ℕ

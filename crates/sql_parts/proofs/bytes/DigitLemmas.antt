@@ -1,14 +1,13 @@
 -- The digits of a number, two or nineteen at a time.
-use Rattle.std.proofs.Common.{◌≡◌, ℕ, zero, suc, ◌+◌, ◌-◌, ◌*◌, ◌/◌, ◌%◌, ◌^◌, ◌<◌, ◌≤◌, Bool, true, ◌&&◌, T, eqb, List, [], ◌∷◌, ◌++◌, length, get_or, refl, ap, ◌∙◌, inl, inr, arith}
-use Rattle.std.proofs.Common.{lit<, mul_assoc, mul_comm, mul-le-mul_left, mul-one, ℤ, pos, negsuc, FitsSigned, false, int_le, true≢false, unsigned_abs, eq-zero-or-pos, eqb→eq, append_assoc, append-nil, length-append, sym}
-use Rattle.std.specs.Fmt.{decimal, signed_decimal}
-use Rattle.std.proofs.lemmas.Fmt.{decimal_digit, decimal_step, decimal_step_wide, length-decimal-le_wide, IsAscii-decimal_wide}
+use Rattle.sql_parts.proofs.Imports.{◌≡◌, ℕ, zero, suc, ◌+◌, ◌-◌, ◌*◌, ◌/◌, ◌%◌, ◌^◌, ◌<◌, ◌≤◌, Bool, true, ◌&&◌, T, eqb, List, [], ◌∷◌, ◌++◌, length, get_or}
+use Rattle.sql_parts.proofs.Imports.{refl, ap, ◌∙◌, inl, inr, arith, lit<, mul_assoc, mul_comm, mul-le-mul_left, mul-one, ℤ, pos, negsuc, FitsSigned, false}
+use Rattle.sql_parts.proofs.Imports.{int_le, true≢false, unsigned_abs, eq-zero-or-pos, eqb→eq, append_assoc, append-nil, length-append, sym, decimal}
+use Rattle.sql_parts.proofs.Imports.{signed_decimal, decimal_digit, IsAscii-decimal_wide, w128, IsAscii}
+use Rattle.std.proofs.lemmas.Fmt.{decimal_step, decimal_step_wide, length-decimal-le_wide}
 use Rattle.std.proofs.lemmas.Str.Ascii.{IsAscii-cons}
-use Rattle.std.specs.Int.{w128}
-use Rattle.std.specs.Str.{IsAscii}
 use lib.Dec.{leb-zero}
 use lib.Ieee.Fits.{and_l, and_r}
-use Rattle.sql_parts.specs.Decimal.{last_digits}
+use Rattle.sql_parts.specs.{last_digits}
 use Rattle.sql_parts.specs.declared.decimal.TheConstants.{PAIRS}
 
 -- two digits

@@ -1,16 +1,10 @@
 -- What doubling makes of a text that is cut at its first delimiter, and that doubled texts differ where the texts do, and that what is appended to stays.
-use Rattle.std.proofs.Common.{◌≡◌, ◌≢◌, ℕ, zero, suc, ◌+◌, ◌<◌, ◌≤◌, List, [], ◌∷◌, ◌++◌, length, get_or, take, drop, refl, subst, sym, ap, ◌∙◌, length-take}
-use Rattle.std.proofs.Common.{append_assoc, arith}
+use Rattle.sql_parts.proofs.Imports.{◌≡◌, ◌≢◌, ℕ, zero, suc, ◌+◌, ◌<◌, ◌≤◌, List, [], ◌∷◌, ◌++◌, length, get_or, take, drop, refl, subst, sym, ap, ◌∙◌}
+use Rattle.sql_parts.proofs.Imports.{length-take, append_assoc, arith, IsCharBoundary, IsUtf8, if◌then◌else◌, ◌==◌, take-append_seam, flat_map-append}
+use Rattle.sql_parts.proofs.Imports.{nat_tests, append_cancel_right, drop_more, get_or-take, take-append-drop, IsCharBoundary-after_ascii, IsCharBoundary-start}
 use Rattle.std.specs.Io.{StartsWith}
-use Rattle.std.specs.Str.{IsCharBoundary, IsUtf8}
-use Rattle.std.specs.Prelude.{if◌then◌else◌, ◌==◌}
 use Rattle.std.proofs.KnownBytes.{starts_with_rest}
-use Rattle.std.proofs.Math.Seq.{take-append_seam}
-use Rattle.std.proofs.lemmas.Grind.{flat_map-append}
-use Rattle.std.proofs.lemmas.Bool.Decides.{nat_tests}
-use Rattle.std.proofs.lemmas.List.{append_cancel_right, drop_more, get_or-take, take-append-drop}
-use Rattle.std.proofs.lemmas.Str.{IsCharBoundary-after_ascii, IsCharBoundary-start}
-use Rattle.sql_parts.specs.Quoting.{doubled, enclosed}
+use Rattle.sql_parts.specs.{doubled, enclosed}
 
 -- a text without the delimiter stays as it is
 pub doubled-without : (delimiter : ℕ) (text : List ℕ) → ((i : ℕ) → i < length text → get_or text i 0 ≢ delimiter) → doubled delimiter text ≡ text

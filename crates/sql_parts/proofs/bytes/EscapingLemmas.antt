@@ -1,10 +1,7 @@
 -- A text is escaped run by run: each run reaches up to the next byte that is escaped, and begins with the one before.
-use Rattle.std.proofs.Common.{◌≡◌, ℕ, ◌+◌, ◌-◌, ◌<◌, ◌≤◌, true, false, List, [], ◌∷◌, ◌++◌, length, get_or, take, drop}
-use Rattle.std.proofs.Common.{refl, sym, ap, ◌∙◌, arith, append_assoc, drop-cons, length-drop}
-use Rattle.std.proofs.lemmas.Grind.{flat_map-append}
-use Rattle.std.proofs.lemmas.Bool.Decides.{nat_tests}
-use Rattle.std.proofs.lemmas.List.{get_or-drop, take_more}
-use Rattle.sql_parts.specs.Like.{is_special, like_escaped}
+use Rattle.sql_parts.proofs.Imports.{◌≡◌, ℕ, ◌+◌, ◌-◌, ◌<◌, ◌≤◌, true, false, List, [], ◌∷◌, ◌++◌, length, get_or, take, drop, refl, sym, ap, ◌∙◌, arith}
+use Rattle.sql_parts.proofs.Imports.{append_assoc, drop-cons, length-drop, flat_map-append, nat_tests, get_or-drop, take_more}
+use Rattle.sql_parts.specs.{is_special, like_escaped}
 use Rattle.sql_parts.proofs.bytes.LikeMaskFacts.{each}
 
 -- the run from one place to another

@@ -1,15 +1,10 @@
 -- Which of sixteen places have the first two bytes of a text.
-use Rattle.std.proofs.Common.{◌≡◌, ℕ, ◌+◌, ◌-◌, ◌%◌, ◌^◌, ◌<◌, ◌≤◌, cond, eqb, bit_and, Bool, true, false, List, [], ◌∷◌, map, length, get_or, replicate, w64}
-use Rattle.std.proofs.Common.{refl, sym, ap, ◌∙◌, subst, inl, inr, arith}
-use Rattle.std.specs.Prelude.{◌&&◌}
-use Rattle.std.specs.Int.{bit_at, trailing_zeros}
-use Rattle.std.proofs.lemmas.Bool.{cases_lt}
-use Rattle.std.proofs.lemmas.List.{get_or-map, get_or_past, length-map}
+use Rattle.sql_parts.proofs.Imports.{◌≡◌, ℕ, ◌+◌, ◌-◌, ◌%◌, ◌^◌, ◌<◌, ◌≤◌, cond, eqb, bit_and, Bool, true, false, List, [], ◌∷◌, map, length, get_or, replicate}
+use Rattle.sql_parts.proofs.Imports.{w64, refl, sym, ap, ◌∙◌, subst, inl, inr, arith, ◌&&◌, bit_at, trailing_zeros, cases_lt, get_or-map, get_or_past}
+use Rattle.sql_parts.proofs.Imports.{length-map, chunk, zip2, mask_l, top, Front}
 use Rattle.std.proofs.lemmas.Nat.Bits.{bit_at-trailing_zeros, bit_at-zero}
 use Rattle.std.proofs.lemmas.Simd.{bit_mask_l, get_or-chunk, get_or-zip2, length-chunk, length-zip2, map-map, mask_l-mod, zip2_splat}
-use lib.Lanes.{chunk, zip2, mask_l, top}
-use Rattle.sql_parts.specs.Search.{has_front}
-use Rattle.sql_parts.specs.declared.search.Front.{Front}
+use Rattle.sql_parts.specs.{has_front}
 
 -- the lanes of two vectors side by side
 abbrev pairs : List ℕ → List ℕ → List (ℕ × ℕ)

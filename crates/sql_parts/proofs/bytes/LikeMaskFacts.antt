@@ -1,22 +1,15 @@
 -- What masks match that are made of escaped texts.
-use Prim.Native.Char.{code}
-use Rattle.std.proofs.Common.{◌≡◌, ◌≢◌, ℕ, suc, ◌-◌, ◌<◌, ◌≤◌, true, false, List, [], ◌∷◌, ◌++◌, map, length, get_or, take, drop}
-use Rattle.std.proofs.Common.{Option, Some, None, refl, sym, ap, ◌∙◌, subst, inl, inr, arith, append-nil}
-use Rattle.std.specs.Prelude.{◌==◌, ◌||◌, ◌↔◌, codes, option_map, nat_eq, encode_utf8, encode_utf8_all, if◌then◌else◌}
-use Rattle.std.specs.Str.{IsUtf8, IsCharBoundary, chars}
+use Rattle.sql_parts.proofs.Imports.{code, ◌≡◌, ◌≢◌, ℕ, suc, ◌-◌, ◌<◌, ◌≤◌, true, false, List, [], ◌∷◌, ◌++◌, map, length, get_or, take, drop, Option, Some}
+use Rattle.sql_parts.proofs.Imports.{None, refl, sym, ap, ◌∙◌, subst, inl, inr, arith, append-nil, ◌==◌, ◌||◌, ◌↔◌, codes, option_map, nat_eq, encode_utf8}
+use Rattle.sql_parts.proofs.Imports.{encode_utf8_all, if◌then◌else◌, IsUtf8, IsCharBoundary, option_map_or, starts_with, ends_with, flat_map-append}
+use Rattle.sql_parts.proofs.Imports.{Decides-eqb, nat_tests, ends_is, starts_is, drop-append_seam, take-append_seam, and_from, and_parts, cases_Bool, cases_lt}
+use Rattle.sql_parts.proofs.Imports.{eq-eqb, eqb-true, ne_eqb, or_cases, or_left, or_parts, or_right, IsUtf8-take, IsCharBoundary-at_seam, chars-append}
+use Rattle.sql_parts.proofs.Imports.{chars-nil, chars-encodes, encode_ascii, encodes-append, encodes-chars, scalars-chars, inside_one}
+use Rattle.std.specs.Str.{chars}
 use Rattle.std.specs.Str.Iter.{HasSubslice}
-use Rattle.std.specs.Option.{option_map_or}
-use Rattle.std.specs.List.{starts_with, ends_with}
 use Rattle.std.proofs.Math.Utf8.{low_scalar, scalar, scalars}
-use Rattle.std.proofs.lemmas.Grind.{flat_map-append}
-use Rattle.std.proofs.lemmas.Bool.Decides.{Decides-eqb, nat_tests}
-use Rattle.std.proofs.lemmas.Slice.Eq.{ends_is, starts_is}
-use Rattle.std.proofs.Math.Seq.{drop-append_seam, take-append_seam}
-use Rattle.std.proofs.lemmas.Bool.{and_from, and_parts, cases_Bool, cases_lt, eq-eqb, eqb-true, ne_eqb, or_cases, or_left, or_parts, or_right}
-use Rattle.std.proofs.lemmas.Str.{IsUtf8-take, IsCharBoundary-at_seam, chars-append, chars-nil, chars-encodes, encode_ascii, encodes-append}
-use Rattle.std.proofs.lemmas.Str.{encodes-chars, scalars-chars, inside_one}
 use Rattle.sql_parts.proofs.bytes.SplitLemmas.{cut-before}
-use Rattle.sql_parts.specs.Like.{escape_character, Part, AnyRun, Exactly, fits, is_special, like_escaped, matches, parts, unescaped_part}
+use Rattle.sql_parts.specs.{escape_character, Part, AnyRun, Exactly, fits, is_special, like_escaped, matches, parts, unescaped_part}
 use Rattle.sql_parts.specs.declared.like.LikeEscape.{LikeEscape}
 use Rattle.sql_parts.specs.declared.like.LikeEscape.TheVariants.{Exclamation, Hash, Slash, Caret, Bar, Tilde}
 

@@ -1,19 +1,13 @@
 -- Where a text is cut at the first place of another one.
-use Rattle.std.proofs.Common.{◌≡◌, ℕ, ◌+◌, ◌<◌, ◌≤◌, false, List, [], ◌∷◌, ◌++◌, length, get_or, take, drop, refl, sym, ap, ap₂, ◌∙◌, subst, arith, inl, inr}
-use Rattle.std.proofs.Common.{append_assoc, length-append, length-drop}
-use Rattle.std.specs.Prelude.{◌&&◌, MatchOption, None, Option, Some, nat_eq}
+use Rattle.sql_parts.proofs.Imports.{◌≡◌, ℕ, ◌+◌, ◌<◌, ◌≤◌, false, List, [], ◌∷◌, ◌++◌, length, get_or, take, drop, refl, sym, ap, ap₂, ◌∙◌, subst, arith, inl}
+use Rattle.sql_parts.proofs.Imports.{inr, append_assoc, length-append, length-drop, ◌&&◌, MatchOption, None, Option, Some, nat_eq, starts_with, IsCharBoundary}
+use Rattle.sql_parts.proofs.Imports.{IsUtf8, FindsText, LacksTextAt, SplitsAroundMatch, drop-append_seam, cases_lt, eq-eqb, false≢true, drop-drop, get_or-drop}
+use Rattle.sql_parts.proofs.Imports.{take-append-drop, IsCharBoundary-from_drop, IsCharBoundary-start, IsUtf8-drop, IsUtf8-past_char}
 use Rattle.std.specs.Borrow.{Bor}
-use Rattle.std.specs.List.{starts_with}
-use Rattle.std.specs.Str.{IsCharBoundary, IsUtf8}
-use Rattle.std.specs.Str.Pattern.{FindsText, LacksTextAt, SplitsAroundMatch}
 use Rattle.std.proofs.Math.ListN.{get_or-append}
-use Rattle.std.proofs.Math.Seq.{drop-append_seam}
-use Rattle.std.proofs.lemmas.Bool.{cases_lt, eq-eqb, false≢true}
-use Rattle.std.proofs.lemmas.List.{drop-drop, get_or-drop, take-append-drop}
-use Rattle.std.proofs.lemmas.Str.{IsCharBoundary-from_drop, IsCharBoundary-start, IsUtf8-drop, IsUtf8-past_char}
 use lib.Utf8.{encode, encodes}
-use Rattle.sql_parts.specs.Search.{front_of, gap, has_front}
-use Rattle.sql_parts.proofs.templates.ResolveLemmas.{starts_with-yes}
+use Rattle.sql_parts.specs.{front_of, gap, has_front}
+use Rattle.sql_parts.proofs.templates.{starts_with-yes}
 
 -- the length of a text that another is in
 room-of : (sought text : List ℕ) (k : ℕ) (rest : List ℕ) → drop k text ≡ sought ++ rest → 0 < length sought → k + length sought ≤ length text

@@ -7,27 +7,15 @@ use Rattle.sql_parts.proofs.chains.Prelude.{Goes-spent_ref, walk_of, framed, SPr
 use Rattle.sql_parts.proofs.chains.Prelude.{RattleType, MutBor, id⊢, regoal, allocs, params', runs, at_ret}
 use Rattle.sql_parts.proofs.chains.LoanLemmas.{Effect, BorrowedType, in_a_local, release_triple, Good, Kept, Bare, kept_lawful, bare_lawful, fits, held_says}
 use Rattle.sql_parts.proofs.chains.LoanLemmas.{says, returned, releases, Argument, Constant, also, keeps, put, puts, after, owned}
-use Rattle.std.specs.Prelude.{suc}
+use Rattle.sql_parts.proofs.Imports.{suc, w8, fsep, emp, Lfts, Outlives, toks, Running, Model, Closed, Ises, Are, layout, Denots, Valss, owns, MutRef}
+use Rattle.sql_parts.proofs.Imports.{Signature, Slot, mut_ref, type_at, types_at, Triple, AllGo, has_of, fits_of}
 use mir.Syntax.{Callee, Fn, Local, Body, ty_ref, mut, erased, named, value_local, local, seq, assign, call, return, place, copy, addr_of, rv_opd, deref}
-use mir.Syntax.{aggregate, int, w8}
-use base.Fml.{fsep}
+use mir.Syntax.{aggregate, int}
 use types.Part.{agg}
-use base.Logic.{emp}
-use contract.Lifetimes.{Lfts, Outlives, toks}
-use contract.Running.{Running}
-use prog.Model.{Model}
-use prog.Wp.{Closed}
-use denote.Laws.{Ises, Are}
 use denote.Memory.{pointee}
-use denote.Param.{layout}
-use denote.RattleType.{Denots, Valss, owns}
-use denote.Ref.{MutRef}
-use denote.Signature.{Signature, Slot, mut_ref, type_at, types_at}
 use denote.Triple.Clauses.{Ended, Clauses, closing, Lasts}
 use denote.Triple.End.{Kepts, Fins}
 use denote.Triple.Spec.{Meets}
-use denote.Triple.Statement.{Triple}
-use denote.Triple.Walked.{AllGo, has_of, fits_of}
 use Rattle.std.specs.contracts.result.Result as RS
 use Rattle.sql_parts.specs.contracts.error.SqlBuilderError.{the_row as E}
 use Rattle.sql_parts.specs.contracts.loan.Held as held

@@ -3,49 +3,31 @@ use Rattle.sql_parts.proofs.chains.Prelude.{qed, by, use0, fjoin, ◌∵◌, !, 
 use Rattle.sql_parts.proofs.chains.Prelude.{MutBor, id⊢, named, Val, fact, ‵, raw, ◌⊛◌, some, later, ◌$◌, move, drop, use1, use2, split, join, await, pick}
 use Rattle.sql_parts.proofs.chains.Prelude.{shows, MutRef, nothing, heard, peeks, a_type, calls_at, lasts, triple_of, Ura, Logic, sem, Item, Seq, Goal, Soaks}
 use Rattle.sql_parts.proofs.chains.Prelude.{SProp, ent, sep, RattleType}
-use mir.Syntax.{Ty, erased, Callee, Opd as Operand, Body, seq, call, Place}
+use mir.Syntax.{Ty, erased, Callee, Opd as Operand, Body, seq, call, Place, ty_bool}
 use mir.Raw.{raw as raw_type}
-use mir.Val.{has_ty, WT}
-use lib.Dec.{T}
+use mir.Val.{has_ty, WT, vstruct, vint, vcons, vnil}
+use Rattle.sql_parts.proofs.Imports.{T, Env, Calls, Loops, ◌⊑◌, ⊑_static, Lfts, Shares, Within, lft_at, toks, Goes, Is, Lawful, Typed, NamedLft, mut_Lawful}
+use Rattle.sql_parts.proofs.Imports.{arg, param, layout, layouts, Laws, arg_laws, param_laws, w8, ltb, emp, ◌^◌, type_at, Slot, types_at, Denots, Valss, owns}
+use Rattle.sql_parts.proofs.Imports.{Contract, Triple, Result, Ok, Err, IfErr, suc, Lft, Share}
 use types.Kit.{runs, lands, Post}
 use types.Run.{Opds}
 use prog.Erase.{raw-raw}
-use prog.Wp.{Env, Calls, Loops}
 use sound.WpLaws.{FmC}
-use contract.BorrowLft.{◌⊑◌, ⊑_static}
 use contract.Fact.{fact_i}
-use contract.Lifetimes.{Lfts, Shares, Within, lft_at, toks}
 use denote.Exit.{Kept as Keeps}
-use denote.Triple.Walked.{Goes}
-use denote.Laws.{Is, Lawful, Typed}
-use denote.Enum.Enum.{Enum-Lawful}
-use denote.Enum.Declared.{shape}
+use denote.Enum.Enum.{Enum-Lawful, Plainss}
+use denote.Enum.Declared.{shape, Declared, variants, row as enum_row}
 use denote.Struct.Recorded.{recorded_lawful}
-use denote.Ref.{NamedLft, mut_Lawful}
-use denote.Param.{arg, param, layout, layouts}
 use denote.Plain.{Boolean, bool_Lawful}
-use denote.Param.Laws.{Laws, arg_laws, param_laws}
 use denote.Slice.{ShrSlice, shr_slice_Lawful}
-use denote.Enum.Declared.{Declared, variants, row as enum_row}
-use denote.Enum.Enum.{Plainss}
 use denote.Enum.Laws.{makes}
-use mir.Val.{vstruct, vint, vcons, vnil}
-use mir.Syntax.{w8, ty_bool}
-use lib.Dec.{ltb}
-use base.Logic.{emp}
-use Prim.Native.Nat.{◌^◌}
-use denote.Signature.{type_at, Slot, types_at}
-use denote.RattleType.{Denots, Valss, owns}
 use denote.Triple.End.{Kepts, Fins}
 use denote.Triple.Clauses.{Ended, Clauses, Lasts, at_exit, closing}
 use denote.Triple.Entry.{alive, Res}
-use denote.Triple.Statement.{Contract, Triple}
 use Rattle.std.specs.contracts.result.Result as RS
-use Rattle.std.specs.Prelude.{Result, Ok, Err, IfErr, suc}
 use Rattle.std.specs.Result.{result_map_both}
-use base.Fml.{Lft, Share}
 use base.Fraction.{full_share}
-use Rattle.sql_parts.specs.Loans.{IsChangedSoThat, IsHeldChangedSoThat, IsUnchangedIfErr, IsUnchangedIfHeldErr}
+use Rattle.sql_parts.specs.{IsChangedSoThat, IsHeldChangedSoThat, IsUnchangedIfErr, IsUnchangedIfHeldErr}
 use Rattle.sql_parts.specs.declared.error.SqlBuilderError.{SqlBuilderError}
 use Rattle.sql_parts.specs.contracts.error.SqlBuilderError.{the_row as E}
 use Rattle.sql_parts.proofs.error.SqlBuilderError.TheLaws as error_laws

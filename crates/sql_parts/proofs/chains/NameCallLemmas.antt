@@ -4,17 +4,11 @@ use Rattle.sql_parts.proofs.chains.LoanLemmas.{Effect, BorrowedType, Variant, co
 use Rattle.sql_parts.proofs.chains.VariantLemmas.{variant}
 use Rattle.sql_parts.proofs.chains.ChainCallLemmas as calls
 use mir.Syntax.{Args, Callee, Dict, Fn}
-use contract.BorrowLft.{⊑_refl}
-use contract.Lifetimes.{Lfts}
-use contract.Running.{Running}
-use prog.Model.{Model}
+use Rattle.sql_parts.proofs.Imports.{⊑_refl, Lfts, Running, Model, Laws, Denots, types_at}
 use prog.Wired.{Wired}
 use denote.Param.Glue.{Met as Drops}
-use denote.Param.Laws.{Laws}
-use denote.RattleType.{Denots}
-use denote.Signature.{types_at}
-use Rattle.sql_parts.specs.Error.{IsMemory}
-use Rattle.sql_parts.specs.Name.{Name, with_change}
+use Rattle.sql_parts.specs.{IsMemory, with_change}
+use Rattle.sql_parts.specs.Name.{Name}
 use Rattle.sql_parts.specs.declared.text.ToText.{Ghosts}
 use Rattle.sql_parts.specs.contracts.text.ToText.TheBound.{Met}
 use Rattle.sql_parts.specs.contracts.name.SqlName.{the_row}

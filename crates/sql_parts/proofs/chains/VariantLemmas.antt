@@ -1,13 +1,9 @@
 -- The variants of enums whose variants hold nothing, as they are passed to the steps of calls.
 use Rattle.sql_parts.proofs.chains.Prelude.{◌≡◌, ℕ, [], ◌∷◌, subst, lit<, Val}
 use Rattle.sql_parts.proofs.chains.LoanLemmas.{Variant}
-use Prim.Native.Nat.{◌^◌}
+use Rattle.sql_parts.proofs.Imports.{◌^◌, layout, Is, T, ltb, w8}
 use denote.Enum.Declared.{Declared, row, variants}
 use denote.Enum.Laws.{Fields, Laws, owes, spellss, val}
-use denote.Param.{layout}
-use denote.Laws.{Is}
-use lib.Dec.{T, ltb}
-use mir.Syntax.{w8}
 use mir.Val.{has_ty, vstruct, vint, vcons, vnil}
 
 -- a variant that holds nothing: its tag

@@ -1,20 +1,10 @@
 -- The AND of each BETWEEN, looked for from the front of a list of tokens.
-use Prim.Native.Char.{code}
-use Rattle.std.proofs.Common.{◌≡◌, refl, sym, ◌∙◌, ap, ℕ, suc, ◌+◌, Bool, true, false, not, cond, ◌&&◌, ◌||◌, eqb, leb, ltb, List, [], ◌∷◌, take, ℤ, pos, ◌+ℤ◌}
-use Rattle.std.proofs.Common.{◌-ℤ◌, ◌≤ℤ◌, ◌<ℤ◌, inl, inr, codes, arith}
-use Rattle.std.specs.Prelude.{int_le}
-use Rattle.std.specs.Ordering.{int_eq}
-use Rattle.std.specs.List.{list_all, list_any}
-use Rattle.std.proofs.lemmas.List.Sums.{sum_by-cons}
-use Rattle.std.proofs.lemmas.Int.{ints}
-use Rattle.std.proofs.Math.Bool.{and-false, and-true, or-false}
-use Rattle.std.proofs.lemmas.Slice.Eq.{bytes_eq-Decides}
-use Rattle.std.specs.Str.{bytes_eq, str_eq_ignore_ascii_case, str_to_ascii_lowercase}
-use Rattle.std.proofs.lemmas.Bool.{cases_Bool, eqb-true, ltb-true, lt-ltb, le-ltb, false≢true}
-use Rattle.std.proofs.lemmas.Bool.Decides.{same_from_decides, Decides-int_eq, Decides-ltb}
-use Rattle.sql_parts.specs.Tokens.{Token, Word, Str, Name, Symbol, Open}
-use Rattle.sql_parts.specs.Fragments.{any_token, has_ands, is_and_of, is_between, is_joining, is_symbol, is_word, depth_at, lowers, places, raises, weight}
-use Rattle.sql_parts.specs.Ranges.{is_answered}
+use Rattle.sql_parts.proofs.Imports.{code, ◌≡◌, refl, sym, ◌∙◌, ap, ℕ, suc, ◌+◌, Bool, true, false, not, cond, ◌&&◌, ◌||◌, eqb, leb, ltb, List, [], ◌∷◌, take}
+use Rattle.sql_parts.proofs.Imports.{ℤ, pos, ◌+ℤ◌, ◌-ℤ◌, ◌≤ℤ◌, ◌<ℤ◌, inl, inr, codes, arith, int_le, int_eq, list_all, list_any, sum_by-cons, ints, and-false}
+use Rattle.sql_parts.proofs.Imports.{and-true, or-false, bytes_eq-Decides, bytes_eq, str_eq_ignore_ascii_case, str_to_ascii_lowercase, cases_Bool, eqb-true}
+use Rattle.sql_parts.proofs.Imports.{ltb-true, lt-ltb, le-ltb, false≢true, same_from_decides, Decides-int_eq, Decides-ltb, Name}
+use Rattle.sql_parts.specs.{Token, Word, Str, Symbol, Open, any_token, has_ands, is_and_of, is_between, is_joining, is_symbol, is_word, depth_at, lowers}
+use Rattle.sql_parts.specs.{places, raises, weight, is_answered}
 use Rattle.sql_parts.proofs.fragments.DepthCountLemmas.{any_place, each_place, is_at_least_0, is_zero, depth_from, depth_from-start, depth_from-suc}
 use Rattle.sql_parts.proofs.fragments.DepthCountLemmas.{depth_from-zero}
 

@@ -1,17 +1,10 @@
 -- The nesting depth in a list of tokens, counted from its front.
-use Rattle.std.proofs.Common.{◌≡◌, refl, sym, ◌∙◌, ap, ℕ, suc, ◌+◌, Bool, true, false, not, cond, ◌&&◌, ◌||◌, eqb, leb, ltb, List, [], ◌∷◌, length, map, take}
-use Rattle.std.proofs.Common.{ℤ, pos, ◌-ℤ◌, ◌≤ℤ◌, ◌<ℤ◌, inl, inr, arith}
-use Rattle.std.specs.Prelude.{int_le}
-use Rattle.std.specs.Ordering.{int_eq}
-use Rattle.std.specs.List.{count_by, list_all, list_any}
-use Rattle.std.proofs.lemmas.Int.{ints}
-use Rattle.std.proofs.lemmas.Bool.{eqb-true, eq-eqb, le-leb, leb-true, leb-false, ltb-false, cases_Bool}
-use Rattle.std.proofs.lemmas.Bool.Decides.{same_from_decides, Decides-int_eq}
-use Rattle.std.proofs.lemmas.List.Folds.{list_all-map}
-use Rattle.std.proofs.lemmas.List.Sums.{sum_by-cons}
-use Rattle.std.proofs.Math.Bool.{and_assoc, and-true}
-use Rattle.sql_parts.specs.Tokens.{Token, begins_with}
-use Rattle.sql_parts.specs.Fragments.{any_token, has_top_level, is_balanced, brackets_match, is_top_level, is_whole, depth_at, lowers, places, raises, weight}
+use Rattle.sql_parts.proofs.Imports.{◌≡◌, refl, sym, ◌∙◌, ap, ℕ, suc, ◌+◌, Bool, true, false, not, cond, ◌&&◌, ◌||◌, eqb, leb, ltb, List, [], ◌∷◌, length, map}
+use Rattle.sql_parts.proofs.Imports.{take, ℤ, pos, ◌-ℤ◌, ◌≤ℤ◌, ◌<ℤ◌, inl, inr, arith, int_le, int_eq, count_by, list_all, list_any, ints, eqb-true, eq-eqb}
+use Rattle.sql_parts.proofs.Imports.{le-leb, leb-true, leb-false, cases_Bool, same_from_decides, Decides-int_eq, list_all-map, sum_by-cons, and_assoc, and-true}
+use Rattle.std.proofs.lemmas.Bool.{ltb-false}
+use Rattle.sql_parts.specs.{Token, begins_with, any_token, has_top_level, is_balanced, brackets_match, is_top_level, is_whole, depth_at, lowers, places, raises}
+use Rattle.sql_parts.specs.{weight}
 
 -- the depth at a place behind tokens of which so many raised it and so many lowered it
 abbrev pub depth_from : ℕ → ℕ → List Token → ℕ → ℤ

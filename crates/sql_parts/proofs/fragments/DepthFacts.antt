@@ -1,16 +1,10 @@
 -- The nesting depth along the tokens, and that it is that of the places.
-use Rattle.std.proofs.Common.{◌≡◌, refl, sym, ◌∙◌, ap, ℕ, zero, suc, ◌+◌, Bool, true, false, not, cond, ◌&&◌, eqb, leb, List, [], ◌∷◌, length, map, ℤ, pos}
-use Rattle.std.proofs.Common.{negsuc, ◌-ℤ◌, ◌≤ℤ◌, ◌<ℤ◌, inl, inr, codes, arith}
-use Rattle.std.specs.Prelude.{int_le, ◌||◌}
-use Rattle.std.specs.List.{list_all, list_any, zip}
-use Rattle.std.specs.Ordering.{int_eq}
-use Rattle.std.proofs.lemmas.Int.{ints}
-use Rattle.std.proofs.lemmas.Bool.{cases_Bool, eqb-true, eq-eqb, leb-true, leb-false, true≢false}
-use Rattle.std.proofs.Math.Bool.{and_assoc, and-false, and-true}
-use Rattle.std.proofs.Math.IntN.{suc_ℤ, pred_ℤ, +ℤ_one, suc-pred}
-use Rattle.sql_parts.specs.Tokens.{Token, begins_with, is_empty}
+use Rattle.sql_parts.proofs.Imports.{◌≡◌, refl, sym, ◌∙◌, ap, ℕ, zero, suc, ◌+◌, Bool, true, false, not, cond, ◌&&◌, eqb, leb, List, [], ◌∷◌, length, map, ℤ}
+use Rattle.sql_parts.proofs.Imports.{pos, negsuc, ◌-ℤ◌, ◌≤ℤ◌, ◌<ℤ◌, inl, inr, codes, arith, int_le, ◌||◌, list_all, list_any, zip, int_eq, ints, cases_Bool}
+use Rattle.sql_parts.proofs.Imports.{eqb-true, eq-eqb, leb-true, leb-false, true≢false, and_assoc, and-false, and-true, suc_ℤ, pred_ℤ, +ℤ_one, suc-pred}
+use Rattle.sql_parts.specs.{Token, begins_with, is_empty, Placed, any_token, as_placed, is_joining, at_top_level, is_whole, is_word, depth_at, lowers, places}
+use Rattle.sql_parts.specs.{raises, weight}
 use Rattle.sql_parts.specs.Fragments as fragments
-use Rattle.sql_parts.specs.Fragments.{Placed, any_token, as_placed, is_joining, at_top_level, is_whole, is_word, depth_at, lowers, places, raises, weight}
 use Rattle.sql_parts.proofs.fragments.DepthCountLemmas as depths
 use Rattle.sql_parts.proofs.fragments.DepthCountLemmas.{each_place, brackets_match_from, depth_from, depth_from-start, depth_from-suc, depth_from-zero}
 use Rattle.sql_parts.proofs.fragments.DepthCountLemmas.{top_level_from}

@@ -1,11 +1,8 @@
 -- An operand's tokens may be in place of a token that no test of fragments asks for.
-use Rattle.std.proofs.Common.{◌≡◌, refl, sym, ◌∙◌, ap, ℕ, zero, suc, ◌+◌, Bool, true, false, not, cond, ◌&&◌, List, [], ◌∷◌, ◌++◌, ℤ, pos, negsuc, codes, arith, subst}
-use Rattle.std.specs.Prelude.{◌||◌}
-use Rattle.std.specs.List.{list_all, list_any}
-use Rattle.std.proofs.lemmas.Bool.{and_from, and_parts, or_from, or_parts, not-true, not_from_false, false≢true}
-use Rattle.std.proofs.Math.IntN.{suc_ℤ, pred_ℤ}
-use Rattle.sql_parts.specs.Fragments.{as_placed, at_top_level, is_clause_word, is_joining, is_whole, is_word, lowers, raises}
-use Rattle.sql_parts.specs.Tokens.{Token, begins_with, is_empty}
+use Rattle.sql_parts.proofs.Imports.{◌≡◌, refl, sym, ◌∙◌, ap, ℕ, zero, suc, ◌+◌, Bool, true, false, not, cond, ◌&&◌, List, [], ◌∷◌, ◌++◌, ℤ, pos, negsuc, codes}
+use Rattle.sql_parts.proofs.Imports.{arith, subst, ◌||◌, list_all, list_any, and_from, and_parts, or_from, or_parts, not-true, not_from_false, false≢true}
+use Rattle.sql_parts.proofs.Imports.{suc_ℤ, pred_ℤ}
+use Rattle.sql_parts.specs.{as_placed, at_top_level, is_clause_word, is_joining, is_whole, is_word, lowers, raises, Token, begins_with, is_empty}
 use Rattle.sql_parts.proofs.fragments.DepthFacts.{after, closes_from, has_top_level, is_at_least_0, is_balanced, is_even, is_operand, is_zero, placed_from}
 use Rattle.sql_parts.proofs.fragments.OperandFacts.{Inert}
 

@@ -1,15 +1,9 @@
 -- The roles of tokens, looked up among the keywords.
-use Rattle.std.proofs.Common.{◌≡◌, ◌≢◌, ◌∙◌, ℕ, ◌<◌, Bool, true, false, cond, ◌&&◌, List, [], ◌∷◌, ap, refl, sym, arith, length, eqb, get_or, codes, drop, ne_eqb}
-use Rattle.std.proofs.Common.{inl, inr, map}
-use Rattle.std.specs.Char.{to_ascii_lowercase}
-use Rattle.std.specs.List.{list_any}
-use Rattle.std.specs.Str.{bytes_eq, str_eq_ignore_ascii_case, str_to_ascii_lowercase}
-use Rattle.std.proofs.lemmas.Bool.{cases_Bool, false≢true, or_cases, or_from, or_parts}
-use Rattle.std.proofs.lemmas.Slice.Eq.{bytes_eq-Decides}
-use Rattle.sql_parts.specs.Fragments.{is_clause_word, is_closing, is_dialect_word, is_joining, is_opening, is_whole, is_word, lowers, needs_left, needs_right, raises}
-use Rattle.sql_parts.specs.Roles.{HasRole, sample}
-use Rattle.sql_parts.specs.Tokens.{Token, Word, Str, Symbol}
-use Rattle.sql_parts.specs.declared.roles.Role.{Role}
+use Rattle.sql_parts.proofs.Imports.{◌≡◌, ◌≢◌, ◌∙◌, ℕ, ◌<◌, Bool, true, false, cond, ◌&&◌, List, [], ◌∷◌, ap, refl, sym, arith, length, eqb, get_or, codes}
+use Rattle.sql_parts.proofs.Imports.{drop, ne_eqb, inl, inr, map, to_ascii_lowercase, list_any, bytes_eq, str_eq_ignore_ascii_case, str_to_ascii_lowercase}
+use Rattle.sql_parts.proofs.Imports.{cases_Bool, false≢true, or_cases, or_from, or_parts, bytes_eq-Decides, Role}
+use Rattle.sql_parts.specs.{is_clause_word, is_closing, is_dialect_word, is_joining, is_opening, is_whole, is_word, lowers, needs_left, needs_right, raises}
+use Rattle.sql_parts.specs.{HasRole, sample, Token, Word, Str, Symbol}
 use Rattle.sql_parts.specs.declared.roles.Role.TheVariants as role
 
 -- all that the tests of fragments ask of a token

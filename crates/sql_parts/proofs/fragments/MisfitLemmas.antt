@@ -1,14 +1,11 @@
 -- A text meets what is asked of it exactly where no reason against it holds.
-use Rattle.std.proofs.Common.{◌≡◌, refl, sym, ◌∙◌, ap, ℕ, ◌+◌, Bool, true, false, not, ◌&&◌, ◌||◌, eqb, List, [], ◌∷◌, Option, None, Some, codes, arith}
-use Rattle.std.specs.Prelude.{find, is_none, if◌then◌else◌}
-use Rattle.std.specs.List.{list_all, list_any}
-use Rattle.std.proofs.lemmas.Bool.{and_parts}
-use Rattle.std.proofs.Math.Bool.{and-true, not-not, or-false}
-use Rattle.sql_parts.specs.Fragments.{balanced, brackets_match, encloses_clauses, has_clause_word, has_dialect_word, has_top_level, is_balanced, is_clause_word}
-use Rattle.sql_parts.specs.Fragments.{is_dialect_word, is_joining, is_whole, is_word, lowers, operand, raises, weight}
-use Rattle.sql_parts.specs.Misfits.{holds_of, meets, misfit, reasons}
-use Rattle.sql_parts.specs.Operands.{ServesAsOperand, has_no_clause, is_bare_operand, is_fragment, is_typed_fragment, is_typed_operand}
-use Rattle.sql_parts.specs.Tokens.{Token, begins_with, closed, has_semicolon, is_empty, is_open, is_semicolon, tokens}
+use Rattle.sql_parts.proofs.Imports.{◌≡◌, refl, sym, ◌∙◌, ap, ℕ, ◌+◌, Bool, true, false, not, ◌&&◌, ◌||◌, eqb, List, [], ◌∷◌, Option, None, Some, codes, arith}
+use Rattle.sql_parts.proofs.Imports.{is_none, if◌then◌else◌, list_all, list_any, and_parts, and-true, not-not, or-false}
+use Rattle.std.specs.Prelude.{find}
+use Rattle.sql_parts.specs.{balanced, brackets_match, encloses_clauses, has_clause_word, has_dialect_word, has_top_level, is_balanced, is_clause_word}
+use Rattle.sql_parts.specs.{is_dialect_word, is_joining, is_whole, is_word, lowers, operand, raises, weight, holds_of, meets, misfit, reasons, ServesAsOperand}
+use Rattle.sql_parts.specs.{has_no_clause, is_bare_operand, is_fragment, is_typed_fragment, is_typed_operand, Token, begins_with, closed, has_semicolon}
+use Rattle.sql_parts.specs.{is_empty, is_open, is_semicolon, tokens}
 use Rattle.sql_parts.specs.declared.misfits.Demand.{Demand}
 use Rattle.sql_parts.specs.declared.misfits.Demand.TheVariants as demand
 use Rattle.sql_parts.specs.declared.misfits.Misfit.{Misfit}

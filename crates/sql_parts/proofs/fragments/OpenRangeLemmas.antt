@@ -1,18 +1,10 @@
 -- What a token does to the BETWEENs that wait for their AND.
-use Rattle.std.proofs.Common.{◌≡◌, ◌≢◌, refl, sym, ◌∙◌, ap, ℕ, suc, ◌+◌, ◌<◌, Bool, true, false, not, cond, ◌&&◌, ◌||◌, eqb, leb, List, [], ◌∷◌, ◌++◌, length}
-use Rattle.std.proofs.Common.{reverse, Option, Some, None, unwrap_or, MatchOption, codes, inl, inr, arith}
-use Rattle.std.proofs.lemmas.Bool.{eqb-true, eq-eqb, ne_eqb, le-leb, lt-leb, leb-true, leb-false, cases_Bool}
-use Rattle.std.proofs.lemmas.Bool.Decides.{same_from_decides, Decides-eqb}
+use Rattle.sql_parts.proofs.Imports.{◌≡◌, ◌≢◌, refl, sym, ◌∙◌, ap, ℕ, suc, ◌+◌, ◌<◌, Bool, true, false, not, cond, ◌&&◌, ◌||◌, eqb, leb, List, [], ◌∷◌, ◌++◌}
+use Rattle.sql_parts.proofs.Imports.{length, reverse, Option, Some, None, unwrap_or, MatchOption, codes, inl, inr, arith, eqb-true, eq-eqb, ne_eqb, le-leb}
+use Rattle.sql_parts.proofs.Imports.{lt-leb, leb-true, leb-false, cases_Bool, same_from_decides, Decides-eqb, list_any, reverse-append, option_to_list}
+use Rattle.sql_parts.proofs.Imports.{and-false, and-true, beq, or-false, or-true, Role}
 use Rattle.std.proofs.lemmas.List.Sorted.{IsPermutation-reverse, list_any-IsPermutation}
-use Rattle.std.specs.List.{list_any}
-use Rattle.std.proofs.lemmas.List.{reverse-append}
-use Rattle.std.specs.Option.{option_to_list}
-use Rattle.std.proofs.Math.Bool.{and-false, and-true, beq, or-false, or-true}
-use Rattle.sql_parts.specs.Tokens.{Token}
-use Rattle.sql_parts.specs.Fragments.{has_ands, is_joining, is_word, lowers, raises, weight}
-use Rattle.sql_parts.specs.Ranges.{are_answered, is_answered}
-use Rattle.sql_parts.specs.Roles.{HasRole}
-use Rattle.sql_parts.specs.declared.roles.Role.{Role}
+use Rattle.sql_parts.specs.{Token, has_ands, is_joining, is_word, lowers, raises, weight, are_answered, is_answered, HasRole}
 use Rattle.sql_parts.specs.declared.roles.Role.TheVariants as role
 use Rattle.sql_parts.proofs.fragments.BetweenLemmas.{apart-lowers, apart-raises, has_ands-rule, is_and, lowers-apart, raises-alone, raises-apart, word_apart}
 

@@ -1,37 +1,20 @@
 -- Tokens that no test of fragments distinguishes from a text between quotes make an operand: those of literals, and of names
 -- between quotes.
-use Rattle.std.proofs.Common.{◌≡◌, ◌<◌, ℕ, suc, zero, ◌+◌, ◌/◌, ◌%◌, Bool, true, false, not, cond, ◌||◌, List, [], ◌∷◌, ◌++◌, Option, Some, None, map, pos}
-use Rattle.std.proofs.Common.{negsuc, ℤ, refl, sym, ap, ◌∙◌, subst, arith, inl, inr, codes, eqb, leb, ne_eqb, append-nil}
-use Rattle.std.specs.Prelude.{flat_map, if◌then◌else◌}
-use Rattle.std.specs.Char.{to_ascii_lowercase}
-use Rattle.std.specs.Int.Digits.{AllBelowBase, digits_of}
-use Rattle.std.specs.List.{AllByRecursion, list_all, list_any}
-use Rattle.std.proofs.Math.IntN.{suc_ℤ, pred_ℤ}
-use Rattle.std.proofs.lemmas.Bool.{and_from, and_parts, cases_Bool, false≢true, leb-true, not-true, not_from_false, or_from, or_parts}
-use Rattle.std.proofs.lemmas.Bool.Decides.{nat_tests}
-use Rattle.std.proofs.lemmas.Int.Digits.{all_below_base_digits_of, digits_of_step}
-use Rattle.sql_parts.specs.Templates.{literal_tokens}
-use Rattle.sql_parts.specs.Fragments.{as_placed, is_clause_word, is_joining, at_top_level, is_whole, is_word, lowers, operand, raises}
-use Rattle.sql_parts.specs.Literal.{LiteralValue, null, truth, whole, words, literal_text}
-use Rattle.sql_parts.specs.Name.{Name, alias_tokens, fits_form, is_plain, name_parts, name_text, name_tokens, safe_form, safe_text, tokens_in, word_tokens}
-use Rattle.sql_parts.specs.Name.{written_in}
-use Rattle.sql_parts.specs.Operands.{ServesAsOperand, has_operand_parts, is_bare_operand, is_fragment, is_operand_alias}
-use Rattle.sql_parts.specs.Quoting.{between}
-use Rattle.sql_parts.specs.Roles.{HasRole}
-use Rattle.sql_parts.specs.Text.{bool_text, decimal_text, join_with}
-use Rattle.sql_parts.specs.Tokens.{Token, Word, Str, Symbol, begins_with, closed, is_empty, quoted_token, tokens}
-use Rattle.sql_parts.specs.declared.name.Form.{Form}
-use Rattle.sql_parts.specs.declared.name.Form.TheVariants.{Bare, Between}
-use Rattle.sql_parts.specs.declared.delimiters.Quotes.{Quotes}
-use Rattle.sql_parts.specs.declared.delimiters.Quotes.TheVariants.{Single, Back, Square, Double}
+use Rattle.sql_parts.proofs.Imports.{◌≡◌, ◌<◌, ℕ, suc, zero, ◌+◌, ◌/◌, ◌%◌, Bool, true, false, not, cond, ◌||◌, List, [], ◌∷◌, ◌++◌, Option, Some, None, map}
+use Rattle.sql_parts.proofs.Imports.{pos, negsuc, ℤ, refl, sym, ap, ◌∙◌, subst, arith, inl, inr, codes, eqb, leb, ne_eqb, append-nil, flat_map, if◌then◌else◌}
+use Rattle.sql_parts.proofs.Imports.{to_ascii_lowercase, AllBelowBase, digits_of, AllByRecursion, list_all, list_any, suc_ℤ, pred_ℤ, and_from, and_parts}
+use Rattle.sql_parts.proofs.Imports.{cases_Bool, false≢true, leb-true, not-true, not_from_false, or_from, or_parts, nat_tests, all_below_base_digits_of}
+use Rattle.sql_parts.proofs.Imports.{digits_of_step, Form, Bare, Between, Quotes, Single, Back, Square, Double}
+use Rattle.sql_parts.specs.{literal_tokens, as_placed, is_clause_word, is_joining, at_top_level, is_whole, is_word, lowers, operand, raises, LiteralValue, null}
+use Rattle.sql_parts.specs.{truth, whole, words, literal_text, alias_tokens, fits_form, is_plain, name_parts, name_text, name_tokens, safe_form}
+use Rattle.sql_parts.specs.Name.{Name}
+use Rattle.sql_parts.specs.{safe_text, tokens_in, word_tokens, written_in, ServesAsOperand, has_operand_parts, is_bare_operand, is_fragment, is_operand_alias}
+use Rattle.sql_parts.specs.{between, HasRole, bool_text, decimal_text, join_with, Token, Word, Str, Symbol, begins_with, closed, is_empty, quoted_token, tokens}
 use Rattle.sql_parts.specs.declared.roles.Role.TheVariants as role
 use Rattle.sql_parts.proofs.fragments.KeywordLemmas.{answers, has-role, initials, other-plain}
-use Rattle.sql_parts.proofs.tokens.NameFacts.{name_closed, name_is, plain-tokens, safe_fits}
-use Rattle.sql_parts.proofs.tokens.TokenFacts.{between-tokens, between_closed}
+use Rattle.sql_parts.proofs.tokens.{name_closed, name_is, plain-tokens, safe_fits, between-tokens, between_closed, decimal-glyphs, literal-closed, literal-is}
 use Rattle.sql_parts.proofs.fragments.DepthFacts.{after, closes_from, has_top_level, has_top_level-is, is_at_least_0, is_balanced, is_balanced-is, is_operand}
-use Rattle.sql_parts.proofs.fragments.DepthFacts.{is_operand-is, is_zero}
-use Rattle.sql_parts.proofs.fragments.DepthFacts.{placed_from}
-use Rattle.sql_parts.proofs.tokens.LiteralFacts.{decimal-glyphs, literal-closed, literal-is}
+use Rattle.sql_parts.proofs.fragments.DepthFacts.{is_operand-is, is_zero, placed_from}
 
 -- a token that is no bracket, no `;` and no word that joins, negates or begins a clause, nor a quote or a comment without an end
 pub record Inert (token : Token) : Type 0 where

@@ -1,17 +1,9 @@
 -- A placeholder is a symbol and a number, and so an operand.
-use Rattle.std.proofs.Common.{◌≡◌, ℕ, pos, ◌∷◌, [], refl, ap, ◌∙◌}
-use Rattle.std.specs.Prelude.{not}
-use Rattle.std.specs.List.{list_any}
-use Rattle.sql_parts.specs.Literal.{whole}
-use Rattle.sql_parts.specs.Operands.{ServesAsOperand}
-use Rattle.sql_parts.specs.Parameters.{placeholder_text, prefix}
-use Rattle.sql_parts.specs.Text.{decimal_text}
-use Rattle.sql_parts.specs.Tokens.{Symbol, Word, is_open, tokens}
-use Rattle.sql_parts.specs.declared.parameter.Style.{Style}
+use Rattle.sql_parts.proofs.Imports.{◌≡◌, ℕ, pos, ◌∷◌, [], refl, ap, ◌∙◌, not, list_any, Style}
+use Rattle.sql_parts.specs.{whole, ServesAsOperand, placeholder_text, prefix, decimal_text, Symbol, Word, is_open, tokens}
 use Rattle.sql_parts.specs.declared.parameter.Style.TheVariants as style
 use Rattle.sql_parts.proofs.fragments.OperandFacts.{Inert, decimal-inert, inert, serves}
-use Rattle.sql_parts.proofs.tokens.FirstTokenLemmas.{tokens-rule}
-use Rattle.sql_parts.proofs.tokens.LiteralFacts.{literal-is}
+use Rattle.sql_parts.proofs.tokens.{tokens-rule, literal-is}
 
 prefix-inert : (style : Style) → Inert (Symbol (prefix style))
 prefix-inert style.Question = inert _ refl

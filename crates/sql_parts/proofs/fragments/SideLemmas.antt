@@ -1,9 +1,6 @@
 -- The sides of OR, AND and NOT, read from the front of a list of tokens.
-use Rattle.std.proofs.Common.{arith, ◌≡◌, refl, sym, ◌∙◌, ap, suc, Bool, true, false, not, ◌&&◌, ◌||◌, List, [], ◌∷◌}
-use Rattle.std.specs.List.{list_all}
-use Rattle.std.proofs.Math.Bool.{and_assoc}
-use Rattle.sql_parts.specs.Tokens.{Token}
-use Rattle.sql_parts.specs.Fragments.{has_left_sides, has_right_sides, is_at, is_before, is_closing, is_opening, needs_left, needs_right, places}
+use Rattle.sql_parts.proofs.Imports.{arith, ◌≡◌, refl, sym, ◌∙◌, ap, suc, Bool, true, false, not, ◌&&◌, ◌||◌, List, [], ◌∷◌, list_all, and_assoc}
+use Rattle.sql_parts.specs.{Token, has_left_sides, has_right_sides, is_at, is_before, is_closing, is_opening, needs_left, needs_right, places}
 use Rattle.sql_parts.proofs.fragments.DepthCountLemmas.{each_place}
 
 abbrev may_join : Token → Bool

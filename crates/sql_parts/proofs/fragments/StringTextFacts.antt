@@ -1,17 +1,10 @@
 -- No test of tokens looks at the text of a string token.
-use Rattle.std.proofs.Common.{◌≡◌, refl, sym, ◌∙◌, ap, ℕ, zero, suc, ◌+◌, Bool, true, false, not, ◌&&◌, ◌||◌, List, [], ◌∷◌, ◌++◌, map, take, pos, ◌-ℤ◌, codes}
-use Rattle.std.specs.List.{count_by, list_all, list_any}
-use Rattle.std.specs.Ordering.{int_eq}
-use Rattle.std.specs.Prelude.{int_le, nat_lt, if◌then◌else◌}
-use Rattle.std.proofs.lemmas.List.Sums.{sum_by-cons}
-use Rattle.std.proofs.lemmas.List.{length-map, take-map}
-use Rattle.sql_parts.specs.StringTexts.{BlankSomewhere, IgnoresStrings, are_strings, blank, blank_at, blank_token, nowhere, outline}
-use Rattle.sql_parts.specs.Fragments.{any_token, has_ands, has_left_sides, has_top_level, has_right_sides, is_at, is_balanced, is_before, is_between}
-use Rattle.sql_parts.specs.Fragments.{is_closing}
-use Rattle.sql_parts.specs.Fragments.{is_dangling, is_joining, brackets_match, is_opening, is_operand, is_whole, is_word, depth_at, lowers, needs_left}
-use Rattle.sql_parts.specs.Fragments.{needs_right}
-use Rattle.sql_parts.specs.Fragments.{places, raises, weight}
-use Rattle.sql_parts.specs.Tokens.{Token, Word, Str, Name, Symbol, Open, begins_with, closed, ends_with, is_empty, is_open, tokens}
+use Rattle.sql_parts.proofs.Imports.{◌≡◌, refl, sym, ◌∙◌, ap, ℕ, zero, suc, ◌+◌, Bool, true, false, not, ◌&&◌, ◌||◌, List, [], ◌∷◌, ◌++◌, map, take, pos, ◌-ℤ◌}
+use Rattle.sql_parts.proofs.Imports.{codes, count_by, list_all, list_any, int_eq, int_le, nat_lt, if◌then◌else◌, sum_by-cons, length-map, take-map, Name}
+use Rattle.sql_parts.specs.{BlankSomewhere, IgnoresStrings, are_strings, blank, blank_at, blank_token, nowhere, outline, any_token, has_ands, has_left_sides}
+use Rattle.sql_parts.specs.{has_top_level, has_right_sides, is_at, is_balanced, is_before, is_between, is_closing, is_dangling, is_joining, brackets_match}
+use Rattle.sql_parts.specs.{is_opening, is_operand, is_whole, is_word, depth_at, lowers, needs_left, needs_right, places, raises, weight, Token, Word, Str}
+use Rattle.sql_parts.specs.{Symbol, Open, begins_with, closed, ends_with, is_empty, is_open, tokens}
 
 -- a test that says the same of a string token whatever its text is
 abbrev pub Ignores : (Token → Bool) → Type 0

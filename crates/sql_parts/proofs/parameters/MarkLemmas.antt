@@ -1,21 +1,14 @@
 -- The marks of a statement's text, and the text before the first of them.
-use Rattle.std.proofs.Common.{◌≡◌, ◌≢◌, ℕ, zero, suc, ◌+◌, ◌-◌, ◌<◌, ◌≤◌, Bool, true, false, List, [], ◌∷◌, ◌++◌, length, take, drop, Option, Some, None, refl}
-use Rattle.std.proofs.Common.{sym, ap, ◌∙◌, arith, ne_eqb, subst, Bor, inl, inr, append_assoc, append-nil, length-drop, length-append}
-use Rattle.std.proofs.Math.Seq.{take-append_seam}
-use Rattle.std.proofs.lemmas.List.{take-append-drop}
-use Rattle.std.specs.Prelude.{◌==◌, ◌&&◌, ◌⊎◌, if◌then◌else◌}
-use Rattle.std.specs.List.{prefix_len}
-use Rattle.std.specs.Str.{IsCharBoundary, IsUtf8}
-use Rattle.sql_parts.specs.Marks.{IsMark, IsRead}
-use Rattle.sql_parts.specs.Parameters.{prefix}
-use Rattle.sql_parts.specs.Positional.{Mark, Bare, Cut, cut, cut_from, followed_by, is_name_byte, mark_at}
+use Rattle.sql_parts.proofs.Imports.{◌≡◌, ◌≢◌, ℕ, zero, suc, ◌+◌, ◌-◌, ◌<◌, ◌≤◌, Bool, true, false, List, [], ◌∷◌, ◌++◌, length, take, drop, Option, Some, None}
+use Rattle.sql_parts.proofs.Imports.{refl, sym, ap, ◌∙◌, arith, ne_eqb, subst, Bor, inl, inr, append_assoc, append-nil, length-drop, length-append}
+use Rattle.sql_parts.proofs.Imports.{take-append_seam, take-append-drop, ◌==◌, ◌&&◌, ◌⊎◌, if◌then◌else◌, prefix_len, IsCharBoundary, IsUtf8, cut, Style}
+use Rattle.sql_parts.specs.{IsMark, prefix, Mark, Bare, Cut, cut_from, followed_by, is_name_byte, mark_at, Token, first, is_word_byte}
+use Rattle.sql_parts.specs.Marks.{IsRead}
 use Rattle.sql_parts.specs.Tokenizer as tokenizer
-use Rattle.sql_parts.specs.Tokens.{Token, first, is_word_byte}
 use Rattle.sql_parts.specs.declared.marks.Mark as declared
-use Rattle.sql_parts.specs.declared.parameter.Style.{Style}
 use Rattle.sql_parts.specs.declared.parameter.Style.TheVariants as style
 use Rattle.sql_parts.specs.declared.tokenizer.Token as tokens
-use Rattle.sql_parts.proofs.tokens.FirstTokenLemmas.{cut-first}
+use Rattle.sql_parts.proofs.tokens.{cut-first}
 
 no_prefix : (style : Style) (byte : ℕ) → byte ≢ 63 → byte ≢ 36 → (byte == prefix style) ≡ false
 no_prefix style.Question byte no_question no_dollar = ne_eqb byte 63 no_question

@@ -1,7 +1,6 @@
 -- Placeholders of one value more.
-use Rattle.std.proofs.Common.{◌≡◌, ℕ, suc, ◌+◌, List, [], ◌∷◌, ◌++◌, length, ap, ◌∙◌, arith}
-use Rattle.sql_parts.specs.Parameters.{placeholders_behind}
-use Rattle.sql_parts.specs.declared.parameter.Style.{Style}
+use Rattle.sql_parts.proofs.Imports.{◌≡◌, ℕ, suc, ◌+◌, List, [], ◌∷◌, ◌++◌, length, ap, ◌∙◌, arith, Style}
+use Rattle.sql_parts.specs.{placeholders_behind}
 
 module _ {V : Type 0} where
   pub next-number : (style : Style) (before : ℕ) (values : List V) (value : V)

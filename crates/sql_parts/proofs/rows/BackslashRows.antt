@@ -1,7 +1,6 @@
 -- Worked rows of literals with backslashes: what the definition gives, by computing.
-use Rattle.std.specs.Prelude.{◌≡◌, [], Some, None, true, false, codes, refl}
-use Rattle.sql_parts.specs.Backslash.{has_backslash, literal}
-use Rattle.sql_parts.specs.Quoting.{quoted}
+use Rattle.sql_parts.proofs.Imports.{◌≡◌, [], Some, None, true, false, codes, refl}
+use Rattle.sql_parts.specs.{has_backslash, literal, quoted}
 
 -- the text of an attack, and the literal that `quote` makes of it
 quoted-attack : quoted (codes "\\'; DROP TABLE t; --") ≡ codes "'\\''; DROP TABLE t; --'"

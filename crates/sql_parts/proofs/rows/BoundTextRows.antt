@@ -1,10 +1,7 @@
 -- Worked rows of texts that are bound in place of others, and of what has to hold for them not to interfere.
-use Prim.Native.Char.{code}
-use Rattle.std.specs.Prelude.{◌≡◌, ℕ, List, [], ◌∷◌, codes, true, false, Some, option_map, refl, pos, negsuc}
-use Rattle.sql_parts.specs.StringTexts.{bound_places, length_in_tokens, semicolon_count, tokens_but}
-use Rattle.sql_parts.specs.Literal.{LiteralValue, null, whole, words}
-use Rattle.sql_parts.specs.Templates.{Cycle, First, Value, alone, bound, listed, apart}
-use Rattle.sql_parts.specs.Tokens.{Word, Str, Symbol}
+use Rattle.sql_parts.proofs.Imports.{code, ◌≡◌, ℕ, List, [], ◌∷◌, codes, true, false, Some, option_map, refl, pos, negsuc}
+use Rattle.sql_parts.specs.{bound_places, length_in_tokens, semicolon_count, tokens_but, LiteralValue, null, whole, words, Cycle, First, Value, alone, bound}
+use Rattle.sql_parts.specs.{listed, apart, Word, Str, Symbol}
 
 -- a text and a number
 abbrev with_text : List ℕ → Value → LiteralValue

@@ -1,8 +1,6 @@
 -- Worked rows of templates with holes: what the definitions give, by computing.
-use Rattle.std.specs.Prelude.{◌≡◌, ℕ, Bool, List, [], ◌∷◌, codes, false, map, negsuc, refl, true}
-use Rattle.sql_parts.specs.Holes.{filled, hole_count, holes_apart, in_hole}
-use Rattle.sql_parts.specs.Literal.{literal_text, whole, words}
-use Rattle.sql_parts.specs.Operands.{is_typed_fragment, is_typed_operand}
+use Rattle.sql_parts.proofs.Imports.{◌≡◌, ℕ, Bool, List, [], ◌∷◌, codes, false, map, negsuc, refl, true}
+use Rattle.sql_parts.specs.{filled, hole_count, holes_apart, in_hole, literal_text, whole, words, is_typed_fragment, is_typed_operand}
 
 -- its holes stand apart, and it is an operand, a condition
 abbrev tests : List ℕ → Bool × Bool × Bool

@@ -1,9 +1,7 @@
 -- Worked rows of masks: what the definition gives, by computing.
-use Prim.Native.Char.{code}
-use Rattle.std.specs.Prelude.{◌≡◌, ◌∷◌, ◌++◌, [], true, false, codes, nat_eq, refl}
-use Rattle.std.specs.List.{ends_with}
+use Rattle.sql_parts.proofs.Imports.{code, ◌≡◌, ◌∷◌, ◌++◌, [], true, false, codes, nat_eq, refl, ends_with}
 use Rattle.std.specs.Str.{chars}
-use Rattle.sql_parts.specs.Like.{like_escaped, matches}
+use Rattle.sql_parts.specs.{like_escaped, matches}
 
 like_escaped-all : like_escaped (code "!") (codes "50% of_a!") ≡ codes "50!% of!_a!!"
 like_escaped-all = refl

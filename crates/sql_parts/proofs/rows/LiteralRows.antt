@@ -1,11 +1,8 @@
 -- Worked rows: what the definitions give, by computing.
-use Rattle.std.specs.Prelude.{◌≡◌, ◌^◌, ◌-◌, negsuc, Some, true, codes, refl, ◌∷◌}
-use Rattle.std.proofs.Common.{arith, ap, sym, ◌∙◌}
-use Rattle.std.specs.Fmt.{decimal, digits}
-use Rattle.sql_parts.proofs.bytes.DecimalFacts.{unsigned_text}
-use Rattle.sql_parts.specs.Literal.{literal_or_null, literal_text, literal_value, null, whole, words}
-use Rattle.sql_parts.specs.Quoting.{baquoted, brquoted, dquoted, escaped, quoted}
-use Rattle.sql_parts.specs.Text.{bool_text}
+use Rattle.sql_parts.proofs.Imports.{◌≡◌, ◌^◌, ◌-◌, negsuc, Some, true, codes, refl, ◌∷◌, arith, ap, sym, ◌∙◌, decimal}
+use Rattle.std.specs.Fmt.{digits}
+use Rattle.sql_parts.proofs.bytes.{unsigned_text}
+use Rattle.sql_parts.specs.{literal_or_null, literal_text, literal_value, null, whole, words, baquoted, brquoted, dquoted, escaped, quoted, bool_text}
 use Rattle.sql_parts.specs.declared.arg.Literal.TheVariants.{Whole}
 
 dquoted-delimiter : dquoted (codes "a\"b") ≡ codes "\"a\"\"b\""

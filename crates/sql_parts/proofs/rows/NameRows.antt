@@ -1,7 +1,7 @@
 -- Worked rows of names: what the definitions give, by computing.
-use Rattle.std.specs.Prelude.{◌≡◌, codes, refl}
-use Rattle.sql_parts.specs.Name.{Name, name_of, name_text, safe_text, with_alias, with_part}
-use Rattle.sql_parts.specs.Quoting.{baquoted, quoted}
+use Rattle.sql_parts.proofs.Imports.{◌≡◌, codes, refl}
+use Rattle.sql_parts.specs.{name_of, name_text, safe_text, with_alias, with_part, baquoted, quoted}
+use Rattle.sql_parts.specs.Name.{Name}
 
 abbrev safe_name : Name
 safe_name = with_alias (codes "sn") (with_part (codes "sub") (name_of (codes "safe_name")))

@@ -1,11 +1,8 @@
 -- Worked rows of texts that are operands, and of those that are none: what the definitions give, by computing.
-use Rattle.std.specs.Prelude.{◌≡◌, ℕ, Bool, List, true, false, codes, negsuc, pos, refl}
-use Rattle.sql_parts.specs.Fragments.{balanced, has_clause_word, operand}
-use Rattle.sql_parts.specs.Literal.{null, truth, whole, words, literal_text}
-use Rattle.sql_parts.specs.Name.{Name, name_of, name_text, safe_text, with_alias, with_part}
-use Rattle.sql_parts.specs.Operands.{has_operand_parts, is_operand_alias}
-use Rattle.sql_parts.specs.Quoting.{baquoted, brquoted, dquoted, quoted}
-use Rattle.sql_parts.specs.Tokens.{closed}
+use Rattle.sql_parts.proofs.Imports.{◌≡◌, ℕ, Bool, List, true, false, codes, negsuc, pos, refl}
+use Rattle.sql_parts.specs.{balanced, has_clause_word, operand, null, truth, whole, words, literal_text, name_of, name_text, safe_text, with_alias}
+use Rattle.sql_parts.specs.Name.{Name}
+use Rattle.sql_parts.specs.{with_part, has_operand_parts, is_operand_alias, baquoted, brquoted, dquoted, quoted, closed}
 
 -- whether a text is an operand, balanced and closed, and has a clause word
 abbrev tests : List ℕ → Bool × Bool × Bool × Bool

@@ -1,12 +1,8 @@
 -- Worked rows of placeholders: what the definitions give, by computing.
-use Prim.Native.Char.{code}
-use Rattle.std.specs.Prelude.{◌≡◌, ◌^◌, [], ◌∷◌, codes, refl}
-use Rattle.std.proofs.Common.{arith, ap, sym, ◌∙◌}
-use Rattle.std.specs.Fmt.{decimal, digits}
-use Rattle.sql_parts.proofs.bytes.DecimalFacts.{unsigned_text}
-use Rattle.sql_parts.specs.Parameters.{placeholder_text}
-use Rattle.sql_parts.specs.Tokens.{Symbol, Word, tokens}
-use Rattle.sql_parts.specs.declared.parameter.Style.TheVariants.{Question, Dollar}
+use Rattle.sql_parts.proofs.Imports.{code, ◌≡◌, ◌^◌, [], ◌∷◌, codes, refl, arith, ap, sym, ◌∙◌, decimal, Question, Dollar}
+use Rattle.std.specs.Fmt.{digits}
+use Rattle.sql_parts.proofs.bytes.{unsigned_text}
+use Rattle.sql_parts.specs.{placeholder_text, Symbol, Word, tokens}
 
 placeholder_text-question : placeholder_text Question 1 ≡ codes "?1"
 placeholder_text-question = refl

@@ -1,7 +1,6 @@
 -- Worked rows of values by their order: what the definitions give, by computing.
-use Rattle.std.specs.Prelude.{◌≡◌, ◌-◌, ◌^◌, [], ◌∷◌, Some, None, codes, map, refl}
-use Rattle.sql_parts.specs.Positional.{Bare, Numbered, first_error, marks, positional_text, value_of}
-use Rattle.sql_parts.specs.declared.parameter.Style.TheVariants.{Question, Dollar}
+use Rattle.sql_parts.proofs.Imports.{◌≡◌, ◌-◌, ◌^◌, [], ◌∷◌, Some, None, codes, map, refl, value_of, Question, Dollar}
+use Rattle.sql_parts.specs.{Bare, Numbered, first_error, marks, positional_text}
 use Rattle.sql_parts.specs.declared.positional.PositionalError.TheVariants.{NoNumber, NoValue}
 
 -- the value of HAVING was bound first

@@ -1,17 +1,9 @@
 -- Worked rows of readers, and of definitions and laws that are wrong.
-use Prim.Native.Char.{code}
-use Rattle.std.specs.Prelude.{◌≡◌, ◌≢◌, ◌==◌, ◌++◌, ℕ, Bool, true, List, [], ◌∷◌, IsTrue, Some, codes, if◌then◌else◌, option_map, refl}
-use Rattle.std.proofs.Common.{ne_eqb}
-use Rattle.std.proofs.lemmas.Bool.{eqb-false}
-use Rattle.sql_parts.specs.Literal.{words}
-use Rattle.sql_parts.specs.Quoting.{brquoted, closing, opening, quoted}
-use Rattle.sql_parts.specs.ReaderLaws.{bound_parts}
-use Rattle.sql_parts.specs.Readers.{Part, Constant, Reader, IsInsideAtEach, OpensLiteral, after, between_parts, marks, outer_states, parts_bytes, states}
-use Rattle.sql_parts.specs.Templates.{First, alone, bound}
-use Rattle.sql_parts.specs.TokenReader.{backslash_reader, token_reader}
-use Rattle.sql_parts.specs.declared.delimiters.Quotes.TheVariants.{Single, Square}
-use Rattle.sql_parts.specs.declared.delimiters.Quotes.{Quotes}
-use Rattle.sql_parts.proofs.tokens.TokenReaderLemmas.{opens-every}
+use Rattle.sql_parts.proofs.Imports.{code, ◌≡◌, ◌≢◌, ◌==◌, ◌++◌, ℕ, Bool, true, List, [], ◌∷◌, IsTrue, Some, codes, if◌then◌else◌, option_map, refl, ne_eqb}
+use Rattle.sql_parts.proofs.Imports.{eqb-false, Part, marks, Single, Square, Quotes}
+use Rattle.sql_parts.specs.{words, brquoted, closing, opening, quoted, bound_parts, Constant, Reader, IsInsideAtEach, OpensLiteral, after, between_parts}
+use Rattle.sql_parts.specs.{outer_states, parts_bytes, states, First, alone, bound, backslash_reader, token_reader}
+use Rattle.sql_parts.proofs.tokens.{opens-every}
 
 abbrev every : ℕ → Bool
 every byte = true

@@ -1,9 +1,7 @@
 -- Worked rows of templates: what the definitions give, by computing.
-use Rattle.std.specs.Prelude.{◌≡◌, ℕ, List, [], ◌∷◌, codes, true, Option, Some, None, refl, reverse, option_map, pos}
-use Rattle.std.specs.List.{find}
-use Rattle.std.specs.Str.{bytes_eq}
-use Rattle.sql_parts.specs.Literal.{LiteralValue, truth, whole, words}
-use Rattle.sql_parts.specs.Templates.{First, Cycle, Num, Nums, Name, Names, Argument, Value, alone, listed, looked_up, bound, resolve}
+use Rattle.sql_parts.proofs.Imports.{◌≡◌, ℕ, List, [], ◌∷◌, codes, true, Option, Some, None, refl, reverse, option_map, pos, find, bytes_eq}
+use Rattle.sql_parts.specs.{LiteralValue, truth, whole, words, First, Cycle, Num, Nums, Names, Argument, Value, alone, listed, looked_up, bound, resolve}
+use Rattle.sql_parts.specs.Templates.{Name}
 
 abbrev number : ℕ → LiteralValue
 number n = whole (pos n)

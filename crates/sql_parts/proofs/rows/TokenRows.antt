@@ -1,9 +1,7 @@
 -- Worked rows of tokens: what the definitions give, by computing.
-use Prim.Native.Char.{code}
-use Rattle.std.specs.Prelude.{◌≡◌, true, false, [], ◌∷◌, codes, refl}
-use Rattle.sql_parts.specs.Templates.{apart}
+use Rattle.sql_parts.proofs.Imports.{code, ◌≡◌, true, false, [], ◌∷◌, codes, refl, Name}
+use Rattle.sql_parts.specs.{apart, Word, Str, Symbol, Open, tokens, closed, has_semicolon}
 use Rattle.sql_parts.specs.Templates as marks
-use Rattle.sql_parts.specs.Tokens.{Word, Str, Name, Symbol, Open, tokens, closed, has_semicolon}
 
 closed-comment_without_end : closed (codes "a -- b") ≡ false
 closed-comment_without_end = refl

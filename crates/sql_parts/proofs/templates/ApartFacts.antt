@@ -1,16 +1,11 @@
 -- Values that stand apart are tokens of their own.
-use Rattle.std.proofs.Common.{◌≡◌, ℕ, Bool, true, false, not, ◌||◌, ◌⊎◌, List, [], ◌∷◌, ◌++◌, Option, Some, None, option_map, refl, sym, ap, ◌∙◌, subst, inl}
-use Rattle.std.proofs.Common.{inr, append_assoc, append-nil}
-use Rattle.std.specs.Prelude.{◌&&◌, ◌==◌, codes, flat_map}
-use Rattle.std.specs.List.{AllByRecursion, list_any}
-use Rattle.std.proofs.lemmas.Bool.{and_parts, false≢true, not_from_false, or_cases, or_from, or_left, or_right}
-use Rattle.std.proofs.lemmas.List.Folds.{list_any-append}
-use Rattle.sql_parts.specs.Templates.{HasBoundTokens, IsClosedIfApart, IsSupplied, apart, bound_tokens, segment_apart, segments_apart}
-use Rattle.sql_parts.specs.Literal.{LiteralValue, literal_text}
-use Rattle.sql_parts.specs.Templates.{Marks, Resolved, Value, bound, resolve, resolved_from, written, resolved_apart}
-use Rattle.sql_parts.specs.Tokens.{Token, begins_with, clean, closed, ends_with, is_edge, is_empty, is_open, is_separator, tokens}
-use Rattle.sql_parts.proofs.tokens.TokenFacts.{closed-shut, seam}
-use Rattle.sql_parts.proofs.tokens.LiteralFacts.{literal-closed, literal-is}
+use Rattle.sql_parts.proofs.Imports.{◌≡◌, ℕ, Bool, true, false, not, ◌||◌, ◌⊎◌, List, [], ◌∷◌, ◌++◌, Option, Some, None, option_map, refl, sym, ap, ◌∙◌, subst}
+use Rattle.sql_parts.proofs.Imports.{inl, inr, append_assoc, append-nil, ◌&&◌, ◌==◌, codes, flat_map, AllByRecursion, list_any, and_parts, false≢true}
+use Rattle.sql_parts.proofs.Imports.{not_from_false, or_cases, or_from, or_left, or_right, list_any-append, Marks}
+use Rattle.sql_parts.specs.{HasBoundTokens, IsClosedIfApart, IsSupplied, apart, bound_tokens, segment_apart, segments_apart, LiteralValue, literal_text}
+use Rattle.sql_parts.specs.{Resolved, Value, bound, resolve, resolved_from, written, resolved_apart, Token, begins_with, clean, closed, ends_with, is_edge}
+use Rattle.sql_parts.specs.{is_empty, is_open, is_separator, tokens}
+use Rattle.sql_parts.proofs.tokens.{closed-shut, seam, literal-closed, literal-is}
 
 -- separators are edges
 separator-edge : (byte : ℕ) → is_separator byte ≡ true → is_edge byte ≡ true

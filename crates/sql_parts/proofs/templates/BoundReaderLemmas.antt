@@ -1,17 +1,11 @@
 -- Readers go through the same states outside of texts that are bound.
-use Rattle.std.proofs.Common.{◌≡◌, refl, sym, ◌∙◌, ap, ℕ, Bool, List, [], ◌∷◌, ◌++◌, map, Option, Some, None, append-nil, true}
-use Rattle.std.specs.Prelude.{flat_map, option_map, unwrap_or}
-use Rattle.std.specs.List.{list_all}
-use Rattle.std.proofs.lemmas.Grind.{flat_map-append}
-use Rattle.std.proofs.lemmas.List.{map-append}
-use Rattle.sql_parts.specs.Literal.{LiteralValue, literal_text, null, truth, whole, words}
-use Rattle.sql_parts.specs.ReaderLaws.{ReadersIgnoreBoundTexts, literal_parts, resolved_parts}
-use Rattle.sql_parts.specs.Readers.{Part, Constant, Reader, IsInsideAtEach, emptied, has_plain_text, marks, outer_states, part_bytes, parts_bytes}
-use Rattle.sql_parts.specs.StringTexts.{blank_literal}
-use Rattle.sql_parts.specs.Templates.{Resolved, Value, resolve, written}
-use Rattle.sql_parts.specs.TextLaws.{DifferInTexts}
+use Rattle.sql_parts.proofs.Imports.{◌≡◌, refl, sym, ◌∙◌, ap, ℕ, Bool, List, [], ◌∷◌, ◌++◌, map, Option, Some, None, append-nil, true, flat_map, option_map}
+use Rattle.sql_parts.proofs.Imports.{unwrap_or, list_all, flat_map-append, map-append, Part, marks}
+use Rattle.sql_parts.specs.{LiteralValue, literal_text, null, truth, whole, words, ReadersIgnoreBoundTexts, literal_parts, resolved_parts, Constant, Reader}
+use Rattle.sql_parts.specs.{IsInsideAtEach, emptied, has_plain_text, outer_states, part_bytes, parts_bytes, blank_literal, Resolved, Value, resolve, written}
+use Rattle.sql_parts.specs.{DifferInTexts}
 use Rattle.sql_parts.proofs.templates.BoundTextFacts.{blanked, same_blanks}
-use Rattle.sql_parts.proofs.tokens.ReaderLemmas.{readers-alike}
+use Rattle.sql_parts.proofs.tokens.{readers-alike}
 
 -- ---- literals
 

@@ -1,25 +1,14 @@
 -- What `bind_nums` makes of texts one after another.
-use Rattle.std.proofs.Common.{◌≡◌, ◌≢◌, ℕ, zero, suc, ◌+◌, ◌-◌, ◌<◌, ◌≤◌, true, false, List, [], ◌∷◌, ◌++◌, length, take, drop, eqb, refl}
-use Rattle.std.proofs.Common.{sym, ap, ◌∙◌, arith, inl, inr, codes, flat_map, append_assoc, append-nil, ne_eqb, length-drop, map}
-use Rattle.std.specs.Prelude.{◌==◌, not, nat_eq, nat_le}
-use Rattle.std.specs.Char.{digit_value, is_ascii_digit}
-use Rattle.std.specs.List.{list_all, prefix_len, starts_with}
-use Rattle.std.specs.Str.Parse.{digits_value}
-use Rattle.std.proofs.lemmas.Bool.{and_parts, cases_Bool, eqb-false, eqb-true, false≢true, le-leb, not-true, or_parts}
-use Rattle.std.proofs.lemmas.Bool.Decides.{nat_tests}
-use Rattle.std.proofs.Math.Seq.{drop-length, take-length}
-use Rattle.std.proofs.lemmas.Int.Digits.{all_below_base_digits_of, digits_value_is, number_digits_of}
-use Rattle.std.specs.Int.Digits.{AllBelowBase, digits_of, number_from_digits}
+use Rattle.sql_parts.proofs.Imports.{◌≡◌, ◌≢◌, ℕ, zero, suc, ◌+◌, ◌-◌, ◌<◌, ◌≤◌, true, false, List, [], ◌∷◌, ◌++◌, length, take, drop, eqb, refl, sym, ap, ◌∙◌}
+use Rattle.sql_parts.proofs.Imports.{arith, inl, inr, codes, flat_map, append_assoc, append-nil, ne_eqb, length-drop, map, ◌==◌, not, nat_eq, nat_le}
+use Rattle.sql_parts.proofs.Imports.{digit_value, is_ascii_digit, list_all, prefix_len, starts_with, digits_value, and_parts, cases_Bool, eqb-false, eqb-true}
+use Rattle.sql_parts.proofs.Imports.{false≢true, le-leb, not-true, or_parts, nat_tests, drop-length, take-length, all_below_base_digits_of, digits_value_is}
+use Rattle.sql_parts.proofs.Imports.{number_digits_of, AllBelowBase, digits_of, number_from_digits, Dollar, followed_by}
 use Rattle.std.proofs.lemmas.List.{take-append-le, drop-append-le}
-use Rattle.sql_parts.specs.Literal.{LiteralValue, literal_text}
-use Rattle.sql_parts.specs.NumberedTexts.{is_taken, with_values}
-use Rattle.sql_parts.specs.Parameters.{placeholder_text}
-use Rattle.sql_parts.specs.Text.{decimal_text}
-use Rattle.sql_parts.specs.declared.parameter.Style.TheVariants.{Dollar}
-use Rattle.sql_parts.proofs.tokens.LiteralFacts.{decimal-glyphs, glyphs}
+use Rattle.sql_parts.specs.{LiteralValue, literal_text, is_taken, with_values, placeholder_text, decimal_text, Argument, Nums, Place, Resolved, Value, Writes}
+use Rattle.sql_parts.specs.{Holds, counted, numbered, resolved_from, written, begins_with}
+use Rattle.sql_parts.proofs.tokens.{decimal-glyphs, glyphs}
 use Rattle.sql_parts.proofs.templates.UnchangedTextFacts.{lacks-byte}
-use Rattle.sql_parts.specs.Templates.{Argument, Nums, Place, Resolved, Value, Writes, Holds, counted, followed_by, numbered, resolved_from, written}
-use Rattle.sql_parts.specs.Tokens.{begins_with}
 use Rattle.sql_parts.proofs.templates.ResolveLemmas.{resolved_from-drop, resolved_from-prefix, resolved_from-text}
 
 digits-seam : (one other : List ℕ) → begins_with is_taken other ≡ false → prefix_len is_ascii_digit (one ++ other) ≡ prefix_len is_ascii_digit one

@@ -1,14 +1,12 @@
 -- Texts that are bound in place of other texts leave all other tokens as they are.
-use Rattle.std.proofs.Common.{◌≡◌, refl, sym, ◌∙◌, ap, ℕ, zero, suc, Bool, true, List, [], ◌∷◌, ◌++◌, map, Option, Some, None, option_map, append_assoc}
-use Rattle.std.specs.Prelude.{IfSome, IsTrue, flat_map, slice_get, unwrap_or}
-use Rattle.sql_parts.specs.StringTexts.{ArgumentsDifferInTexts, BoundTextsAreStrings, BoundTextsDoNotInterfere, BoundTextsKeepTheirPlaces, IgnoresBoundTexts}
-use Rattle.sql_parts.specs.StringTexts.{IgnoresStrings, NamesDifferInTexts, are_strings, blank_at, blank_literal, bound_places, literal_places, nowhere}
-use Rattle.sql_parts.specs.StringTexts.{resolved_places, tokens_but}
-use Rattle.sql_parts.specs.TextLaws.{DifferInText, DifferInTexts}
-use Rattle.sql_parts.specs.Literal.{LiteralValue, null, truth, whole, words}
-use Rattle.sql_parts.specs.Templates.{Argument, Marks, Named, Resolved, Value, bound, resolve, apart, bound_tokens, literal_tokens}
-use Rattle.sql_parts.specs.Tokens.{Token, tokens}
-use Rattle.sql_parts.proofs.fragments.StringTextFacts.{nowhere-first, somewhere, strings-first}
+use Rattle.sql_parts.proofs.Imports.{◌≡◌, refl, sym, ◌∙◌, ap, ℕ, zero, suc, Bool, true, List, [], ◌∷◌, ◌++◌, map, Option, Some, None, option_map, append_assoc}
+use Rattle.sql_parts.proofs.Imports.{IfSome, IsTrue, flat_map, unwrap_or, Marks}
+use Rattle.std.specs.Prelude.{slice_get}
+use Rattle.sql_parts.specs.{ArgumentsDifferInTexts, BoundTextsAreStrings, BoundTextsDoNotInterfere, BoundTextsKeepTheirPlaces, IgnoresBoundTexts}
+use Rattle.sql_parts.specs.{IgnoresStrings, NamesDifferInTexts, are_strings, blank_at, blank_literal, bound_places, literal_places, nowhere, resolved_places}
+use Rattle.sql_parts.specs.{tokens_but, DifferInText, DifferInTexts, LiteralValue, null, truth, whole, words, Argument, Named, Resolved, Value, bound, resolve}
+use Rattle.sql_parts.specs.{apart, bound_tokens, literal_tokens, Token, tokens}
+use Rattle.sql_parts.proofs.fragments.{nowhere-first, somewhere, strings-first}
 use Rattle.sql_parts.proofs.templates.ApartFacts.{bound-is}
 
 -- ---- literals

@@ -1,12 +1,10 @@
 -- What a caller proves of a bound text: its segments and literals one after another.
-use Rattle.std.proofs.Common.{◌≡◌, ℕ, List, [], ◌∷◌, ◌++◌, Option, Some, None, option_map, Result, Ok, Err, IfOk, String, string_bytes, sym, ap, ◌∙◌}
-use Rattle.std.proofs.Common.{append_assoc, append-nil, length, map, subst}
-use Rattle.std.proofs.lemmas.List.{length-map, map-append}
+use Rattle.sql_parts.proofs.Imports.{◌≡◌, ℕ, List, [], ◌∷◌, ◌++◌, Option, Some, None, option_map, Result, Ok, Err, IfOk, String, string_bytes, sym, ap, ◌∙◌}
+use Rattle.sql_parts.proofs.Imports.{append_assoc, append-nil, length, map, subst, length-map, map-append, Marks}
 use Rattle.std.specs.declared.dyn_box.DynBox.{DynBox}
 use base.Stored.{Coded, Gv}
 use denote.Param.Object.{Made}
-use Rattle.sql_parts.specs.Literal.{LiteralValue, literal_text}
-use Rattle.sql_parts.specs.Templates.{Cycle, Marks, Resolved, Value, bound, listed, resolve, written}
+use Rattle.sql_parts.specs.{LiteralValue, literal_text, Cycle, Resolved, Value, bound, listed, resolve, written}
 
 -- the segments with the literals of the values between them, without an empty text at the end
 abbrev pub in_turn : (Value → LiteralValue) → List ℕ → List (Value × List ℕ) → List ℕ

@@ -1,18 +1,11 @@
 -- A template with operands in its holes serves as one does with a word in each.
-use Rattle.std.proofs.Common.{◌≡◌, ◌≢◌, ◌<◌, ◌∙◌, ap, arith, codes, refl, sym, subst, ℕ, suc, Bool, true, false, not, cond, eqb-true, ne_eqb, get_or, length, take, ◌-◌, List, [], ◌∷◌, ◌++◌, append_assoc, append-nil}
-use Rattle.std.specs.Prelude.{◌&&◌, ◌==◌, flat_map}
-use Rattle.std.specs.List.{AllByRecursion}
-use Rattle.std.proofs.lemmas.Bool.{and_from, and_parts}
-use Rattle.std.proofs.lemmas.Grind.{common_steps}
-use Rattle.sql_parts.specs.Fragments.{balanced, has_clause_word, is_clause_word, operand}
-use Rattle.sql_parts.specs.Holes.{cut, filled, holding, holes_apart, in_hole, is_bracketed, is_unit, unsigned}
-use Rattle.sql_parts.specs.Templates.{segment_apart, segments_apart}
-use Rattle.sql_parts.specs.Tokens.{Token, Symbol, closed, ends_with, tokens}
-use Rattle.sql_parts.specs.Operands.{ServesAsOperand, is_bare_operand, is_fragment}
-use Rattle.sql_parts.proofs.fragments.DepthFacts.{has_top_level-is, is_balanced-is, is_operand, is_operand-is}
-use Rattle.sql_parts.proofs.fragments.HoleLemmas.{fits, fragment-filled, operand-filled}
-use Rattle.sql_parts.proofs.fragments.MisfitLemmas.{serves}
-use Rattle.sql_parts.proofs.fragments.OperandFacts.{Inert, inert, is-fragment}
+use Rattle.sql_parts.proofs.Imports.{◌≡◌, ◌≢◌, ◌<◌, ◌∙◌, ap, arith, codes, refl, sym, subst, ℕ, suc, Bool, true, false, not, cond, eqb-true, ne_eqb, get_or}
+use Rattle.sql_parts.proofs.Imports.{length, take, ◌-◌, List, [], ◌∷◌, ◌++◌, append_assoc, append-nil, ◌&&◌, ◌==◌, flat_map, AllByRecursion, and_from}
+use Rattle.sql_parts.proofs.Imports.{and_parts, common_steps}
+use Rattle.sql_parts.specs.{balanced, has_clause_word, is_clause_word, operand, cut, filled, holding, holes_apart, in_hole, is_bracketed, is_unit, unsigned}
+use Rattle.sql_parts.specs.{segment_apart, segments_apart, Token, Symbol, closed, ends_with, tokens, ServesAsOperand, is_bare_operand, is_fragment}
+use Rattle.sql_parts.proofs.fragments.DepthFacts.{has_top_level-is}
+use Rattle.sql_parts.proofs.fragments.{is_balanced-is, is_operand, is_operand-is, fits, fragment-filled, operand-filled, serves, Inert, inert, is-fragment}
 use Rattle.sql_parts.proofs.templates.ApartFacts.{part_tokens, segments-shut, segments-tokens}
 
 -- ---- the code's loop

@@ -1,19 +1,11 @@
 -- The last pair with a name, as a loop keeps the places of the pairs.
-use Rattle.std.proofs.Common.{◌≡◌, ℕ, ◌+◌, ◌<◌, List, [], ◌∷◌, ◌++◌, length, get_or, take, Bool, true, false, Option, Some, option_map, refl, ap, sym, ◌∙◌, inl}
-use Rattle.std.proofs.Common.{inr}
-use Rattle.std.specs.Prelude.{if◌then◌else◌}
+use Rattle.sql_parts.proofs.Imports.{◌≡◌, ℕ, ◌+◌, ◌<◌, List, [], ◌∷◌, ◌++◌, length, get_or, take, Bool, true, false, Option, Some, option_map, refl, ap, sym}
+use Rattle.sql_parts.proofs.Imports.{◌∙◌, inl, inr, if◌then◌else◌, slice_cmp, lookup, nat_cmp, bytes_eq, cases_Bool, false≢true, reverse-append, take_more}
+use Rattle.sql_parts.proofs.Imports.{is_eq-slice_cmp, bytes_eq-Decides}
 use Rattle.std.specs.Borrow.{Bor}
 use Rattle.std.specs.BTreeMap.{is_at}
-use Rattle.std.specs.Cmp.Lexicographic.{slice_cmp}
-use Rattle.std.specs.Map.{lookup}
-use Rattle.std.specs.Ordering.{nat_cmp}
-use Rattle.std.specs.Str.{bytes_eq}
-use Rattle.std.proofs.lemmas.Bool.{cases_Bool, false≢true}
-use Rattle.std.proofs.lemmas.List.{reverse-append, take_more}
-use Rattle.std.proofs.lemmas.Map.Text.{is_eq-slice_cmp}
 use Rattle.std.proofs.lemmas.Option.{slice_get_read}
-use Rattle.std.proofs.lemmas.Slice.Eq.{bytes_eq-Decides}
-use Rattle.sql_parts.specs.Pairs.{ArePlaces, last_value, value_at}
+use Rattle.sql_parts.specs.{ArePlaces, last_value, value_at}
 
 value-chosen : {K V : Type 0} (test : Bool) (pair : K × V) (rest : Option (K × V))
     → option_map (λ p. p.1) (if test then Some pair else rest) ≡ (if test then Some pair.1 else option_map (λ p. p.1) rest)

@@ -1,16 +1,8 @@
 -- What the methods of a text say of numbers and names behind a sign.
-use Rattle.std.proofs.Common.{◌≡◌, ℕ, zero, suc, ◌+◌, ◌-◌, ◌*◌, ◌<◌, ◌≤◌, Bool, true, false, List, length, get_or, take, drop, Option, sym, ap, ◌∙◌, subst}
-use Rattle.std.proofs.Common.{arith, ne_eqb, length-take}
-use Rattle.std.specs.Char.{digit_value, is_ascii_digit}
-use Rattle.std.specs.List.{position_or_len, before_first, after_first}
-use Rattle.std.specs.Prelude.{◌==◌}
-use Rattle.std.specs.Str.{IsUtf8, IsCharBoundary}
-use Rattle.std.specs.Str.Parse.{digits_value}
-use Rattle.std.proofs.lemmas.Bool.Decides.{nat_tests}
-use Rattle.std.proofs.lemmas.Int.Digits.{digits_value_more}
-use Rattle.std.proofs.lemmas.Str.{IsCharBoundary-after_ascii}
-use Rattle.sql_parts.specs.Placeholders.{IsNumber}
-use Rattle.sql_parts.specs.Templates.{Holds, Named, named}
+use Rattle.sql_parts.proofs.Imports.{◌≡◌, ℕ, zero, suc, ◌+◌, ◌-◌, ◌*◌, ◌<◌, ◌≤◌, Bool, true, false, List, length, get_or, take, drop, Option, sym, ap, ◌∙◌}
+use Rattle.sql_parts.proofs.Imports.{subst, arith, ne_eqb, length-take, digit_value, is_ascii_digit, position_or_len, before_first, after_first, ◌==◌, IsUtf8}
+use Rattle.sql_parts.proofs.Imports.{IsCharBoundary, digits_value, nat_tests, digits_value_more, IsCharBoundary-after_ascii}
+use Rattle.sql_parts.specs.{IsNumber, Holds, Named, named}
 
 pub some-by-test : (n : ℕ) (test : Bool) → test ≡ (n == 0) → test ≡ false → 0 < n
 some-by-test n test is fails = grind (arith, nat_tests, is, fails)

@@ -1,16 +1,11 @@
 -- How a template is resolved from one place to the next.
-use Rattle.std.proofs.Common.{◌≡◌, ℕ, zero, suc, ◌+◌, ◌-◌, ◌<◌, ◌≤◌, Bool, true, false, List, [], ◌∷◌, ◌++◌, length, take, drop, Some, None, refl, sym, ap, ◌∙◌}
-use Rattle.std.proofs.Common.{inl, inr, arith, length-append, ne_eqb}
-use Rattle.std.specs.Prelude.{MatchBool, codes, if◌then◌else◌, nat_eq}
-use Rattle.std.specs.List.{starts_with}
-use Rattle.std.specs.Str.Pattern.{FindsText, HasMatch, LacksTextAt}
-use Rattle.std.proofs.Math.Seq.{drop-append_seam, take-append_seam}
-use Rattle.std.proofs.lemmas.Bool.{cases_Bool}
-use Rattle.std.proofs.lemmas.Bool.Decides.{Decides-eqb}
-use Rattle.std.proofs.lemmas.List.{append-nil, drop-drop, drop_all, take_all}
-use Rattle.std.proofs.lemmas.Slice.Eq.{starts_is}
-use Rattle.sql_parts.specs.Templates.{Marks, First, Cycle, Num, Nums, Name, Names, Writes, counted, followed_by, prefix, resolve, resolved_from, place_behind}
-use Rattle.sql_parts.specs.Templates.{supplied}
+use Rattle.sql_parts.proofs.Imports.{◌≡◌, ℕ, zero, suc, ◌+◌, ◌-◌, ◌<◌, ◌≤◌, Bool, true, false, List, [], ◌∷◌, ◌++◌, length, take, drop, Some, None, refl, sym}
+use Rattle.sql_parts.proofs.Imports.{ap, ◌∙◌, inl, inr, arith, length-append, ne_eqb, codes, if◌then◌else◌, nat_eq, starts_with, FindsText, HasMatch}
+use Rattle.sql_parts.proofs.Imports.{LacksTextAt, drop-append_seam, take-append_seam, cases_Bool, Decides-eqb, append-nil, drop-drop, drop_all, take_all}
+use Rattle.sql_parts.proofs.Imports.{starts_is, Marks, followed_by, prefix}
+use Rattle.std.specs.Prelude.{MatchBool}
+use Rattle.sql_parts.specs.{First, Cycle, Num, Nums, Names, Writes, counted, resolve, resolved_from, place_behind, supplied}
+use Rattle.sql_parts.specs.Templates.{Name}
 
 -- a text that begins with another, and one that doesn't
 pub starts_with-yes : (text front rest : List ℕ) → text ≡ front ++ rest → starts_with nat_eq text front ≡ true

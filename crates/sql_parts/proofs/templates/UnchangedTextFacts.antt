@@ -1,14 +1,8 @@
 -- What binding leaves as it is.
-use Rattle.std.proofs.Common.{◌≡◌, ◌≢◌, ℕ, zero, suc, List, [], ◌∷◌, ◌++◌, length, drop, Some, eqb, refl, sym, subst, ap, ◌∙◌, inl, inr, arith, append-nil}
-use Rattle.std.proofs.Common.{ne_eqb}
-use Rattle.std.specs.List.{All}
-use Rattle.std.specs.Prelude.{if◌then◌else◌}
-use Rattle.std.specs.Str.Pattern.{LacksTextAt}
-use Rattle.std.proofs.lemmas.Bool.{cases_Bool, eqb-false, eqb-true}
-use Rattle.sql_parts.specs.Literal.{LiteralValue}
-use Rattle.sql_parts.specs.Quoting.{doubled}
-use Rattle.sql_parts.specs.Templates.{Marks, First, Cycle, Nums, Names, Place, Value, Writes, bound, counted, followed_by, named, prefix, resolved_from}
-use Rattle.sql_parts.specs.Templates.{place_behind, supplied}
+use Rattle.sql_parts.proofs.Imports.{◌≡◌, ◌≢◌, ℕ, zero, suc, List, [], ◌∷◌, ◌++◌, length, drop, Some, eqb, refl, sym, subst, ap, ◌∙◌, inl, inr, arith}
+use Rattle.sql_parts.proofs.Imports.{append-nil, ne_eqb, All, if◌then◌else◌, LacksTextAt, cases_Bool, eqb-false, eqb-true, Marks, followed_by, prefix}
+use Rattle.sql_parts.specs.{LiteralValue, doubled, First, Cycle, Nums, Names, Place, Value, Writes, bound, counted, named, resolved_from, place_behind}
+use Rattle.sql_parts.specs.{supplied}
 use Rattle.sql_parts.proofs.templates.ResolveLemmas.{resolved_from-prefix, resolved_from-text}
 
 -- a prefix of one byte doesn't begin where another byte is

@@ -1,11 +1,6 @@
 -- The tokens of a text, read byte by byte: what the law of seams is proved by.
-use Prim.Native.Char.{code}
-use Rattle.std.proofs.Common.{ℕ, List, [], ◌∷◌, ◌++◌}
-use Rattle.std.specs.Prelude.{◌==◌, if◌then◌else◌}
-use Rattle.sql_parts.specs.Quoting.{closing}
-use Rattle.sql_parts.specs.Tokens.{Token, Word, Symbol, Open, is_blank, is_word_byte, quoted_token}
-use Rattle.sql_parts.specs.declared.delimiters.Quotes.{Quotes}
-use Rattle.sql_parts.specs.declared.delimiters.Quotes.TheVariants.{Single, Back, Square, Double}
+use Rattle.sql_parts.proofs.Imports.{code, ℕ, List, [], ◌∷◌, ◌++◌, ◌==◌, if◌then◌else◌, Quotes, Single, Back, Square, Double}
+use Rattle.sql_parts.specs.{closing, Token, Word, Symbol, Open, is_blank, is_word_byte, quoted_token}
 
 -- Where the reader is: between two tokens, in a word, in quotes, behind what may be their closing delimiter, behind what may
 -- begin a comment, in a comment, or behind what may end it. What is read of a token is stored.

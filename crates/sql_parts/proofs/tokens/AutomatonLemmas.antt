@@ -1,16 +1,8 @@
 -- The tokens by the first rule that fits are those that are read byte by byte.
-use Prim.Native.Char.{code}
-use Rattle.std.proofs.Common.{◌≡◌, ℕ, suc, Bool, true, false, cond, List, [], ◌∷◌, ◌++◌, take, drop, Option, Some, None, sym, refl, ap, ◌∙◌, subst, inl, inr}
-use Rattle.std.proofs.Common.{append_assoc, append-nil, arith, zero, ne_eqb}
-use Rattle.std.specs.Prelude.{◌==◌, codes, nat_eq, option_map}
-use Rattle.std.specs.List.{prefix_len, starts_with}
-use Rattle.std.proofs.lemmas.Bool.{cases_Bool, cond-false, cond-true, eqb-false, eqb-true}
-use Rattle.std.proofs.Math.Seq.{drop-length}
-use Rattle.sql_parts.specs.Quoting.{closing}
-use Rattle.sql_parts.specs.Tokens.{Token, Word, Symbol, Open, comment, first, inside, is_blank, is_word_byte, reach, tokens, tokens_from, unquoted}
-use Rattle.sql_parts.specs.Tokens.{quoted_token}
-use Rattle.sql_parts.specs.declared.delimiters.Quotes.{Quotes}
-use Rattle.sql_parts.specs.declared.delimiters.Quotes.TheVariants.{Single, Back, Square, Double}
+use Rattle.sql_parts.proofs.Imports.{code, ◌≡◌, ℕ, suc, Bool, true, false, cond, List, [], ◌∷◌, ◌++◌, take, drop, Option, Some, None, sym, refl, ap, ◌∙◌, subst}
+use Rattle.sql_parts.proofs.Imports.{inl, inr, append_assoc, append-nil, arith, zero, ne_eqb, ◌==◌, codes, nat_eq, option_map, prefix_len, starts_with}
+use Rattle.sql_parts.proofs.Imports.{cases_Bool, cond-false, cond-true, eqb-false, eqb-true, drop-length, inside, Quotes, Single, Back, Square, Double}
+use Rattle.sql_parts.specs.{closing, Token, Word, Symbol, Open, comment, first, is_blank, is_word_byte, reach, tokens, tokens_from, unquoted, quoted_token}
 use Rattle.sql_parts.proofs.tokens.AutomatonFacts.{Mode, Between, InWord, InQuotes, InLine, InBlock, AtStar, behind_token, read, start}
 
 -- a byte that doesn't go on with a token ends it, and begins anew

@@ -1,13 +1,8 @@
 -- Literals without a backslash read alike whether a backslash escapes or not.
-use Prim.Native.Char.{code}
-use Rattle.std.proofs.Common.{◌≡◌, ℕ, suc, false, List, [], ◌∷◌, ◌++◌, length, Option, Some, refl, ap, ◌∙◌, cond, inl, inr}
-use Rattle.std.proofs.Common.{append_assoc, arith, length-append}
-use Rattle.std.specs.Prelude.{◌==◌, option_map}
-use Rattle.std.proofs.lemmas.Bool.{cases_Bool, eqb-true, or_parts}
-use Rattle.sql_parts.specs.Backslash.{has_backslash, inside, literal}
-use Rattle.sql_parts.specs.Quoting.{doubled, quoted}
+use Rattle.sql_parts.proofs.Imports.{code, ◌≡◌, ℕ, suc, false, List, [], ◌∷◌, ◌++◌, length, Option, Some, refl, ap, ◌∙◌, cond, inl, inr, append_assoc, arith}
+use Rattle.sql_parts.proofs.Imports.{length-append, ◌==◌, option_map, cases_Bool, eqb-true, or_parts}
+use Rattle.sql_parts.specs.{has_backslash, inside, literal, doubled, quoted, begins_with}
 use Rattle.sql_parts.specs.Tokens as tokens
-use Rattle.sql_parts.specs.Tokens.{begins_with}
 
 -- a byte that is neither a backslash nor a quote is part of the literal
 inside-plain : (byte : ℕ) (behind : List ℕ) → (byte == code "\\") ≡ false → (byte == code "'") ≡ false

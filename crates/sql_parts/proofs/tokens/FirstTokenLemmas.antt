@@ -1,17 +1,10 @@
 -- What the methods of a text say of the tokens at its front.
-use Rattle.std.proofs.Common.{◌≡◌, ◌≢◌, ℕ, zero, suc, ◌+◌, ◌<◌, ◌≤◌, true, false, List, [], ◌∷◌, ◌++◌, length, get_or, take, drop, Option, Some, None, refl}
-use Rattle.std.proofs.Common.{sym, ap, ◌∙◌, arith, ne_eqb, eq-eqb, length-append, length-drop, subst, Bor}
-use Rattle.std.specs.Prelude.{◌==◌, option_map}
-use Rattle.std.specs.List.{prefix_len}
-use Rattle.std.specs.Str.Pattern.{LacksTextAt}
-use Rattle.std.specs.Str.{IsCharBoundary, IsUtf8}
-use Rattle.std.proofs.Math.Seq.{drop-append_seam, drop-length}
-use Rattle.std.proofs.lemmas.Bool.Decides.{nat_tests}
-use Rattle.std.proofs.lemmas.Str.{IsCharBoundary-after_ascii}
-use Rattle.std.proofs.lemmas.Bool.{false≢true}
-use Rattle.std.specs.Prelude.{MatchOption}
-use Rattle.sql_parts.specs.Tokenizer.{IsRead, Represents, behind_bytes, optional_bytes}
-use Rattle.sql_parts.specs.Tokens.{Token, Word, Open, first, inside, is_word_byte, reach, tokens, tokens_from, unquoted, word}
+use Rattle.sql_parts.proofs.Imports.{◌≡◌, ◌≢◌, ℕ, zero, suc, ◌+◌, ◌<◌, ◌≤◌, true, false, List, [], ◌∷◌, ◌++◌, length, get_or, take, drop, Option, Some, None}
+use Rattle.sql_parts.proofs.Imports.{refl, sym, ap, ◌∙◌, arith, ne_eqb, eq-eqb, length-append, length-drop, subst, Bor, ◌==◌, option_map, prefix_len}
+use Rattle.sql_parts.proofs.Imports.{LacksTextAt, IsCharBoundary, IsUtf8, drop-append_seam, drop-length, nat_tests, IsCharBoundary-after_ascii, false≢true}
+use Rattle.sql_parts.proofs.Imports.{MatchOption, inside}
+use Rattle.sql_parts.specs.{IsRead, Represents, behind_bytes, optional_bytes, Token, Word, Open, first, is_word_byte, reach, tokens, tokens_from, unquoted}
+use Rattle.sql_parts.specs.{word}
 use Rattle.sql_parts.specs.declared.tokenizer.Token as declared
 use Rattle.sql_parts.specs.declared.tokenizer.Token.TheVariants as seen
 use Rattle.sql_parts.proofs.templates.ResolveLemmas.{starts_with-yes, starts_with-no}

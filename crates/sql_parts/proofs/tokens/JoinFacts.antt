@@ -1,10 +1,7 @@
 -- The tokens of closed texts with edges between them.
-use Rattle.std.proofs.Common.{◌≡◌, false, ℕ, Bool, true, ◌||◌, List, [], ◌∷◌, ◌++◌, map, sym, ap, ◌∙◌, append_assoc, append-nil}
-use Rattle.std.specs.Prelude.{flat_map}
-use Rattle.std.specs.List.{AllByRecursion}
-use Rattle.std.proofs.lemmas.Bool.{false≢true, or_left, or_right}
-use Rattle.sql_parts.specs.Text.{join_with}
-use Rattle.sql_parts.specs.Tokens.{Token, begins_with, clean, closed, ends_with, has_semicolon, is_edge, is_empty, tokens}
+use Rattle.sql_parts.proofs.Imports.{◌≡◌, false, ℕ, Bool, true, ◌||◌, List, [], ◌∷◌, ◌++◌, map, sym, ap, ◌∙◌, append_assoc, append-nil, flat_map}
+use Rattle.sql_parts.proofs.Imports.{AllByRecursion, false≢true, or_left, or_right}
+use Rattle.sql_parts.specs.{join_with, Token, begins_with, clean, closed, ends_with, has_semicolon, is_edge, is_empty, tokens}
 use Rattle.sql_parts.proofs.tokens.TokenFacts.{closed-seam, seam}
 
 -- a text that is closed and is between edges of its own

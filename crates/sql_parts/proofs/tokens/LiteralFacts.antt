@@ -1,18 +1,9 @@
 -- Texts of word bytes alone, and the tokens of literals.
-use Rattle.std.proofs.Common.{◌≡◌, ℕ, zero, suc, ◌+◌, ◌<◌, ◌/◌, ◌%◌, Bool, true, false, not, List, [], ◌∷◌, ◌++◌, length, take, drop, map, refl, sym, ap, ◌∙◌}
-use Rattle.std.proofs.Common.{subst, arith, ne_eqb}
-use Rattle.std.specs.Prelude.{pos, negsuc, codes, if◌then◌else◌}
-use Rattle.std.specs.Int.Digits.{AllBelowBase, digits_of}
-use Rattle.std.specs.List.{list_all, list_any, prefix_len}
-use Rattle.std.proofs.Math.Seq.{drop-length, take-length}
-use Rattle.std.proofs.lemmas.Bool.{and_from, and_parts, false≢true}
-use Rattle.std.proofs.lemmas.Bool.Decides.{nat_tests}
-use Rattle.std.proofs.lemmas.Int.Digits.{all_below_base_digits_of, digits_of_step}
-use Rattle.sql_parts.specs.Templates.{literal_tokens}
-use Rattle.sql_parts.specs.Literal.{LiteralValue, null, truth, whole, words, literal_text}
-use Rattle.sql_parts.specs.Text.{decimal_text}
-use Rattle.sql_parts.specs.Tokens.{Token, Word, Symbol, closed, first, is_open, is_word_byte, tokens}
-use Rattle.sql_parts.specs.declared.delimiters.Quotes.TheVariants.{Single}
+use Rattle.sql_parts.proofs.Imports.{◌≡◌, ℕ, zero, suc, ◌+◌, ◌<◌, ◌/◌, ◌%◌, Bool, true, false, not, List, [], ◌∷◌, ◌++◌, length, take, drop, map, refl, sym, ap}
+use Rattle.sql_parts.proofs.Imports.{◌∙◌, subst, arith, ne_eqb, pos, negsuc, codes, if◌then◌else◌, AllBelowBase, digits_of, list_all, list_any, prefix_len}
+use Rattle.sql_parts.proofs.Imports.{drop-length, take-length, and_from, and_parts, false≢true, nat_tests, all_below_base_digits_of, digits_of_step, Single}
+use Rattle.sql_parts.specs.{literal_tokens, LiteralValue, null, truth, whole, words, literal_text, decimal_text, Token, Word, Symbol, closed, first, is_open}
+use Rattle.sql_parts.specs.{is_word_byte, tokens}
 use Rattle.sql_parts.proofs.tokens.FirstTokenLemmas.{first-word, tokens-rule}
 use Rattle.sql_parts.proofs.tokens.TokenFacts.{between-tokens}
 

@@ -1,18 +1,10 @@
 -- The tokens of a name.
-use Rattle.std.proofs.Common.{◌≡◌, ℕ, true, List, [], ◌∷◌, ◌++◌, Option, Some, None, map, refl, sym, ap, ◌∙◌, inl, inr, append-nil, arith, not}
-use Rattle.std.specs.Prelude.{codes, if◌then◌else◌}
-use Rattle.std.specs.List.{list_all, list_any, AllByRecursion}
-use Rattle.std.proofs.lemmas.Bool.{and_from, and_parts, cases_Bool}
-use Rattle.std.proofs.lemmas.Bool.Decides.{nat_tests}
-use Rattle.sql_parts.specs.Name.{Name, alias_text, fits_form, is_plain, is_plain_byte, name_parts, name_text, name_tokens, safe_form, tokens_in, word_tokens}
-use Rattle.sql_parts.specs.Name.{written_in}
-use Rattle.sql_parts.specs.Quoting.{baquoted}
-use Rattle.sql_parts.specs.Text.{join_with}
+use Rattle.sql_parts.proofs.Imports.{◌≡◌, ℕ, true, List, [], ◌∷◌, ◌++◌, Option, Some, None, map, refl, sym, ap, ◌∙◌, inl, inr, append-nil, arith, not, codes}
+use Rattle.sql_parts.proofs.Imports.{if◌then◌else◌, list_all, list_any, AllByRecursion, and_from, and_parts, cases_Bool, nat_tests, Form, Bare, Between, Back}
+use Rattle.sql_parts.specs.{alias_text, fits_form, is_plain, is_plain_byte, name_parts, name_text, name_tokens, safe_form, tokens_in, word_tokens}
+use Rattle.sql_parts.specs.Name.{Name}
+use Rattle.sql_parts.specs.{written_in, baquoted, join_with, Word, Symbol, closed, is_open, is_word_byte, tokens}
 use Rattle.sql_parts.specs.Tokens as tokens
-use Rattle.sql_parts.specs.Tokens.{Word, Symbol, closed, is_open, is_word_byte, tokens}
-use Rattle.sql_parts.specs.declared.name.Form.{Form}
-use Rattle.sql_parts.specs.declared.name.Form.TheVariants.{Bare, Between}
-use Rattle.sql_parts.specs.declared.delimiters.Quotes.TheVariants.{Back}
 use Rattle.sql_parts.proofs.tokens.JoinFacts.{Edged, clean-before, clean-behind, joined-closed, joined-tokens}
 use Rattle.sql_parts.proofs.tokens.TokenFacts.{between-tokens, between_closed, closed-seam, seam}
 use Rattle.sql_parts.proofs.tokens.LiteralFacts.{is_word, word-tokens}

@@ -1,16 +1,10 @@
 -- Readers go through the same states outside of untrusted texts.
-use Rattle.std.proofs.Common.{◌≡◌, ℕ, Bool, true, false, List, [], ◌∷◌, ◌++◌, refl, sym, ap, subst, ◌∙◌, ◌+◌, inl, inr, append_assoc, length, map, take}
-use Rattle.std.specs.Prelude.{◌==◌, ◌↔◌}
-use Rattle.std.specs.List.{AllByRecursion, list_all}
-use Rattle.std.proofs.Math.Seq.{take-append_seam}
-use Rattle.std.proofs.lemmas.List.Elements.{All-from_recursion, recursion_from_All}
-use Rattle.std.proofs.lemmas.Bool.{and_parts, cases_Bool, eqb-false}
-use Rattle.std.proofs.lemmas.List.{length-append, length-map}
-use Rattle.sql_parts.specs.Quoting.{between, closing, doubled, opening}
-use Rattle.sql_parts.specs.ReaderLaws.{IsInsideUntilItsEnd, LeadsAsNoText, PartsAreAtPlaces, ReadersIgnoreDoubledTexts, StaysInside, places_from}
-use Rattle.sql_parts.specs.Readers.{Part, Constant, Doubled, Reader, DifferInDoubledTexts, IsInside, IsInsideAtEach, OpensLiteral, after, emptied}
-use Rattle.sql_parts.specs.Readers.{has_plain_text, inner_states, marks, outer_states, part_bytes, part_marks, parts_bytes, states}
-use Rattle.sql_parts.specs.declared.delimiters.Quotes.{Quotes}
+use Rattle.sql_parts.proofs.Imports.{◌≡◌, ℕ, Bool, true, false, List, [], ◌∷◌, ◌++◌, refl, sym, ap, subst, ◌∙◌, ◌+◌, inl, inr, append_assoc, length, map, take}
+use Rattle.sql_parts.proofs.Imports.{◌==◌, ◌↔◌, AllByRecursion, list_all, take-append_seam, All-from_recursion, recursion_from_All, and_parts, cases_Bool}
+use Rattle.sql_parts.proofs.Imports.{eqb-false, length-append, length-map, Part, marks, Quotes}
+use Rattle.sql_parts.specs.{between, closing, doubled, opening, IsInsideUntilItsEnd, LeadsAsNoText, PartsAreAtPlaces, ReadersIgnoreDoubledTexts, StaysInside}
+use Rattle.sql_parts.specs.{places_from, Constant, Doubled, Reader, DifferInDoubledTexts, IsInside, IsInsideAtEach, OpensLiteral, after, emptied}
+use Rattle.sql_parts.specs.{has_plain_text, inner_states, outer_states, part_bytes, part_marks, parts_bytes, states}
 
 module _ (next : Reader) where
   pub after-append : (state : ℕ) (one other : List ℕ) → after next state (one ++ other) ≡ after next (after next state one) other

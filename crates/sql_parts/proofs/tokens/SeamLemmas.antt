@@ -1,14 +1,8 @@
 -- Where an edge is beside a seam, the tokens on both sides stay what they are.
-use Rattle.std.proofs.Common.{◌≡◌, ℕ, Bool, true, false, cond, ◌||◌, List, [], ◌∷◌, ◌++◌, sym, refl, ap, ◌∙◌, subst, inl, inr, append_assoc, append-nil, ◌⊎◌}
-use Rattle.std.proofs.Common.{ne_eqb, eq-eqb}
-use Rattle.std.specs.Prelude.{◌==◌, codes}
-use Rattle.std.specs.List.{list_any, AllByRecursion}
-use Rattle.std.proofs.lemmas.Bool.{cases_Bool, cond-false, eqb-true, false≢true, or_cases, or_parts}
-use Rattle.std.proofs.lemmas.List.Folds.{list_any-append}
-use Rattle.sql_parts.specs.Quoting.{closing, doubled}
-use Rattle.sql_parts.specs.Tokens.{Token, begins_with, clean, ends_with, is_edge, is_empty, is_one_of, is_open, is_word_byte, quoted_token}
-use Rattle.sql_parts.specs.declared.delimiters.Quotes.{Quotes}
-use Rattle.sql_parts.specs.declared.delimiters.Quotes.TheVariants.{Single, Back, Square, Double}
+use Rattle.sql_parts.proofs.Imports.{◌≡◌, ℕ, Bool, true, false, cond, ◌||◌, List, [], ◌∷◌, ◌++◌, sym, refl, ap, ◌∙◌, subst, inl, inr, append_assoc, append-nil}
+use Rattle.sql_parts.proofs.Imports.{◌⊎◌, ne_eqb, eq-eqb, ◌==◌, codes, list_any, AllByRecursion, cases_Bool, cond-false, eqb-true, false≢true, or_cases}
+use Rattle.sql_parts.proofs.Imports.{or_parts, list_any-append, Quotes, Single, Back, Square, Double}
+use Rattle.sql_parts.specs.{closing, doubled, Token, begins_with, clean, ends_with, is_edge, is_empty, is_one_of, is_open, is_word_byte, quoted_token}
 use Rattle.sql_parts.proofs.tokens.AutomatonFacts.{Mode, Between, InWord, InQuotes, AtDelimiter, AtDash, AtSlash, InLine, InBlock, AtStar, after, behind_token}
 use Rattle.sql_parts.proofs.tokens.AutomatonFacts.{finish, read, start, step, whole}
 

@@ -1,11 +1,7 @@
 -- Laws of tokens.
-use Rattle.std.proofs.Common.{◌≡◌, ℕ, true, false, not, ◌||◌, List, [], ◌∷◌, ◌++◌, codes, sym, refl, ap, ◌∙◌}
-use Rattle.std.proofs.lemmas.Bool.{not-true, not_from_false, or_from}
-use Rattle.std.proofs.lemmas.List.Folds.{list_any-append}
-use Rattle.sql_parts.specs.Quoting.{between, escaped}
-use Rattle.sql_parts.specs.Tokens.{Str, clean, closed, is_open, tokens, quoted_token}
-use Rattle.sql_parts.specs.declared.delimiters.Quotes.{Quotes}
-use Rattle.sql_parts.specs.declared.delimiters.Quotes.TheVariants.{Single, Back, Square, Double}
+use Rattle.sql_parts.proofs.Imports.{◌≡◌, ℕ, true, false, not, ◌||◌, List, [], ◌∷◌, ◌++◌, codes, sym, refl, ap, ◌∙◌, not-true, not_from_false, or_from}
+use Rattle.sql_parts.proofs.Imports.{list_any-append, Quotes, Single, Back, Square, Double}
+use Rattle.sql_parts.specs.{between, escaped, Str, clean, closed, is_open, tokens, quoted_token}
 use Rattle.sql_parts.proofs.tokens.AutomatonLemmas.{tokens-read}
 use Rattle.sql_parts.proofs.tokens.SeamLemmas.{has_open, read-doubled, read-seam}
 

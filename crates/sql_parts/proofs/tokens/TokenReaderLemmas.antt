@@ -1,15 +1,8 @@
 -- The reader of tokens goes where the rules of tokens go.
-use Prim.Native.Char.{code}
-use Rattle.std.proofs.Common.{◌≡◌, ℕ, true, false, not, List, [], ◌∷◌, refl, sym, ap, subst, ◌∙◌, ◌||◌, inl, inr, ne_eqb}
-use Rattle.std.specs.Prelude.{◌==◌, ◌+◌, codes}
-use Rattle.std.proofs.lemmas.Bool.{cases_Bool, eqb-true, not-true, or_from, or_parts}
-use Rattle.std.proofs.lemmas.List.Folds.{list_any-append}
-use Rattle.sql_parts.specs.Quoting.{closing}
-use Rattle.sql_parts.specs.Readers.{OpensLiteral, after}
-use Rattle.sql_parts.specs.TokenReader.{HasNoBackslash, OpensEveryLiteral, OpensWithoutBackslashes, ReadsClosed, in_block, is_open_state, token_reader}
-use Rattle.sql_parts.specs.Tokens.{closed, ends_with, is_edge, is_one_of, is_open, is_word_byte}
-use Rattle.sql_parts.specs.declared.delimiters.Quotes.TheVariants.{Single, Back, Square, Double}
-use Rattle.sql_parts.specs.declared.delimiters.Quotes.{Quotes}
+use Rattle.sql_parts.proofs.Imports.{code, ◌≡◌, ℕ, true, false, not, List, [], ◌∷◌, refl, sym, ap, subst, ◌∙◌, ◌||◌, inl, inr, ne_eqb, ◌==◌, ◌+◌, codes}
+use Rattle.sql_parts.proofs.Imports.{cases_Bool, eqb-true, not-true, or_from, or_parts, list_any-append, Single, Back, Square, Double, Quotes}
+use Rattle.sql_parts.specs.{closing, OpensLiteral, after, HasNoBackslash, OpensEveryLiteral, OpensWithoutBackslashes, ReadsClosed, in_block, is_open_state}
+use Rattle.sql_parts.specs.{token_reader, closed, ends_with, is_edge, is_one_of, is_open, is_word_byte}
 use Rattle.sql_parts.proofs.tokens.AutomatonFacts as mode
 use Rattle.sql_parts.proofs.tokens.AutomatonFacts.{Mode, Between, InWord, InQuotes, AtDelimiter, AtDash, AtSlash, InLine, InBlock, AtStar, finish, step, whole}
 use Rattle.sql_parts.proofs.tokens.AutomatonLemmas.{flipped, tokens-read}

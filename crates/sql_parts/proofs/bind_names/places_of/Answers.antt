@@ -1,13 +1,8 @@
-use Rattle.std.proofs.Common.{◌∙◌, Bor, Bool, List, None, Some, ap, arith, refl, sym, ℕ}
-use Rattle.std.specs.Cmp.Lexicographic.{slice_cmp}
-use Rattle.std.specs.Map.{update_all}
-use Rattle.std.specs.Ordering.{eq_by_cmp, nat_cmp}
-use Rattle.std.specs.Prelude.{if◌then◌else◌}
-use Rattle.std.proofs.lemmas.List.{take_all}
+use Rattle.sql_parts.proofs.Imports.{◌∙◌, Bor, Bool, List, None, Some, ap, arith, refl, sym, ℕ, slice_cmp, update_all, eq_by_cmp, nat_cmp, if◌then◌else◌}
+use Rattle.sql_parts.proofs.Imports.{take_all, is_eq-slice_cmp}
 use Rattle.std.proofs.lemmas.Map.{update_all_push}
-use Rattle.std.proofs.lemmas.Map.Text.{is_eq-slice_cmp}
-use Rattle.sql_parts.specs.Pairs.{last_value, value_at}
-use Rattle.sql_parts.proofs.templates.PairLemmas.{are-places, places-more}
+use Rattle.sql_parts.specs.{last_value, value_at}
+use Rattle.sql_parts.proofs.templates.{are-places, places-more}
 use Rattle.sql_parts.proofs.bind_names.places_of.Goals as goal
 
 abbrev same : Bor (List ℕ) → Bor (List ℕ) → Bool

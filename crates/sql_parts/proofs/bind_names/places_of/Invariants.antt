@@ -1,8 +1,5 @@
-use Rattle.std.proofs.Common.{◌≡◌, Bor, List, None, take, ℕ}
-use Rattle.std.specs.Cmp.Lexicographic.{slice_cmp}
-use Rattle.std.specs.Map.{update_all}
-use Rattle.std.specs.Ordering.{eq_by_cmp, nat_cmp}
-use Rattle.sql_parts.specs.Pairs.{last_value, value_at}
+use Rattle.sql_parts.proofs.Imports.{◌≡◌, Bor, List, None, take, ℕ, slice_cmp, update_all, eq_by_cmp, nat_cmp}
+use Rattle.sql_parts.specs.{last_value, value_at}
 use Rattle.sql_parts.proofs.bind_names.places_of.Given as goal
 
 abbrev pub invariant-loop-place : goal.invariant-loop-place

@@ -1,9 +1,6 @@
-use Rattle.std.proofs.Common.{◌≡◌, ◌∙◌, ◌∷◌, ap, arith, subst, sym}
-use Rattle.sql_parts.specs.Text.{decimal_text}
-use Rattle.std.specs.Str.{IsAscii}
-use Rattle.std.proofs.lemmas.Fmt.{length-decimal-le}
-use Rattle.sql_parts.proofs.bytes.DecimalFacts.{unsigned_text}
-use Rattle.sql_parts.proofs.bytes.DigitLemmas.{ascii-prefixed}
+use Rattle.sql_parts.proofs.Imports.{◌≡◌, ◌∙◌, ◌∷◌, ap, arith, subst, sym, IsAscii, length-decimal-le}
+use Rattle.sql_parts.specs.{decimal_text}
+use Rattle.sql_parts.proofs.bytes.{unsigned_text, ascii-prefixed}
 use Rattle.sql_parts.proofs.decimal.prefixed_text.Goals as goal
 
 pub write_prefixed-start-requires : goal.write_prefixed-start-requires

@@ -1,7 +1,5 @@
-use Rattle.std.proofs.Common.{◌∙◌, ◌∷◌, ◌++◌, ap, arith, subst, string_bytes, sym}
-use Rattle.std.specs.Str.{IsAscii}
-use Rattle.sql_parts.proofs.bytes.DecimalFacts.{unsigned_text}
-use Rattle.sql_parts.proofs.bytes.DigitLemmas.{ascii-prefixed}
+use Rattle.sql_parts.proofs.Imports.{◌∙◌, ◌∷◌, ◌++◌, ap, arith, subst, string_bytes, sym, IsAscii}
+use Rattle.sql_parts.proofs.bytes.{unsigned_text, ascii-prefixed}
 use Rattle.sql_parts.proofs.decimal.push_by.Goals as goal
 
 pub written-requires-clause-ascii : goal.written-requires-clause-ascii

@@ -1,5 +1,4 @@
-use Rattle.std.proofs.Common.{arith}
-use Rattle.std.proofs.lemmas.Fmt.{length-decimal-le}
+use Rattle.sql_parts.proofs.Imports.{arith, length-decimal-le}
 use Rattle.sql_parts.proofs.decimal.push_prefixed.Goals as goal
 
 pub push_by-requires-clause-fits : goal.push_by-requires-clause-fits

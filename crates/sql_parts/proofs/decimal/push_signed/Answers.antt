@@ -1,7 +1,5 @@
-use Rattle.std.proofs.Common.{◌∙◌, ◌++◌, ap, subst, string_bytes, sym, to_z-of_z}
-use Rattle.std.specs.Str.{IsAscii}
-use Rattle.sql_parts.proofs.bytes.DecimalFacts.{signed_text}
-use Rattle.sql_parts.proofs.bytes.DigitLemmas.{ascii-signed}
+use Rattle.sql_parts.proofs.Imports.{◌∙◌, ◌++◌, ap, subst, string_bytes, sym, to_z-of_z, IsAscii}
+use Rattle.sql_parts.proofs.bytes.{signed_text, ascii-signed}
 use Rattle.sql_parts.proofs.decimal.push_signed.Goals as goal
 
 pub written-requires-clause-ascii : goal.written-requires-clause-ascii

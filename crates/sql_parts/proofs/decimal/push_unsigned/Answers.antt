@@ -1,7 +1,5 @@
-use Rattle.std.proofs.Common.{◌∙◌, ◌++◌, ap, arith, subst, string_bytes, sym}
-use Rattle.std.specs.Str.{IsAscii}
-use Rattle.std.proofs.lemmas.Fmt.{IsAscii-decimal_wide}
-use Rattle.sql_parts.proofs.bytes.DecimalFacts.{unsigned_text}
+use Rattle.sql_parts.proofs.Imports.{◌∙◌, ◌++◌, ap, arith, subst, string_bytes, sym, IsAscii, IsAscii-decimal_wide}
+use Rattle.sql_parts.proofs.bytes.{unsigned_text}
 use Rattle.sql_parts.proofs.decimal.push_unsigned.Goals as goal
 
 pub written-requires-clause-ascii : goal.written-requires-clause-ascii

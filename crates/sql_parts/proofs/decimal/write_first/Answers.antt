@@ -1,7 +1,5 @@
-use Rattle.std.proofs.Common.{◌≡◌, ◌+◌, ◌-◌, arith}
-use Rattle.std.proofs.lemmas.Fmt.{decimal_digit}
-use Rattle.std.proofs.lemmas.List.{drop-set}
-use Rattle.sql_parts.proofs.bytes.DigitLemmas.{decimal-two, one-digit, two-digits}
+use Rattle.sql_parts.proofs.Imports.{◌≡◌, ◌+◌, ◌-◌, arith, decimal_digit, drop-set}
+use Rattle.sql_parts.proofs.bytes.{decimal-two, one-digit, two-digits}
 use Rattle.sql_parts.proofs.decimal.write_first.Goals as goal
 
 pub overflow_sub-text : goal.overflow_sub-text

@@ -1,8 +1,6 @@
-use Rattle.std.proofs.Common.{◌-◌, ◌*◌, ◌/◌, ◌++◌, ◌∙◌, ap, append-nil, append_assoc, arith, drop, refl, sym}
-use Rattle.std.specs.Fmt.{decimal}
-use Rattle.std.proofs.lemmas.List.{drop_all}
-use Rattle.sql_parts.specs.Decimal.{last_digits}
-use Rattle.sql_parts.proofs.bytes.DigitLemmas.{decimal-base, length-base, longest}
+use Rattle.sql_parts.proofs.Imports.{◌-◌, ◌*◌, ◌/◌, ◌++◌, ◌∙◌, ap, append-nil, append_assoc, arith, drop, refl, sym, decimal, drop_all}
+use Rattle.sql_parts.specs.{last_digits}
+use Rattle.sql_parts.proofs.bytes.{decimal-base, length-base, longest}
 use Rattle.sql_parts.proofs.decimal.write_number.Goals as goal
 
 pub loop-left-init : goal.loop-left-init

@@ -1,5 +1,4 @@
-use Rattle.std.proofs.Common.{◌≡◌, ◌+◌, ◌≤◌, ◌++◌, length, drop}
-use Rattle.std.specs.Fmt.{decimal}
+use Rattle.sql_parts.proofs.Imports.{◌≡◌, ◌+◌, ◌≤◌, ◌++◌, length, drop, decimal}
 use Rattle.sql_parts.proofs.decimal.write_number.Given as goal
 
 abbrev pub invariant-loop-left : goal.invariant-loop-left

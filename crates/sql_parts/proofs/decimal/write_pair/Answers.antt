@@ -1,6 +1,5 @@
-use Rattle.std.proofs.Common.{◌≡◌, ◌+◌, ◌%◌, set, arith, length-set}
-use Rattle.std.proofs.lemmas.List.{set_comm, drop-set}
-use Rattle.sql_parts.proofs.bytes.DigitLemmas.{in-table}
+use Rattle.sql_parts.proofs.Imports.{◌≡◌, ◌+◌, ◌%◌, set, arith, length-set, set_comm, drop-set}
+use Rattle.sql_parts.proofs.bytes.{in-table}
 use Rattle.sql_parts.proofs.decimal.write_pair.Goals as goal
 
 pub returns : goal.returns

@@ -1,5 +1,4 @@
-use Rattle.std.proofs.Common.{◌≡◌, ◌+◌, ◌-◌, append-nil, arith, length}
-use Rattle.std.proofs.lemmas.List.{drop-set, drop_all}
+use Rattle.sql_parts.proofs.Imports.{◌≡◌, ◌+◌, ◌-◌, append-nil, arith, length, drop-set, drop_all}
 use Rattle.sql_parts.proofs.decimal.write_prefixed.Goals as goal
 
 pub overflow_sub-start : goal.overflow_sub-start

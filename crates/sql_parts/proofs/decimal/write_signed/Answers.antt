@@ -1,6 +1,5 @@
-use Rattle.std.proofs.Common.{◌≡◌, ◌+◌, ◌-◌, arith, to_z-of_z}
-use Rattle.std.proofs.lemmas.List.{drop-set}
-use Rattle.sql_parts.proofs.bytes.DigitLemmas.{longest, minus-first}
+use Rattle.sql_parts.proofs.Imports.{◌≡◌, ◌+◌, ◌-◌, arith, to_z-of_z, drop-set}
+use Rattle.sql_parts.proofs.bytes.{longest, minus-first}
 use Rattle.sql_parts.proofs.decimal.write_signed.Goals as goal
 
 pub overflow_sub-text : goal.overflow_sub-text

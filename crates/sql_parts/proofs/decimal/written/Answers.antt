@@ -1,7 +1,4 @@
-use Rattle.std.proofs.Common.{◌-◌, arith, drop, length, length-drop, subst, sym}
-use Rattle.std.specs.Str.{IsAscii}
-use Rattle.std.proofs.lemmas.List.{take_all}
-use Rattle.std.proofs.lemmas.Str.{IsUtf8-from_ascii}
+use Rattle.sql_parts.proofs.Imports.{◌-◌, arith, drop, length, length-drop, subst, sym, IsAscii, take_all, IsUtf8-from_ascii}
 use Rattle.sql_parts.proofs.decimal.written.Goals as goal
 
 pub from_utf8_unchecked-requires : goal.from_utf8_unchecked-requires

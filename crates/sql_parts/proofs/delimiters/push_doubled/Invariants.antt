@@ -1,9 +1,7 @@
-use denote.Shadow.{shadow}
-use denote.Text.{Utf8}
-use Rattle.std.proofs.Common.{◌≡◌, ◌++◌, length}
+use Rattle.sql_parts.proofs.Imports.{shadow, Utf8, ◌≡◌, ◌++◌, length}
 use Rattle.std.specs.Io.{StartsWith}
 use Rattle.std.specs.String.{string_bytes}
-use Rattle.sql_parts.specs.Quoting.{doubled}
+use Rattle.sql_parts.specs.{doubled}
 use Rattle.sql_parts.proofs.delimiters.push_doubled.Given as goal
 
 abbrev pub invariant-delimiters : goal.invariant-delimiters

@@ -1,6 +1,5 @@
-use Rattle.std.proofs.Common.{◌≡◌, ◌-◌, ◌<◌, ◌≢◌, ℕ, List, arith, get_or, length, rules, subst}
-use Rattle.std.proofs.lemmas.Str.{IsCharBoundary-after_ascii}
-use Rattle.sql_parts.proofs.bytes.DoublingLemmas.{cut-at, doubled-at, doubled-without}
+use Rattle.sql_parts.proofs.Imports.{◌≡◌, ◌-◌, ◌<◌, ◌≢◌, ℕ, List, arith, get_or, length, rules, subst, IsCharBoundary-after_ascii}
+use Rattle.sql_parts.proofs.bytes.{cut-at, doubled-at, doubled-without}
 use Rattle.sql_parts.proofs.delimiters.split_at_delimiter.Goals as goal
 
 pub returns-in_err-place-clause-doubled : goal.returns-in_err-place-clause-doubled

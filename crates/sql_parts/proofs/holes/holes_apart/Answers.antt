@@ -1,7 +1,5 @@
-use Rattle.std.proofs.Common.{◌∙◌, None, Some, ap, arith, false, rules, sym}
-use Rattle.std.specs.Prelude.{◌&&◌}
-use Rattle.std.proofs.lemmas.Str.Pattern.{split_parts}
-use Rattle.sql_parts.proofs.templates.HoleFacts.{apart-hole, apart-none, rest_apart}
+use Rattle.sql_parts.proofs.Imports.{◌∙◌, None, Some, ap, arith, false, rules, sym, ◌&&◌, split_parts}
+use Rattle.sql_parts.proofs.templates.{apart-hole, apart-none, rest_apart}
 use Rattle.sql_parts.proofs.holes.holes_apart.Goals as goal
 
 pub returns-then-not-segment_apart : goal.returns-then-not-segment_apart

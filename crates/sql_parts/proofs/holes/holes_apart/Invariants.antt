@@ -1,8 +1,6 @@
-use denote.Shadow.{shadow}
-use denote.Text.{Utf8}
-use Rattle.std.proofs.Common.{◌≡◌, length}
-use Rattle.sql_parts.proofs.templates.HoleFacts.{rest_apart}
-use Rattle.sql_parts.specs.Holes.{holes_apart}
+use Rattle.sql_parts.proofs.Imports.{shadow, Utf8, ◌≡◌, length}
+use Rattle.sql_parts.proofs.templates.{rest_apart}
+use Rattle.sql_parts.specs.{holes_apart}
 use Rattle.sql_parts.proofs.holes.holes_apart.Given as goal
 
 abbrev pub invariant-loop-segment : goal.invariant-loop-segment

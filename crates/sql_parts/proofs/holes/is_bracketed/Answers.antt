@@ -1,6 +1,5 @@
-use Rattle.std.proofs.Common.{◌∙◌, None, Some, arith, sym}
-use Rattle.std.proofs.lemmas.Str.Pattern.{strip_prefix_char, strip_suffix_char}
-use Rattle.sql_parts.proofs.templates.HoleFacts.{bracketed, unbracketed-end, unbracketed-front}
+use Rattle.sql_parts.proofs.Imports.{◌∙◌, None, Some, arith, sym, strip_prefix_char, strip_suffix_char}
+use Rattle.sql_parts.proofs.templates.{bracketed, unbracketed-end, unbracketed-front}
 use Rattle.sql_parts.proofs.holes.is_bracketed.Goals as goal
 
 pub returns-in_default : goal.returns-in_default

@@ -1,6 +1,5 @@
-use Rattle.std.proofs.Common.{None, arith}
-use Rattle.std.proofs.lemmas.Str.Pattern.{strip_prefix_char}
-use Rattle.sql_parts.proofs.templates.HoleFacts.{no-sign}
+use Rattle.sql_parts.proofs.Imports.{None, arith, strip_prefix_char}
+use Rattle.sql_parts.proofs.templates.{no-sign}
 use Rattle.sql_parts.proofs.holes.unsigned.Goals as goal
 
 pub returns-in-None-strip_prefix : goal.returns-in-None-strip_prefix

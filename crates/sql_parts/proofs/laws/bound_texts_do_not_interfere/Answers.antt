@@ -1,12 +1,7 @@
-use Rattle.std.specs.List.{count_by, list_any}
-use Rattle.std.proofs.Common.{not, refl}
-use Rattle.sql_parts.specs.Fragments.{has_top_level, is_balanced, is_clause_word, is_dangling, is_operand}
-use Rattle.sql_parts.specs.StringTexts.{blank}
-use Rattle.sql_parts.specs.Tokens.{is_open, is_semicolon}
-use Rattle.sql_parts.proofs.fragments.StringTextFacts.{any-blank, count-blank, has_top_level-blank, ignores, is_balanced-blank, is_dangling-blank}
-use Rattle.sql_parts.proofs.fragments.StringTextFacts.{is_operand-blank}
-use Rattle.sql_parts.proofs.templates.BoundTextFacts.{arguments-differ, bound_places-kept, bound_texts-apart, bound_texts-ignored, bound_texts-strings}
-use Rattle.sql_parts.proofs.templates.BoundTextFacts.{names-differ}
+use Rattle.sql_parts.proofs.Imports.{count_by, list_any, not, refl}
+use Rattle.sql_parts.specs.{has_top_level, is_balanced, is_clause_word, is_dangling, is_operand, blank, is_open, is_semicolon}
+use Rattle.sql_parts.proofs.fragments.{any-blank, count-blank, has_top_level-blank, ignores, is_balanced-blank, is_dangling-blank, is_operand-blank}
+use Rattle.sql_parts.proofs.templates.{arguments-differ, bound_places-kept, bound_texts-apart, bound_texts-ignored, bound_texts-strings, names-differ}
 use Rattle.sql_parts.proofs.laws.bound_texts_do_not_interfere.Goals as goal
 
 pub returns : goal.returns

@@ -1,8 +1,7 @@
-use Rattle.std.proofs.Common.{length}
-use Rattle.std.proofs.lemmas.List.{length-map}
-use Rattle.sql_parts.specs.StringTexts.{blank_token}
-use Rattle.sql_parts.proofs.fragments.StringTextFacts.{ignores}
-use Rattle.sql_parts.proofs.templates.BoundTextFacts.{bound_texts-ignored}
+use Rattle.sql_parts.proofs.Imports.{length, length-map}
+use Rattle.sql_parts.specs.{blank_token}
+use Rattle.sql_parts.proofs.fragments.{ignores}
+use Rattle.sql_parts.proofs.templates.{bound_texts-ignored}
 use Rattle.sql_parts.proofs.laws.bound_texts_keep_the_count.Goals as goal
 
 pub returns : goal.returns

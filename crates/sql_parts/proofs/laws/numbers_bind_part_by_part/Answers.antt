@@ -1,8 +1,6 @@
-use Rattle.std.proofs.Common.{refl}
-use Rattle.std.proofs.lemmas.Bool.{not-true}
-use Rattle.sql_parts.specs.Templates.{Nums}
-use Rattle.sql_parts.proofs.templates.BoundSeamLemmas.{placeholder-bound, texts-apart}
-use Rattle.sql_parts.proofs.templates.UnchangedTextFacts.{without-prefix}
+use Rattle.sql_parts.proofs.Imports.{refl, not-true}
+use Rattle.sql_parts.specs.{Nums}
+use Rattle.sql_parts.proofs.templates.{placeholder-bound, texts-apart, without-prefix}
 use Rattle.sql_parts.proofs.laws.numbers_bind_part_by_part.Goals as goal
 
 pub returns : goal.returns

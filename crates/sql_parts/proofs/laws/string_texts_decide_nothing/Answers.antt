@@ -1,12 +1,6 @@
-use Rattle.std.specs.List.{count_by, list_any}
-use Rattle.std.proofs.Common.{length, not, refl}
-use Rattle.std.proofs.lemmas.List.{length-map}
-use Rattle.sql_parts.specs.Fragments.{has_top_level, is_balanced, is_clause_word, is_dangling, is_operand}
-use Rattle.sql_parts.specs.StringTexts.{blank_token}
-use Rattle.sql_parts.specs.Tokens.{is_open, is_semicolon}
-use Rattle.sql_parts.proofs.fragments.StringTextFacts.{any-blank, count-blank, has_top_level-blank, ignores, is_balanced-blank, is_dangling-blank}
-use Rattle.sql_parts.proofs.fragments.StringTextFacts.{is_operand-blank}
-use Rattle.sql_parts.proofs.fragments.StringTextFacts.{somewhere}
+use Rattle.sql_parts.proofs.Imports.{count_by, list_any, length, not, refl, length-map}
+use Rattle.sql_parts.specs.{has_top_level, is_balanced, is_clause_word, is_dangling, is_operand, blank_token, is_open, is_semicolon}
+use Rattle.sql_parts.proofs.fragments.{any-blank, count-blank, has_top_level-blank, ignores, is_balanced-blank, is_dangling-blank, is_operand-blank, somewhere}
 use Rattle.sql_parts.proofs.laws.string_texts_decide_nothing.Goals as goal
 
 pub returns : goal.returns

@@ -1,8 +1,5 @@
-use denote.Shadow.{shadow}
-use denote.Text.{Utf8}
-use Rattle.std.proofs.Common.{◌≡◌, ◌+◌, ◌≤◌, length}
-use Rattle.sql_parts.specs.Fragments.{encloses_clauses}
-use Rattle.sql_parts.specs.Tokens.{tokens}
+use Rattle.sql_parts.proofs.Imports.{shadow, Utf8, ◌≡◌, ◌+◌, ◌≤◌, length}
+use Rattle.sql_parts.specs.{encloses_clauses, tokens}
 use Rattle.sql_parts.proofs.lex.encloses_clauses.Given as goal
 
 abbrev pub invariant-loop-token : goal.invariant-loop-token

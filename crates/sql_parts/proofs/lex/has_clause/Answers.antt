@@ -1,9 +1,6 @@
-use Rattle.std.proofs.Common.{◌≡◌, ◌∙◌, ◌+◌, ◌&&◌, ◌||◌, Bool, ap, eqb, false, rules, sym}
-use Rattle.std.proofs.Math.Bool.{and-false}
-use Rattle.std.specs.Prelude.{if◌then◌else◌}
-use Rattle.sql_parts.specs.Fragments.{is_clause_word, is_dialect_word, lowers, raises, weight}
-use Rattle.sql_parts.specs.Tokens.{Token, tokens}
-use Rattle.sql_parts.proofs.fragments.DepthCountLemmas.{has_top_level-is, top_level_from}
+use Rattle.sql_parts.proofs.Imports.{◌≡◌, ◌∙◌, ◌+◌, ◌&&◌, ◌||◌, Bool, ap, eqb, false, rules, sym, and-false, if◌then◌else◌}
+use Rattle.sql_parts.specs.{is_clause_word, is_dialect_word, lowers, raises, weight, Token, tokens}
+use Rattle.sql_parts.proofs.fragments.{has_top_level-is, top_level_from}
 use Rattle.sql_parts.proofs.lex.has_clause.Goals as goal
 use Rattle.sql_parts.proofs.lex.has_clause.Goals.{else-is_top_level-via-then-is_top_level+else-begins_clause, else-is_top_level-via-else-is_top_level}
 

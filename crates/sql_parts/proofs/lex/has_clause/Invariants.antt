@@ -1,10 +1,6 @@
-use denote.Shadow.{shadow}
-use denote.Text.{Utf8}
-use Rattle.std.proofs.Common.{◌≡◌, ◌+◌, ◌≤◌, length}
-use Rattle.std.specs.Prelude.{if◌then◌else◌}
-use Rattle.sql_parts.specs.Fragments.{has_top_level, is_clause_word, is_dialect_word}
-use Rattle.sql_parts.specs.Tokens.{tokens}
-use Rattle.sql_parts.proofs.fragments.DepthCountLemmas.{top_level_from}
+use Rattle.sql_parts.proofs.Imports.{shadow, Utf8, ◌≡◌, ◌+◌, ◌≤◌, length, if◌then◌else◌}
+use Rattle.sql_parts.specs.{has_top_level, is_clause_word, is_dialect_word, tokens}
+use Rattle.sql_parts.proofs.fragments.{top_level_from}
 use Rattle.sql_parts.proofs.lex.has_clause.Given as goal
 
 abbrev pub invariant-loop-role : goal.invariant-loop-role

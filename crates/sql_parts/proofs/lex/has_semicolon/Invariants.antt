@@ -1,7 +1,5 @@
-use denote.Shadow.{shadow}
-use denote.Text.{Utf8}
-use Rattle.std.proofs.Common.{◌≡◌, length}
-use Rattle.sql_parts.specs.Tokens.{has_semicolon}
+use Rattle.sql_parts.proofs.Imports.{shadow, Utf8, ◌≡◌, length}
+use Rattle.sql_parts.specs.{has_semicolon}
 use Rattle.sql_parts.proofs.lex.has_semicolon.Given as goal
 
 abbrev pub invariant-loop-token : goal.invariant-loop-token

@@ -1,8 +1,6 @@
-use Rattle.std.proofs.Common.{◌≡◌, ◌∙◌, ◌&&◌, Bool, codes, eqb, ltb, false, rules, sym}
-use Rattle.sql_parts.specs.Fragments.{is_word}
-use Rattle.sql_parts.specs.Roles.{is_barred}
-use Rattle.sql_parts.specs.Tokens.{Token, tokens}
-use Rattle.sql_parts.proofs.fragments.DepthCountLemmas.{balances-is, balances-step, balances_from}
+use Rattle.sql_parts.proofs.Imports.{◌≡◌, ◌∙◌, ◌&&◌, Bool, codes, eqb, ltb, false, rules, sym}
+use Rattle.sql_parts.specs.{is_word, is_barred, Token, tokens}
+use Rattle.sql_parts.proofs.fragments.{balances-is, balances-step, balances_from}
 use Rattle.sql_parts.proofs.lex.is_balanced_as.Goals as goal
 use Rattle.sql_parts.proofs.lex.is_balanced_as.Goals.{then-is_empty, else-is_empty, then-is_top_level, else-is_top_level}
 

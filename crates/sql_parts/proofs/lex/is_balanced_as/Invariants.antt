@@ -1,10 +1,6 @@
-use denote.Shadow.{shadow}
-use denote.Text.{Utf8}
-use Rattle.std.proofs.Common.{◌≡◌, ◌+◌, ◌≤◌, ◌&&◌, length, not, codes}
-use Rattle.sql_parts.specs.Fragments.{has_top_level, is_balanced, is_word}
-use Rattle.sql_parts.specs.Roles.{is_barred}
-use Rattle.sql_parts.specs.Tokens.{begins_with, tokens}
-use Rattle.sql_parts.proofs.fragments.DepthCountLemmas.{balances_from}
+use Rattle.sql_parts.proofs.Imports.{shadow, Utf8, ◌≡◌, ◌+◌, ◌≤◌, ◌&&◌, length, not, codes}
+use Rattle.sql_parts.specs.{has_top_level, is_balanced, is_word, is_barred, begins_with, tokens}
+use Rattle.sql_parts.proofs.fragments.{balances_from}
 use Rattle.sql_parts.proofs.lex.is_balanced_as.Given as goal
 
 abbrev pub invariant-loop-role : goal.invariant-loop-role

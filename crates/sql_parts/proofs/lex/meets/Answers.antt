@@ -1,7 +1,6 @@
-use Rattle.std.proofs.Common.{◌∙◌, ◌&&◌, ap, sym}
-use Rattle.sql_parts.specs.Fragments.{encloses_clauses}
-use Rattle.sql_parts.specs.Tokens.{tokens}
-use Rattle.sql_parts.proofs.fragments.MisfitLemmas.{fragment_read, operand_read, typed_fragment_read, typed_operand_read}
+use Rattle.sql_parts.proofs.Imports.{◌∙◌, ◌&&◌, ap, sym}
+use Rattle.sql_parts.specs.{encloses_clauses, tokens}
+use Rattle.sql_parts.proofs.fragments.{fragment_read, operand_read, typed_fragment_read, typed_operand_read}
 use Rattle.sql_parts.proofs.lex.meets.Goals as goal
 
 pub returns-in-Fragment : goal.returns-in-Fragment

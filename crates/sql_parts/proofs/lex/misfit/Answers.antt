@@ -1,6 +1,5 @@
-use Rattle.std.proofs.Common.{◌∙◌, ap, sym}
-use Rattle.std.specs.Prelude.{is_none}
-use Rattle.sql_parts.proofs.fragments.MisfitLemmas.{met, no_misfit}
+use Rattle.sql_parts.proofs.Imports.{◌∙◌, ap, sym, is_none}
+use Rattle.sql_parts.proofs.fragments.{met, no_misfit}
 use Rattle.sql_parts.proofs.lex.misfit.Goals as goal
 
 pub returns-then-meets-clause-reason : goal.returns-then-meets-clause-reason

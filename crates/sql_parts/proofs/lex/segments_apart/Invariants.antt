@@ -1,10 +1,6 @@
-use denote.Shadow.{shadow}
-use denote.Text.{Utf8}
-use Rattle.std.proofs.Common.{◌≡◌, ℕ, ◌+◌, ◌≤◌, ◌++◌, Bool, List, [], length}
-use Rattle.std.specs.Prelude.{◌==◌}
+use Rattle.sql_parts.proofs.Imports.{shadow, Utf8, ◌≡◌, ℕ, ◌+◌, ◌≤◌, ◌++◌, Bool, List, [], length, ◌==◌, Marks}
 use Rattle.std.specs.String.{string_bytes}
-use Rattle.sql_parts.specs.Placeholders.{marks_of}
-use Rattle.sql_parts.specs.Templates.{Marks, resolved_from, segments_apart}
+use Rattle.sql_parts.specs.{marks_of, resolved_from, segments_apart}
 use Rattle.sql_parts.proofs.lex.segments_apart.Given as goal
 
 -- whether the segments of what is left of a text are apart, where so many placeholders precede it, and this is before it in its

@@ -1,8 +1,7 @@
-use Rattle.std.proofs.Common.{◌≡◌, ◌+◌, ◌<◌, ◌++◌, ◌∷◌, [], ◌∙◌, ap, arith, get_or, length, refl, string_bytes, subst, sym}
-use Rattle.std.specs.Str.{IsCharBoundary}
-use Rattle.std.proofs.lemmas.Str.{IsCharBoundary-before_ascii, IsCharBoundary-start, encode_ascii}
-use Rattle.sql_parts.specs.Like.{is_special}
-use Rattle.sql_parts.proofs.bytes.EscapingLemmas.{run, special-low, written-plain, written-special}
+use Rattle.sql_parts.proofs.Imports.{◌≡◌, ◌+◌, ◌<◌, ◌++◌, ◌∷◌, [], ◌∙◌, ap, arith, get_or, length, refl, string_bytes, subst, sym, IsCharBoundary}
+use Rattle.sql_parts.proofs.Imports.{IsCharBoundary-before_ascii, IsCharBoundary-start, encode_ascii}
+use Rattle.sql_parts.specs.{is_special}
+use Rattle.sql_parts.proofs.bytes.{run, special-low, written-plain, written-special}
 use Rattle.sql_parts.proofs.like.push_like_escaped.Goals as goal
 use Rattle.sql_parts.proofs.like.push_like_escaped.Goals.{then-is_special+in_ok-push_str+in_ok-push, else-is_special}
 

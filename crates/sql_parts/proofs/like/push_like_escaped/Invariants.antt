@@ -1,6 +1,5 @@
-use Rattle.std.proofs.Common.{◌≤◌, string_bytes}
-use Rattle.std.specs.Str.{IsCharBoundary}
-use Rattle.sql_parts.proofs.bytes.EscapingLemmas.{Written}
+use Rattle.sql_parts.proofs.Imports.{◌≤◌, string_bytes, IsCharBoundary}
+use Rattle.sql_parts.proofs.bytes.{Written}
 use Rattle.sql_parts.proofs.like.push_like_escaped.Given as goal
 
 abbrev pub invariant-loop-at : goal.invariant-loop-at

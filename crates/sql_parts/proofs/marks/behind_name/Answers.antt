@@ -1,7 +1,5 @@
-use Rattle.std.proofs.Common.{◌≡◌, ◌<◌, ◌∙◌, length, get_or, drop, sym, ap, arith, false}
-use Rattle.std.specs.List.{prefix_len}
-use Rattle.std.proofs.lemmas.List.Sums.{prefix_len_is}
-use Rattle.sql_parts.specs.Positional.{is_name_byte}
+use Rattle.sql_parts.proofs.Imports.{◌≡◌, ◌<◌, ◌∙◌, length, get_or, drop, sym, ap, arith, false, prefix_len, prefix_len_is}
+use Rattle.sql_parts.specs.{is_name_byte}
 use Rattle.sql_parts.proofs.marks.behind_name.Goals as goal
 use Rattle.sql_parts.proofs.marks.behind_name.Goals.{After-range_from, then-loop-end-test+else-is_name_byte, else-loop-end-test}
 

@@ -1,8 +1,7 @@
-use Rattle.std.proofs.Common.{rules, tests, sym, ◌∙◌, Global, String, string_bytes}
+use Rattle.sql_parts.proofs.Imports.{rules, tests, sym, ◌∙◌, Global, String, string_bytes, list_all-map}
 use Rattle.std.proofs.lemmas.Iterator.{YieldsList-from_slice}
 use Rattle.std.proofs.lemmas.Iterator.Search.{all_from_yields_List}
-use Rattle.std.proofs.lemmas.List.Folds.{list_all-map}
-use Rattle.sql_parts.specs.Name.{is_plain}
+use Rattle.sql_parts.specs.{is_plain}
 use Rattle.sql_parts.proofs.name.are_plain.Goals as goal
 
 pub returns : goal.returns

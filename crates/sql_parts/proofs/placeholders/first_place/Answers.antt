@@ -1,7 +1,6 @@
-use Rattle.std.proofs.Common.{◌≡◌, ◌++◌, ◌<◌, ℕ, arith, length, rules, subst}
-use Rattle.std.specs.Str.Pattern.{LacksTextAt}
-use Rattle.sql_parts.specs.Placeholders.{marks_of}
-use Rattle.sql_parts.proofs.templates.ResolveLemmas.{resolved_from-after_first, resolved_from-none, resolved_from-split}
+use Rattle.sql_parts.proofs.Imports.{◌≡◌, ◌++◌, ◌<◌, ℕ, arith, length, rules, subst, LacksTextAt}
+use Rattle.sql_parts.specs.{marks_of}
+use Rattle.sql_parts.proofs.templates.{resolved_from-after_first, resolved_from-none, resolved_from-split}
 use Rattle.sql_parts.proofs.placeholders.first_place.Goals as goal
 
 pub returns-in-First-clause-found : goal.returns-in-First-clause-found

@@ -1,6 +1,5 @@
-use Rattle.std.proofs.Common.{Some, arith}
-use Rattle.std.proofs.lemmas.Str.Pattern.{split_once_first}
-use Rattle.sql_parts.proofs.templates.PlaceholderLemmas.{named-some, some-by-test}
+use Rattle.sql_parts.proofs.Imports.{Some, arith, split_once_first}
+use Rattle.sql_parts.proofs.templates.{named-some, some-by-test}
 use Rattle.sql_parts.proofs.placeholders.named.Goals as goal
 
 pub returns-else-is_empty : goal.returns-else-is_empty

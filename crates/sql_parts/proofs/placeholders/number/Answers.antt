@@ -1,11 +1,8 @@
-use Rattle.std.proofs.Common.{◌≡◌, ◌<◌, ◌∙◌, length, get_or, take, drop, sym, ap, arith, below_more, true, false, subst}
-use Rattle.std.specs.Char.{is_ascii_digit}
-use Rattle.std.specs.List.{prefix_len}
-use Rattle.std.specs.Str.{IsCharBoundary, IsUtf8}
-use Rattle.std.specs.Str.Parse.{digits_value}
-use Rattle.std.proofs.lemmas.List.Sums.{prefix_len_is}
-use Rattle.sql_parts.specs.Placeholders.{IsNumber}
-use Rattle.sql_parts.proofs.templates.PlaceholderLemmas.{number-more, cut-behind}
+use Rattle.sql_parts.proofs.Imports.{◌≡◌, ◌<◌, ◌∙◌, length, get_or, take, drop, sym, ap, arith, below_more, true, false, subst, is_ascii_digit, prefix_len}
+use Rattle.sql_parts.proofs.Imports.{IsCharBoundary, IsUtf8, digits_value, prefix_len_is}
+use Rattle.sql_parts.specs.{IsNumber}
+use Rattle.sql_parts.proofs.templates.{number-more}
+use Rattle.sql_parts.proofs.templates.PlaceholderLemmas.{cut-behind}
 use Rattle.sql_parts.proofs.placeholders.number.Goals as goal
 use Rattle.sql_parts.proofs.placeholders.number.Goals.{After-range_from, then-loop-end-test+else-is_ascii_digit, else-loop-end-test}
 

@@ -1,7 +1,5 @@
-use Rattle.std.proofs.Common.{◌≡◌, ℕ, ◌<◌, ◌≤◌, ◌-◌, length, get_or, take, true}
-use Rattle.std.specs.Char.{is_ascii_digit}
-use Rattle.std.specs.Str.Parse.{digits_value}
-use Rattle.sql_parts.specs.Placeholders.{IsNumber}
+use Rattle.sql_parts.proofs.Imports.{◌≡◌, ℕ, ◌<◌, ◌≤◌, ◌-◌, length, get_or, take, true, is_ascii_digit, digits_value}
+use Rattle.sql_parts.specs.{IsNumber}
 use Rattle.sql_parts.proofs.placeholders.number.Given as goal
 
 abbrev pub invariant-loop-end : goal.invariant-loop-end

@@ -1,7 +1,5 @@
-use denote.Shadow.{shadow}
-use denote.Text.{Utf8}
-use Rattle.std.proofs.Common.{◌≡◌, ◌+◌, ◌≤◌, length}
-use Rattle.sql_parts.specs.Positional.{first_error, marks}
+use Rattle.sql_parts.proofs.Imports.{shadow, Utf8, ◌≡◌, ◌+◌, ◌≤◌, length}
+use Rattle.sql_parts.specs.{first_error, marks}
 use Rattle.sql_parts.proofs.positional.count_marks.Given as goal
 
 abbrev pub invariant-loop-found : goal.invariant-loop-found

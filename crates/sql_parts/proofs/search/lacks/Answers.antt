@@ -1,7 +1,5 @@
-use Rattle.std.proofs.Common.{◌≡◌, ◌∙◌, arith, eqb, eqb-true, false, get_or, sym, w8}
-use Rattle.std.proofs.lemmas.Bool.{eq-eqb, false≢true}
+use Rattle.sql_parts.proofs.Imports.{◌≡◌, ◌∙◌, arith, eqb, eqb-true, false, get_or, sym, w8, eq-eqb, false≢true, chunk}
 use Rattle.std.proofs.lemmas.Simd.{bitmask_splat, length-chunk, none_from_empty_mask}
-use lib.Lanes.{chunk}
 use Rattle.sql_parts.proofs.search.lacks.Goals as goal
 
 pub returns : goal.returns

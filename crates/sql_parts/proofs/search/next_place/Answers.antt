@@ -1,7 +1,6 @@
-use Rattle.std.proofs.Common.{arith, inl, inr}
-use Rattle.std.proofs.lemmas.Bool.{cases_lt}
-use Rattle.sql_parts.specs.Search.{has_front}
-use Rattle.sql_parts.proofs.bytes.LaneLemmas.{first-set, none-set}
+use Rattle.sql_parts.proofs.Imports.{arith, inl, inr, cases_lt}
+use Rattle.sql_parts.specs.{has_front}
+use Rattle.sql_parts.proofs.bytes.{first-set, none-set}
 use Rattle.sql_parts.proofs.search.next_place.Goals as goal
 
 pub returns-then-found-ne0 : goal.returns-then-found-ne0

@@ -1,12 +1,7 @@
-use Rattle.std.proofs.Common.{◌≡◌, ℕ, ◌+◌, ◌-◌, ◌<◌, ◌≤◌, ◌++◌, ◌∙◌, List, ap, arith, below_more, drop, false, inl, inr, length, subst, sym, take}
-use Rattle.std.specs.Str.{IsCharBoundary}
-use Rattle.std.specs.Str.Pattern.{LacksTextAt}
-use Rattle.std.proofs.lemmas.Bool.{cases_lt}
-use Rattle.std.proofs.lemmas.Bool.Decides.{Decides-eqb}
-use Rattle.std.proofs.lemmas.Slice.Eq.{starts_is}
-use Rattle.sql_parts.specs.Search.{front_of, gap, has_front}
-use Rattle.sql_parts.specs.declared.search.Front.{Front}
-use Rattle.sql_parts.proofs.bytes.SplitLemmas.{cut-before, cut-behind, lacks-by-front, lacks-by-room, lacks-here, split-at}
+use Rattle.sql_parts.proofs.Imports.{◌≡◌, ℕ, ◌+◌, ◌-◌, ◌<◌, ◌≤◌, ◌++◌, ◌∙◌, List, ap, arith, below_more, drop, false, inl, inr, length, subst, sym, take}
+use Rattle.sql_parts.proofs.Imports.{IsCharBoundary, LacksTextAt, cases_lt, Decides-eqb, starts_is, Front}
+use Rattle.sql_parts.specs.{front_of, gap, has_front}
+use Rattle.sql_parts.proofs.bytes.{cut-before, cut-behind, lacks-by-front, lacks-by-room, lacks-here, split-at}
 use Rattle.sql_parts.proofs.search.split_at_first.Goals as goal
 use Rattle.sql_parts.proofs.search.split_at_first.Goals.{Then-begins_at}
 

@@ -1,6 +1,5 @@
-use Rattle.std.proofs.Common.{◌≡◌, ℕ, ◌-◌, ◌<◌, ◌≤◌, length}
-use Rattle.std.specs.Str.Pattern.{LacksTextAt}
-use Rattle.sql_parts.specs.Search.{front_of}
+use Rattle.sql_parts.proofs.Imports.{◌≡◌, ℕ, ◌-◌, ◌<◌, ◌≤◌, length, LacksTextAt}
+use Rattle.sql_parts.specs.{front_of}
 use Rattle.sql_parts.proofs.search.split_at_first.Given as goal
 
 abbrev pub invariant-loop-place : goal.invariant-loop-place

@@ -1,7 +1,6 @@
-use Rattle.std.proofs.Common.{◌≡◌, subst, sym, None, Some}
-use Rattle.std.specs.Prelude.{if◌then◌else◌}
-use Rattle.sql_parts.specs.Templates.{Cycle, resolve, resolved_from}
-use Rattle.sql_parts.proofs.templates.ResolveLemmas.{resolve-unsupplied}
+use Rattle.sql_parts.proofs.Imports.{◌≡◌, subst, sym, None, Some, if◌then◌else◌}
+use Rattle.sql_parts.specs.{Cycle, resolve, resolved_from}
+use Rattle.sql_parts.proofs.templates.{resolve-unsupplied}
 use Rattle.sql_parts.proofs.substitution.lacks_arguments.Goals as goal
 
 pub returns-then-count-eq0 : goal.returns-then-count-eq0

@@ -1,9 +1,6 @@
-use Rattle.std.proofs.Common.{◌≡◌, ◌+◌, ◌≤◌, ◌++◌, length}
+use Rattle.sql_parts.proofs.Imports.{◌≡◌, ◌+◌, ◌≤◌, ◌++◌, length, shadow, Utf8}
 use Rattle.std.specs.String.{string_bytes}
-use denote.Shadow.{shadow}
-use denote.Text.{Utf8}
-use Rattle.sql_parts.specs.Placeholders.{marks_of}
-use Rattle.sql_parts.specs.Templates.{resolved_from, written}
+use Rattle.sql_parts.specs.{marks_of, resolved_from, written}
 use Rattle.sql_parts.proofs.substitution.push_bound.Given as goal
 
 abbrev pub invariant-loop-found : goal.invariant-loop-found

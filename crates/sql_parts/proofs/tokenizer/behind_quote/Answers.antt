@@ -1,7 +1,6 @@
-use Rattle.std.proofs.Common.{◌∙◌, None, Some, rules, ap, sym}
-use Rattle.std.proofs.lemmas.Str.Pattern.{split_parts, strip_prefix_char}
-use Rattle.sql_parts.specs.Tokenizer.{behind_bytes}
-use Rattle.sql_parts.proofs.tokens.FirstTokenLemmas.{inside-closed, inside-none, inside-twice, taken}
+use Rattle.sql_parts.proofs.Imports.{◌∙◌, None, Some, rules, ap, sym, split_parts, strip_prefix_char}
+use Rattle.sql_parts.specs.{behind_bytes}
+use Rattle.sql_parts.proofs.tokens.{inside-closed, inside-none, inside-twice, taken}
 use Rattle.sql_parts.proofs.tokenizer.behind_quote.Goals as goal
 
 pub loop-behind-preserved : goal.loop-behind-preserved

@@ -1,7 +1,5 @@
-use denote.Shadow.{shadow}
-use denote.Text.{Utf8}
-use Rattle.std.proofs.Common.{◌≡◌, length}
-use Rattle.sql_parts.proofs.tokens.FirstTokenLemmas.{behind_inside}
+use Rattle.sql_parts.proofs.Imports.{shadow, Utf8, ◌≡◌, length}
+use Rattle.sql_parts.proofs.tokens.{behind_inside}
 use Rattle.sql_parts.proofs.tokenizer.behind_quote.Given as goal
 
 abbrev pub invariant-loop-behind : goal.invariant-loop-behind

@@ -1,7 +1,5 @@
-use denote.Shadow.{shadow}
-use denote.Text.{Utf8}
-use Rattle.std.proofs.Common.{◌≡◌, ◌≤◌, length}
-use Rattle.sql_parts.specs.Tokens.{tokens}
+use Rattle.sql_parts.proofs.Imports.{shadow, Utf8, ◌≡◌, ◌≤◌, length}
+use Rattle.sql_parts.specs.{tokens}
 use Rattle.sql_parts.proofs.tokenizer.first_token.Given as goal
 
 abbrev pub invariant-loop-first : goal.invariant-loop-first

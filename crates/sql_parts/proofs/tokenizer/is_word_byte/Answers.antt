@@ -1,7 +1,6 @@
-use Rattle.std.proofs.Common.{◌≡◌, ℕ, ◌<◌, ◌∙◌, cond, eqb, get_or, Bool, true, false, map, refl, ap, arith}
-use Rattle.std.specs.List.{range_with_len}
+use Rattle.sql_parts.proofs.Imports.{◌≡◌, ℕ, ◌<◌, ◌∙◌, cond, eqb, get_or, Bool, true, false, map, refl, ap, arith, range_with_len}
 use Rattle.std.proofs.lemmas.List.FromFn.{get_or-map-range_with_len}
-use Rattle.sql_parts.specs.Tokens.{is_word_byte}
+use Rattle.sql_parts.specs.{is_word_byte}
 use Rattle.sql_parts.specs.declared.tokenizer.TheConstants.{WORD_BYTES}
 use Rattle.sql_parts.proofs.tokenizer.is_word_byte.Goals as goal
 

@@ -1,7 +1,5 @@
-use Rattle.std.proofs.Common.{◌≡◌, ◌<◌, ◌∙◌, length, get_or, take, drop, sym, ap, arith, false}
-use Rattle.std.specs.List.{prefix_len}
-use Rattle.std.proofs.lemmas.List.Sums.{prefix_len_is}
-use Rattle.sql_parts.specs.Tokens.{is_word_byte}
+use Rattle.sql_parts.proofs.Imports.{◌≡◌, ◌<◌, ◌∙◌, length, get_or, take, drop, sym, ap, arith, false, prefix_len, prefix_len_is}
+use Rattle.sql_parts.specs.{is_word_byte}
 use Rattle.sql_parts.proofs.tokenizer.split_word.Goals as goal
 use Rattle.sql_parts.proofs.tokenizer.split_word.Goals.{After-split_at, then-loop-end-test+else-is_word_byte, else-loop-end-test}
 

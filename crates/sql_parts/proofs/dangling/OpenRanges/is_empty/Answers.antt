@@ -1,7 +1,5 @@
-use Rattle.std.proofs.Common.{◌∙◌, ◌&&◌, ap, not, sym, true}
-use Rattle.std.proofs.Math.Bool.{beq}
-use Rattle.std.specs.List.{list_any}
-use Rattle.sql_parts.proofs.fragments.OpenRangeLemmas.{none-waits}
+use Rattle.sql_parts.proofs.Imports.{◌∙◌, ◌&&◌, ap, not, sym, true, beq, list_any}
+use Rattle.sql_parts.proofs.fragments.{none-waits}
 use Rattle.sql_parts.proofs.dangling.OpenRanges.is_empty.Goals as goal
 
 pub returns-then-not-self : goal.returns-then-not-self

@@ -1,7 +1,6 @@
-use Rattle.std.proofs.Common.{◌∷◌, ◌∙◌, ◌&&◌, ap, false, not, reverse, subst, sym, true}
-use Rattle.sql_parts.specs.Roles.{HasRole}
-use Rattle.sql_parts.specs.Ranges.{open_ranges}
-use Rattle.sql_parts.proofs.fragments.OpenRangeLemmas.{all-and, all-joined, all-up, all_from, popped, pushed, unmoved}
+use Rattle.sql_parts.proofs.Imports.{◌∷◌, ◌∙◌, ◌&&◌, ap, false, not, reverse, subst, sym, true}
+use Rattle.sql_parts.specs.{HasRole, open_ranges}
+use Rattle.sql_parts.proofs.fragments.{all-and, all-joined, all-up, all_from, popped, pushed, unmoved}
 use Rattle.sql_parts.proofs.dangling.OpenRanges.read.Goals as goal
 
 pub returns-in_ok-push-in-Raises-clause-reads : goal.returns-in_ok-push-in-Raises-clause-reads

@@ -1,6 +1,5 @@
-use Rattle.std.proofs.Common.{◌∙◌, ap, sym}
-use Rattle.std.specs.Prelude.{is_none}
-use Rattle.sql_parts.proofs.fragments.MisfitLemmas.{fragment_of_typed}
+use Rattle.sql_parts.proofs.Imports.{◌∙◌, ap, sym, is_none}
+use Rattle.sql_parts.proofs.fragments.{fragment_of_typed}
 use Rattle.sql_parts.proofs.fragment.Fragment.of_trusted.Goals as goal
 
 pub invariant_of-result : goal.invariant_of-result

@@ -1,7 +1,5 @@
-use Rattle.std.proofs.Common.{◌≡◌, ◌++◌, map, take}
-use Rattle.std.specs.Prelude.{codes, flat_map, string_bytes}
-use Rattle.sql_parts.specs.Name.{written_in}
-use Rattle.sql_parts.specs.Text.{texts}
+use Rattle.sql_parts.proofs.Imports.{◌≡◌, ◌++◌, map, take, codes, flat_map, string_bytes}
+use Rattle.sql_parts.specs.{written_in, texts}
 use Rattle.sql_parts.proofs.name.Form.push_further.Given as goal
 
 abbrev pub invariant-loop-part : goal.invariant-loop-part

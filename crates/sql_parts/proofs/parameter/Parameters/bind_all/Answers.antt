@@ -1,6 +1,5 @@
-use Rattle.std.proofs.Common.{◌≡◌, suc, ◌+◌, [], ◌∷◌, arith, ap, length, refl, take}
-use Rattle.std.proofs.lemmas.List.{append_assoc, length-append, take_more}
-use Rattle.sql_parts.proofs.parameters.PlaceholderLemmas.{next-number}
+use Rattle.sql_parts.proofs.Imports.{◌≡◌, suc, ◌+◌, [], ◌∷◌, arith, ap, length, refl, take, append_assoc, length-append, take_more}
+use Rattle.sql_parts.proofs.parameters.{next-number}
 use Rattle.sql_parts.proofs.parameter.Parameters.bind_all.Goals as goal
 
 pub loop-value-preserved : goal.loop-value-preserved

@@ -1,8 +1,6 @@
-use denote.Shadow.{shadow}
-use denote.Text.{Utf8}
-use Rattle.std.proofs.Common.{◌≡◌, ◌++◌, Some, length, map}
+use Rattle.sql_parts.proofs.Imports.{shadow, Utf8, ◌≡◌, ◌++◌, Some, length, map, cut, value_of}
 use Rattle.std.specs.String.{string_bytes}
-use Rattle.sql_parts.specs.Positional.{cut, first_error, marked, marks, positional_text, value_of}
+use Rattle.sql_parts.specs.{first_error, marked, marks, positional_text}
 use Rattle.sql_parts.proofs.parameter.Parameters.positional.Given as goal
 
 abbrev pub invariant-loop-found : goal.invariant-loop-found

@@ -1,7 +1,6 @@
-use Rattle.std.proofs.Common.{◌≡◌, ℕ, ◌<◌, ◌≤◌, List, Option, MatchOption, None, Some, get_or, length, option_copied, refl, sym}
+use Rattle.sql_parts.proofs.Imports.{◌≡◌, ℕ, ◌<◌, ◌≤◌, List, Option, MatchOption, None, Some, get_or, length, refl, sym, HoldsAt, slice_get, IfSome}
+use Rattle.std.proofs.Common.{option_copied}
 use Rattle.std.specs.Borrow.{Bor}
-use Rattle.std.specs.List.{HoldsAt, slice_get}
-use Rattle.std.specs.Prelude.{IfSome}
 use Rattle.std.proofs.lemmas.Option.{slice_get-map, slice_get_past, slice_get_read}
 use Rattle.sql_parts.proofs.substitution.RefSliceBoxDynSqlArgLiterals.push_literal.Goals as goal
 
