@@ -36,7 +36,7 @@ pub struct Parameters<V: Drop> {
     pub values: Vec<V>,
 }
 
-/// The first value asks for room for this many, so that most statements allocate once.
+/// How much room is asked for at the least, so that most statements allocate once.
 const FIRST_ROOM: usize = 8;
 
 pub(crate) fn prefix_of(style: Style) -> u8
@@ -61,6 +61,16 @@ impl ToText for Placeholder {
         let Placeholder { style, number } = *self;
         Ok(push_prefixed(out, prefix_of(style), number as u64)?)
     }
+}
+
+// Room for more values, apart from `bind`, which callers inline.
+#[inline(never)]
+fn grow<V: Drop>(values: &mut Vec<V>) -> Result<(), SqlBuilderError>
+    ensures same { values.new.items ≡ values.old.items }
+    ensures room { IsOk result → vec_len values.new < vec_capacity values.new }
+    ensures memory { FailsOnlyByMemory result }
+{
+    Ok(values.reserve(FIRST_ROOM)?)
 }
 
 impl<V: Drop> Parameters<V> {
@@ -89,10 +99,10 @@ impl<V: Drop> Parameters<V> {
         ensures room { vec_len self.old.values < vec_capacity self.old.values → IsOk result }
         ensures memory { FailsOnlyByMemory result }
     {
-        if self.values.capacity() == 0 {
-            self.values.reserve(FIRST_ROOM)?;
+        if self.values.len() == self.values.capacity() {
+            grow(&mut self.values)?;
         }
-        self.values.push(value)?;
+        self.values.push_reserved(value);
         Ok(Placeholder {
             style: self.style,
             number: self.values.len(),
