@@ -1,0 +1,240 @@
+"""Finds the functions of a crate's code, and makes mutants of them.
+
+A mutant that is made changes one word: a flag, a variant, a text, a test, a comparison, a field, a number or an argument. A variant or a
+field gives way to its neighbour with the same contents, a text to the empty one. A proof by hand then names what took the word's place."""
+
+import collections
+import functools
+import glob
+import os
+import re
+import typing
+from dataclasses import dataclass
+
+TOKEN = re.compile(
+    r"""//[^\n]*|b?"(?:\\.|[^"\\])*"|b?'(?:\\.|[^'\\])'|'[a-z_]\w*|\w+|::|->|=>|==|!=|<<|>>|<=|>=|&&|\|\||\.\.=?|[-+*/%&|^]=|\S"""
+)
+IMPL = re.compile(r"impl(?:<(.*?)>)? (?:(.*) for )?([^ ].*?) \{$|(?:pub(?:\(crate\))? )?trait (\w+)")
+FN = re.compile(r"( {4})?(?:pub(?:\(crate\))? )?fn (\w+)")
+DECLARED = re.compile(r"(?m)^(?:pub(?:\(crate\))? )?(enum|struct) (\w+)[^\n]*\{\n((?:.*\n)*?)\}")
+ITEM = re.compile(r"(?m)^ {4}(?:pub(?:\(crate\))? )?(\w+)(.*),$")
+# Pairs of words, each of which takes the other's place.
+FLAGS, TESTS = ("true false",), ("is_some is_none", "is_ok is_err", "any all", "split_first split_last")
+EQUALITIES, COMPARISONS = ("== !=",), ("< <=", "> >=")
+
+
+class Bad(Exception):
+    """A mutant that shows nothing, and why."""
+
+
+class Change(typing.NamedTuple):
+    """What is replaced in a file, and where."""
+
+    path: str
+    at: int
+    old: str
+    new: str
+
+
+@dataclass
+class Function:
+    """A function, as a check names it below the crate, and where its body is in its file."""
+
+    name: str
+    path: str
+    start: int
+    body: str
+    head: str
+    is_specified: bool
+
+    @functools.cached_property
+    def types(self):
+        """The types of its parameters that need no more than a word."""
+        return dict(re.findall(r"(\w+): (&str|bool)(?=[,)])", self.head))
+
+    @functools.cached_property
+    def tokens(self):
+        return [it for it in TOKEN.finditer(self.body) if not it[0].startswith("//")]
+
+    def find(self, words):
+        """The token that words begin with, where they occur once, and their number."""
+        sought, own = TOKEN.findall(words), [it[0] for it in self.tokens]
+        found = [it for it in range(len(own)) if own[it : it + len(sought)] == sought]
+        if len(found) != 1:
+            raise Bad(f"{words} occurs {len(found)} times in {self.name}, not once")
+        return found[0], len(sought)
+
+
+def text_of(file):
+    with open(file, encoding="utf-8") as it:
+        return it.read()
+
+
+def sources(folder):
+    """The files of a crate's code."""
+    files = sorted(glob.glob(f"{folder}/src/**/*.rt", recursive=True))
+    return {os.path.relpath(it, folder): text_of(it) for it in files if not it.endswith("tests.rt")}
+
+
+def name_of(type_, parameters):
+    """A type as a part of a name, as `RefStr` for `&str`."""
+    words = re.findall(r"'\w+|\w+|&|\[|\(", type_ if "<" in type_ else type_.split("::")[-1])
+    signs = {"&": "Ref", "[": "Slice", "(": "Tuple2"}
+    return "".join(signs.get(it, it[0].upper() + it[1:]) for it in words if it[0] != "'" and it not in parameters)
+
+
+def owner_of(impl, module, homes):
+    """What a function of an impl or of a trait is named by: the type's module, or that of the file if the impl is a trait's or of some of a
+    generic type's alone."""
+    bounds, trait, type_, own = impl.groups()
+    parameters = re.findall(r"\w+", re.sub(r":[^,]*|'\w+", "", bounds or ""))
+    if own or trait:
+        return module + (own or name_of(type_, parameters) + name_of(trait, parameters)) + "::"
+    first, *others = re.findall(r"(?<!')\b\w+", type_)
+    others = [] if all(it in parameters for it in others) else others
+    return f"{module if others else homes.get(first, module)}{'+'.join([first, *others])}::"
+
+
+def functions(folder):
+    """The functions of a crate that have a body, each by its name."""
+    found, files = {}, sources(folder)
+    module = {path: re.sub(r"^(lib|main)::$", "", path[4:-3].replace("/", "::") + "::") for path in files}
+    homes = {it[2]: module[path] for path, text in files.items() for it in DECLARED.finditer(text)}
+    for path, text in files.items():
+        lines, at, owner, is_trait, head = text.split("\n"), 0, "", False, None
+        for line in lines:
+            if impl := IMPL.match(line):
+                owner, is_trait = owner_of(impl, module[path], homes), bool(impl[2])
+            elif line == "}" and head is None:
+                owner, is_trait = "", False
+            elif head is None and (fn := FN.match(line)) and bool(fn[1]) == bool(owner):
+                head = (fn[1] or "", f"{owner or module[path]}{fn[2]}", at)
+                body = at + len(line) + 1 if line.endswith(" {") else 0
+            elif head and not body and (line == f"{head[0]}{{" or re.match(rf"{head[0]}\).* \{{$", line)):
+                body = at + len(line) + 1
+            if head and (line == f"{head[0]}}}" or not body and line.endswith(";")):
+                if body:
+                    signature, contract, _ = re.split(r"(\n +ensures|$)", text[head[2] : body], maxsplit=1)
+                    found[head[1]] = Function(head[1], path, body, text[body : max(body, at - 1)], signature, is_trait or bool(contract))
+                head = None
+            at += len(line) + 1
+    return found
+
+
+def neighbours(names):
+    """The name that takes the place of each: that of its pair."""
+    return {it: names[at ^ 1 if at ^ 1 < len(names) else at - 1] for at, it in enumerate(names) if len(names) > 1}
+
+
+@dataclass
+class Declared:
+    """What takes the place of a variant, by its enum and its name, and of a field: it has the same contents or type. And the number of each
+    variant in its enum."""
+
+    variants: dict
+    fields: dict
+    numbers: dict
+
+
+def declared(folder):
+    """What a crate and those beside it declare, its own first."""
+    found, names = Declared({}, {}, {}), collections.Counter()
+    for crate in sorted(glob.glob(f"{folder}/../*"), key=lambda it: os.path.realpath(it) != os.path.realpath(folder)):
+        for kind, type_, items in (it.groups() for text in sources(crate).values() for it in DECLARED.finditer(text)):
+            alike = collections.defaultdict(list)
+            for place, (name, contents) in enumerate(ITEM.findall(items)):
+                alike[contents].append(name)
+                found.numbers.setdefault((type_, name), place)
+            names.update(it for them in alike.values() for it in them if kind == "struct")
+            for name, other in (it for them in alike.values() for it in neighbours(them).items()):
+                if kind == "enum":
+                    found.variants.setdefault((type_, name), other)
+                else:
+                    found.fields[name] = other
+    found.fields = {old: new for old, new in found.fields.items() if names[old] == 1}
+    return found
+
+
+def swapping(pairs):
+    """An operator that puts each word of pairs in the place of the other."""
+    other = {old: new for it in pairs for old, new in (it.split(), it.split()[::-1])}
+    return lambda words, at, *_: other.get(words[at])
+
+
+def variant(words, at, names, _):
+    return names.variants.get((words[at - 2], words[at])) if words[at - 1] == "::" else None
+
+
+def emptied(words, at, *_):
+    return '""' if words[at][0] == '"' != words[at][1:] else None
+
+
+def affirmed(words, at, *_):
+    return "" if words[at] == "!" and not re.match(r"(?!(?:if|while|match|return|in)$)[a-z]", words[at - 1]) else None
+
+
+def field(words, at, names, _):
+    return names.fields.get(words[at]) if words[at - 1] == "." and words[at + 1] != "(" else None
+
+
+def number(words, at, *_):
+    return str(int(words[at]) + 1) if words[at].isdecimal() and words[at - 1] != "." else None
+
+
+def argument(words, at, _, types):
+    """An argument that is a text is emptied, and one that is a flag is negated."""
+    changed = {"&str": '""', "bool": f"!{words[at]}"}.get(types.get(words[at]))
+    return changed if words[at - 1] in ("(", ",") and words[at + 1] in (")", ",") else None
+
+
+def camel(name):
+    """The name of what a function `hold_..` holds."""
+    return "".join(it.title() for it in name.split("_")[1:])
+
+
+def renamed(function, at, new, names):
+    """How a proof by hand names what is replaced from a token on, and how what takes its place, for words of another variant or function."""
+    for place, it in enumerate(TOKEN.findall(new)[: len(function.tokens) - at], at):
+        old, enum = function.tokens[place][0], function.tokens[place - 2][0]
+        if (enum, it) in names.numbers:
+            yield f"{enum}-{old}".lower(), f"{enum}-{it}".lower()
+            yield f"{old} {names.numbers.get((enum, old))}", f"{it} {names.numbers[enum, it]}"
+        elif it.startswith("hold_"):
+            yield from ((old, it), (camel(old), camel(it)))
+
+
+def replaced(function, at, number, new, names, folder):
+    """The changes of a function where a number of tokens are replaced, and of its proof by hand, which names them."""
+    tokens, path = function.tokens[at : at + number], f"proofs/{function.name.replace('::', '/')}/Proof.antt"
+    start, end = tokens[0].start(), tokens[-1].end()
+    changes = [Change(function.path, function.start + start, function.body[start:end], new)]
+    if os.path.exists(f"{folder}/{path}"):
+        for old, other in renamed(function, at, new, names):
+            places = re.finditer(rf"(?<![\w-]){re.escape(old)}(?![\w-])", text_of(f"{folder}/{path}"))
+            changes += [Change(path, it.start(), old, other) for it in places if old != other]
+    return changes
+
+
+# What a program changes in a function, the first of these that it has.
+OPERATORS = (
+    *(swapping(FLAGS), variant, emptied, swapping(TESTS), affirmed, swapping(EQUALITIES), field, number, swapping(COMPARISONS)),
+    argument,
+)
+
+
+def is_code(body, at):
+    """Whether a place is in no pattern, where another one might match nothing new, and in no type's arguments."""
+    before, after = body[:at].rpartition("\n")[2], body[at:].partition("\n")[0]
+    _, macro, test = before.rpartition("matches!(")
+    is_pattern = "=>" in after or macro and test.count("(") >= test.count(")") or re.search(r"\blet [^=]*$|^ *\|", before)
+    return not is_pattern and (body[at] not in "<>" or before.endswith(" "))
+
+
+def made(function, names, folder):
+    """The changes that a program makes of a function, the first operator's before the others', and the last place before the others."""
+    words = ["", *(it[0] for it in function.tokens), ""]
+    for operator in OPERATORS:
+        for at in range(len(words) - 2, 0, -1):
+            new = operator(words, at, names, function.types)
+            if new is not None and is_code(function.body, function.tokens[at - 1].start()):
+                yield replaced(function, at - 1, 1, new, names, folder)
