@@ -18,9 +18,6 @@ IMPL = re.compile(r"impl(?:<(.*?)>)? (?:(.*) for )?([^ ].*?) \{$|(?:pub(?:\(crat
 FN = re.compile(r"( {4})?(?:pub(?:\(crate\))? )?fn (\w+)")
 DECLARED = re.compile(r"(?m)^(?:pub(?:\(crate\))? )?(enum|struct) (\w+)[^\n]*\{\n((?:.*\n)*?)\}")
 ITEM = re.compile(r"(?m)^ {4}(?:pub(?:\(crate\))? )?(\w+)(.*),$")
-# Pairs of words, each of which takes the other's place.
-FLAGS, TESTS = ("true false",), ("is_some is_none", "is_ok is_err", "any all", "split_first split_last")
-EQUALITIES, COMPARISONS = ("== !=",), ("< <=", "> >=")
 
 
 class Bad(Exception):
@@ -121,11 +118,6 @@ def functions(folder):
     return found
 
 
-def neighbours(names):
-    """The name that takes the place of each: that of its pair."""
-    return {it: names[at ^ 1 if at ^ 1 < len(names) else at - 1] for at, it in enumerate(names) if len(names) > 1}
-
-
 @dataclass
 class Declared:
     """What takes the place of a variant, by its enum and its name, and of a field: it has the same contents or type. And the number of each
@@ -137,28 +129,28 @@ class Declared:
 
 
 def declared(folder):
-    """What a crate and those beside it declare, its own first."""
-    found, names = Declared({}, {}, {}), collections.Counter()
+    """What a crate and those beside it declare, its own first. Of a field that two structs have, the type isn't known."""
+    found, fields = Declared({}, {}, {}), collections.defaultdict(list)
     for crate in sorted(glob.glob(f"{folder}/../*"), key=lambda it: os.path.realpath(it) != os.path.realpath(folder)):
         for kind, type_, items in (it.groups() for text in sources(crate).values() for it in DECLARED.finditer(text)):
             alike = collections.defaultdict(list)
-            for place, (name, contents) in enumerate(ITEM.findall(items)):
+            for number_, (name, contents) in enumerate(ITEM.findall(items)):
                 alike[contents].append(name)
-                found.numbers.setdefault((type_, name), place)
-            names.update(it for them in alike.values() for it in them if kind == "struct")
-            for name, other in (it for them in alike.values() for it in neighbours(them).items()):
-                if kind == "enum":
+                found.numbers.setdefault((type_, name), number_)
+            for names, at, name in ((names, at, name) for names in alike.values() for at, name in enumerate(names)):
+                other = names[at ^ 1 if at ^ 1 < len(names) else at - 1]
+                if kind == "struct":
+                    fields[name].append(other)
+                elif name != other:
                     found.variants.setdefault((type_, name), other)
-                else:
-                    found.fields[name] = other
-    found.fields = {old: new for old, new in found.fields.items() if names[old] == 1}
+    found.fields = {name: others[0] for name, others in fields.items() if len(others) == 1 and others[0] != name}
     return found
 
 
-def swapping(pairs):
-    """An operator that puts each word of pairs in the place of the other."""
+def swapping(*pairs, before=""):
+    """An operator that puts each word of pairs in the place of the other, where this is behind it."""
     other = {old: new for it in pairs for old, new in (it.split(), it.split()[::-1])}
-    return lambda words, at, *_: other.get(words[at])
+    return lambda words, at, *_: other.get(words[at]) if words[at + 1].startswith(before) else None
 
 
 def variant(words, at, names, _):
@@ -217,7 +209,15 @@ def replaced(function, at, number, new, names, folder):
 
 # What a program changes in a function, the first of these that it has.
 OPERATORS = (
-    *(swapping(FLAGS), variant, emptied, swapping(TESTS), affirmed, swapping(EQUALITIES), field, number, swapping(COMPARISONS)),
+    swapping("true false"),
+    variant,
+    emptied,
+    swapping("is_some is_none", "is_ok is_err", "any all", "split_first split_last", before="("),
+    affirmed,
+    swapping("== !="),
+    field,
+    number,
+    swapping("< <=", "> >="),
     argument,
 )
 
