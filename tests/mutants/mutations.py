@@ -8,7 +8,6 @@ import functools
 import glob
 import os
 import re
-import typing
 from dataclasses import dataclass
 
 TOKEN = re.compile(
@@ -20,17 +19,15 @@ DECLARED = re.compile(r"(?m)^(?:pub(?:\(crate\))? )?(enum|struct) (\w+)[^\n]*\{\
 ITEM = re.compile(r"(?m)^ {4}(?:pub(?:\(crate\))? )?(\w+)(.*),$")
 
 
+# What is replaced in a file, and where.
+Change = collections.namedtuple("Change", "path at old new")
+# What takes the place of a variant, by its enum and its name, and of a field: it has the same contents or type. And the number of each
+# variant in its enum.
+Declared = collections.namedtuple("Declared", "variants fields numbers")
+
+
 class Bad(Exception):
     """A mutant that shows nothing, and why."""
-
-
-class Change(typing.NamedTuple):
-    """What is replaced in a file, and where."""
-
-    path: str
-    at: int
-    old: str
-    new: str
 
 
 @dataclass
@@ -118,32 +115,22 @@ def functions(folder):
     return found
 
 
-@dataclass
-class Declared:
-    """What takes the place of a variant, by its enum and its name, and of a field: it has the same contents or type. And the number of each
-    variant in its enum."""
-
-    variants: dict
-    fields: dict
-    numbers: dict
-
-
 def declared(folder):
     """What a crate and those beside it declare, its own first. Of a field that two structs have, the type isn't known."""
     found, fields = Declared({}, {}, {}), collections.defaultdict(list)
     for crate in sorted(glob.glob(f"{folder}/../*"), key=lambda it: os.path.realpath(it) != os.path.realpath(folder)):
         for kind, type_, items in (it.groups() for text in sources(crate).values() for it in DECLARED.finditer(text)):
             alike = collections.defaultdict(list)
-            for number_, (name, contents) in enumerate(ITEM.findall(items)):
+            for place, (name, contents) in enumerate(ITEM.findall(items)):
                 alike[contents].append(name)
-                found.numbers.setdefault((type_, name), number_)
+                found.numbers.setdefault((type_, name), place)
             for names, at, name in ((names, at, name) for names in alike.values() for at, name in enumerate(names)):
                 other = names[at ^ 1 if at ^ 1 < len(names) else at - 1]
                 if kind == "struct":
                     fields[name].append(other)
                 elif name != other:
                     found.variants.setdefault((type_, name), other)
-    found.fields = {name: others[0] for name, others in fields.items() if len(others) == 1 and others[0] != name}
+    found.fields.update({name: others[0] for name, others in fields.items() if len(others) == 1 and others[0] != name})
     return found
 
 
@@ -179,11 +166,6 @@ def argument(words, at, _, types):
     return changed if words[at - 1] in ("(", ",") and words[at + 1] in (")", ",") else None
 
 
-def camel(name):
-    """The name of what a function `hold_..` holds."""
-    return "".join(it.title() for it in name.split("_")[1:])
-
-
 def renamed(function, at, new, names):
     """How a proof by hand names what is replaced from a token on, and how what takes its place, for words of another variant or function."""
     for place, it in enumerate(TOKEN.findall(new)[: len(function.tokens) - at], at):
@@ -192,7 +174,7 @@ def renamed(function, at, new, names):
             yield f"{enum}-{old}".lower(), f"{enum}-{it}".lower()
             yield f"{old} {names.numbers.get((enum, old))}", f"{it} {names.numbers[enum, it]}"
         elif it.startswith("hold_"):
-            yield from ((old, it), (camel(old), camel(it)))
+            yield from ((old, it), ("".join(word.title() for word in name.split("_")[1:]) for name in (old, it)))
 
 
 def replaced(function, at, number, new, names, folder):
