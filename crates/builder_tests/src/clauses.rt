@@ -2,10 +2,13 @@
 
 use crate::every_call::is_made;
 use sql_builder::SqlBuilderError;
+use sql_builder::calls::Percent;
 use sql_builder::prelude::*;
 use sql_builder::text::{Fragment, Operand};
 use sql_parts::lex::Misfit;
-use sql_typed::condition::{all, any, eq, is_null, not, not_in_values};
+use sql_typed::condition::{
+    all, any, contains, eq, is_null, like, not, not_contains, not_in_values, starts_with,
+};
 use sql_typed::printed::{Conflict, Rows, Whole};
 use sql_typed::{
     Delete, Error, Insert, JoinKind, Lock, Operands, Printed, Query, Row, Select, Template,
@@ -85,7 +88,7 @@ fn rows_need_a_condition(rt: HostRuntime) -> Result<(), Fail> {
 }
 
 #[test]
-fn empty_lists_filter_nothing(rt: HostRuntime) -> Result<(), Fail> {
+fn empty_lists_and_words_filter_nothing(rt: HostRuntime) -> Result<(), Fail> {
     let alloc = rt.alloc();
     let wanted = "No condition: say all_rows where every row is meant";
     let none: [i64; 0] = [];
@@ -98,6 +101,17 @@ fn empty_lists_filter_nothing(rt: HostRuntime) -> Result<(), Fail> {
     );
     let not_any = not(alloc, &any(alloc, &[])?)?;
     assert_eq!(rt; message(update(alloc)?.and_where(not_any)?.sql()), wanted);
+    let any_n = contains(alloc, n(), Value(""))?;
+    assert_eq!(rt; message(delete(alloc)?.and_where(any_n)?.sql()), wanted);
+    let any_start = starts_with(alloc, Operand::of("lower(n)"), Value(""))?;
+    assert_eq!(rt; message(update(alloc)?.or_where(any_start)?.sql()), wanted);
+    let any_like = like(alloc, Percent::Right, n(), Value(""))?;
+    assert_eq!(rt; message(delete(alloc)?.and_where(any_like)?.sql()), wanted);
+    let no_n = not_contains(alloc, n(), Value(""))?;
+    assert!(rt; is_made(
+        delete(alloc)?.and_where(no_n)?.sql(),
+        "DELETE FROM t WHERE n NOT LIKE '%%' ESCAPE '!';",
+    ));
     let filtered = others.and_where(eq(alloc, id(), 1)?)?;
     assert!(rt; is_made(filtered.sql(), "DELETE FROM t WHERE (1 = 1) AND (id = 1);"));
     Ok(())

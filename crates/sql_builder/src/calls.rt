@@ -14,7 +14,7 @@ pub use crate::checks::{
 use crate::clauses::Kind;
 use crate::concat::replace;
 pub use crate::condition::{BorrowedCondition, Condition, Family, Percent, Relation};
-use crate::ghost_list::GhostList;
+pub use crate::ghost_list::GhostList;
 use crate::sink::Count;
 pub use crate::steps::{
     BinaryClause, NullaryClause, UnaryClause, VariadicClause, add_condition, add_row,

@@ -15,11 +15,11 @@ impl Model for Bytes {
     ghost view = { λ _. [] };
 }
 
-/// A list that only proofs read.
+/// A list that only proofs read. For the crates here alone.
 #[derive(Drop)]
-pub(crate) struct GhostList<T> {
+pub struct GhostList<T> {
     of: PhantomData<T>,
-    pub(crate) ghost items: { List T },
+    pub ghost items: { List T },
 }
 
 impl<T> Model for GhostList<T> {
@@ -32,8 +32,9 @@ unsafe impl<T: Send> Send for GhostList<T> {}
 unsafe impl<T: Sync> Sync for GhostList<T> {}
 
 impl<T> GhostList<T> {
-    /// The list that the caller's proof picks, made of what is passed.
-    pub(crate) fn of<X>(from: &X) -> GhostList<T>
+    /// Returns the list that the caller's proof picks, made of what is passed. Never fails.
+    /// `{ let _: GhostList<u8> = GhostList::of(&1); 0 }` gives `0`
+    pub fn of<X>(from: &X) -> GhostList<T>
         ghost picked: { List T }
         ensures { result.items ≡ picked }
     {

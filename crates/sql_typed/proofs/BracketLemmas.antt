@@ -1,22 +1,9 @@
 -- Texts between brackets of our own.
-use Rattle.std.proofs.Common.{◌≡◌, ◌==◌, ◌⊎◌, inl, inr, Option, None, Some, if◌then◌else◌, refl, sym, arith, ◌∙◌, ap, ◌++◌, ℕ, Bool, true, false, List, [], ◌∷◌, codes, append_assoc}
-use Rattle.std.specs.Prelude.{nat_eq}
-use Rattle.std.specs.List.{starts_with}
-use Rattle.std.proofs.lemmas.Bool.{and_from, cases_Bool, false≢true, not_from_false, or_from, or_parts, true≢false}
+use Rattle.sql_typed.proofs.Prelude.{◌≡◌, ◌==◌, ◌⊎◌, inl, inr, Option, None, Some, if◌then◌else◌, refl, sym, arith, ◌∙◌, ap, ◌++◌, ℕ, Bool, true, false, List, [], ◌∷◌, codes, append_assoc, nat_eq, starts_with, and_from, cases_Bool, false≢true, not_from_false, or_from, or_parts, true≢false, balanced, is_clause_word, is_symbol, ServesAsOperand, Token, Name, Str, Word, Symbol, begins_with, first, inside, is_blank, is_one_of, is_word_byte, tokens, tokens_from, unquoted, has_top_level-is, is_balanced, is_balanced-is, is_even, is_operand, is_operand-is, serves, enclosed-tokens, byte_units, balanced_closed, even_text, is_balanced-append, is_even-append, is_even-brackets, is_operand-brackets, no_clause-brackets, bracket_fronts, may_begin_bracketed, united_text}
 use Rattle.std.proofs.lemmas.Bool.Decides.{nat_tests}
-use Rattle.sql_parts.specs.Fragments.{balanced, is_clause_word, is_symbol}
-use Rattle.sql_parts.specs.Operands.{ServesAsOperand}
-use Rattle.sql_parts.specs.Tokens.{Token, Name, Str, Word, Symbol, begins_with, first, inside, is_blank, is_one_of, is_word_byte, tokens, tokens_from, unquoted}
-use Rattle.sql_parts.proofs.fragments.DepthFacts.{has_top_level-is, is_balanced, is_balanced-is, is_even, is_operand, is_operand-is}
-use Rattle.sql_parts.proofs.fragments.MisfitLemmas.{serves}
-use Rattle.sql_parts.proofs.tokens.JoinFacts.{enclosed-tokens}
-use Rattle.sql_builder.specs.Layout.{byte_units}
 use Rattle.sql_builder.specs.Phrases as phrase
 use Rattle.sql_builder.specs.WhereTokens.{in_brackets}
-use Rattle.sql_builder.proofs.tokens.BalancedFacts.{balanced_closed, even_text, is_balanced-append, is_even-append, is_even-brackets, is_operand-brackets, no_clause-brackets}
 use Rattle.sql_builder.proofs.tokens.WhereTokenFacts.{has_clause}
-use Rattle.sql_typed.specs.Conditions.{bracket_fronts, may_begin_bracketed}
-use Rattle.sql_typed.specs.Unions.{united_text}
 
 -- what is balanced is an operand in brackets
 pub brackets_serve : (text : List ℕ) → balanced text ≡ true → ServesAsOperand (phrase.in_brackets byte_units text)

@@ -1,22 +1,7 @@
 -- Conditions, and what is known of their texts.
-use Rattle.std.proofs.Common.{◌≡◌, ◌∙◌, ◌++◌, ap, append_assoc, codes, refl, sym, subst, ℕ, Bool, true, List, [], ◌∷◌, map, length, ◌≤◌, arith}
-use Rattle.std.specs.Prelude.{Err, IfOk, Ok, Result, string_bytes}
-use Rattle.std.specs.List.{list_all}
-use Rattle.std.proofs.lemmas.Bool.{and_from, false≢true}
-use Rattle.sql_parts.specs.Operands.{ServesAsOperand, is_fragment}
-use Rattle.sql_parts.specs.Tokens.{tokens}
-use Rattle.sql_parts.specs.declared.error.SqlBuilderError.{SqlBuilderError}
+use Rattle.sql_typed.proofs.Prelude.{◌≡◌, ◌∙◌, ◌++◌, ap, append_assoc, codes, refl, sym, subst, ℕ, Bool, true, false, if◌then◌else◌, List, [], ◌∷◌, map, length, ◌≤◌, arith, string_bytes, list_all, and_from, false≢true, ServesAsOperand, is_fragment, tokens, ConditionText, Raw, Compare, Like, IsNull, IsNotNull, InList, InQuoted, InQuery, Between, IsCombined, combined_text, like_text, condition_bytes, condition_raw_texts, has_operands, not_text, is_fit, IsAtom, and_all, or_all, row_fits, all_combined, any_combined, condition_fragment, condition_is_atom, OperandsServe, list_text}
 use Rattle.sql_parts.proofs.fragments.OperandFacts.{is-fragment}
-use Rattle.sql_builder.specs.Condition.{ConditionText, Raw, Compare, Like, IsNull, IsNotNull, InList, InQuoted, InQuery, Between}
-use Rattle.sql_builder.specs.Combined.{like_text}
-use Rattle.sql_builder.specs.Condition.{condition_bytes, condition_raw_texts, has_operands, not_text}
-use Rattle.sql_builder.specs.RawFragments.{is_fit}
-use Rattle.sql_builder.specs.Truths.{IsAtom}
-use Rattle.sql_builder.proofs.fragments.FitListLemmas.{row_fits}
-use Rattle.sql_builder.proofs.truth.CombinedLemmas.{condition_fragment, condition_is_atom}
 use Rattle.sql_typed.specs.declared.texts.Condition.{Condition}
-use Rattle.sql_typed.specs.Conditions.{OperandsServe, list_text}
-use Rattle.sql_typed.specs.Results.{Prints}
 
 -- where there are two values and more
 pub list_given : {X : Type 0} (negated : Bool) (field : List ℕ) (text : X → List ℕ) (values : List X) → 2 ≤ length values
@@ -25,11 +10,11 @@ list_given negated field text [] some = absurd (omega (arith, some))
 list_given negated field text (value ∷ []) some = absurd (omega (arith, some))
 list_given negated field text (value ∷ next ∷ values) some = refl
 
--- what holds of a text holds of a condition of this text
-pub printed-is : (P : List ℕ → Type 0) {text : List ℕ} (result : Result Condition SqlBuilderError) → Prints result text → P text
-    → IfOk result (λ c. P (string_bytes c.text))
-printed-is P (Ok c) is holds = subst P (sym is) holds
-printed-is P (Err e) is holds = tt
+-- the truth of conditions that are joined
+pub combined_truth : (conjunction : Bool) (conditions : List (List ℕ)) → list_all is_fragment conditions ≡ true
+    → IsCombined (if conjunction then and_all else or_all) conditions (combined_text conjunction conditions)
+combined_truth true conditions fit = all_combined conditions fit
+combined_truth false conditions fit = any_combined conditions fit
 
 -- the texts of conditions
 pub conditions_fit : (conditions : List Condition) → list_all is_fragment (map (λ c. string_bytes c.text) conditions) ≡ true

@@ -1,19 +1,6 @@
 -- The loop that fills the holes of a template, and what is made of it.
-use Rattle.std.proofs.Common.{◌≡◌, ◌∙◌, ◌+◌, ◌<◌, ◌++◌, add-one, ap, append_assoc, drop, drop-cons, get_or, length, suc, ◌≤◌, List, [], ◌∷◌, ℕ, sym, refl, true, false}
-use Rattle.std.specs.Prelude.{String, string_bytes, not}
-use Rattle.std.specs.List.{AllByRecursion, list_all}
+use Rattle.sql_typed.proofs.Prelude.{◌≡◌, ◌∙◌, ◌+◌, ◌<◌, ◌++◌, add-one, ap, append_assoc, drop, drop-cons, get_or, length, suc, ◌≤◌, List, [], ◌∷◌, ℕ, sym, refl, true, false, String, string_bytes, not, AllByRecursion, list_all, and_from, and_parts, or_right, list_all-append, balanced, has_clause_word, filled, holes_apart, in_hole, is_dotted, is_unit, unsigned, tokens, ServesAsOperand, has_no_clause, is_bare_operand, is_fragment, is_typed_fragment, is_typed_operand, texts, LacksHole, bracketed, filled-fragment, filled-hole, filled-serves, in_hole-serves, byte_units, in_brackets, serves}
 use Rattle.std.proofs.Math.ListN.{drop_of_length-le}
-use Rattle.std.proofs.lemmas.Bool.{and_from, and_parts, or_right}
-use Rattle.std.proofs.lemmas.List.Folds.{list_all-append}
-use Rattle.sql_parts.specs.Fragments.{balanced, has_clause_word}
-use Rattle.sql_parts.specs.Holes.{filled, holes_apart, in_hole, is_dotted, is_unit, unsigned}
-use Rattle.sql_parts.specs.Tokens.{tokens}
-use Rattle.sql_parts.specs.Operands.{ServesAsOperand, has_no_clause, is_bare_operand, is_fragment, is_typed_fragment, is_typed_operand}
-use Rattle.sql_parts.specs.Text.{texts}
-use Rattle.sql_parts.proofs.templates.HoleFacts.{LacksHole, bracketed, filled-fragment, filled-hole, filled-serves, in_hole-serves}
-use Rattle.sql_builder.specs.Layout.{byte_units}
-use Rattle.sql_builder.specs.Phrases.{in_brackets}
-use Rattle.sql_parts.proofs.fragments.MisfitLemmas.{serves}
 use Rattle.sql_typed.proofs.ConditionLemmas.{serves_as}
 
 pub one_left : {Z : Type 0} (operands : List (String Z)) (i : ℕ) (operand : String Z) → i < length operands → operand ≡ get_or operands i operand

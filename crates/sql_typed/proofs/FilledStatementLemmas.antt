@@ -1,20 +1,6 @@
 -- What is known of a statement that a template makes.
-use Rattle.std.proofs.Common.{◌≡◌, ◌∙◌, ◌++◌, ap, append_assoc, codes, List, [], ◌∷◌, map, ℕ, Bool, sym, refl, true, false, not, eqb-true}
-use Rattle.std.specs.Prelude.{◌&&◌, flat_map}
-use Rattle.std.specs.List.{list_any}
-use Rattle.std.proofs.lemmas.Bool.{and_from, and_parts, false≢true, not-true, not_from_false, or_from, or_parts}
-use Rattle.std.proofs.lemmas.Grind.{flat_map-append}
-use Rattle.std.proofs.lemmas.List.{map-append}
-use Rattle.std.specs.List.{AllByRecursion}
-use Rattle.sql_parts.specs.Holes.{cut, filled, holding, holes_apart}
-use Rattle.sql_parts.specs.Operands.{ServesAsOperand}
-use Rattle.sql_parts.specs.Readers.{Part, Constant, emptied, marks, outer_states, part_bytes, parts_bytes}
-use Rattle.sql_parts.specs.Tokens.{Token, Word, Str, Name, Symbol, Open, is_semicolon, tokens}
-use Rattle.sql_parts.proofs.fragments.MisfitLemmas.{balanced_whole}
-use Rattle.sql_parts.proofs.templates.HoleFacts.{filled-keeps}
+use Rattle.sql_typed.proofs.Prelude.{◌≡◌, ◌∙◌, ◌++◌, ap, append_assoc, codes, List, [], ◌∷◌, map, ℕ, Bool, sym, refl, true, false, not, eqb-true, ◌&&◌, flat_map, list_any, and_from, and_parts, false≢true, not-true, not_from_false, or_from, or_parts, flat_map-append, map-append, AllByRecursion, cut, filled, holding, holes_apart, ServesAsOperand, Part, Constant, emptied, marks, outer_states, part_bytes, parts_bytes, Token, Word, Str, Name, Symbol, Open, is_semicolon, tokens, balanced_whole, filled-keeps, EndsInOneSemicolon, ReadersIgnoreHeldTexts, filled_parts, held_parts}
 use Rattle.sql_parts.proofs.tokens.ReaderLemmas.{readers-alike}
-use Rattle.sql_builder.specs.Shape.{EndsInOneSemicolon}
-use Rattle.sql_typed.specs.Filled.{ReadersIgnoreHeldTexts, filled_parts, held_parts}
 
 -- ---- its only `;` is last
 

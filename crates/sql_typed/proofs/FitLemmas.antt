@@ -1,16 +1,7 @@
 -- A statement stays fit by one more call.
-use Rattle.std.proofs.Common.{◌≡◌, refl, sym, ◌∙◌, ap, true}
-use Rattle.std.specs.List.{list_all}
-use Rattle.std.proofs.lemmas.Bool.{and_from}
-use Rattle.sql_builder.specs.Builder.{ClauseTexts, with_call}
-use Rattle.sql_builder.specs.Calls.{CallText, FinishText, finish_raw_texts, nullary_call}
+use Rattle.sql_typed.proofs.Prelude.{◌≡◌, refl, sym, ◌∙◌, ap, true, list_all, and_from, ClauseTexts, with_call, CallText, FinishText, finish_raw_texts, nullary_call, call_fits, encloses_fields, has_fit_texts, is_fit, all-more, calls-fit, clauses-push, IsFitBy, Made, adding}
 use Rattle.sql_builder.specs.declared.steps.NullaryClause.{NullaryClause}
 use Rattle.sql_builder.specs.declared.steps.NullaryClause.TheVariants.{Natural, Left, LeftOuter, Right, RightOuter, Inner, Cross, Distinct, ReturningId}
-use Rattle.sql_builder.specs.FitCalls.{call_fits}
-use Rattle.sql_builder.specs.RawFragments.{encloses_fields, has_fit_texts, is_fit}
-use Rattle.sql_builder.proofs.fragments.FitListLemmas.{all-more, calls-fit}
-use Rattle.sql_builder.proofs.statements.RunLemmas.{clauses-push}
-use Rattle.sql_typed.specs.Fits.{IsFitBy, Made, adding}
 
 -- a call without texts
 pub nullary_fits : (clause : NullaryClause) → call_fits (nullary_call clause) ≡ true

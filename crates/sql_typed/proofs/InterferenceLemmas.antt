@@ -1,17 +1,7 @@
 -- Templates, and statements without their `;`, are the same but for texts of strings where what they are made of is.
-use Rattle.std.proofs.Common.{◌≡◌, ◌∙◌, ◌++◌, ap, codes, map, refl, sym, true, List, [], ◌∷◌, ℕ}
-use Rattle.std.specs.List.{AllByRecursion, list_all}
-use Rattle.std.proofs.lemmas.Bool.{and_parts, or_right}
-use Rattle.std.proofs.lemmas.List.{append_cancel_right, map-append}
-use Rattle.sql_parts.specs.Holes.{cut, filled, holding}
-use Rattle.sql_parts.specs.StringTexts.{blank, blank_token, outline}
-use Rattle.sql_parts.specs.Tokens.{Symbol, Token, closed, tokens}
+use Rattle.sql_typed.proofs.Prelude.{◌≡◌, ◌∙◌, ◌++◌, ap, codes, map, refl, sym, true, List, [], ◌∷◌, ℕ, AllByRecursion, list_all, and_parts, or_right, append_cancel_right, map-append, cut, filled, holding, blank, blank_token, outline, Symbol, Token, closed, tokens, filled-tokens, seam, TemplatesFollowTheirOperands, FrontsFollowTheirStatements}
 use Rattle.sql_parts.proofs.fragments.StringTextFacts.{closed-alike}
 use Rattle.sql_parts.proofs.templates.ApartFacts.{part_tokens}
-use Rattle.sql_parts.proofs.templates.HoleFacts.{filled-tokens}
-use Rattle.sql_parts.proofs.tokens.TokenFacts.{seam}
-use Rattle.sql_typed.specs.Filled.{TemplatesFollowTheirOperands}
-use Rattle.sql_typed.specs.Whole.{FrontsFollowTheirStatements}
 
 blank-append : (one other : List Token) → blank (one ++ other) ≡ blank one ++ blank other
 blank-append one other = map-append blank_token one other

@@ -1,3 +1,4 @@
+pub mod Prelude
 pub mod FilledLemmas
 pub mod FilledStatementLemmas
 pub mod FitLemmas

@@ -1,36 +1,14 @@
 -- What a statement prints whose texts all fit.
-use Rattle.std.proofs.Common.{◌≡◌, ◌&&◌, ◌++◌, ◌∙◌, ◌⊎◌, inl, inr, ap, sym, refl, codes, not, ℕ, Option, None, Some, List, Ok, IfOk, Result, String, string_bytes, subst, true}
-use Rattle.std.specs.List.{list_all}
-use Rattle.std.specs.Prelude.{IfErr, IfSome, IsTrue, OnOk, Err, IsNone, IsOk, length, ◌+◌, ◌≤◌}
+use Rattle.sql_typed.proofs.Prelude.{◌≡◌, ◌&&◌, ◌++◌, ◌∙◌, ◌⊎◌, inl, inr, ap, sym, refl, codes, not, ℕ, Option, None, Some, List, Ok, IfOk, Result, String, string_bytes, subst, true, list_all, IfErr, IfSome, IsTrue, OnOk, Err, IsNone, IsOk, length, ◌+◌, ◌≤◌, and_parts, balanced, has_clause_word, has_top_level, is_joining, is_word, operand, FailsOnlyByMemory, IsMemory, ServesAsOperand, is_fragment, marks, outer_states, outline, begins_with, closed, tokens, SqlBuilderError, ClauseTexts, CallText, FinishText, Sql, StartText, finish_raw_texts, kind_of, has_fit_texts, is_fit, EndsInOneSemicolon, shape, error_at, statement, text_at, unless_error, made_by, balanced_fragments, fit_conditions, fit_fragments, fit_texts_balanced, fit_texts_are_closed, builders_print_statements, statements_are_closed, statements_have_truth, statements_keep_tokens, statements_nest, statements_read_back, IsFitBy, Made, FailsWith, IsPrinted, PrintsBehind}
 use Rattle.std.specs.Result.{result_map_both}
-use Rattle.std.proofs.lemmas.Bool.{and_parts}
 use Rattle.std.proofs.lemmas.Result.{IfOk-weaker}
-use Rattle.sql_parts.specs.Fragments.{balanced, has_clause_word, has_top_level, is_joining, is_word, operand}
-use Rattle.sql_parts.specs.Error.{FailsOnlyByMemory, IsMemory}
-use Rattle.sql_parts.specs.Operands.{ServesAsOperand, is_fragment}
-use Rattle.sql_parts.specs.Readers.{marks, outer_states}
-use Rattle.sql_parts.specs.StringTexts.{outline}
-use Rattle.sql_parts.specs.Tokens.{begins_with, closed, tokens}
-use Rattle.sql_parts.specs.declared.error.SqlBuilderError.{SqlBuilderError}
-use Rattle.sql_builder.specs.Builder.{ClauseTexts}
-use Rattle.sql_builder.specs.Calls.{CallText, FinishText, Sql, StartText, finish_raw_texts, kind_of}
 use Rattle.sql_builder.specs.Meaning.{HasTruthOf, condition_groups, is_nested}
-use Rattle.sql_builder.specs.RawFragments.{has_fit_texts, is_fit}
 use Rattle.sql_builder.specs.Reading.{clause_list, read}
-use Rattle.sql_builder.specs.Shape.{EndsInOneSemicolon, shape}
-use Rattle.sql_builder.specs.Statement.{error_at, statement, text_at, unless_error}
-use Rattle.sql_builder.specs.StatementLaws.{made_by}
 use Rattle.sql_builder.specs.StatementReaders.{parts_at}
 use Rattle.sql_builder.proofs.for_callers.ChainLemmas.{made_statement}
-use Rattle.sql_builder.proofs.fragments.FitLemmas.{balanced_fragments, fit_conditions, fit_fragments, fit_texts_balanced}
-use Rattle.sql_builder.proofs.fragments.TextTestLemmas.{fit_texts_are_closed}
 use Rattle.sql_builder.proofs.interference.OutlineLemmas.{fragments-apart}
 use Rattle.sql_builder.proofs.interference.StatementReaderLemmas.{fragments-alike}
 use Rattle.sql_builder.proofs.reading.SubqueryLemmas.{subqueries_nest}
-use Rattle.sql_builder.proofs.statements.StatementLawLemmas.{builders_print_statements, statements_are_closed, statements_have_truth, statements_keep_tokens}
-use Rattle.sql_builder.proofs.statements.StatementLawLemmas.{statements_nest, statements_read_back}
-use Rattle.sql_typed.specs.Fits.{IsFitBy, Made}
-use Rattle.sql_typed.specs.Printed.{BuilderFailsAs, FailsWith, IsPrinted, PrintsBehind}
 use Rattle.sql_builder.proofs.fragments.UnfitLemmas.{ends_in_semicolon}
 use Rattle.sql_builder.proofs.reading.ReadBackLemmas.{where_unenclosed}
 use Rattle.sql_typed.proofs.FitLemmas.{texts_fit}
@@ -121,22 +99,6 @@ printed_behind made r fit (Ok x) before after appended failed =
         ∙ (λ i. unless_error (error_at Sql (sym fit.is_made i)) (text_at Sql (sym fit.is_made i)))
         ∙ ap (λ error. unless_error error (text_at Sql r)) none
     given (Some error) some failed = cc failed
-
--- how it fails, by what the builder's call says
-pub fails_as : {T : Type 0} (made : Made) (finish : FinishText) (r : ClauseTexts) (fit : IsFitBy made r) (result : Result T SqlBuilderError)
-    → IfSome (error_at finish r) (λ e. result ≡ Err e) → (IsNone (error_at finish r) → FailsOnlyByMemory result) → BuilderFailsAs made finish result
-fails_as made finish r fit result failed memory =
-    subst (λ (k : ClauseTexts). FailsWith (error_at finish k) result) fit.is_made (by (error_at finish r) failed memory)
-  where
-    by : (error : Option SqlBuilderError) → IfSome error (λ e. result ≡ Err e) → (IsNone error → FailsOnlyByMemory result) → FailsWith error result
-    by None failed memory = memory refl
-    by (Some error) failed memory = failed
-
--- an answer is passed on, since there was no error
-pub given_on : {T U : Type 0} (known : Option SqlBuilderError) (x : T) (y : U) (one : Result T SqlBuilderError) (other : Result U SqlBuilderError)
-    → one ≡ Ok x → other ≡ Ok y → FailsWith known one → FailsWith known other
-given_on {T} {U} None x y one other is also failed = subst (λ (r : Result U SqlBuilderError). FailsOnlyByMemory r) (sym also) tt
-given_on (Some wanted) x y one other is also failed = cc (sym is ∙ failed)
 
 -- with room, it succeeds
 pub has_room : {T : Type 0} (made : Made) (r : ClauseTexts) (fit : IsFitBy made r) (result : Result T SqlBuilderError) (used most : ℕ)

@@ -1,38 +1,14 @@
 -- Texts one behind another are whole, where each is.
-use Rattle.std.proofs.Common.{◌≡◌, ◌==◌, ◌∙◌, ◌++◌, ap, append-nil, append_assoc, codes, length, refl, sym, subst, ℕ, true, false, not, List, [], ◌∷◌, map}
-use Rattle.std.specs.Prelude.{flat_map}
-use Rattle.std.specs.List.{list_all, list_any}
-use Rattle.std.proofs.lemmas.Bool.{and_from, and_parts, not_from_false, not-true, true≢false}
-use Rattle.std.proofs.lemmas.List.Folds.{list_all-append}
-use Rattle.sql_parts.specs.Fragments.{balanced}
-use Rattle.sql_parts.specs.Operands.{ServesAsOperand}
-use Rattle.sql_parts.specs.Text.{join_with}
-use Rattle.sql_parts.specs.Tokens.{begins_with, closed, ends_with, has_semicolon, is_edge, is_semicolon, tokens}
-use Rattle.sql_parts.proofs.fragments.DepthFacts.{is_balanced, is_balanced-is}
-use Rattle.sql_parts.proofs.fragments.MisfitLemmas.{balanced_whole}
-use Rattle.sql_parts.proofs.tokens.JoinFacts.{clean-before, clean-behind}
-use Rattle.sql_parts.proofs.tokens.TokenFacts.{seam}
-use Rattle.sql_builder.specs.Builder.{ClauseTexts, with_call}
-use Rattle.sql_builder.specs.Calls.{CallText, Select, Sql, StartText, clauses}
-use Rattle.sql_builder.specs.Layout.{concat_sections, statement_sections}
+use Rattle.sql_typed.proofs.Prelude.{◌≡◌, ◌==◌, ◌∙◌, ◌++◌, ap, append-nil, append_assoc, codes, length, refl, sym, subst, ℕ, true, false, not, List, [], ◌∷◌, map, flat_map, list_all, list_any, and_from, and_parts, not_from_false, not-true, true≢false, list_all-append, balanced, ServesAsOperand, join_with, begins_with, closed, ends_with, has_semicolon, is_edge, is_semicolon, tokens, is_balanced, is_balanced-is, balanced_whole, clean-before, clean-behind, seam, ClauseTexts, with_call, CallText, Select, Sql, StartText, clauses, concat_sections, statement_sections, has_balanced_fragments, has_closed_fragments, has_no_semicolons, is_closed_piece, is_without_semicolon, EndsInOneSemicolon, made_by, fit_texts_balanced, texts_pass_call_by_call, clauses-push, text_of_layout, even_text, is_balanced-append, is_even-append, IsFitBy, Made, HasWholeFront, asking, conflict_text, is_whole, may_follow, may_join}
 use Rattle.sql_builder.specs.Pieces.{Pieces, fixed_piece, pieces_text, raw_piece}
-use Rattle.sql_builder.specs.RawFragments.{has_balanced_fragments, has_closed_fragments, has_no_semicolons, is_closed_piece, is_without_semicolon}
-use Rattle.sql_builder.specs.Shape.{EndsInOneSemicolon}
-use Rattle.sql_builder.specs.StatementLaws.{made_by}
 use Rattle.sql_builder.specs.TextTests.{is_plain, raw_text, texts_pass}
-use Rattle.sql_builder.proofs.fragments.FitLemmas.{fit_texts_balanced}
 use Rattle.sql_builder.proofs.fragments.NeutralLemmas.{clauses-inside}
 use Rattle.sql_builder.proofs.fragments.PassLemmas.{printed-passes, weaker-texts}
 use Rattle.sql_builder.proofs.fragments.PropertyLemmas.{calls-whatever, whatever}
-use Rattle.sql_builder.proofs.fragments.TextTestLemmas.{texts_pass_call_by_call}
 use Rattle.sql_builder.proofs.pieces.LayoutPropertyLemmas.{statement-laid}
 use Rattle.sql_builder.proofs.pieces.LayoutShapeLemmas.{inside-layout}
 use Rattle.sql_builder.proofs.pieces.ShapeLemmas.{Inside, Whole, ends_in_semicolon, raw-inside, shape_closed, shaped, statement-shaped, text-append, words-between, words-last}
 use Rattle.sql_builder.proofs.reading.ClauseWordLemmas.{fragments_closed}
-use Rattle.sql_builder.proofs.statements.RunLemmas.{clauses-push, text_of_layout}
-use Rattle.sql_builder.proofs.tokens.BalancedFacts.{even_text, is_balanced-append, is_even-append}
-use Rattle.sql_typed.specs.Fits.{IsFitBy, Made}
-use Rattle.sql_typed.specs.Whole.{HasWholeFront, asking, conflict_text, is_whole, may_follow, may_join}
 use Rattle.sql_typed.proofs.FitLemmas.{texts_fit}
 
 -- what is balanced is whole

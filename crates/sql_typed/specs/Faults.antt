@@ -1,8 +1,9 @@
 -- Which statements aren't printed, and why.
-use Rattle.std.specs.Prelude.{◌≡◌, ℕ, ◌&&◌, ◌||◌, ◌⊎◌, Bool, true, false, not, if◌then◌else◌, List, Option, None, Some, Result, Err, IfErr, codes, is_some, option_map}
-use Rattle.std.specs.List.{fold}
+use Rattle.std.specs.Prelude.{◌≡◌, ℕ, ◌++◌, ◌&&◌, ◌||◌, ◌⊎◌, Bool, true, false, not, if◌then◌else◌, List, [], ◌∷◌, Option, None, Some, Result, Err, IfErr, codes, is_some, nat_eq, option_map}
+use Rattle.std.specs.List.{ends_with, list_any}
 use Rattle.std.specs.Str.{bytes_eq}
 use Rattle.sql_parts.specs.Error as builder
+use Rattle.sql_parts.specs.Fragments.{operand}
 use Rattle.sql_parts.specs.Misfits.{misfit_text}
 use Rattle.sql_parts.specs.declared.error.SqlBuilderError.{SqlBuilderError}
 use Rattle.sql_builder.specs.Calls as call
@@ -15,7 +16,6 @@ use Rattle.sql_typed.specs.Filled as template
 use Rattle.sql_typed.specs.Fits.{Made}
 use Rattle.sql_typed.specs.declared.error.Error.{Error}
 use Rattle.sql_typed.specs.declared.error.Error.TheVariants.{Builder, Misfit, Template, NoCondition, NoJoin, OrderBesideUnion, ReturningFirst}
-use Rattle.sql_typed.specs.declared.marks.Marks.{Marks}
 
 -- the message of an error
 abbrev pub message_text : Error → List ℕ
@@ -33,12 +33,23 @@ changes_rows (call.UpdateTable table) = true
 changes_rows (call.DeleteFrom table) = true
 changes_rows _ = false
 
--- a condition of an empty list that every row meets: `1 = 1`, or the NOT of `1 = 0`
-abbrev pub selects_every_row : List ℕ → Bool
+-- an operand that is like this mask
+abbrev pub is_like : List ℕ → List ℕ → Bool
+is_like mask condition =
+    not (ends_with nat_eq condition (codes " NOT LIKE " ++ mask)) && ends_with nat_eq condition (codes " LIKE " ++ mask) && operand condition
+
+-- masks of an empty word, which any text is like
+abbrev pub empty_masks : List (List ℕ)
+empty_masks = codes "'%'" ∷ codes "'%%'" ∷ codes "'%' ESCAPE '!'" ∷ codes "'%%' ESCAPE '!'" ∷ []
+
+-- A condition of an empty list or word that every row meets: `1 = 1`, the NOT of `1 = 0`, or LIKE of an empty word, which a row meets
+-- whose operand isn't NULL.
+unfoldable pub selects_every_row : List ℕ → Bool
 selects_every_row condition =
     bytes_eq condition (constant_text true) || bytes_eq condition (negation_text (constant_text false))
+    || list_any (λ mask. is_like mask condition) empty_masks
 
--- a call that adds another condition of WHERE
+-- a call that adds any other condition of WHERE
 abbrev pub is_filter : CallText → Bool
 is_filter (call.Cond family (Raw condition)) = not (selects_every_row condition)
 is_filter (call.Cond family condition) = true
@@ -67,49 +78,22 @@ is_order _ = false
 abbrev pub is_returning : CallText → Bool
 is_returning c = is_some (returning_in c)
 
--- what a statement has before its calls
-abbrev pub started : Made → Marks
-started made = record {
-  needs_filter = not made.all_rows && changes_rows made.start;
-  has_filter = false;
-  has_join = false;
-  has_stray_constraint = false;
-  has_union = false;
-  has_order = false;
-  has_returning = false;
-}
-
--- what it has after one more call
-abbrev pub noted : CallText → Marks → Marks
-noted c m = record {
-  needs_filter = m.needs_filter;
-  has_filter = is_filter c || m.has_filter;
-  has_join = is_join c || m.has_join;
-  has_stray_constraint = (is_constraint c && not m.has_join) || m.has_stray_constraint;
-  has_union = is_union c || m.has_union;
-  has_order = is_order c || m.has_order;
-  has_returning = is_returning c || m.has_returning;
-}
-
--- and after all
-abbrev pub marks_of : Made → Marks
-marks_of made = fold (λ m c. noted c m) (started made) made.calls
-
--- why what has this isn't printed
-abbrev pub fault : Marks → Option Error
-fault m =
-    if m.needs_filter && not m.has_filter then Some NoCondition
-    else if m.has_stray_constraint then Some NoJoin
-    else if m.has_union && m.has_order then Some OrderBesideUnion else None
+-- a constraint of a join before the first join
+abbrev pub has_early_constraint : List CallText → Bool
+has_early_constraint [] = false
+has_early_constraint (c ∷ calls) = is_constraint c || (not (is_join c) && has_early_constraint calls)
 
 -- Why a statement isn't printed, whatever the builder says: an UPDATE or a DELETE without a filter, where no call says that all rows are
 -- meant; a constraint before the first join; an ORDER BY beside a union.
 abbrev pub fault_of : Made → Option Error
-fault_of made = fault (marks_of made)
+fault_of made =
+    if not made.all_rows && changes_rows made.start && not (list_any is_filter made.calls) then Some NoCondition
+    else if has_early_constraint made.calls then Some NoJoin
+    else if list_any is_union made.calls && list_any is_order made.calls then Some OrderBesideUnion else None
 
 -- nor can a clause follow what has a RETURNING
 abbrev pub following_fault_of : Made → Option Error
-following_fault_of made = if (marks_of made).has_returning then Some ReturningFirst else fault_of made
+following_fault_of made = if list_any is_returning made.calls then Some ReturningFirst else fault_of made
 
 -- memory ran out
 abbrev pub IsMemory : Error → Type 0

@@ -2,7 +2,7 @@
 use Rattle.std.specs.Prelude.{◌≡◌, Bool, true, false, IsTrue, List, [], ◌∷◌, ◌++◌}
 use Rattle.std.specs.List.{list_all}
 use Rattle.sql_builder.specs.Builder.{ClauseTexts}
-use Rattle.sql_builder.specs.Calls.{CallText, StartText, start_raw_texts}
+use Rattle.sql_builder.specs.Calls.{CallText, SelectFrom, StartText, start_raw_texts}
 use Rattle.sql_builder.specs.FitCalls.{call_fits}
 use Rattle.sql_builder.specs.RawFragments.{is_fit}
 use Rattle.sql_builder.specs.StatementLaws.{made_by}
@@ -24,6 +24,11 @@ adding call made = record { start = made.start; calls = made.calls ++ call ∷ [
 -- with every row meant
 abbrev pub meaning_all_rows : Made → Made
 meaning_all_rows made = record { start = made.start; calls = made.calls; all_rows = true }
+
+-- what a list has that proofs keep of a statement, as its one item
+abbrev pub made_in : List Made → Made
+made_in [] = beginning (SelectFrom [])
+made_in (made ∷ more) = made
 
 -- these clauses are what a start and calls make, and the texts of all fit
 pub record IsFitBy (made : Made) (r : ClauseTexts) : Type 0 where

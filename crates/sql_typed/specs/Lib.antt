@@ -3,6 +3,7 @@ pub mod Counts
 pub mod Faults
 pub mod Filled
 pub mod Fits
+pub mod Marks
 pub mod Printed
 pub mod Results
 pub mod Steps

@@ -61,10 +61,6 @@ abbrev pub FailsWith : {T : Type 0} → Option SqlBuilderError → Result T SqlB
 FailsWith None result = FailsOnlyByMemory result
 FailsWith (Some error) result = result ≡ Err error
 
--- the builder prints, or fails with the error of the calls where they have one
-abbrev pub BuilderFailsAs : {T : Type 0} → Made → FinishText → Result T SqlBuilderError → Type 0
-BuilderFailsAs made finish result = FailsWith (error_at finish (made_by made.start made.calls)) result
-
 -- a text with what `sql` prints behind it
 abbrev pub PrintsBehind : Made → List ℕ → List ℕ → Type 0
 PrintsBehind made before after = (text : List ℕ) × (after ≡ before ++ text) × IsPrinted made Sql text

@@ -41,6 +41,7 @@ impl Statement<InsertKind> {
     /// Adds a row, whose values may be of different types. Fails only if memory runs out.
     /// `Insert::into(alloc, Fragment::of("t"))?.field(Operand::of("a"))?.row(Row::new(alloc).value(Value("it's"))?)?.sql()?` gives
     /// `INSERT INTO t (a) VALUES ('it''s');`
+    #[tactic(auto, using(sql_builder::proofs::fragments::FitListLemmas::row_fits))]
     pub fn row(self, row: Row) -> Result<Insert>
         ensures made { Gives result (adding (Values row.values) self) }
     {
@@ -49,6 +50,7 @@ impl Statement<InsertKind> {
 
     /// Adds a row, whose values are of one type, such as `Literal`. Fails only if memory runs out.
     /// `Insert::into(alloc, Fragment::of("t"))?.field(Operand::of("a"))?.values(&[Literal::Null])?.sql()?` gives `INSERT INTO t (a) VALUES (NULL);`
+    #[tactic(auto, using(sql_builder::proofs::truth::CombinedLemmas::operands_balanced))]
     pub fn values<V: OperandText>(self, values: &[V]) -> Result<Insert>
         ensures made { Gives result (adding (Values (map V.text values.now)) self) }
     {

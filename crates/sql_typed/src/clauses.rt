@@ -9,7 +9,7 @@ ghost use Rattle.sql_builder.specs.Shape.{EndsInOneSemicolon};
 ghost use Rattle.sql_builder.specs.Statement.{error_at, statement, text_at};
 ghost use Rattle.sql_builder.specs.StatementLaws.{made_by};
 ghost use Rattle.sql_typed.specs.Faults.{FailsAs, FailsBy, MayFailBy, following_fault_of};
-ghost use Rattle.sql_typed.specs.Printed.{BuilderFailsAs, FailsWith, IsPrinted};
+ghost use Rattle.sql_typed.specs.Printed.{FailsWith, IsPrinted};
 ghost use Rattle.sql_typed.specs.Results.{Continues};
 ghost use Rattle.sql_typed.specs.Whole.{HasWholeFront, asking, combined_text, conflict_text, inserted_text, is_whole, lock_text, may_follow, may_join, named_text, set_text};
 
@@ -291,16 +291,8 @@ impl<K> Statement<K> {
         ensures error { FailsAs self.now Sql result }
     {
         self.check()?;
-        let printed = self.bare()?;
+        let printed = bare(self.alloc, self.clauses())?;
         Ok(printed)
-    }
-
-    fn bare<L>(&self) -> Result<Printed<L>>
-        ensures printed { IfOk result (λ p.
-            IsPrinted self.now Sql (string_bytes p.text ++ codes ";")) }
-        ensures error { BuilderFailsAs self.now Sql result }
-    {
-        bare(self.alloc, &self.builder)
     }
 }
 
@@ -342,7 +334,7 @@ impl Statement<InsertKind> {
             (error_at Sql (made_by self.now.start self.now.calls)) result }
     {
         self.check_following()?;
-        let printed = self.bare()?;
+        let printed = bare(self.alloc, self.clauses())?;
         Ok(printed)
     }
 

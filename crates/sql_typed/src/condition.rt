@@ -1,5 +1,5 @@
 //! Conditions as values, whose types say that their texts fit. Each function fails only if memory runs out.
-ghost use Rattle.std.specs.Prelude.{◌≡◌, ◌++◌, [], ◌∷◌, IfOk, IsTrue, OnOk, codes, false, map, option_map, string_bytes, true};
+ghost use Rattle.std.specs.Prelude.{◌≡◌, ◌++◌, [], ◌∷◌, IfOk, IsTrue, OnOk, codes, false, if◌then◌else◌, map, option_map, string_bytes, true};
 ghost use Rattle.sql_parts.specs.Error.{FailsOnlyByMemory};
 ghost use Rattle.sql_parts.specs.Fragments.{balanced, is_symbol};
 ghost use Rattle.sql_parts.specs.Quoting.{quoted};
@@ -599,6 +599,8 @@ fn joined(
 
 fn combined(alloc: Global, conjunction: bool, conditions: &[Condition]) -> Result
     ensures text { Prints result (combined_text conjunction (map (λ c. string_bytes c.text) conditions.now)) }
+    ensures truth { IfOk result (λ c. IsCombined (if conjunction then and_all else or_all)
+        (map (λ c. string_bytes c.text) conditions.now) (string_bytes c.text)) }
 {
     let text = match conditions {
         [] => return constant(alloc, conjunction),

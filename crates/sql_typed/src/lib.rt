@@ -11,7 +11,6 @@ pub mod changes;
 pub mod clauses;
 pub mod condition;
 pub mod error;
-mod ghost_value;
 pub mod laws;
 mod marks;
 pub mod mask;

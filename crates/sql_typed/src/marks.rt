@@ -1,20 +1,24 @@
 //! What a statement has, as far as it decides whether it is printed.
-ghost use Rattle.std.specs.Prelude.{◌≡◌, ◌||◌, not, List, ℕ};
+ghost use Rattle.std.specs.Prelude.{◌≡◌, ◌&&◌, ◌||◌, nat_eq, not, List, ℕ};
+ghost use Rattle.std.specs.List.{ends_with};
+ghost use Rattle.sql_parts.specs.Fragments.{operand};
 ghost use Rattle.sql_builder.specs.Calls.{start_on, unary_call};
-ghost use Rattle.sql_typed.specs.Faults.{fault, marks_of, noted, selects_every_row};
+ghost use Rattle.sql_typed.specs.Faults.{selects_every_row};
 ghost use Rattle.sql_typed.specs.Fits.{beginning};
+ghost use Rattle.sql_typed.specs.Marks.{fault, marks_of, noted};
 ghost use Rattle.sql_typed.specs.Steps.{step_call};
 
 use crate::error::Error;
 use crate::statement::Step;
 use sql_builder::calls::{BinaryClause, NullaryClause, TableStart, UnaryClause};
+use sql_parts::lex::is_operand;
 
 /// What a statement has.
 #[derive(Clone, Copy)]
 pub(crate) struct Marks {
     /// It changes rows, and no call has said that all are meant.
     pub(crate) needs_filter: bool,
-    /// A condition came that an empty list doesn't make.
+    /// A condition came that an empty list or word doesn't make.
     pub(crate) has_filter: bool,
     pub(crate) has_join: bool,
     /// A constraint came before the first join.
@@ -24,10 +28,36 @@ pub(crate) struct Marks {
     pub(crate) has_returning: bool,
 }
 
+// Whether an operand is like a mask.
+#[tactic(auto, using(std::proofs::lemmas::Str::Pattern::ends_text))]
+fn is_like(condition: &str, like: &str, not_like: &str) -> bool
+    ensures { result ≡ (not (ends_with nat_eq condition.now not_like.now)
+        && ends_with nat_eq condition.now like.now && operand condition.now) }
+{
+    if condition.ends_with(not_like) {
+        return false;
+    }
+    condition.ends_with(like) && is_operand(condition)
+}
+
+#[tactic(auto, unfolding(crate::specs::Faults::selects_every_row))]
 fn selects_every_row(condition: &str) -> bool
     ensures { result ≡ selects_every_row condition.now }
 {
-    condition == "1 = 1" || condition == "NOT (1 = 0)"
+    condition == "1 = 1"
+        || condition == "NOT (1 = 0)"
+        || is_like(condition, " LIKE '%'", " NOT LIKE '%'")
+        || is_like(condition, " LIKE '%%'", " NOT LIKE '%%'")
+        || is_like(
+            condition,
+            " LIKE '%' ESCAPE '!'",
+            " NOT LIKE '%' ESCAPE '!'",
+        )
+        || is_like(
+            condition,
+            " LIKE '%%' ESCAPE '!'",
+            " NOT LIKE '%%' ESCAPE '!'",
+        )
 }
 
 impl Marks {

@@ -6,7 +6,7 @@ ghost use Rattle.sql_builder.specs.StatementLaws.{made_by};
 ghost use Rattle.sql_builder.specs.Unions.{needs_brackets};
 ghost use Rattle.sql_typed.specs.Fits.{adding, beginning};
 ghost use Rattle.sql_typed.specs.Faults.{FailsAs};
-ghost use Rattle.sql_typed.specs.Printed.{BuilderFailsAs, IsPrinted};
+ghost use Rattle.sql_typed.specs.Printed.{IsPrinted};
 ghost use Rattle.sql_typed.specs.Results.{Gives};
 ghost use Rattle.sql_typed.specs.Steps.{operator_call};
 ghost use Rattle.sql_typed.specs.Unions.{united_text};
@@ -268,16 +268,7 @@ impl Statement<SelectKind> {
         ensures error { FailsAs self.now (SubqueryAs (N.text name)) result }
     {
         self.check()?;
-        let table = self.table_of_clauses(name)?;
-        Ok(table)
-    }
-
-    fn table_of_clauses<N: OperandText>(&self, name: N) -> Result<TableQuery>
-        ensures printed { IfOk result (λ q.
-            IsPrinted self.now (SubqueryAs (N.text name)) (string_bytes q.text)) }
-        ensures error { BuilderFailsAs self.now (SubqueryAs (N.text name)) result }
-    {
-        let text = self.builder.subquery_as(name)?;
+        let text = self.clauses().subquery_as(name)?;
         Ok(TableQuery { text })
     }
 }

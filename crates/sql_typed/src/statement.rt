@@ -18,21 +18,21 @@ ghost use Rattle.sql_builder.specs.Statement.{error_at, statement, text_at};
 ghost use Rattle.sql_builder.specs.StatementLaws.{made_by};
 ghost use Rattle.sql_builder.specs.declared.condition.Family.TheVariants.{And, Or};
 ghost use Rattle.sql_typed.specs.Faults.{FailsAs, fault_of};
-ghost use Rattle.sql_typed.specs.Fits.{Made, adding, beginning, meaning_all_rows};
-ghost use Rattle.sql_typed.specs.Printed.{BuilderFailsAs, DifferInStrings, IsPrinted, PrintsBehind, ReadersIgnoreTexts};
+ghost use Rattle.sql_typed.specs.Fits.{IsFitBy, Made, adding, beginning, meaning_all_rows};
+ghost use Rattle.sql_typed.specs.Printed.{DifferInStrings, IsPrinted, PrintsBehind, ReadersIgnoreTexts};
 ghost use Rattle.sql_typed.specs.Results.{Gives};
 ghost use Rattle.sql_typed.specs.Steps.{IsStepError, step_call};
 
 use crate::Result;
 use crate::condition::Condition;
 use crate::error::Error;
-use crate::ghost_value::GhostValue;
 use crate::marks::Marks;
 use crate::operand_text::{FragmentText, OperandText};
 use sql_builder::SqlBuilder;
 use sql_builder::calls::{
-    BinaryClause, Family, Finish, NullaryClause, TableStart, TextList, UnaryClause, VariadicClause,
-    add_condition, add_row, make_binary, make_nullary, make_unary, make_variadic, print, print_to,
+    BinaryClause, Family, Finish, GhostList, NullaryClause, TableStart, TextList, UnaryClause,
+    VariadicClause, add_condition, add_row, make_binary, make_nullary, make_unary, make_variadic,
+    print, print_to,
 };
 use sql_parts::text::{Items, ToText};
 use std::alloc::Global;
@@ -100,20 +100,21 @@ pub struct Statement<K> {
     // in a box, since a call moves its statement
     pub(crate) builder: Box<SqlBuilder>,
     pub(crate) marks: Marks,
-    pub(crate) made: GhostValue<MadeOf>,
+    // has one item
+    pub(crate) made: GhostList<MadeOf>,
     pub(crate) kind: PhantomData<K>,
 }
 
 impl<K> Model for Statement<K> {
     ghost use Rattle.std.specs.Prelude.{◌≡◌};
-    ghost use Rattle.sql_typed.specs.Faults.{marks_of};
-    ghost use Rattle.sql_typed.specs.Fits.{IsFitBy, Made};
+    ghost use Rattle.sql_typed.specs.Fits.{IsFitBy, Made, made_in};
+    ghost use Rattle.sql_typed.specs.Marks.{marks_of};
 
     ghost Value = { Made };
 
-    ghost view = { λ s. s.made.value };
+    ghost view = { λ s. made_in s.made.items };
 
-    ghost invariant = { λ s. IsFitBy s.made.value s.builder.value × (s.marks ≡ marks_of s.made.value) };
+    ghost invariant = { λ s. IsFitBy (made_in s.made.items) s.builder.value × (s.marks ≡ marks_of (made_in s.made.items)) };
 }
 
 /// A call of a statement.
@@ -149,7 +150,7 @@ impl<K> Statement<K> {
     ) -> Result<Statement<K>>
         ensures made { Gives result (beginning (start_on start (T.text table))) }
     {
-        let made = GhostValue::of(&(&start, &table));
+        let made = GhostList::of(&(&start, &table));
         let builder = match start {
             TableStart::SelectFrom => SqlBuilder::select_from(alloc, table)?,
             TableStart::InsertInto => SqlBuilder::insert_into(alloc, table)?,
@@ -179,8 +180,8 @@ impl<K> Statement<K> {
             made,
             kind,
         } = self;
-        let call: GhostValue<MadeOf> = GhostValue::of(&step);
-        let made = GhostValue::of(&(made, call));
+        let call: GhostList<MadeOf> = GhostList::of(&step);
+        let made = GhostList::of(&(&made, &call));
         let marks = marks.with(&step);
         make_step(&mut builder, step)?;
         Ok(Statement {
@@ -204,8 +205,7 @@ impl<K> Statement<K> {
             made,
             kind,
         } = self;
-        let call: GhostValue<MadeOf> = GhostValue::of(&values);
-        let made = GhostValue::of(&(made, call));
+        let made = GhostList::of(&(&made, &values));
         let values = Items { items: values };
         make_variadic(&mut builder, VariadicClause::Values, values)?;
         Ok(Statement {
@@ -257,6 +257,7 @@ impl<K> Statement<K> {
     }
 
     // A call without texts.
+    #[tactic(auto, using(crate::proofs::FitLemmas::nullary_fits))]
     pub(crate) fn with_nullary(self, clause: NullaryClause) -> Result<Statement<K>>
         ensures made { Gives result (adding (nullary_call clause) self) }
         ensures error { IfErr result (IsNullaryError clause) }
@@ -274,17 +275,13 @@ impl<K> Statement<K> {
         }
     }
 
-    // What a finish prints, whose name, if it has one, fits.
-    fn print_clauses(&self, finish: &Finish) -> Result<String>
-        requires fits { IsTrue (list_all is_fit (finish_raw_texts (finish_view finish.now))) }
-        ensures printed { IfOk result (λ s.
-            IsPrinted self.now (finish_view finish.now) (string_bytes s)) }
-        ensures error { BuilderFailsAs self.now (finish_view finish.now) result }
+    pub(crate) fn clauses(&self) -> &SqlBuilder
+        ensures { IsFitBy self.now result.now }
     {
-        print(&self.builder, finish)
+        &self.builder
     }
 
-    // The same, where it has no fault.
+    // What a finish prints, whose name, if it has one, fits.
     pub(crate) fn print(&self, finish: &Finish) -> Result<String, Error>
         requires fits { IsTrue (list_all is_fit (finish_raw_texts (finish_view finish.now))) }
         ensures printed { IfOk result (λ s.
@@ -292,20 +289,8 @@ impl<K> Statement<K> {
         ensures error { FailsAs self.now (finish_view finish.now) result }
     {
         self.check()?;
-        let text = self.print_clauses(finish)?;
+        let text = print(self.clauses(), finish)?;
         Ok(text)
-    }
-
-    fn append_clauses(&self, out: &mut String) -> Result<()>
-        ensures appended { OnOk result
-            (PrintsBehind self.now (string_bytes out.old) (string_bytes out.new)) }
-        ensures unchanged { OnErr result (string_bytes out.new ≡ string_bytes out.old) }
-        ensures error { BuilderFailsAs self.now Sql result }
-        ensures succeeds { let clauses = made_by self.now.start self.now.calls in
-            IsNone (error_at Sql clauses) → string_len out.old + length (text_at Sql clauses)
-            ≤ string_capacity out.old → IsOk result }
-    {
-        print_to(&self.builder, &Finish::Sql, out)
     }
 
     /// Returns an equal statement, for example for a count and a page of one search. Fails only if
@@ -314,7 +299,7 @@ impl<K> Statement<K> {
     pub fn clone(&self) -> Result<Statement<K>>
         ensures equal { Gives result self.now }
     {
-        let made = GhostValue::of(&self.made);
+        let made = GhostList::of(&self.made);
         let builder = self.builder.clone()?;
         Ok(Statement {
             alloc: self.alloc,
@@ -327,10 +312,10 @@ impl<K> Statement<K> {
 
     /// Returns the statement. Nothing is asked of any text.
     ///
-    /// Fails with `NoCondition` if an UPDATE or a DELETE has neither a filter nor `all_rows`. The
-    /// conditions `1 = 1` and `NOT (1 = 0)`, which empty lists make, are no filters. Fails with
-    /// `NoJoin` if a constraint is before the first join. Fails with `OrderBesideUnion` if an ORDER
-    /// BY is beside a union.
+    /// Fails with `NoCondition` if an UPDATE or a DELETE has neither a filter nor `all_rows`. What
+    /// an empty list or word makes is no filter: `1 = 1`, `NOT (1 = 0)`, and LIKE of `%` or `%%`.
+    /// Inside another condition it counts as one. Fails with `NoJoin` if a constraint is before the
+    /// first join. Fails with `OrderBesideUnion` if an ORDER BY is beside a union.
     ///
     /// After that it fails with the builder's `NoValues` for an INSERT without a row, and
     /// `NoSetFields` for an UPDATE that sets nothing. It fails with the builder's `NoGroupBy` for a
@@ -375,7 +360,7 @@ impl<K> Statement<K> {
             → IsOk result }
     {
         self.check()?;
-        self.append_clauses(out)?;
+        print_to(self.clauses(), &Finish::Sql, out)?;
         Ok(())
     }
 }
@@ -424,7 +409,7 @@ impl<K: Changes> Statement<K> {
                 needs_filter: false,
                 ..marks
             },
-            made: GhostValue::of(&made),
+            made: GhostList::of(&made),
             kind,
         }
     }

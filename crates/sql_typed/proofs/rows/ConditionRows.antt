@@ -1,9 +1,5 @@
 -- Worked rows of conditions: what the definitions give, by computing.
-use Rattle.std.specs.Prelude.{◌≡◌, [], ◌∷◌, ◌++◌, codes, refl, true, false}
-use Rattle.sql_parts.specs.Quoting.{quoted}
-use Rattle.sql_builder.specs.Combined.{exists_text, like_text}
-use Rattle.sql_builder.specs.declared.condition.Percent.TheVariants.{Any, Left, Right}
-use Rattle.sql_typed.specs.Conditions.{escaped_mask, list_text}
+use Rattle.sql_typed.proofs.Prelude.{◌≡◌, [], ◌∷◌, ◌++◌, codes, refl, true, false, quoted, exists_text, like_text, Any, Left, Right, escaped_mask, list_text}
 
 no_values : list_text true (codes "a") [] ≡ codes "1 = 1"
 no_values = refl

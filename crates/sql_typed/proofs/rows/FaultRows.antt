@@ -1,11 +1,8 @@
 -- Worked rows of statements that aren't printed: what the definitions give, by computing.
-use Rattle.std.specs.Prelude.{◌≡◌, codes, refl, None, Some}
-use Rattle.sql_builder.specs.Calls.{Cond, DeleteFrom, InsertInto, Join, On, OnEq, OrderDesc, Returning, ReturningId, SelectFrom, Union, UpdateTable}
-use Rattle.sql_builder.specs.Condition.{Raw}
+use Rattle.sql_typed.proofs.Prelude.{◌≡◌, ℕ, Bool, false, true, List, [], ◌∷◌, codes, refl, None, Some, list_all, list_any, quoted, Cond, DeleteFrom, InsertInto, Join, On, OnEq, OrderDesc, Returning, ReturningId, SelectFrom, Union, UpdateTable, constant_text, like_text, negation_text, Like, Raw, condition_bytes, Any, Left, Right, escaped_mask, fault_of, following_fault_of, adding, beginning, meaning_all_rows, NoCondition, NoJoin, OrderBesideUnion, ReturningFirst}
 use Rattle.sql_builder.specs.declared.condition.Family.TheVariants.{And}
-use Rattle.sql_typed.specs.Faults.{fault_of, following_fault_of}
-use Rattle.sql_typed.specs.Fits.{adding, beginning, meaning_all_rows}
-use Rattle.sql_typed.specs.declared.error.Error.TheVariants.{NoCondition, NoJoin, OrderBesideUnion, ReturningFirst}
+use Rattle.sql_builder.specs.declared.condition.Percent.{Percent}
+use Rattle.sql_typed.specs.Faults.{selects_every_row}
 
 delete : fault_of (beginning (DeleteFrom (codes "t"))) ≡ Some NoCondition
 delete = refl
@@ -17,15 +14,11 @@ all_rows : fault_of (adding ReturningId (meaning_all_rows (beginning (UpdateTabl
 all_rows = refl
 
 with_a_condition : fault_of (adding (Cond And (Raw (codes "a"))) (beginning (DeleteFrom (codes "t")))) ≡ None
+unfolding selects_every_row
 with_a_condition = refl
 
-of_an_empty_list : fault_of (adding (Cond And (Raw (codes "1 = 1"))) (beginning (DeleteFrom (codes "t")))) ≡ Some NoCondition
-of_an_empty_list = refl
-
-of_its_negation : fault_of (adding (Cond And (Raw (codes "NOT (1 = 0)"))) (beginning (UpdateTable (codes "t")))) ≡ Some NoCondition
-of_its_negation = refl
-
 and_another : fault_of (adding (Cond And (Raw (codes "1 = 1"))) (adding (Cond And (Raw (codes "a"))) (beginning (DeleteFrom (codes "t"))))) ≡ None
+unfolding selects_every_row
 and_another = refl
 
 select : fault_of (beginning (SelectFrom (codes "t"))) ≡ None
@@ -45,3 +38,19 @@ ordered_union = refl
 
 returning : following_fault_of (adding (Returning (codes "id")) (beginning (InsertInto (codes "t")))) ≡ Some ReturningFirst
 returning = refl
+
+-- ---- conditions of an empty list or word
+
+abbrev matching : Bool → Percent → List ℕ → List ℕ
+matching negated percent word = like_text negated (codes "lower(a)") (quoted (escaped_mask percent word))
+
+every_row : list_all selects_every_row
+    (constant_text true ∷ negation_text (constant_text false) ∷ matching false Any [] ∷ matching false Left []
+    ∷ condition_bytes (Like false Right (codes "a") []) ∷ []) ≡ true
+unfolding selects_every_row
+every_row = refl
+
+fewer_rows : list_any selects_every_row
+    (constant_text false ∷ matching false Any (codes "b") ∷ matching true Any [] ∷ codes "a AND b LIKE '%'" ∷ []) ≡ false
+unfolding selects_every_row
+fewer_rows = refl

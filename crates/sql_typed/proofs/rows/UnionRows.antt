@@ -1,9 +1,6 @@
 -- Worked rows of queries behind a UNION: what the definitions give, by computing.
-use Rattle.std.specs.Prelude.{◌≡◌, [], ◌∷◌, codes, refl, true, false}
-use Rattle.sql_builder.specs.Calls.{Field, GroupBy, Limit, Offset, OrderAsc, OrderDesc, SelectFrom, Union, UnionAll}
-use Rattle.sql_builder.specs.StatementLaws.{made_by}
+use Rattle.sql_typed.proofs.Prelude.{◌≡◌, [], ◌∷◌, codes, refl, true, false, Field, GroupBy, Limit, Offset, OrderAsc, OrderDesc, SelectFrom, Union, UnionAll, made_by, united_text}
 use Rattle.sql_builder.specs.Unions.{needs_brackets}
-use Rattle.sql_typed.specs.Unions.{united_text}
 
 plain : united_text false (codes "SELECT a FROM t") ≡ codes "SELECT a FROM t"
 plain = refl

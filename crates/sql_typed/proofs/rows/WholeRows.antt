@@ -1,10 +1,6 @@
 -- Worked rows of clauses behind a text: what the definitions give, by computing.
-use Rattle.std.specs.Prelude.{◌≡◌, ℕ, List, [], ◌∷◌, ◌++◌, codes, refl, true, false}
-use Rattle.sql_parts.specs.Holes.{filled, holes_apart}
-use Rattle.sql_parts.specs.Quoting.{quoted}
-use Rattle.sql_parts.specs.StringTexts.{outline}
-use Rattle.sql_parts.specs.Tokens.{Word, tokens}
-use Rattle.sql_typed.specs.Whole.{combined_text, conflict_text, inserted_text, is_whole, lock_text, may_follow, may_join, named_text, set_text}
+use Rattle.sql_typed.proofs.Prelude.{◌≡◌, ℕ, List, [], ◌∷◌, ◌++◌, codes, refl, true, false, filled, holes_apart, quoted, outline, Word, tokens, conflict_text, inserted_text, is_whole, lock_text, may_follow, may_join, named_text, set_text}
+use Rattle.sql_typed.specs.Whole.{combined_text}
 use Rattle.sql_typed.specs.declared.printed.Lock.TheVariants.{Update, Share}
 use Rattle.sql_typed.specs.declared.printed.Wait.TheVariants.{NoWait, SkipLocked}
 

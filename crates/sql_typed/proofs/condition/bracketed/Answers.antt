@@ -1,7 +1,4 @@
-use Rattle.std.proofs.Common.{◌∙◌, ◌++◌, ap, subst, sym}
-use Rattle.sql_parts.specs.Operands.{ServesAsOperand}
-use Rattle.sql_builder.specs.Layout.{byte_units}
-use Rattle.sql_builder.specs.Phrases.{in_brackets}
+use Rattle.sql_typed.proofs.Prelude.{◌∙◌, ◌++◌, ap, subst, sym, ServesAsOperand, byte_units, in_brackets}
 use Rattle.sql_typed.proofs.BracketLemmas.{brackets_serve}
 use Rattle.sql_typed.proofs.condition.bracketed.Goals as goal
 

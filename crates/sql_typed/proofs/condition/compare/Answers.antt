@@ -1,5 +1,4 @@
-use Rattle.std.proofs.Common.{◌∙◌, ◌++◌, ap}
-use Rattle.sql_builder.specs.Condition.{Compare}
+use Rattle.sql_typed.proofs.Prelude.{◌∙◌, ◌++◌, ap, Compare}
 use Rattle.sql_typed.proofs.ConditionLemmas.{condition_made}
 use Rattle.sql_typed.proofs.condition.compare.Goals as goal
 

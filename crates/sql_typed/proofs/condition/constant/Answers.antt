@@ -1,8 +1,4 @@
-use Rattle.std.proofs.Common.{◌≡◌, rules, string_bytes, subst, sym}
-use Rattle.sql_parts.specs.Tokens.{tokens}
-use Rattle.sql_builder.specs.Combined.{constant_text}
-use Rattle.sql_builder.specs.Truths.{IsAtom}
-use Rattle.sql_builder.proofs.truth.CombinedLemmas.{constant_is_atom}
+use Rattle.sql_typed.proofs.Prelude.{◌≡◌, rules, string_bytes, subst, sym, tokens, constant_text, IsAtom, constant_is_atom}
 use Rattle.sql_typed.proofs.condition.constant.Goals as goal
 
 pub returns-clause-atom : goal.returns-clause-atom

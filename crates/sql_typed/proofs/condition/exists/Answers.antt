@@ -1,9 +1,4 @@
-use Rattle.std.proofs.Common.{◌∙◌, ap, false, string_bytes, subst, sym}
-use Rattle.sql_parts.specs.Operands.{is_fragment}
-use Rattle.sql_parts.specs.Tokens.{tokens}
-use Rattle.sql_builder.specs.Combined.{exists_text}
-use Rattle.sql_builder.specs.Truths.{IsAtom}
-use Rattle.sql_builder.proofs.truth.CombinedLemmas.{exists_fragment, exists_is_atom}
+use Rattle.sql_typed.proofs.Prelude.{◌∙◌, ap, false, string_bytes, subst, sym, is_fragment, tokens, exists_text, IsAtom, exists_fragment, exists_is_atom}
 use Rattle.sql_typed.proofs.condition.exists.Goals as goal
 
 pub invariant_of-result : goal.invariant_of-result

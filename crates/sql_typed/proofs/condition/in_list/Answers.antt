@@ -1,5 +1,4 @@
-use Rattle.std.proofs.Common.{◌∙◌, refl}
-use Rattle.sql_builder.proofs.truth.CombinedLemmas.{operands_balanced}
+use Rattle.sql_typed.proofs.Prelude.{◌∙◌, refl, operands_balanced}
 use Rattle.sql_typed.proofs.ConditionLemmas.{serves_as}
 use Rattle.sql_typed.proofs.condition.in_list.Goals as goal
 

@@ -1,6 +1,4 @@
-use Rattle.std.proofs.Common.{◌∙◌, subst, sym}
-use Rattle.std.specs.Prelude.{IsTrue}
-use Rattle.sql_parts.specs.Fragments.{balanced}
+use Rattle.sql_typed.proofs.Prelude.{◌∙◌, subst, sym, IsTrue, balanced}
 use Rattle.sql_typed.proofs.condition.in_one.Goals as goal
 
 pub bracketed-requires : goal.bracketed-requires

@@ -1,7 +1,4 @@
-use Rattle.std.proofs.Common.{◌≡◌, ◌++◌, map, string_bytes, take}
-use Rattle.std.specs.Prelude.{flat_map}
-use Rattle.sql_builder.specs.Layout.{byte_units}
-use Rattle.sql_builder.specs.Phrases.{in_brackets}
+use Rattle.sql_typed.proofs.Prelude.{◌≡◌, ◌++◌, map, string_bytes, take, flat_map, byte_units, in_brackets}
 use Rattle.sql_typed.proofs.condition.joined.Given as goal
 
 abbrev pub invariant-loop-condition : goal.invariant-loop-condition

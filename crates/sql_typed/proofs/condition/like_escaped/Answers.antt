@@ -1,8 +1,4 @@
-use Rattle.std.proofs.Common.{◌∙◌, ap, refl, subst, sym}
-use Rattle.sql_parts.specs.Operands.{is_fragment}
-use Rattle.sql_parts.specs.Tokens.{tokens}
-use Rattle.sql_builder.specs.Truths.{IsAtom}
-use Rattle.sql_builder.proofs.truth.CombinedLemmas.{fits_as, like_fragment, like_is_atom}
+use Rattle.sql_typed.proofs.Prelude.{◌∙◌, ap, refl, subst, sym, is_fragment, tokens, IsAtom, fits_as, like_fragment, like_is_atom}
 use Rattle.sql_typed.proofs.ConditionLemmas.{like_printed}
 use Rattle.sql_typed.proofs.condition.like_escaped.Goals as goal
 

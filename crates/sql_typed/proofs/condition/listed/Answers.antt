@@ -1,5 +1,4 @@
-use Rattle.std.proofs.Common.{subst, sym}
-use Rattle.sql_typed.specs.Results.{Prints}
+use Rattle.sql_typed.proofs.Prelude.{subst, sym, Prints}
 use Rattle.sql_typed.proofs.ConditionLemmas.{list_given}
 use Rattle.sql_typed.proofs.condition.listed.Goals as goal
 

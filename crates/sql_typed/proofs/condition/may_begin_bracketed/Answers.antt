@@ -1,6 +1,4 @@
-use Rattle.std.proofs.Common.{◌≡◌, ◌∙◌, arith}
-use Rattle.std.proofs.lemmas.Grind.{common_steps}
-use Rattle.sql_typed.specs.Conditions.{may_begin_bracketed}
+use Rattle.sql_typed.proofs.Prelude.{◌≡◌, ◌∙◌, arith, common_steps, may_begin_bracketed}
 use Rattle.sql_typed.proofs.BracketLemmas.{bracket_found}
 use Rattle.sql_typed.proofs.condition.may_begin_bracketed.Goals as goal
 

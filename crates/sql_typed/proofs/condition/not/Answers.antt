@@ -1,9 +1,4 @@
-use Rattle.std.proofs.Common.{◌∙◌, ap, string_bytes}
-use Rattle.sql_parts.specs.Operands.{is_fragment}
-use Rattle.sql_parts.specs.Tokens.{tokens}
-use Rattle.sql_builder.specs.Combined.{negation_text}
-use Rattle.sql_builder.specs.Truths.{truth}
-use Rattle.sql_builder.proofs.truth.CombinedLemmas.{negation_fragment, negation_truth}
+use Rattle.sql_typed.proofs.Prelude.{◌∙◌, ap, string_bytes, is_fragment, tokens, negation_text, truth, negation_fragment, negation_truth}
 use Rattle.sql_typed.proofs.condition.not.Goals as goal
 
 pub invariant_of-result : goal.invariant_of-result

@@ -1,9 +1,4 @@
-use Rattle.std.proofs.Common.{◌∙◌, ap, string_bytes, true}
-use Rattle.sql_parts.specs.Operands.{is_fragment}
-use Rattle.sql_parts.specs.Tokens.{tokens}
-use Rattle.sql_builder.specs.Combined.{exists_text}
-use Rattle.sql_builder.specs.Truths.{truth}
-use Rattle.sql_builder.proofs.truth.CombinedLemmas.{exists_fragment, not_exists_truth}
+use Rattle.sql_typed.proofs.Prelude.{◌∙◌, ap, string_bytes, true, is_fragment, tokens, exists_text, truth, exists_fragment, not_exists_truth}
 use Rattle.sql_typed.proofs.condition.not_exists.Goals as goal
 
 pub invariant_of-result : goal.invariant_of-result

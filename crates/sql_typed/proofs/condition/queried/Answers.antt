@@ -1,6 +1,4 @@
-use Rattle.std.proofs.Common.{◌∙◌, refl, subst, sym}
-use Rattle.std.specs.Prelude.{IsTrue}
-use Rattle.sql_parts.specs.Fragments.{balanced}
+use Rattle.sql_typed.proofs.Prelude.{◌∙◌, refl, subst, sym, IsTrue, balanced}
 use Rattle.sql_typed.proofs.ConditionLemmas.{serves_as}
 use Rattle.sql_typed.proofs.condition.queried.Goals as goal
 

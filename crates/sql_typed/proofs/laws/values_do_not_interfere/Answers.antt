@@ -1,7 +1,5 @@
-use Rattle.std.proofs.Common.{sym, ◌∙◌, ap}
-use Rattle.sql_parts.specs.StringTexts.{blank}
+use Rattle.sql_typed.proofs.Prelude.{sym, ◌∙◌, ap, blank, between-tokens}
 use Rattle.sql_parts.specs.declared.delimiters.Quotes.TheVariants.{Single}
-use Rattle.sql_parts.proofs.tokens.TokenFacts.{between-tokens}
 use Rattle.sql_typed.proofs.laws.values_do_not_interfere.Goals as goal
 
 pub returns-clause-values : goal.returns-clause-values

@@ -1,5 +1,4 @@
-use Rattle.std.proofs.Common.{◌∙◌, ap}
-use Rattle.std.specs.String.{string_bytes}
+use Rattle.sql_typed.proofs.Prelude.{◌∙◌, ap, string_bytes}
 use Rattle.sql_typed.proofs.operand_text.operand.Goals as goal
 
 pub returns-clause-text : goal.returns-clause-text

@@ -1,8 +1,5 @@
-use Rattle.std.proofs.Common.{◌∙◌, ◌+◌, ◌++◌, None, Some, ap, arith, drop, rules, string_bytes, sym}
+use Rattle.sql_typed.proofs.Prelude.{◌∙◌, ◌+◌, ◌++◌, None, Some, ap, arith, drop, rules, string_bytes, sym, filled, texts, filled-none, uncut}
 use Rattle.std.proofs.lemmas.Str.Pattern.{split_parts}
-use Rattle.sql_parts.specs.Holes.{filled}
-use Rattle.sql_parts.specs.Text.{texts}
-use Rattle.sql_parts.proofs.templates.HoleFacts.{filled-none, uncut}
 use Rattle.sql_typed.proofs.FilledLemmas.{filled_more, none_left, one_left}
 use Rattle.sql_typed.proofs.template.filled.Goals.{else-loop-operand-test, then-loop-operand-test+in_default}
 use Rattle.sql_typed.proofs.template.filled.Goals as goal

@@ -1,9 +1,6 @@
+use Rattle.sql_typed.proofs.Prelude.{◌≡◌, ◌++◌, drop, string_bytes, filled, texts}
 use denote.Shadow.{shadow}
 use denote.Text.{Utf8}
-use Rattle.std.proofs.Common.{◌≡◌, ◌++◌, drop}
-use Rattle.std.specs.String.{string_bytes}
-use Rattle.sql_parts.specs.Holes.{filled}
-use Rattle.sql_parts.specs.Text.{texts}
 use Rattle.sql_typed.proofs.template.filled.Given as goal
 
 abbrev pub invariant-loop-operand : goal.invariant-loop-operand

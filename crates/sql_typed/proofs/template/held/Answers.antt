@@ -1,7 +1,4 @@
-use Rattle.std.proofs.Common.{◌∙◌, ◌++◌, ap, string_bytes, sym}
-use Rattle.sql_builder.specs.Layout.{byte_units}
-use Rattle.sql_builder.specs.Phrases.{in_brackets}
-use Rattle.sql_parts.specs.Holes.{is_unit}
+use Rattle.sql_typed.proofs.Prelude.{◌∙◌, ◌++◌, ap, string_bytes, sym, byte_units, in_brackets, is_unit}
 use Rattle.sql_typed.proofs.FilledLemmas.{held_is}
 use Rattle.sql_typed.proofs.template.held.Goals as goal
 

@@ -1,6 +1,4 @@
-use Rattle.std.proofs.Common.{◌∙◌, refl}
-use Rattle.std.proofs.lemmas.Bool.{and_from}
-use Rattle.sql_builder.proofs.truth.CombinedLemmas.{fits_as}
+use Rattle.sql_typed.proofs.Prelude.{◌∙◌, refl, and_from, fits_as}
 use Rattle.sql_typed.proofs.changes.Statement+UpdateKind.set_str.Goals as goal
 
 pub add-requires : goal.add-requires

@@ -1,7 +1,4 @@
-use Rattle.std.proofs.Common.{◌∙◌, ◌++◌, ap, append_assoc, codes, map, string_bytes, subst, sym}
-use Rattle.sql_parts.specs.Text.{join_with}
-use Rattle.sql_typed.specs.Results.{Continues}
-use Rattle.sql_typed.specs.Whole.{is_whole}
+use Rattle.sql_typed.proofs.Prelude.{◌∙◌, ◌++◌, ap, append_assoc, codes, map, string_bytes, subst, sym, join_with, Continues, is_whole}
 use Rattle.sql_typed.proofs.WholeLemmas.{conflict_given, listed_whole}
 use Rattle.sql_typed.proofs.clauses.Printed+Rows.on_conflict.Goals as goal
 

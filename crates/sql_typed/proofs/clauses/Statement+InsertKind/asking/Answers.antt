@@ -1,10 +1,4 @@
-use Rattle.std.proofs.Common.{◌≡◌, ◌⊎◌, refl, rules, string_bytes, subst, sym}
-use Rattle.std.specs.Prelude.{IfErr, Some}
-use Rattle.sql_parts.specs.Error.{IsMemory}
-use Rattle.sql_builder.specs.Builder.{ClauseTexts}
-use Rattle.sql_builder.specs.Calls.{Sql}
-use Rattle.sql_builder.specs.Statement.{error_at}
-use Rattle.sql_typed.specs.Whole.{HasWholeFront, asking}
+use Rattle.sql_typed.proofs.Prelude.{◌≡◌, ◌⊎◌, refl, rules, string_bytes, subst, sym, IfErr, Some, IsMemory, ClauseTexts, Sql, error_at, HasWholeFront, asking}
 use Rattle.sql_typed.proofs.PrintLemmas.{bare_statement, borrowed, may_fail}
 use Rattle.sql_typed.proofs.WholeLemmas.{asked_is, asking_whole}
 use Rattle.sql_typed.proofs.clauses.Statement+InsertKind.asking.Goals as goal

@@ -1,5 +1,4 @@
-use Rattle.std.proofs.Common.{◌∙◌, ◌++◌, ap, append_assoc, string_bytes}
-use Rattle.sql_typed.specs.Whole.{is_whole}
+use Rattle.sql_typed.proofs.Prelude.{◌∙◌, ◌++◌, ap, append_assoc, string_bytes, is_whole}
 use Rattle.sql_typed.proofs.WholeLemmas.{followed_whole}
 use Rattle.sql_typed.proofs.printed.Printed.followed.Goals as goal
 

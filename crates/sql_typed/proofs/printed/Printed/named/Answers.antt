@@ -1,5 +1,4 @@
-use Rattle.std.proofs.Common.{◌∙◌, ap, string_bytes}
-use Rattle.sql_typed.specs.Whole.{is_whole}
+use Rattle.sql_typed.proofs.Prelude.{◌∙◌, ap, string_bytes, is_whole}
 use Rattle.sql_typed.proofs.WholeLemmas.{balanced_is_whole}
 use Rattle.sql_typed.proofs.printed.Printed.named.Goals as goal
 

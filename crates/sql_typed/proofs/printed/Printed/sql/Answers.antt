@@ -1,6 +1,4 @@
-use Rattle.std.proofs.Common.{◌∙◌, ap, string_bytes, subst, sym}
-use Rattle.sql_parts.specs.Tokens.{closed, tokens}
-use Rattle.sql_builder.specs.Shape.{EndsInOneSemicolon}
+use Rattle.sql_typed.proofs.Prelude.{◌∙◌, ap, string_bytes, subst, sym, closed, tokens, EndsInOneSemicolon}
 use Rattle.sql_typed.proofs.WholeLemmas.{whole_closed, whole_ends}
 use Rattle.sql_typed.proofs.printed.Printed.sql.Goals as goal
 

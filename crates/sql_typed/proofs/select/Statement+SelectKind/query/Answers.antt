@@ -1,7 +1,4 @@
-use Rattle.sql_builder.specs.Calls.{Query}
-use Rattle.sql_builder.specs.Statement.{error_at}
-use Rattle.sql_builder.specs.StatementLaws.{made_by}
-use Rattle.sql_typed.specs.Faults.{fault_of}
+use Rattle.sql_typed.proofs.Prelude.{Query, error_at, made_by, fault_of}
 use Rattle.sql_typed.proofs.FaultLemmas.{passed}
 use Rattle.sql_typed.proofs.select.Statement+SelectKind.query.Goals as goal
 

@@ -1,7 +1,4 @@
-use Rattle.std.proofs.Common.{◌∙◌, refl, subst, sym}
-use Rattle.std.proofs.lemmas.Bool.{and_from}
-use Rattle.std.specs.Prelude.{IsTrue}
-use Rattle.sql_parts.specs.Fragments.{balanced}
+use Rattle.sql_typed.proofs.Prelude.{◌∙◌, refl, subst, sym, and_from, IsTrue, balanced}
 use Rattle.sql_typed.proofs.BracketLemmas.{united_balanced}
 use Rattle.sql_typed.proofs.select.Statement+SelectKind.union.Goals as goal
 

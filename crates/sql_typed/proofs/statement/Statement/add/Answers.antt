@@ -1,13 +1,12 @@
-use Rattle.std.proofs.Common.{◌∙◌, ◌++◌, ap, rules}
-use Rattle.sql_typed.specs.Fits.{Made}
-use Rattle.sql_typed.specs.Steps.{step_call}
+use Rattle.sql_typed.proofs.Prelude.{◌++◌, ◌∙◌, List, ap, rules, Made, made_in, step_call}
 use Rattle.sql_typed.proofs.FaultLemmas.{held_more}
 use Rattle.sql_typed.proofs.statement.Statement.add.Goals as goal
 
 pub invariant_of-result : goal.invariant_of-result
 invariant_of-result g c =
-    let before = c.self.inside.made.value in
+    let before = made_in c.self.inside.made.items in
     let held = held_more before _ (step_call c.args.step) c.self.inside.builder.value c.make_step.new.builder c.self.inside.marks
-    (c.of-made.ensures ∙ ap (λ (call : Made). record { start = before.start; calls = before.calls ++ call.calls; all_rows = before.all_rows }) c.of-call.ensures)
+    (ap made_in c.of-made.ensures
+    ∙ ap (λ (call : List Made). record { start = before.start; calls = before.calls ++ (made_in call).calls; all_rows = before.all_rows }) c.of-call.ensures)
     (search rules) c.self.invariant c.requires.fits in
     (held.0, c.with-marks.ensures ∙ held.1)

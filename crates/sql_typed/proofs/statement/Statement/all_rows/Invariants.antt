@@ -1,5 +1,5 @@
-use Rattle.sql_typed.specs.Fits.{meaning_all_rows}
+use Rattle.sql_typed.proofs.Prelude.{[], ◌∷◌, made_in, meaning_all_rows}
 use Rattle.sql_typed.proofs.statement.Statement.all_rows.Given as goal
 
 abbrev pub ghost-of : goal.ghost-of
-ghost-of g a = meaning_all_rows a.from.now.value
+ghost-of g a = meaning_all_rows (made_in a.from.now.items) ∷ []

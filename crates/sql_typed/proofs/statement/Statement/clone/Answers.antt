@@ -1,11 +1,10 @@
-use Rattle.std.proofs.Common.{◌∙◌, ap, sym}
-use Rattle.sql_typed.specs.Faults.{marks_of}
+use Rattle.sql_typed.proofs.Prelude.{◌∙◌, ap, sym, made_in, marks_of}
 use Rattle.sql_typed.proofs.PrintLemmas.{borrowed}
 use Rattle.sql_typed.proofs.statement.Statement.clone.Goals as goal
 
 pub invariant_of-result : goal.invariant_of-result
 invariant_of-result g c =
-    let same = sym c.of-made.ensures in (
+    let same = sym (ap made_in c.of-made.ensures) in (
       borrowed same (c.in_ok-new.ensures.ok ∙ (c.in_ok-builder.ensures.equal ∙ c.deref.ensures)) c.self.invariant.0,
       c.self.invariant.1 ∙ ap marks_of same,
     )

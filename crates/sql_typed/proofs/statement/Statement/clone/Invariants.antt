@@ -1,4 +1,4 @@
 use Rattle.sql_typed.proofs.statement.Statement.clone.Given as goal
 
 abbrev pub ghost-of : goal.ghost-of
-ghost-of g a = a.from.now.value
+ghost-of g a = a.from.now.items

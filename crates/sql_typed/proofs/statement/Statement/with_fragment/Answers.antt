@@ -1,5 +1,4 @@
-use Rattle.std.proofs.Common.{◌∙◌}
-use Rattle.sql_builder.proofs.fragments.FitListLemmas.{unary_fits}
+use Rattle.sql_typed.proofs.Prelude.{◌∙◌, unary_fits}
 use Rattle.sql_typed.proofs.statement.Statement.with_fragment.Goals as goal
 
 pub add-requires : goal.add-requires

@@ -1,6 +1,4 @@
-use Rattle.std.proofs.Common.{◌∙◌, refl}
-use Rattle.sql_builder.proofs.truth.CombinedLemmas.{fits_as}
-use Rattle.sql_builder.proofs.fragments.FitListLemmas.{unary_fits}
+use Rattle.sql_typed.proofs.Prelude.{◌∙◌, refl, fits_as, unary_fits}
 use Rattle.sql_typed.proofs.statement.Statement.with_operand.Goals as goal
 
 pub add-requires : goal.add-requires

@@ -1,6 +1,4 @@
-use Rattle.std.proofs.Common.{◌∙◌}
-use Rattle.sql_builder.proofs.truth.CombinedLemmas.{fits_as}
-use Rattle.sql_builder.proofs.fragments.FitListLemmas.{binary_fits}
+use Rattle.sql_typed.proofs.Prelude.{◌∙◌, fits_as, binary_fits}
 use Rattle.sql_typed.proofs.statement.Statement.with_pair.Goals as goal
 
 pub add-requires : goal.add-requires

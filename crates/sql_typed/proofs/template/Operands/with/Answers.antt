@@ -1,9 +1,4 @@
-use Rattle.std.proofs.Common.{◌∙◌, ◌++◌, ◌∷◌, [], ap, string_bytes}
-use Rattle.std.proofs.lemmas.List.{map-append}
-use Rattle.std.specs.List.{list_all}
-use Rattle.sql_parts.specs.Holes.{in_hole}
-use Rattle.sql_parts.specs.Operands.{is_bare_operand}
-use Rattle.sql_parts.specs.Text.{texts}
+use Rattle.sql_typed.proofs.Prelude.{◌∙◌, ◌++◌, ◌∷◌, [], ap, string_bytes, map-append, list_all, in_hole, is_bare_operand, texts}
 use Rattle.sql_typed.proofs.FilledLemmas.{all_more}
 use Rattle.sql_typed.proofs.template.Operands.with.Goals as goal
 

@@ -1,9 +1,4 @@
-use Rattle.std.proofs.Common.{◌∙◌, ◌++◌, ◌∷◌, [], ap, string_bytes}
-use Rattle.sql_builder.specs.Layout.{byte_units}
-use Rattle.sql_builder.specs.Phrases.{in_brackets}
-use Rattle.sql_parts.specs.Fragments.{balanced}
-use Rattle.sql_parts.specs.Holes.{in_hole}
-use Rattle.sql_parts.specs.Text.{texts}
+use Rattle.sql_typed.proofs.Prelude.{◌∙◌, ◌++◌, ◌∷◌, [], ap, string_bytes, byte_units, in_brackets, balanced, in_hole, texts}
 use Rattle.sql_typed.proofs.FilledLemmas.{bracketed_held, condition_balanced}
 use Rattle.sql_typed.proofs.template.Operands.with_condition.Goals as goal
 

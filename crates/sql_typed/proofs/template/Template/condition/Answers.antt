@@ -1,6 +1,4 @@
-use Rattle.std.proofs.Common.{◌∙◌, ap}
-use Rattle.sql_parts.specs.Holes.{filled}
-use Rattle.sql_parts.specs.Text.{texts}
+use Rattle.sql_typed.proofs.Prelude.{◌∙◌, ap, filled, texts}
 use Rattle.sql_typed.proofs.FilledLemmas.{fragment_filled}
 use Rattle.sql_typed.proofs.template.Template.condition.Goals as goal
 

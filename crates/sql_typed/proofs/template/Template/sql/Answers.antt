@@ -1,9 +1,4 @@
-use Rattle.std.proofs.Common.{◌∙◌, ap, subst, sym}
-use Rattle.sql_parts.specs.Holes.{filled}
-use Rattle.sql_parts.specs.Text.{texts}
-use Rattle.sql_parts.specs.Tokens.{closed, tokens}
-use Rattle.sql_parts.proofs.templates.HoleFacts.{filled-closed}
-use Rattle.sql_builder.specs.Shape.{EndsInOneSemicolon}
+use Rattle.sql_typed.proofs.Prelude.{◌∙◌, ap, subst, sym, filled, texts, closed, tokens, filled-closed, EndsInOneSemicolon}
 use Rattle.sql_typed.proofs.FilledLemmas.{all_serve}
 use Rattle.sql_typed.proofs.FilledStatementLemmas.{filled_ends, readers_ignore_held}
 use Rattle.sql_typed.proofs.template.Template.sql.Goals as goal

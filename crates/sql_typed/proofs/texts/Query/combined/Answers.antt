@@ -1,6 +1,4 @@
-use Rattle.std.proofs.Common.{◌∙◌, ◌++◌, ap, append_assoc, string_bytes}
-use Rattle.sql_parts.specs.Fragments.{balanced}
-use Rattle.sql_typed.specs.Unions.{united_text}
+use Rattle.sql_typed.proofs.Prelude.{◌∙◌, ◌++◌, ap, append_assoc, string_bytes, balanced, united_text}
 use Rattle.sql_typed.proofs.BracketLemmas.{united_balanced}
 use Rattle.sql_typed.proofs.WholeLemmas.{balanced_followed}
 use Rattle.sql_typed.proofs.texts.Query.combined.Goals as goal

@@ -1,4 +1,0 @@
-use Rattle.sql_typed.proofs.select.Statement+SelectKind.group_by.Goals as goal
-
-pub returns : goal.returns
-returns g c = c.with_operand.ensures

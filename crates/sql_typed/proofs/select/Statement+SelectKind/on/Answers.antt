@@ -1,4 +1,0 @@
-use Rattle.sql_typed.proofs.select.Statement+SelectKind.on.Goals as goal
-
-pub returns : goal.returns
-returns c = rw c.as_fragment.ensures at c.with_fragment.ensures
