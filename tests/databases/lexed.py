@@ -1,11 +1,13 @@
 #!/usr/bin/python3
-"""Runs the readers of crates/callers beside the lexers of SQLite and PostgreSQL, and compares what each is in behind a text.
+"""Runs the readers of crates/database_readers beside the lexers of SQLite, PostgreSQL and MariaDB, and compares what each is in behind a
+text.
 
 Behind a text a lexer is outside of everything (in a word or number, or behind a sign), or in a string of a kind, a name between quotes, a
 comment or the like. SQLite says so by the token that it doesn't recognize, where a control character follows the text in a statement that
 takes any tokens; PostgreSQL's own lexer, by the Python module pglast (python3-pglast in Debian, hence Debian's Python), by the tokens, or
-by what isn't ended. Each text of few characters is tried, so also what a quote behind each of them begins, and longer ones. Texts with a
-token that is refused before their end show nothing, nor do those in which the reader of PostgreSQL is lost; they are counted.
+by what isn't ended. MariaDB parses a statement that ends the string or the like behind the text and goes on, and refuses it with one more
+bracket. Each text of few characters is tried, so also what a quote behind each of them begins, and longer ones. Texts with a token that is
+refused before their end show nothing, nor do those in which a reader is lost, nor on MariaDB those that no SELECT has; they are counted.
 
 What is not installed is printed as SKIPPED. The readers are proved and built first, in a temporary folder. The arguments are how many
 longer texts are made (200,000 without one) and a seed. The status is 0 where no text differed and some were compared."""
@@ -15,15 +17,14 @@ import ctypes
 import os
 import random
 import re
-import shutil
 import subprocess
 import sys
 import tempfile
 
 sys.path.append(os.path.realpath(f"{__file__}/../../lib"))
-from connections import Skipped, end_with, ran, sqlite
+from built import proved
+from connections import Refused, Skipped, end_with, maria, measuring, sqlite
 from hostile import all_of
-from repository import ROOT
 from tally import Tally
 
 try:
@@ -32,9 +33,8 @@ except ImportError:
     scan = None
 
 SEPARATOR, CONTROL = "\x1e", b"\x01"
-READERS = ("postgres_reader", "sqlite_reader")
 # Every text of up to four of the first of these is tried, for each database, and longer ones are made of all.
-CHARACTERS = {"SQLite": "'x-/*\n$:a[", "PostgreSQL": "'e-/*\n$a\\&"}
+CHARACTERS = {"SQLite": "'x-/*\n$:a[", "PostgreSQL": "'e-/*\n$a\\&", "MariaDB": "'x-/*\n #\"\\"}
 PIECES = [
     *"'\"`[]-/*$xXeEuUbN&0119afg_.+;:#@?(\\ \n\r\t\f=,",
     *("--", "/*", "*/", "$$", "$a$", "$ab$", "$e", "x'", "E'", "u&'", "U&\"", "''", "\\'", "0x1F", "1.5", "1e+5", "a.b", "$a(", "::"),
@@ -44,6 +44,12 @@ PIECES = [
 SQLITE = {5: "x'", 7: "--", 9: "/*", 10: "/*", 11: "'", 13: '"', 15: "`", 17: "[", 22: "("}
 # The kinds of strings of specs/PostgresReader.antt, and what nests or has a tag.
 STRINGS, NESTED = ("'", "e'", "u&'", "x'"), ("/*", "/*", "/*", "", "$", "$")
+# The states of specs/MysqlReader.antt likewise, and what ends each on MariaDB: a number of two digits may be in bits, and two letters not.
+MARIA = {10: "--", 1: "/*", 42: "/*", 77: "/*", 303: "/*", 98: "x'", 33: None}
+MARIA |= {ord(it) + more: it for it in "'\"`" for more in (0, 512)}
+ENDS = {"": "", "--": "z\n", "/*": "*/", "'": "zz'", '"': 'zz"', "`": "zz`", "x'": "00'"}
+# What precedes a text on MariaDB, and what goes on behind it: one more column, an operand, arguments, a name.
+FRONTS, TAILS = ("SELECT ", "SELECT 1 ", "SELECT 1,"), (",7", "7", "(7)", "z,7")
 # pglast's lexer, which gives comments as tokens, ends a string where a comment follows it; PostgreSQL's goes on with it behind a line's end.
 COMMENT_IN_GAP = re.compile(r"'[ \t\f\n\r]*--[^\n\r]*[\n\r]")
 
@@ -59,6 +65,10 @@ def of_postgres(state):
         kind, place = divmod(state - 16, 8)
         return STRINGS[kind] if place < 2 else "--" if place == 6 else ""
     return NESTED[(state - 48) % 8]
+
+
+def of_maria(state):
+    return MARIA.get(state, "")
 
 
 def read_by_sqlite(db, text):
@@ -96,28 +106,20 @@ def read_by_postgres(text):
     return "--" if tokens and tokens[-1].name == "SQL_COMMENT" and tokens[-1].end == len(text) - 1 else ""
 
 
-def built_states(folder):
-    """Proves and builds tests/databases/lexed.rt.txt, over copies of sql_parts and of the readers."""
-    ours, theirs = f"{folder}/crates/callers", f"{ROOT}/crates/callers"
-    shutil.copytree(f"{ROOT}/crates/sql_parts", f"{folder}/crates/sql_parts", ignore=shutil.ignore_patterns("out"))
-    os.makedirs(f"{ours}/specs")
-    os.makedirs(f"{ours}/src")
-    for reader in READERS:
-        spec = reader.title().replace("_", "")
-        shutil.copytree(f"{theirs}/proofs/{reader}", f"{ours}/proofs/{reader}")
-        shutil.copyfile(f"{theirs}/specs/{spec}.antt", f"{ours}/specs/{spec}.antt")
-        shutil.copyfile(f"{theirs}/src/{reader}.rt", f"{ours}/src/{reader}.rt")
-        with open(f"{ours}/specs/Lib.antt", "a", encoding="utf-8") as it:
-            it.write(f"pub mod {spec}\n")
-    with open(f"{ours}/src/lib.rt", "w", encoding="utf-8") as it:
-        it.write("".join(["//! Readers.\n#![tactic(auto)]\n\n", *(f"pub mod {reader};\n" for reader in READERS)]))
-    os.makedirs(f"{folder}/crates/states/src")
-    shutil.copyfile(f"{ROOT}/tests/databases/lexed.rt.txt", f"{folder}/crates/states/src/main.rt")
-    with open(f"{folder}/crates.txt", "w", encoding="utf-8") as it:
-        it.write("sql_parts:\ncallers: sql_parts\nstates: callers sql_parts\n")
-    ran(["git", "init", "-q"], cwd=folder)
-    ran(["rt", "run"], cwd=f"{folder}/crates/states")
-    return f"{folder}/crates/states/out/states"
+def read_by_maria(db, text):
+    """What MariaDB is in behind a text, or None where no statement shows it."""
+
+    def parses(statement):
+        try:
+            db.takes(statement)
+        except Refused as why:
+            return "SQL syntax" not in str(why)
+        return True
+
+    for what, end in ENDS.items():
+        if any(parses(it) and not parses(f"{it})") for front in FRONTS for tail in TAILS for it in [front + text + end + tail]):
+            return what
+    return None
 
 
 def compare(name, read, meant, states, all_texts, tally):
@@ -138,24 +140,27 @@ def main():
     count = int(sys.argv[1]) if len(sys.argv) > 1 else 200000
     chance = random.Random(int(sys.argv[2]) if len(sys.argv) > 2 else 52)
     longer = ["".join(chance.choices(PIECES, k=chance.randint(1, 12))) for _ in range(count)]
-    all_texts = {name: [*dict.fromkeys([*all_of(it, 4), *longer])] for name, it in CHARACTERS.items()}
+    # MariaDB parses dozens of statements for each text
+    most = {"MariaDB": count // 4}
+    all_texts = {name: [*dict.fromkeys([*all_of(it, 4), *longer[: most.get(name, count)]])] for name, it in CHARACTERS.items()}
     tally, states = Tally("databases_lexed"), {}
     with tempfile.TemporaryDirectory(prefix="states-") as folder:
-        program = built_states(folder)
-        for number, (name, texts) in enumerate(all_texts.items()):
+        program = proved(folder, "lexed", "database_readers")
+        for name, texts in all_texts.items():
             made = subprocess.run([program], input=SEPARATOR.join(texts).encode(), stdout=subprocess.PIPE, check=True).stdout
-            states[name] = [int(line.split()[number]) for line in made.decode().splitlines()]
-            tally.expect(f"{name}: texts that were read", len(states[name]), len(texts))
-    try:
-        with sqlite() as db:
-            compare(db.name, lambda text: read_by_sqlite(db, text), of_sqlite, states["SQLite"], all_texts["SQLite"], tally)
-    except Skipped as why:
-        print(f"SKIPPED: SQLite: {why}")
-    if scan:
+            states[name] = [*zip(*([int(state) for state in line.split()] for line in made.decode().splitlines()))]
+            tally.expect(f"{name}: texts that were read", len(states[name][0]), len(texts))
+    with measuring("SQLite", tally), sqlite() as db:
+        compare(db.name, lambda text: read_by_sqlite(db, text), of_sqlite, states["SQLite"][0], all_texts["SQLite"], tally)
+    with measuring("PostgreSQL", tally):
+        if not scan:
+            raise Skipped("there is no Python module pglast")
         read = lambda text: None if COMMENT_IN_GAP.search(text) else read_by_postgres(text)
-        compare("PostgreSQL's lexer", read, of_postgres, states["PostgreSQL"], all_texts["PostgreSQL"], tally)
-    else:
-        print("SKIPPED: PostgreSQL: there is no Python module pglast")
+        compare("PostgreSQL's lexer", read, of_postgres, states["PostgreSQL"][1], all_texts["PostgreSQL"], tally)
+    with measuring("MariaDB", tally), maria() as db:
+        for setting, found in zip(db.settings, states["MariaDB"][2:]):
+            db.set(setting)
+            compare(db.name, lambda text: read_by_maria(db, text), of_maria, found, all_texts["MariaDB"], tally)
     return tally.end()
 
 

@@ -33,14 +33,15 @@ def build(crate="sqlb", command="run"):
 
 
 def proved(folder, name, *others):
-    """Proves and builds tests/databases/NAME.rt.txt, over copies of the libraries and with these other crates. Gives the program's path."""
+    """Proves and builds tests/databases/NAME.rt.txt, over copies of the libraries and with these other crates, ours or the kit's. Gives the path."""
+    ours = [*LIBRARIES, *(it for it in others if os.path.exists(f"{CRATES}/{it}"))]
     crate = f"{folder}/crates/{name}"
     os.makedirs(f"{crate}/src")
     shutil.copyfile(f"{ROOT}/tests/databases/{name}.rt.txt", f"{crate}/src/main.rt")
-    for library in LIBRARIES:
+    for library in ours:
         shutil.copytree(f"{CRATES}/{library}", f"{folder}/crates/{library}")
     with open(f"{folder}/crates.txt", "w", encoding="utf-8") as it:
-        it.write("".join(f"{it}: {' '.join(LIBRARIES[:at])}\n" for at, it in enumerate(LIBRARIES)))
+        it.write("".join(f"{it}: {' '.join(ours[:at])}\n" for at, it in enumerate(ours)))
         it.write(f"{name}: {' '.join([*LIBRARIES, *others])}\n")
     subprocess.run(["git", "init", "-q"], cwd=folder, check=True)
     ran = subprocess.run(["rt", "run"], cwd=crate, stdin=subprocess.DEVNULL, capture_output=True, text=True)

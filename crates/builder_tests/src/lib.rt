@@ -17,8 +17,6 @@ mod clones;
 #[cfg(test)]
 mod conditions;
 #[cfg(test)]
-mod database_readers;
-#[cfg(test)]
 mod every_call;
 #[cfg(test)]
 mod examples;
@@ -32,6 +30,8 @@ mod names;
 mod parameters;
 #[cfg(test)]
 mod quoting;
+#[cfg(test)]
+mod readers;
 #[cfg(test)]
 mod reused_buffers;
 #[cfg(test)]

@@ -2,7 +2,9 @@
 ghost use Rattle.std.specs.Prelude.{◌≡◌, ◌<◌, ◌||◌, ◌==◌, ◌^◌};
 ghost use Rattle.sql_parts.specs.Readers.{after};
 ghost use Rattle.sql_parts.specs.Tokens.{is_word_byte};
-ghost use Rattle.callers.specs.PostgresReader.{begun, behind_string, ends_line, in_comment, in_nested, in_string, in_tag, in_tagged, in_token, in_word, is_blank, most, nested, outside, postgres, string};
+ghost use Rattle.database_readers.specs.PostgresReader.{begun, behind_string, ends_line, in_comment, in_nested, in_string, in_tag, in_tagged, in_token, in_word, is_blank, most, nested, outside, postgres, string};
+
+use crate::Database;
 
 const OUTSIDE: u64 = 0;
 
@@ -335,7 +337,7 @@ fn in_nested(place: u64, more: u64, byte: u8) -> u64
     }
 }
 
-fn next(state: u64, byte: u8) -> u64
+pub(crate) fn next(state: u64, byte: u8) -> u64
     ensures { result ≡ postgres state byte }
 {
     if state < STRINGS {
@@ -354,11 +356,5 @@ fn next(state: u64, byte: u8) -> u64
 pub fn postgres_state(text: &[u8]) -> u64
     ensures { result ≡ after postgres outside text.now }
 {
-    let mut state = OUTSIDE;
-    let mut rest = text;
-    while let Some((byte, behind)) = rest.split_first() {
-        state = next(state, *byte);
-        rest = behind;
-    }
-    state
+    Database::Postgres.state(text)
 }

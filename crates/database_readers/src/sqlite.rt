@@ -1,7 +1,9 @@
 //! How SQLite reads a text.
 ghost use Rattle.std.specs.Prelude.{◌≡◌};
 ghost use Rattle.sql_parts.specs.Readers.{after};
-ghost use Rattle.callers.specs.SqliteReader.{begun, continues, in_mark, in_parameter, in_quotes, in_variable, in_word, outside, outside_quotes, sqlite};
+ghost use Rattle.database_readers.specs.SqliteReader.{begun, continues, in_mark, in_parameter, in_quotes, in_variable, in_word, outside, outside_quotes, sqlite};
+
+use crate::Database;
 
 const OUTSIDE: u64 = 0;
 
@@ -218,7 +220,7 @@ fn in_mark(state: u64, byte: u8) -> u64
     }
 }
 
-fn next(state: u64, byte: u8) -> u64
+pub(crate) fn next(state: u64, byte: u8) -> u64
     ensures { result ≡ sqlite state byte }
 {
     match state {
@@ -234,11 +236,5 @@ fn next(state: u64, byte: u8) -> u64
 pub fn sqlite_state(text: &[u8]) -> u64
     ensures { result ≡ after sqlite outside text.now }
 {
-    let mut state = OUTSIDE;
-    let mut rest = text;
-    while let Some((byte, behind)) = rest.split_first() {
-        state = next(state, *byte);
-        rest = behind;
-    }
-    state
+    Database::Sqlite.state(text)
 }

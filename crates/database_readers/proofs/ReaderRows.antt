@@ -1,12 +1,15 @@
--- Where a quote opens a string in SQLite and in PostgreSQL, as the laws of readers ask, and where it doesn't.
-use Rattle.std.specs.Prelude.{◌≡◌, ◌==◌, ℕ, Bool, true, not, List, [], ◌∷◌, codes, refl}
+-- Where a quote opens a string in SQLite, PostgreSQL and MySQL, as the laws of readers ask, and where it doesn't.
+use Rattle.std.specs.Prelude.{◌≡◌, ◌==◌, ℕ, Bool, true, false, not, List, [], ◌∷◌, codes, refl}
 use Rattle.std.specs.List.{list_all}
 use Rattle.std.proofs.Common.{ne_eqb, subst, sym}
-use Rattle.std.proofs.lemmas.Bool.{eqb-false}
+use Rattle.std.proofs.lemmas.Bool.{and_parts, eqb-false, not-true}
 use Rattle.sql_parts.specs.Readers.{IsInside, OpensLiteral, after}
 use Rattle.sql_parts.specs.declared.delimiters.Quotes.TheVariants.{Back, Double, Single, Square}
-use Rattle.callers.specs.PostgresReader.{postgres}
-use Rattle.callers.specs.SqliteReader.{sqlite}
+use Rattle.database_readers.specs.AsMeant.{is_plain}
+use Rattle.database_readers.specs.MysqlReader.{mysql}
+use Rattle.database_readers.specs.PostgresReader.{postgres}
+use Rattle.database_readers.specs.SqliteReader.{sqlite}
+use Rattle.database_readers.specs.declared.Database.TheVariants.{Mysql}
 
 -- each byte but zero, which ends a text, is plain
 abbrev but_zero : ℕ → Bool
@@ -14,7 +17,7 @@ but_zero byte = not (byte == 0)
 
 -- ---- SQLite: wherever a quote leads into a string, it opens one
 
-sqlite-inside : IsInside sqlite but_zero 39 11
+pub sqlite-inside : IsInside sqlite but_zero 39 11
 sqlite-inside = record { stays = λ byte plain isnt. rw (ne_eqb byte 39 isnt) refl; goes_on = refl }
 
 sqlite-opens : (state : ℕ) → sqlite state 39 ≡ 11 → OpensLiteral sqlite but_zero Single state
@@ -63,7 +66,7 @@ sqlite-square opens = eqb-false 0 17 refl opens.goes_on
 
 -- ---- PostgreSQL, likewise
 
-postgres-inside : IsInside postgres but_zero 39 16
+pub postgres-inside : IsInside postgres but_zero 39 16
 postgres-inside = record { stays = λ byte plain isnt. rw (ne_eqb byte 39 isnt) refl; goes_on = refl }
 
 postgres-opens : (state : ℕ) → postgres state 39 ≡ 16 → OpensLiteral postgres but_zero Single state
@@ -123,3 +126,73 @@ postgres-names = record { stays = λ byte plain isnt. rw (ne_eqb byte 34 isnt) r
 
 postgres-backquotes : OpensLiteral postgres but_zero Back 0 → ⊥
 postgres-backquotes opens = eqb-false 1 0 refl (opens.stays 97 refl (eqb-false 97 96 refl))
+
+-- ---- MySQL, likewise: where a backslash escapes it isn't plain
+
+abbrev plain_in_mysql : ℕ → Bool
+plain_in_mysql byte = is_plain Mysql byte
+
+pub mysql-inside : IsInside (mysql true) plain_in_mysql 39 39
+mysql-inside = record {
+  stays = λ byte plain isnt. rw (ne_eqb byte 39 isnt) (rw (not-true (byte == 92) (and_parts (not (byte == 0)) (not (byte == 92)) plain).1) refl);
+  goes_on = refl;
+}
+
+pub mysql_plain-inside : IsInside (mysql false) but_zero 39 39
+mysql_plain-inside = record { stays = λ byte plain isnt. rw (ne_eqb byte 39 isnt) refl; goes_on = refl }
+
+mysql-opens : (state : ℕ) → mysql true state 39 ≡ 39 → OpensLiteral (mysql true) plain_in_mysql Single state
+mysql-opens state into = subst (λ inside. IsInside (mysql true) plain_in_mysql 39 inside) (sym into) mysql-inside
+
+abbrev OpensInMysql : List ℕ → Type 0
+OpensInMysql text = OpensLiteral (mysql true) plain_in_mysql Single (after (mysql true) 0 text)
+
+-- in words and numbers, behind signs, and behind what ends a literal
+mysql-outside : list_all (λ state. mysql true state 39 == 39) (0 ∷ 119 ∷ 45 ∷ 301 ∷ 47 ∷ 295 ∷ 290 ∷ 352 ∷ []) ≡ true
+mysql-outside = refl
+
+mysql-where : OpensInMysql (codes "SELECT * FROM t WHERE a = ")
+mysql-where = mysql-opens (after (mysql true) 0 (codes "SELECT * FROM t WHERE a = ")) refl
+
+mysql-national : OpensInMysql (codes "a = N")
+mysql-national = mysql-opens (after (mysql true) 0 (codes "a = N")) refl
+
+mysql-introducer : OpensInMysql (codes "a = _utf8mb4")
+mysql-introducer = mysql-opens (after (mysql true) 0 (codes "a = _utf8mb4")) refl
+
+-- two dashes begin a comment only before a blank or a control character
+mysql-two_dashes : OpensInMysql (codes "1--1 = ")
+mysql-two_dashes = mysql-opens (after (mysql true) 0 (codes "1--1 = ")) refl
+
+mysql-flat_comment : OpensInMysql (codes "/* /* ' */ a = ")
+mysql-flat_comment = mysql-opens (after (mysql true) 0 (codes "/* /* ' */ a = ")) refl
+
+-- a backslash escapes in both kinds of strings, and not in a name
+mysql-escaped : OpensInMysql (codes "'\\'' = \"\\\"\" = `\\` = ")
+mysql-escaped = mysql-opens (after (mysql true) 0 (codes "'\\'' = \"\\\"\" = `\\` = ")) refl
+
+mysql-line_comment : OpensInMysql (codes "a = -- b ") → ⊥
+mysql-line_comment opens = eqb-false 0 10 refl (opens.stays 10 refl (eqb-false 10 39 refl))
+
+mysql-hash : OpensInMysql (codes "a = # b ") → ⊥
+mysql-hash opens = eqb-false 0 10 refl (opens.stays 10 refl (eqb-false 10 39 refl))
+
+mysql-comment : OpensInMysql (codes "a = /* b ") → ⊥
+mysql-comment opens = eqb-false 42 1 refl (opens.stays 42 refl (eqb-false 42 39 refl))
+
+mysql-bits : OpensInMysql (codes "a = x") → ⊥
+mysql-bits opens = eqb-false 39 98 refl opens.goes_on
+
+mysql-string : OpensInMysql (codes "a = 'b") → ⊥
+mysql-string opens = eqb-false 119 295 refl (opens.stays 97 refl (eqb-false 97 39 refl))
+
+mysql-double : OpensInMysql (codes "a = \"b") → ⊥
+mysql-double opens = eqb-false 290 34 refl (opens.stays 34 refl (eqb-false 34 39 refl))
+
+-- where it is lost
+mysql-lost : list_all (λ text. after (mysql true) 0 text == 33) (codes "/*!50000 a = " ∷ codes "/*M! a = " ∷ codes "/*+ a */" ∷ codes "a = $$" ∷ []) ≡ true
+mysql-lost = refl
+
+-- by NO_BACKSLASH_ESCAPES it is plain
+mysql_plain-where : OpensLiteral (mysql false) but_zero Single (after (mysql false) 0 (codes "'\\' = "))
+mysql_plain-where = mysql_plain-inside

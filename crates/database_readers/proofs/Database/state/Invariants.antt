@@ -1,10 +1,10 @@
 use Rattle.std.proofs.Common.{◌≡◌, length}
 use Rattle.sql_parts.specs.Readers.{after}
-use Rattle.callers.specs.PostgresReader.{outside, postgres}
-use Rattle.callers.proofs.postgres_reader.postgres_state.Given as goal
+use Rattle.database_readers.specs.AsMeant.{reader_of}
+use Rattle.database_readers.proofs.Database.state.Given as goal
 
 abbrev pub invariant-loop-byte : goal.invariant-loop-byte
-invariant-loop-byte l = after postgres l.state l.rest ≡ after postgres outside l.text
+invariant-loop-byte l = after (reader_of l.self) l.state l.rest ≡ after (reader_of l.self) 0 l.text
 
 abbrev pub decreases-loop-byte : goal.decreases-loop-byte
 decreases-loop-byte l = length l.rest

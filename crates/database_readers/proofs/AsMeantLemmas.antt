@@ -1,0 +1,208 @@
+-- A text that is read as meant gives the premises of the laws of readers.
+use Rattle.std.proofs.Common.{◌≡◌, refl, sym, ◌∙◌, ap, subst, ℕ, Bool, true, List, [], ◌∷◌, ◌++◌, Option, None, Some, Result, Ok, Err, map, append-nil, append_assoc, length, arith}
+use Rattle.std.specs.Prelude.{◌==◌, ◌↔◌, IfOk, find, flat_map, not, option_map, unwrap_or}
+use Rattle.std.specs.List.{list_all}
+use Rattle.std.specs.Option.{option_or}
+use Rattle.std.proofs.lemmas.Bool.{and_from, and_parts, eqb-true}
+use Rattle.std.proofs.lemmas.Grind.{flat_map-append}
+use Rattle.std.proofs.lemmas.List.Folds.{find-append}
+use Rattle.sql_parts.specs.Literal.{LiteralValue, literal_text, null, truth, whole, words}
+use Rattle.sql_parts.specs.Quoting.{doubled, quoted}
+use Rattle.sql_parts.specs.ReaderLaws.{literal_parts, resolved_parts}
+use Rattle.sql_parts.specs.Readers.{Part, Constant, Reader, IsInside, IsInsideAtEach, after, between_parts, part_bytes, parts_bytes, has_plain_text}
+use Rattle.sql_parts.specs.StringTexts.{blank_literal}
+use Rattle.sql_parts.specs.Templates.{Resolved, Value, resolve, written}
+use Rattle.sql_parts.specs.declared.delimiters.Quotes.TheVariants.{Single}
+use Rattle.sql_parts.specs.declared.error.SqlBuilderError.{SqlBuilderError}
+use Rattle.sql_parts.proofs.tokens.ReaderLemmas.{inside-append}
+use Rattle.sql_builder.specs.Calls as call
+use Rattle.sql_builder.specs.Calls.{CallText}
+use Rattle.sql_builder.specs.Condition as condition
+use Rattle.sql_builder.specs.Interference.{blank_call, call_quoted_texts}
+use Rattle.sql_builder.specs.Pieces.{Pieces, Fixed, Quoted, Raw, pieces_text}
+use Rattle.sql_builder.specs.Statement.{pieces, text_unless_error}
+use Rattle.sql_builder.specs.StatementReaders.{parts_in, quotes_plain_texts}
+use Rattle.sql_builder.specs.declared.condition.Percent.TheVariants as sign
+use Rattle.sql_builder.proofs.interference.StatementReaderLemmas.{plain-printed}
+use Rattle.database_readers.specs.AsMeant.{OpensStringsOfStatements, OpensStringsOfTemplates, in_string, is_plain, reader_of}
+use Rattle.database_readers.specs.EmptyValues.{EmptyValueBegins, IsBeforeQuote, IsInsideAtEmptyValues}
+use Rattle.database_readers.specs.declared.Database.{Database}
+use Rattle.database_readers.specs.declared.Database.TheVariants.{Sqlite, Postgres, Mysql, MysqlNoBackslashEscapes}
+use Rattle.database_readers.proofs.ReaderRows.{mysql-inside, mysql_plain-inside, postgres-inside, sqlite-inside}
+
+abbrev is_percent : ℕ → Bool
+is_percent byte = byte == 37
+
+-- behind a mask of percent signs
+mask-found : (mask : List ℕ) → list_all is_percent mask ≡ true → IsBeforeQuote (doubled 39 mask ++ 39 ∷ [])
+mask-found [] all = refl
+mask-found (byte ∷ mask) all =
+    let both = and_parts (is_percent byte) (list_all is_percent mask) all in
+    subst (λ (b : ℕ). IsBeforeQuote (doubled 39 (b ∷ mask) ++ 39 ∷ [])) (sym (eqb-true byte 37 both.0)) (mask-found mask both.1)
+
+module _ (next : Reader) (inside : ℕ) where
+  abbrev At : ℕ → List ℕ → Type 0
+  At state text = IsInsideAtEmptyValues next inside state text
+
+  at-more : (state byte : ℕ) (text : List ℕ) → (EmptyValueBegins byte text → next state byte ≡ inside) → At (next state byte) text → At state (byte ∷ text)
+  at-more state byte text here later [] behind quote is begins =
+      let first : byte ≡ quote = cc is in
+      let rest : text ≡ behind = cc is in
+      ap (next state) (sym first) ∙ here (first ∙ begins.0, subst IsBeforeQuote (sym rest) begins.1)
+  at-more state byte text here later (other ∷ before) behind quote is begins =
+      let first : byte ≡ other = cc is in
+      let rest : text ≡ before ++ quote ∷ behind = cc is in
+      subst (λ (b : ℕ). after next (next state b) (before ++ quote ∷ []) ≡ inside) first (later before behind quote rest begins)
+
+  at-rest : (state byte : ℕ) (text : List ℕ) → At state (byte ∷ text) → At (next state byte) text
+  at-rest state byte text all before behind quote is begins = all (byte ∷ before) behind quote (ap (λ more. byte ∷ more) is) begins
+
+  -- what is left of a text is read so exactly where the text is: at each byte, at the end and where a value is wrong
+  module _ (state : ℕ) (rest text : List ℕ) (invariant : At state rest ↔ At 0 text) where
+    pub at-step : (byte : ℕ) (behind : List ℕ) → rest ≡ byte ∷ behind → (EmptyValueBegins byte behind → next state byte ≡ inside)
+        → At (next state byte) behind ↔ At 0 text
+    at-step byte behind is here = (
+      λ later. invariant.0 (subst (At state) (sym is) (at-more state byte behind here later)),
+      λ all. at-rest state byte behind (subst (At state) is (invariant.1 all)),
+    )
+
+    pub at-wrong : (byte : ℕ) (behind : List ℕ) → rest ≡ byte ∷ behind → ((EmptyValueBegins byte behind → next state byte ≡ inside) → ⊥) → At 0 text → ⊥
+    at-wrong byte behind is wrong all = wrong (λ begins. invariant.1 all [] behind byte is begins)
+
+  at-none : (state : ℕ) → At state []
+  at-none state [] behind quote is begins = cc is
+  at-none state (byte ∷ before) behind quote is begins = cc is
+
+  pub at-end : (state : ℕ) (rest text : List ℕ) → (At state rest ↔ At 0 text) → length rest ≡ 0 → At 0 text
+  at-end state [] text invariant is = invariant.0 (at-none state)
+  at-end state (byte ∷ rest) text invariant is = absurd (omega arith)
+
+  at-behind : (state : ℕ) (front text : List ℕ) → At state (front ++ text) → At (after next state front) text
+  at-behind state [] text all = all
+  at-behind state (byte ∷ front) text all = at-behind (next state byte) front text (at-rest state byte (front ++ text) all)
+
+  at-front : (state : ℕ) (text more : List ℕ) → At state (text ++ more) → At state text
+  at-front state text more all before behind quote is begins =
+      all before (behind ++ more) quote (ap (λ t. t ++ more) is ∙ append_assoc before (quote ∷ behind) more)
+      (begins.0, find-append (λ byte. not (byte == 37)) behind more ∙ ap (λ o. option_or o (find (λ byte. not (byte == 37)) more)) begins.1)
+
+  -- ---- parts
+
+  module _ (plain : ℕ → Bool) (opens : IsInside next plain 39 inside) where
+    -- these parts make this text, and where the reader is inside at empty values it is so at each untrusted text
+    abbrev AreRead : List Part → List ℕ → Type 0
+    AreRead parts text = (parts_bytes parts ≡ text) × ((state : ℕ) → At state text → IsInsideAtEach next plain state parts)
+
+    read-none : AreRead [] []
+    read-none = (refl, λ state all. tt)
+
+    read-append : (one other : List Part) (first second : List ℕ) → AreRead one first → AreRead other second → AreRead (one ++ other) (first ++ second)
+    read-append one other first second reads later = (
+      flat_map-append part_bytes one other ∙ (λ i. reads.0 i ++ later.0 i),
+      λ state all. inside-append next plain state one other (reads.1 state (at-front state first second all))
+          (subst (λ (bytes : List ℕ). IsInsideAtEach next plain (after next state bytes) other) (sym reads.0)
+          (later.1 (after next state first) (at-behind state first second all))),
+    )
+
+    read-constant : (text : List ℕ) → AreRead (Constant text ∷ []) text
+    read-constant text = (append-nil text, λ state all. (tt, tt))
+
+    read-value : (mask : List ℕ) → list_all is_percent mask ≡ true → AreRead (between_parts Single mask) (quoted mask)
+    read-value mask masks = (
+      refl,
+      λ state all. (
+        tt,
+        (
+          subst (IsInside next plain 39)
+              (sym (all [] (doubled 39 mask ++ 39 ∷ []) 39 refl (refl, mask-found mask masks))) opens,
+          (tt, tt),
+        ),
+      ),
+    )
+
+    pieces-read : (printed : Pieces) → list_all (has_plain_text is_percent) (parts_in printed) ≡ true → AreRead (parts_in printed) (pieces_text printed)
+    pieces-read [] masks = read-none
+    pieces-read (Fixed text ∷ printed) masks =
+        read-append (Constant text ∷ []) (parts_in printed) text (pieces_text printed) (read-constant text) (pieces-read printed masks)
+    pieces-read (Raw text ∷ printed) masks =
+        read-append (Constant text ∷ []) (parts_in printed) text (pieces_text printed) (read-constant text) (pieces-read printed masks)
+    pieces-read (Quoted mask ∷ printed) masks =
+        let both = and_parts (list_all is_percent mask) (list_all (has_plain_text is_percent) (parts_in printed)) masks in
+        read-append (between_parts Single mask) (parts_in printed) (quoted mask) (pieces_text printed) (read-value mask both.0) (pieces-read printed both.1)
+
+    literal-read : (literal : LiteralValue) → AreRead (literal_parts (blank_literal literal)) (literal_text (blank_literal literal))
+    literal-read null = read-constant (literal_text null)
+    literal-read (truth value) = read-constant (literal_text (truth value))
+    literal-read (whole number) = read-constant (literal_text (whole number))
+    literal-read (words text) = read-value [] refl
+
+    module _ (literals : Value → LiteralValue) where
+      abbrev blanks : Value → LiteralValue
+      blanks value = blank_literal (literals value)
+
+      abbrev segment_parts : Value × List ℕ → List Part
+      segment_parts part = literal_parts (blanks part.0) ++ Constant part.1 ∷ []
+
+      abbrev segment_text : Value × List ℕ → List ℕ
+      segment_text part = literal_text (blanks part.0) ++ part.1
+
+      segments-read : (segments : List (Value × List ℕ)) → AreRead (flat_map segment_parts segments) (flat_map segment_text segments)
+      segments-read [] = read-none
+      segments-read (segment ∷ segments) =
+          read-append (segment_parts segment) (flat_map segment_parts segments) (segment_text segment) (flat_map segment_text segments)
+          (read-append (literal_parts (blanks segment.0)) (Constant segment.1 ∷ []) (literal_text (blanks segment.0)) segment.1 (literal-read (literals segment.0))
+          (read-constant segment.1))
+          (segments-read segments)
+
+      bound-read : (resolved : Option Resolved) (text : List ℕ) → At 0 text → option_map (written blanks) resolved ≡ Some text
+          → IsInsideAtEach next plain 0 (unwrap_or (option_map (resolved_parts blanks) resolved) [])
+      bound-read None text all is = cc is
+      bound-read (Some resolved) text all is =
+          let made : resolved.0 ++ flat_map segment_text resolved.1 ≡ text = cc is in
+          (read-append (Constant resolved.0 ∷ []) (flat_map segment_parts resolved.1) resolved.0 (flat_map segment_text resolved.1) (read-constant resolved.0)
+          (segments-read resolved.1)).1 0
+          (subst (At 0) (sym made) all)
+
+    printed-read : (printed : Result Pieces SqlBuilderError) (text : List ℕ) → At 0 text → text_unless_error printed ≡ Ok text
+        → IfOk printed (λ pieces. list_all (has_plain_text is_percent) (parts_in pieces) ≡ true)
+        → IfOk printed (λ pieces. IsInsideAtEach next plain 0 (parts_in pieces))
+    printed-read (Ok printed) text all is masks =
+        let made : pieces_text printed ≡ text = cc is in
+        (pieces-read printed masks).1 0 (subst (At 0) (sym made) all)
+    printed-read (Err error) text all is masks = tt
+
+-- ---- the texts that calls without texts quote
+
+blanks-percent : (values : List (List ℕ)) → list_all (list_all is_percent) (map (λ value. []) values) ≡ true
+blanks-percent [] = refl
+blanks-percent (value ∷ values) = blanks-percent values
+
+call-percent : (c : CallText) → list_all (list_all is_percent) (call_quoted_texts (blank_call c)) ≡ true
+call-percent (call.Cond family (condition.Like negated sign.Plain field mask)) = refl
+call-percent (call.Cond family (condition.Like negated sign.Left field mask)) = refl
+call-percent (call.Cond family (condition.Like negated sign.Right field mask)) = refl
+call-percent (call.Cond family (condition.Like negated sign.Any field mask)) = refl
+call-percent (call.Cond family (condition.InQuoted negated field values)) = blanks-percent values
+call-percent _ = refl
+
+calls-percent : (calls : List CallText) → quotes_plain_texts is_percent (map blank_call calls) ≡ true
+calls-percent [] = refl
+calls-percent (c ∷ calls) = and_from _ _ (call-percent c) (calls-percent calls)
+
+-- ---- the databases
+
+string-inside : (database : Database) → IsInside (reader_of database) (is_plain database) 39 (in_string database)
+string-inside Sqlite = sqlite-inside
+string-inside Postgres = postgres-inside
+string-inside Mysql = mysql-inside
+string-inside MysqlNoBackslashEscapes = mysql_plain-inside
+
+module _ (database : Database) (text : List ℕ) (all : IsInsideAtEmptyValues (reader_of database) (in_string database) 0 text) where
+  pub statements-opened : OpensStringsOfStatements database text
+  statements-opened start calls finish is =
+      printed-read (reader_of database) (in_string database) (is_plain database) (string-inside database) (pieces start (map blank_call calls) finish) text all is
+      (plain-printed is_percent start (map blank_call calls) finish (calls-percent calls))
+
+  pub templates-opened : OpensStringsOfTemplates database text
+  templates-opened template placeholders literals is =
+      bound-read (reader_of database) (in_string database) (is_plain database) (string-inside database) literals (resolve template placeholders) text all is

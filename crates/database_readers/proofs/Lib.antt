@@ -1,0 +1,2 @@
+pub mod AsMeantLemmas
+pub mod ReaderRows
