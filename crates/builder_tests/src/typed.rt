@@ -4,7 +4,6 @@
 use crate::every_call::is_made;
 use callers::form::{Form, search};
 use callers::searches::{Search, search_printed};
-use callers::typed::search_typed;
 use callers::values::Column;
 use sql_builder::SqlBuilderError;
 use sql_builder::calls::Percent;
@@ -420,15 +419,23 @@ fn attacks_stay_values(rt: HostRuntime) -> Result<(), Fail> {
 #[test]
 fn searches_alike(rt: HostRuntime) -> Result<(), Fail> {
     let alloc = rt.alloc();
-    let search = Search {
-        title: Some(ATTACK),
-        author: Some("it's"),
+    let form = Form {
+        title: None,
+        author: Some(Some(Value(ATTACK))),
+        price: Some(3),
+        genres: None,
+        in_stock: true,
+        column: Column::Title,
+    };
+    let same = Search {
+        title: None,
+        author: Some(ATTACK),
         least_price: Some(3),
         in_stock: true,
     };
     assert_eq!(rt;
-        search_typed(alloc, &search)?.as_str(),
-        search_printed(alloc, &search)?.as_str()
+        search(alloc, &form)?.as_str(),
+        search_printed(alloc, &same)?.as_str()
     );
     Ok(())
 }
