@@ -320,6 +320,7 @@ pub fn make_nullary(builder: &mut SqlBuilder, clause: NullaryClause) -> Result<(
 /// make_unary(&mut b, UnaryClause::Field, "a")?;
 /// b.sql()?; // SELECT a FROM t;
 /// ```
+#[inline(always)]
 pub fn make_unary(
     builder: &mut SqlBuilder,
     clause: UnaryClause,

@@ -368,6 +368,7 @@ impl<T: ToText> ToText for &T {
         (**self).as_text(alloc)
     }
 
+    #[inline(always)]
     fn push_text(&self, alloc: Global, out: &mut String) -> Result<(), SqlBuilderError> {
         (**self).push_text(alloc, out)
     }

@@ -79,6 +79,7 @@ impl Marks {
     }
 
     // With one more call.
+    #[inline(always)]
     pub(crate) fn with(self, step: &Step<'_>) -> Marks
         ensures { result ≡ noted (step_call step.now) self }
     {
@@ -97,6 +98,7 @@ impl Marks {
         }
     }
 
+    #[inline(always)]
     fn with_unary(self, clause: UnaryClause) -> Marks
         ensures { (text : List ℕ) → result ≡ noted (unary_call clause text) self }
     {

@@ -59,6 +59,7 @@ fn join_operator(kind: JoinKind) -> NullaryClause
 impl Statement<SelectKind> {
     /// Returns a SELECT from this table. Fails only if memory runs out.
     /// `Select::from(alloc, Fragment::of("t"))?.sql()?` gives `SELECT * FROM t;`
+    #[inline(always)]
     pub fn from<T: FragmentText>(alloc: Global, table: T) -> Result<Select>
         ensures made { Gives result (beginning (SelectFrom (T.text table))) }
     {
@@ -68,6 +69,7 @@ impl Statement<SelectKind> {
     /// Adds a field. Fails only if memory runs out.
     /// `Select::from(alloc, Fragment::of("t"))?.field(Operand::of("a"))?.sql()?` gives
     /// `SELECT a FROM t;`
+    #[inline(always)]
     pub fn field<F: OperandText>(self, field: F) -> Result<Select>
         ensures made { Gives result (adding (Field (F.text field)) self) }
     {

@@ -143,6 +143,7 @@ fn make_step(builder: &mut SqlBuilder, step: Step<'_>) -> Result<()>
 }
 
 impl<K> Statement<K> {
+    #[inline(always)]
     pub(crate) fn begin<T: FragmentText>(
         alloc: Global,
         start: TableStart,

@@ -122,6 +122,7 @@ impl Row {
     /// Returns the row with one more value. Fails only if memory runs out.
     /// `Row::new(alloc).value(Value("it's"))?.value(Literal::Null)?.values.as_str()` gives
     /// `'it''s', NULL`
+    #[inline(always)]
     pub fn value<V: OperandText>(self, value: V) -> Result<Row>
         ensures values { IfOk result (λ row. row.values ≡ self.values ++ V.text value ∷ []) }
         ensures memory { FailsOnlyByMemory result }
