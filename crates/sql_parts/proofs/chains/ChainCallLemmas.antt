@@ -8,9 +8,9 @@ use Rattle.sql_parts.proofs.chains.Prelude.{RattleType, MutBor, id⊢, regoal, a
 use Rattle.sql_parts.proofs.chains.LoanLemmas.{Effect, BorrowedType, in_a_local, release_triple, Good, Kept, Bare, kept_lawful, bare_lawful, fits, held_says}
 use Rattle.sql_parts.proofs.chains.LoanLemmas.{says, returned, releases, Argument, Constant, also, keeps, put, puts, after, owned}
 use Rattle.sql_parts.proofs.Imports.{suc, w8, fsep, emp, Lfts, Outlives, toks, Running, Model, Closed, Ises, Are, layout, Denots, Valss, owns, MutRef}
-use Rattle.sql_parts.proofs.Imports.{Signature, Slot, mut_ref, type_at, types_at, Triple, AllGo, has_of, fits_of}
+use Rattle.sql_parts.proofs.Imports.{Bool, true, false, Signature, Slot, mut_ref, type_at, types_at, Triple, AllGo, has_of, fits_of}
 use mir.Syntax.{Callee, Fn, Local, Body, ty_ref, mut, erased, named, value_local, local, seq, assign, call, return, place, copy, addr_of, rv_opd, deref}
-use mir.Syntax.{aggregate, int}
+use mir.Syntax.{Opd as Operand, aggregate, int}
 use types.Part.{agg}
 use denote.Memory.{pointee}
 use denote.Triple.Clauses.{Ended, Clauses, closing, Lasts}
@@ -120,16 +120,6 @@ module _ (L : BorrowedType) {M : Type 1} {𝓤 : Ura M} (𝓛 : Logic 𝓤) (�
         (3 ∷ 0 ∷ 1 ∷ 2 ∷ []) $
         by ! (leaves 𝓛 T hs c y u t ws (fine y.0.0 (self ∷ ss) (no, ks) y.0.3 ws))
 
-    -- the code is the function's
-    pub coded : (fn : Fn) (ls : List Local) (b : Body) → fn.locals ≡ ls → fn.body ≡ b → {Γ : List (Item 𝓤)} (vs : List Val) (Post : Val → SProp 𝓤)
-        → Step Go 𝓛 Γ (allocs ls (λ Ev. params' Ev vs (runs (tables 𝓤 𝓛.H 𝓜 𝓡 𝓡.env).C (tables 𝓤 𝓛.H 𝓜 𝓡 𝓡.env).Λ Ev b (at_ret Ev Post)))) Γ
-        (prop (WpFn 𝓤 𝓛.H (tables 𝓤 𝓛.H 𝓜 𝓡 𝓡.env).C (tables 𝓤 𝓛.H 𝓜 𝓡 𝓡.env).Λ fn vs Post))
-    coded fn ls b el eb vs Post = step (λ k.
-        let 𝓣 = tables 𝓤 𝓛.H 𝓜 𝓡 𝓡.env in
-        enter ! 𝓣.C 𝓣.Λ fn vs Post $
-        regoal ! (λ (z : List Local × Body). allocs z.0 (λ Ev. params' Ev vs (runs 𝓣.C 𝓣.Λ Ev z.1 (at_ret Ev Post)))) {x = (ls, b)} (λ i. (el i, eb i)) refl $
-        k)
-
   -- the constants, and then the arguments
   module _ (Cs : List (Constant 𝓛)) (ss : List (Slot (suc n))) where
     abbrev pub change' : ((κs : Lfts (suc n)) → MutBor D₀ × Denots (types_at (also 𝓛 Cs ss) κs) → Effect D₀) → (κs : Lfts (suc n)) → MutBor D₀
@@ -154,485 +144,307 @@ module _ (L : BorrowedType) {M : Type 1} {𝓤 : Ura M} (𝓛 : Logic 𝓤) (�
           (‵ (owns (types_at (also 𝓛 Cs ss) κs) (put 𝓛 κs Cs ss a.1) (puts 𝓛 κs Cs ss y.0.4.1))) (owned 𝓛 κs Cs ss a.1 y.0.4.1) $
           move ! (1 ∷ 0 ∷ []) $ fjoin ! $ move ! (1 ∷ 0 ∷ []) $ join ! $ join ! $ by ! (id⊢ 𝓤 _)
 
-    -- what a chain call with these constants and arguments owes
-    module _ (ks : Kepts ss) (asked : (κs : Lfts (suc n)) → MutBor D₀ × Denots (types_at (also 𝓛 Cs ss) κs) → SProp 𝓤)
-        (change : (κs : Lfts (suc n)) → MutBor D₀ × Denots (types_at (also 𝓛 Cs ss) κs) → Effect D₀) where
-      abbrev pub StepMeets : Callee → Type 1
-      StepMeets = Held (also 𝓛 Cs ss) (keeps 𝓛 Cs ss ks) asked change
+  -- an argument, and whether the call moves it to its step, or copies it
+  abbrev pub Passed : Type 2
+  Passed = Bool × Argument 𝓛 (suc n)
 
-      abbrev pub Releases : Callee → Type 1
-      Releases = Release ss ks (asks' asked) (change' change)
+  abbrev pub moved : Argument 𝓛 (suc n) → Passed
+  moved A = (true, A)
 
-      abbrev pub Coded : Fn → Callee → Type 2
-      Coded fn name = Is_code ss ks (asks' asked) (change' change) name fn
+  abbrev pub copied : Argument 𝓛 (suc n) → Passed
+  copied A = (false, A)
 
-      abbrev pub Method : Callee → Type 1
-      Method = Chains ss ks (asks' asked) (change' change)
+  abbrev pub slots : List Passed → List (Slot (suc n))
+  slots [] = []
+  slots (A ∷ As) = plain A.1.row ∷ slots As
 
-      abbrev pub At_entry : Type 0
-      At_entry = Ghost ss ks (asks' asked) (change' change)
+  abbrev kepts : (As : List Passed) → Kepts (slots As)
+  kepts [] = tt
+  kepts (A ∷ As) = (A.1.kept, kepts As)
 
-      abbrev pub Walks : At_entry → Fn → Type 1
-      Walks = Walk ss ks (asks' asked) (change' change)
+  all_go : (As : List Passed) → AllGo 𝓛 (suc n) (slots As) (kepts As) (dropped (slots As) (kepts As))
+  all_go [] = tt
+  all_go (A ∷ As) = (A.1.goes, all_go As)
 
-      abbrev pub at_entry : At_entry → SProp 𝓤
-      at_entry = pre_of ss ks (asks' asked) (change' change)
+  -- the arguments' machine values, one each, and that they are of the arguments' types
+  abbrev Words : List Passed → Type 0
+  Words [] = Unit {0}
+  Words (A ∷ As) = Val × Words As
 
-      abbrev pub at_step : At_entry → SProp 𝓤
-      at_step y = pre_of (also 𝓛 Cs ss) (keeps 𝓛 Cs ss ks) asked change (more ks asked change y)
+  abbrev Goods : (As : List Passed) → Words As → Type 0
+  Goods [] ws = Unit {0}
+  Goods (A ∷ As) ws = Good A.1.ty ws.0 × Goods As ws.1
 
-      abbrev pub StepEnded : Ended
-      StepEnded = D (also 𝓛 Cs ss) (keeps 𝓛 Cs ss ks) asked change
+  module _ (κs : Lfts (suc n)) where
+    abbrev words : (As : List Passed) → Words As → Valss (types_at (slots As) κs)
+    words [] ws = tt
+    words (A ∷ As) ws = (ws.0 ∷ [], words As ws.1)
 
-      abbrev pub step_clauses : Clauses 𝓤 StepEnded
-      step_clauses = e (also 𝓛 Cs ss) (keeps 𝓛 Cs ss ks) asked change
+    ones : (As : List Passed) (a : Denots (types_at (slots As) κs)) (vss : Valss (types_at (slots As) κs))
+        → Are (types_at (slots As) κs) (Ises (types_at (slots As) κs)) a vss → (ws : Words As) × ((vss ≡ words As ws) × Goods As ws)
+    ones [] a vss are = (tt, (refl, tt))
+    ones (A ∷ As) a vss are =
+        let one = A.1.one κs a.0 vss.0 are.0 in let more = ones As a.1 vss.1 are.1 in
+        ((one.0, more.0), ((λ i. (one.1.0 i, more.1.0 i)), (one.1.1, more.1.1)))
 
-      -- the end of the call, from the end of the step
-      pub leaves_step : (y : At_entry) (u : Val) (t : (Bare 𝓛 L y.0.0.0).Denot) (ws : Lasts StepEnded (more ks asked change y).0.0 (more ks asked change y).0.3)
-          → Seq Go 𝓛 (‵ ((Bare 𝓛 L y.0.0.0).own_val t (u ∷ [])) ∷ raw (says 𝓛 L y.0.3.0 (change' change y.0.0 y.0.3) t) ∷ raw (toks 𝓛 (suc n) y.0.0 y.0.1)
-          ∷ []) (prop ((walk_of 𝓛 (T ss ks (asks' asked) (change' change)) (hs ss ks (asks' asked) (change' change))
-          (c ss ks (asks' asked) (change' change))).post y u))
-      leaves_step y u t ws = ends ss ks (asks' asked) (change' change) y u t (ws.0, after 𝓛 y.0.0 Cs ss ks y.0.3.1 ws.1)
+  -- the code: the locals, and the body, in which constants and arguments are put into locals from the j-th on
+  abbrev argument_locals : List Passed → List Local → List Local
+  argument_locals [] ls = ls
+  argument_locals (A ∷ As) ls = local A.1.ty value_local ∷ argument_locals As ls
+
+  abbrev moved_locals : List Passed → List Local
+  moved_locals [] = []
+  moved_locals ((true, A) ∷ As) = local A.ty value_local ∷ moved_locals As
+  moved_locals ((false, A) ∷ As) = moved_locals As
+
+  abbrev constant_locals : List (Constant 𝓛) → List Local → List Local
+  constant_locals [] ls = ls
+  constant_locals (C ∷ Cs) ls = local (layout C.row) value_local ∷ constant_locals Cs ls
+
+  abbrev count : {X : Type 2} → List X → ℕ
+  count [] = 0
+  count (x ∷ xs) = suc (count xs)
+
+  abbrev puts_arguments : ℕ → ℕ → List Passed → Body → Body
+  puts_arguments i j [] rest = rest
+  puts_arguments i j ((true, A) ∷ As) rest = seq (assign (place j []) (rv_opd (copy (place i [])))) (puts_arguments (suc i) (suc j) As rest)
+  puts_arguments i j ((false, A) ∷ As) rest = puts_arguments (suc i) j As rest
+
+  abbrev puts_constants : ℕ → List (Constant 𝓛) → (ℕ → Body) → Body
+  puts_constants j [] rest = rest j
+  puts_constants j (C ∷ Cs) rest = seq (assign (place j []) (aggregate (int w8 C.tag ∷ []))) (puts_constants (suc j) Cs rest)
+
+  abbrev argument_operands : ℕ → ℕ → List Passed → List Operand
+  argument_operands i j [] = []
+  argument_operands i j ((true, A) ∷ As) = copy (place j []) ∷ argument_operands (suc i) (suc j) As
+  argument_operands i j ((false, A) ∷ As) = copy (place i []) ∷ argument_operands (suc i) j As
+
+  abbrev operands : ℕ → List (Constant 𝓛) → List Passed → List Operand
+  operands j [] As = argument_operands 2 j As
+  operands j (C ∷ Cs) As = copy (place j []) ∷ operands (suc j) Cs As
+
+  abbrev body : ℕ → List (Constant 𝓛) → List Passed → Callee → Callee → Body
+  body k Cs As step release = seq (assign (place (suc k) []) (addr_of (place 1 (deref (layout L.row) ∷ []))))
+      (puts_constants (suc (suc k)) Cs (λ j. puts_arguments 2 j As
+      (seq (call step (copy (place (suc k) []) ∷ operands (suc (suc k)) Cs As) (place k []))
+      (seq (call release (copy (place k []) ∷ []) (place 0 [])) (return)))))
+
+  abbrev pub Asks : List (Constant 𝓛) → List Passed → Type 2
+  Asks Cs As = (κs : Lfts (suc n)) → MutBor D₀ × Denots (types_at (also 𝓛 Cs (slots As)) κs) → SProp 𝓤
+
+  abbrev pub Changes : List (Constant 𝓛) → List Passed → Type 1
+  Changes Cs As = (κs : Lfts (suc n)) → MutBor D₀ × Denots (types_at (also 𝓛 Cs (slots As)) κs) → Effect D₀
+
+  -- a chain call: what it asks and does, its code, its name, and the names of its step and of `release`
+  pub record Call (Cs : List (Constant 𝓛)) (As : List Passed) : Type 2 where
+    pub asked : Asks Cs As
+    pub change : Changes Cs As
+    pub function : Fn
+    pub name : Callee
+    pub step : Callee
+    pub release : Callee
+
+  module _ {Cs : List (Constant 𝓛)} {As : List Passed} (K : Call Cs As) where
+    abbrev its_locals : List Local
+    its_locals = l0 ∷ l1 ∷ argument_locals As (kept ∷ borrowed ∷ constant_locals Cs (moved_locals As))
+
+    abbrev its_body : Body
+    its_body = body (suc (suc (count As))) Cs As K.step K.release
+
+    abbrev Code : Type 0
+    Code = (K.function.locals ≡ its_locals) × (K.function.body ≡ its_body)
+
+    abbrev asks : (κs : Lfts (suc n)) → MutBor D₀ × Denots (types_at (slots As) κs) → SProp 𝓤
+    asks = asks' Cs (slots As) K.asked
+
+    abbrev does : (κs : Lfts (suc n)) → MutBor D₀ × Denots (types_at (slots As) κs) → Effect D₀
+    does = change' Cs (slots As) K.change
+
+    abbrev Coded : Type 2
+    Coded = Is_code (slots As) (kepts As) asks does K.name K.function
+
+    pub record Compiled : Type 2 where
+      pub code : Code
+      pub closed : Coded
+
+    abbrev pub StepMeets : Type 1
+    StepMeets = Held (also 𝓛 Cs (slots As)) (keeps 𝓛 Cs (slots As) (kepts As)) K.asked K.change K.step
+
+    abbrev pub Releases : Type 1
+    Releases = Release (slots As) (kepts As) asks does K.release
+
+    abbrev pub Method : Type 1
+    Method = Chains (slots As) (kepts As) asks does K.name
+
+    abbrev Entry : Type 0
+    Entry = Ghost (slots As) (kepts As) asks does
+
+    abbrev StepEnded : Ended
+    StepEnded = D (also 𝓛 Cs (slots As)) (keeps 𝓛 Cs (slots As) (kepts As)) K.asked K.change
+
+    abbrev step_clauses : Clauses 𝓤 StepEnded
+    step_clauses = e (also 𝓛 Cs (slots As)) (keeps 𝓛 Cs (slots As) (kepts As)) K.asked K.change
+
+    -- the entry with one machine value for each argument, and that of the step
+    abbrev entry : Entry → Words As → Entry
+    entry y ws = ((y.0.0, y.0.1, y.0.2, y.0.3, (vptr y.0.3.0.ref_ptr.0 y.0.3.0.ref_ptr.1 ∷ [], words y.0.0 As ws)), tt)
+
+    abbrev at_entry : Entry → SProp 𝓤
+    at_entry = pre_of (slots As) (kepts As) asks does
+
+    abbrev step_entry : Entry → Ghost (also 𝓛 Cs (slots As)) (keeps 𝓛 Cs (slots As) (kepts As)) K.asked K.change
+    step_entry = more Cs (slots As) (kepts As) K.asked K.change
+
+    abbrev at_step : Entry → SProp 𝓤
+    at_step y = pre_of (also 𝓛 Cs (slots As)) (keeps 𝓛 Cs (slots As) (kepts As)) K.asked K.change (step_entry y)
+
+    widens : (y : Entry) → ent 𝓤 (at_entry y) (at_step y)
+    widens = widened Cs (slots As) (kepts As) K.asked K.change
+
+    -- the code is the function's
+    begins : Code → {Γ : List (Item 𝓤)} (vs : List Val) (Post : Val → SProp 𝓤) → let 𝓣 = tables 𝓤 𝓛.H 𝓜 𝓡 𝓡.env in
+        Step Go 𝓛 Γ (allocs its_locals (λ Ev. params' Ev vs (runs 𝓣.C 𝓣.Λ Ev its_body (at_ret Ev Post)))) Γ
+        (prop (WpFn 𝓤 𝓛.H 𝓣.C 𝓣.Λ K.function vs Post))
+    begins code vs Post = step (λ k.
+        let 𝓣 = tables 𝓤 𝓛.H 𝓜 𝓡 𝓡.env in
+        enter ! 𝓣.C 𝓣.Λ K.function vs Post $
+        regoal ! (λ (z : List Local × Body). allocs z.0 (λ Ev. params' Ev vs (runs 𝓣.C 𝓣.Λ Ev z.1 (at_ret Ev Post)))) {x = (its_locals, its_body)}
+        (λ i. (code.0 i, code.1 i)) refl $
+        k)
+
+    -- the end of the call, from the end of the step
+    finishes : (y : Entry) (u : Val) (t : (Bare 𝓛 L y.0.0.0).Denot) (ws : Lasts StepEnded (step_entry y).0.0 (step_entry y).0.3)
+        → Seq Go 𝓛 (‵ ((Bare 𝓛 L y.0.0.0).own_val t (u ∷ [])) ∷ raw (says 𝓛 L y.0.3.0 (does y.0.0 y.0.3) t) ∷ raw (toks 𝓛 (suc n) y.0.0 y.0.1) ∷ [])
+        (prop ((walk_of 𝓛 (T (slots As) (kepts As) asks does) (hs (slots As) (kepts As) asks does) (c (slots As) (kepts As) asks does)).post y u))
+    finishes y u t ws = ends (slots As) (kepts As) asks does y u t (ws.0, after 𝓛 y.0.0 Cs (slots As) (kepts As) y.0.3.1 ws.1)
+
+    abbrev Walked : Type 1
+    Walked = (y : Entry) (ws : Words As) → Goods As ws → Walk (slots As) (kepts As) asks does (entry y ws) K.function
+
+    proved : Coded → Walked → Method
+    proved closed walk = chains (slots As) (kepts As) asks does K.function K.name closed (all_go As) (λ y are.
+        let x = ones y.0.0 As y.0.3.1 y.0.4.1 are in (words y.0.0 As x.0, (x.1.0, walk y x.0 x.1.1)))
 
   -- neither a constant nor an argument
-  module _ where
-    abbrev Cs-nullary : List (Constant 𝓛)
-    Cs-nullary = []
+  pub by-nullary : {K : Call [] []} → Compiled K → StepMeets K → Releases K → Method K
+  by-nullary {K = K} its met release_met = proved K its.closed (λ y₀ ws good.
+      let fm = framed 𝓤 𝓛.H 𝓜 (tables 𝓤 𝓛.H 𝓜 𝓡 𝓡.env) in let y : Entry K = entry K y₀ ws in
+      qed 𝓛 (raw (at_entry K y) ∷ []) ∵ begins K its.code _ _ $ alloc_all ! (λ l. pass_all ! refl ((tt, tt), good) $
+      sets ! (addr ! (through ! refl (stop !))) refl (tt, tt) $
+      use1 𝓛 (raw (at_step K y)) (widens K y) $
+      calls_at ! fm _ met (step_entry K y) (and_then ! (get ! refl) (no_more !)) (λ v.
+      returned ! tt (StepEnded K) (step_clauses K) (step_entry K y) v (λ r ws is.
+      lands_as ! refl refl (fits 𝓛 L y.0.0.0 v ((kept_lawful 𝓛 L y.0.0.0).typed r (v ∷ []) is)) $
+      releases L ! fm release_met n y.0.0 y.0.1 y.0.3.0 (does K y.0.0 y.0.3) r v (and_then ! (get ! refl) (no_more !)) (λ u t is'.
+      lands_as ! refl refl ((bare_lawful 𝓛 L y.0.0.0).typed t (u ∷ []) is').0 $
+      returns ! (look_at ! 0 refl) $ free_all ! refl $ finishes K y u t ws)))))
 
-    abbrev Q-nullary : List (Slot (suc n))
-    Q-nullary = []
+  -- a constant and an argument that is moved
+  pub by-unary : {X : Constant 𝓛} {A : Argument 𝓛 (suc n)} {K : Call (X ∷ []) (moved A ∷ [])} → Compiled K → StepMeets K → Releases K → Method K
+  by-unary {X = X} {K = K} its met release_met = proved K its.closed (λ y₀ ws good.
+      let fm = framed 𝓤 𝓛.H 𝓜 (tables 𝓤 𝓛.H 𝓜 𝓡 𝓡.env) in let y : Entry K = entry K y₀ ws in
+      qed 𝓛 (raw (at_entry K y) ∷ []) ∵ begins K its.code _ _ $ alloc_all ! (λ l. pass_all ! refl ((tt, tt), good) $
+      sets ! (addr ! (through ! refl (stop !))) refl (tt, tt) $
+      sets ! (agg ! (and_then ! (lit ! X.is_byte) (no_more !))) refl X.good $ sets ! (of_opd ! (get ! refl)) refl good.0 $
+      use1 𝓛 (raw (at_step K y)) (widens K y) $
+      calls_at ! fm _ met (step_entry K y) (and_then ! (get ! refl) (and_then ! (get ! refl) (and_then ! (get ! refl) (no_more !)))) (λ v.
+      returned ! tt (StepEnded K) (step_clauses K) (step_entry K y) v (λ r ws is.
+      lands_as ! refl refl (fits 𝓛 L y.0.0.0 v ((kept_lawful 𝓛 L y.0.0.0).typed r (v ∷ []) is)) $
+      releases L ! fm release_met n y.0.0 y.0.1 y.0.3.0 (does K y.0.0 y.0.3) r v (and_then ! (get ! refl) (no_more !)) (λ u t is'.
+      lands_as ! refl refl ((bare_lawful 𝓛 L y.0.0.0).typed t (u ∷ []) is').0 $
+      returns ! (look_at ! 0 refl) $ free_all ! refl $ finishes K y u t ws)))))
 
-    abbrev K-nullary : Kepts Q-nullary
-    K-nullary = tt
+  -- a constant and an argument that is copied
+  pub by-variadic : {X : Constant 𝓛} {A : Argument 𝓛 (suc n)} {K : Call (X ∷ []) (copied A ∷ [])} → Compiled K → StepMeets K → Releases K → Method K
+  by-variadic {X = X} {K = K} its met release_met = proved K its.closed (λ y₀ ws good.
+      let fm = framed 𝓤 𝓛.H 𝓜 (tables 𝓤 𝓛.H 𝓜 𝓡 𝓡.env) in let y : Entry K = entry K y₀ ws in
+      qed 𝓛 (raw (at_entry K y) ∷ []) ∵ begins K its.code _ _ $ alloc_all ! (λ l. pass_all ! refl ((tt, tt), good) $
+      sets ! (addr ! (through ! refl (stop !))) refl (tt, tt) $
+      sets ! (agg ! (and_then ! (lit ! X.is_byte) (no_more !))) refl X.good $
+      use1 𝓛 (raw (at_step K y)) (widens K y) $
+      calls_at ! fm _ met (step_entry K y) (and_then ! (get ! refl) (and_then ! (get ! refl) (and_then ! (get ! refl) (no_more !)))) (λ v.
+      returned ! tt (StepEnded K) (step_clauses K) (step_entry K y) v (λ r ws is.
+      lands_as ! refl refl (fits 𝓛 L y.0.0.0 v ((kept_lawful 𝓛 L y.0.0.0).typed r (v ∷ []) is)) $
+      releases L ! fm release_met n y.0.0 y.0.1 y.0.3.0 (does K y.0.0 y.0.3) r v (and_then ! (get ! refl) (no_more !)) (λ u t is'.
+      lands_as ! refl refl ((bare_lawful 𝓛 L y.0.0.0).typed t (u ∷ []) is').0 $
+      returns ! (look_at ! 0 refl) $ free_all ! refl $ finishes K y u t ws)))))
 
-    module _ (asked : (κs : Lfts (suc n)) → MutBor D₀ × Denots (types_at (also 𝓛 Cs-nullary Q-nullary) κs) → SProp 𝓤)
-        (change : (κs : Lfts (suc n)) → MutBor D₀ × Denots (types_at (also 𝓛 Cs-nullary Q-nullary) κs) → Effect D₀) (fn : Fn) (kg ko name : Callee) where
-      abbrev pub Code-nullary : Type 0
-      Code-nullary = (fn.locals ≡ l0 ∷ l1 ∷ kept ∷ borrowed ∷ [])
-          × (fn.body ≡ seq (assign (place 3 []) (addr_of (place 1 (deref (layout L.row) ∷ []))))
-          (seq (call kg (copy (place 3 []) ∷ []) (place 2 [])) (seq (call ko (copy (place 2 []) ∷ []) (place 0 [])) (return))))
+  -- a constant and two arguments that are moved
+  pub by-binary : {X : Constant 𝓛} {A B : Argument 𝓛 (suc n)} {K : Call (X ∷ []) (moved A ∷ moved B ∷ [])} → Compiled K → StepMeets K → Releases K → Method K
+  by-binary {X = X} {K = K} its met release_met = proved K its.closed (λ y₀ ws good.
+      let fm = framed 𝓤 𝓛.H 𝓜 (tables 𝓤 𝓛.H 𝓜 𝓡 𝓡.env) in let y : Entry K = entry K y₀ ws in
+      qed 𝓛 (raw (at_entry K y) ∷ []) ∵ begins K its.code _ _ $ alloc_all ! (λ l. pass_all ! refl ((tt, tt), good) $
+      sets ! (addr ! (through ! refl (stop !))) refl (tt, tt) $
+      sets ! (agg ! (and_then ! (lit ! X.is_byte) (no_more !))) refl X.good $ sets ! (of_opd ! (get ! refl)) refl good.0 $
+      sets ! (of_opd ! (get ! refl)) refl good.1.0 $
+      use1 𝓛 (raw (at_step K y)) (widens K y) $
+      calls_at ! fm _ met (step_entry K y) (and_then ! (get ! refl) (and_then ! (get ! refl) (and_then ! (get ! refl) (and_then ! (get ! refl) (no_more !))))) (λ v.
+      returned ! tt (StepEnded K) (step_clauses K) (step_entry K y) v (λ r ws is.
+      lands_as ! refl refl (fits 𝓛 L y.0.0.0 v ((kept_lawful 𝓛 L y.0.0.0).typed r (v ∷ []) is)) $
+      releases L ! fm release_met n y.0.0 y.0.1 y.0.3.0 (does K y.0.0 y.0.3) r v (and_then ! (get ! refl) (no_more !)) (λ u t is'.
+      lands_as ! refl refl ((bare_lawful 𝓛 L y.0.0.0).typed t (u ∷ []) is').0 $
+      returns ! (look_at ! 0 refl) $ free_all ! refl $ finishes K y u t ws)))))
 
-      abbrev pub Coded-nullary : Type 2
-      Coded-nullary = Coded Cs-nullary Q-nullary K-nullary asked change fn name
-
-      abbrev pub Method-nullary : Type 1
-      Method-nullary = Method Cs-nullary Q-nullary K-nullary asked change name
-
-      pub by-nullary : Code-nullary → Coded-nullary → StepMeets Cs-nullary Q-nullary K-nullary asked change kg
-          → Releases Cs-nullary Q-nullary K-nullary asked change ko → Method-nullary
-      by-nullary code closed met release_met =
-          let fm = framed 𝓤 𝓛.H 𝓜 (tables 𝓤 𝓛.H 𝓜 𝓡 𝓡.env) in
-          chains Q-nullary K-nullary (asks' Cs-nullary Q-nullary asked) (change' Cs-nullary Q-nullary change) fn name closed tt (λ y₀ are.
-          let a = y₀.0.3 in let p = vptr a.0.ref_ptr.0 a.0.ref_ptr.1 in
-          let walk : Walks Cs-nullary Q-nullary K-nullary asked change ((y₀.0.0, y₀.0.1, y₀.0.2, a, (p ∷ [], tt)), tt) fn =
-          let y : At_entry Cs-nullary Q-nullary K-nullary asked change = ((y₀.0.0, y₀.0.1, y₀.0.2, a, (p ∷ [], tt)), tt) in
-          let z = more Cs-nullary Q-nullary K-nullary asked change y in
-          qed 𝓛 (raw (at_entry Cs-nullary Q-nullary K-nullary asked change y) ∷ []) ∵ coded Q-nullary K-nullary (asks' Cs-nullary Q-nullary asked)
-          (change' Cs-nullary Q-nullary change) fn _ _ code.0 code.1 _ _ $
-          alloc_all ! (λ l. pass_all ! refl ((tt, tt), tt) $
-          sets ! (addr ! (through ! refl (stop !))) refl (tt, tt) $
-          use1 𝓛 (raw (at_step Cs-nullary Q-nullary K-nullary asked change y)) (widened Cs-nullary Q-nullary K-nullary asked change y) $
-          calls_at ! fm _ met z (and_then ! (get ! refl) (no_more !)) (λ v.
-          returned ! tt (StepEnded Cs-nullary Q-nullary K-nullary asked change) (step_clauses Cs-nullary Q-nullary K-nullary asked change) z v (λ r ws is.
-          lands_as ! refl refl (fits 𝓛 L y.0.0.0 v ((kept_lawful 𝓛 L y.0.0.0).typed r (v ∷ []) is)) $
-          releases L ! fm release_met n y.0.0 y.0.1 a.0 (change z.0.0 z.0.3) r v (and_then ! (get ! refl) (no_more !)) (λ u t is'.
-          lands_as ! refl refl ((bare_lawful 𝓛 L y.0.0.0).typed t (u ∷ []) is').0 $
-          returns ! (look_at ! 0 refl) $ free_all ! refl $ leaves_step Cs-nullary Q-nullary K-nullary asked change y u t ws)))) in
-          (tt, (refl, walk)))
-
-  -- one constant and one argument that is moved
-  module _ (X : Constant 𝓛) (A : Argument 𝓛 (suc n)) where
-    abbrev Cs-unary : List (Constant 𝓛)
-    Cs-unary = X ∷ []
-
-    abbrev Q-unary : List (Slot (suc n))
-    Q-unary = plain A.row ∷ []
-
-    abbrev K-unary : Kepts Q-unary
-    K-unary = (A.kept, tt)
-
-    module _ (asked : (κs : Lfts (suc n)) → MutBor D₀ × Denots (types_at (also 𝓛 Cs-unary Q-unary) κs) → SProp 𝓤)
-        (change : (κs : Lfts (suc n)) → MutBor D₀ × Denots (types_at (also 𝓛 Cs-unary Q-unary) κs) → Effect D₀) (fn : Fn) (kg ko name : Callee) where
-      abbrev pub Code-unary : Type 0
-      Code-unary = (fn.locals ≡ l0 ∷ l1 ∷ local A.ty value_local ∷ kept ∷ borrowed ∷ local (layout X.row) value_local ∷ local A.ty value_local ∷ [])
-          × (fn.body ≡ seq (assign (place 4 []) (addr_of (place 1 (deref (layout L.row) ∷ []))))
-          (seq (assign (place 5 []) (aggregate (int w8 X.tag ∷ []))) (seq (assign (place 6 []) (rv_opd (copy (place 2 [])))) (
-          seq (call kg (copy (place 4 []) ∷ copy (place 5 []) ∷ copy (place 6 []) ∷ []) (place 3 []))
-          (seq (call ko (copy (place 3 []) ∷ []) (place 0 [])) (return))))))
-
-      abbrev pub Coded-unary : Type 2
-      Coded-unary = Coded Cs-unary Q-unary K-unary asked change fn name
-
-      abbrev pub Method-unary : Type 1
-      Method-unary = Method Cs-unary Q-unary K-unary asked change name
-
-      pub by-unary : Code-unary → Coded-unary → StepMeets Cs-unary Q-unary K-unary asked change kg → Releases Cs-unary Q-unary K-unary asked change ko
-          → Method-unary
-      by-unary code closed met release_met =
-          let fm = framed 𝓤 𝓛.H 𝓜 (tables 𝓤 𝓛.H 𝓜 𝓡 𝓡.env) in
-          chains Q-unary K-unary (asks' Cs-unary Q-unary asked) (change' Cs-unary Q-unary change) fn name closed (A.goes, tt) (λ y₀ are.
-          let a = y₀.0.3 in let p = vptr a.0.ref_ptr.0 a.0.ref_ptr.1 in
-          let x = A.one y₀.0.0 a.1.0 y₀.0.4.1.0 are.0 in
-          let walk : (w : Val) → Good A.ty w → Walks Cs-unary Q-unary K-unary asked change ((y₀.0.0, y₀.0.1, y₀.0.2, a, (p ∷ [], (w ∷ [], tt))), tt) fn =
-          λ w good.
-          let y : At_entry Cs-unary Q-unary K-unary asked change = ((y₀.0.0, y₀.0.1, y₀.0.2, a, (p ∷ [], (w ∷ [], tt))), tt) in
-          let z = more Cs-unary Q-unary K-unary asked change y in
-          qed 𝓛 (raw (at_entry Cs-unary Q-unary K-unary asked change y) ∷ []) ∵ coded Q-unary K-unary (asks' Cs-unary Q-unary asked)
-          (change' Cs-unary Q-unary change) fn _ _ code.0 code.1 _ _ $
-          alloc_all ! (λ l. pass_all ! refl ((tt, tt), (good, tt)) $
-          sets ! (addr ! (through ! refl (stop !))) refl (tt, tt) $ sets ! (agg ! (and_then ! (lit ! X.is_byte) (no_more !))) refl X.good $
-          sets ! (of_opd ! (get ! refl)) refl good $
-          use1 𝓛 (raw (at_step Cs-unary Q-unary K-unary asked change y)) (widened Cs-unary Q-unary K-unary asked change y) $
-          calls_at ! fm _ met z (and_then ! (get ! refl) (and_then ! (get ! refl) (and_then ! (get ! refl) (no_more !)))) (λ v.
-          returned ! tt (StepEnded Cs-unary Q-unary K-unary asked change) (step_clauses Cs-unary Q-unary K-unary asked change) z v (λ r ws is.
-          lands_as ! refl refl (fits 𝓛 L y.0.0.0 v ((kept_lawful 𝓛 L y.0.0.0).typed r (v ∷ []) is)) $
-          releases L ! fm release_met n y.0.0 y.0.1 a.0 (change z.0.0 z.0.3) r v (and_then ! (get ! refl) (no_more !)) (λ u t is'.
-          lands_as ! refl refl ((bare_lawful 𝓛 L y.0.0.0).typed t (u ∷ []) is').0 $
-          returns ! (look_at ! 0 refl) $ free_all ! refl $ leaves_step Cs-unary Q-unary K-unary asked change y u t ws)))) in
-          ((x.0 ∷ [], tt), ((λ i. (x.1.0 i, tt)), walk x.0 x.1.1)))
-
-  -- one constant and one argument that is copied
-  module _ (X : Constant 𝓛) (A : Argument 𝓛 (suc n)) where
-    abbrev Cs-variadic : List (Constant 𝓛)
-    Cs-variadic = X ∷ []
-
-    abbrev Q-variadic : List (Slot (suc n))
-    Q-variadic = plain A.row ∷ []
-
-    abbrev K-variadic : Kepts Q-variadic
-    K-variadic = (A.kept, tt)
-
-    module _ (asked : (κs : Lfts (suc n)) → MutBor D₀ × Denots (types_at (also 𝓛 Cs-variadic Q-variadic) κs) → SProp 𝓤)
-        (change : (κs : Lfts (suc n)) → MutBor D₀ × Denots (types_at (also 𝓛 Cs-variadic Q-variadic) κs) → Effect D₀) (fn : Fn) (kg ko name : Callee) where
-      abbrev pub Code-variadic : Type 0
-      Code-variadic = (fn.locals ≡ l0 ∷ l1 ∷ local A.ty value_local ∷ kept ∷ borrowed ∷ local (layout X.row) value_local ∷ [])
-          × (fn.body ≡ seq (assign (place 4 []) (addr_of (place 1 (deref (layout L.row) ∷ []))))
-          (seq (assign (place 5 []) (aggregate (int w8 X.tag ∷ [])))
-          (seq (call kg (copy (place 4 []) ∷ copy (place 5 []) ∷ copy (place 2 []) ∷ []) (place 3 [])) (
-          seq (call ko (copy (place 3 []) ∷ []) (place 0 [])) (return)))))
-
-      abbrev pub Coded-variadic : Type 2
-      Coded-variadic = Coded Cs-variadic Q-variadic K-variadic asked change fn name
-
-      abbrev pub Method-variadic : Type 1
-      Method-variadic = Method Cs-variadic Q-variadic K-variadic asked change name
-
-      pub by-variadic : Code-variadic → Coded-variadic → StepMeets Cs-variadic Q-variadic K-variadic asked change kg
-          → Releases Cs-variadic Q-variadic K-variadic asked change ko → Method-variadic
-      by-variadic code closed met release_met =
-          let fm = framed 𝓤 𝓛.H 𝓜 (tables 𝓤 𝓛.H 𝓜 𝓡 𝓡.env) in
-          chains Q-variadic K-variadic (asks' Cs-variadic Q-variadic asked) (change' Cs-variadic Q-variadic change) fn name closed (A.goes, tt) (λ y₀ are.
-          let a = y₀.0.3 in let p = vptr a.0.ref_ptr.0 a.0.ref_ptr.1 in
-          let x = A.one y₀.0.0 a.1.0 y₀.0.4.1.0 are.0 in
-          let walk : (w : Val) → Good A.ty w → Walks Cs-variadic Q-variadic K-variadic asked change ((y₀.0.0, y₀.0.1, y₀.0.2, a, (p ∷ [], (w ∷ [], tt))), tt)
-          fn = λ w good.
-          let y : At_entry Cs-variadic Q-variadic K-variadic asked change = ((y₀.0.0, y₀.0.1, y₀.0.2, a, (p ∷ [], (w ∷ [], tt))), tt) in
-          let z = more Cs-variadic Q-variadic K-variadic asked change y in
-          qed 𝓛 (raw (at_entry Cs-variadic Q-variadic K-variadic asked change y) ∷ []) ∵ coded Q-variadic K-variadic (asks' Cs-variadic Q-variadic asked)
-          (change' Cs-variadic Q-variadic change) fn _ _ code.0 code.1 _ _ $
-          alloc_all ! (λ l. pass_all ! refl ((tt, tt), (good, tt)) $
-          sets ! (addr ! (through ! refl (stop !))) refl (tt, tt) $ sets ! (agg ! (and_then ! (lit ! X.is_byte) (no_more !))) refl X.good $
-          use1 𝓛 (raw (at_step Cs-variadic Q-variadic K-variadic asked change y)) (widened Cs-variadic Q-variadic K-variadic asked change y) $
-          calls_at ! fm _ met z (and_then ! (get ! refl) (and_then ! (get ! refl) (and_then ! (get ! refl) (no_more !)))) (λ v.
-          returned ! tt (StepEnded Cs-variadic Q-variadic K-variadic asked change) (step_clauses Cs-variadic Q-variadic K-variadic asked change) z v (λ r ws is.
-          lands_as ! refl refl (fits 𝓛 L y.0.0.0 v ((kept_lawful 𝓛 L y.0.0.0).typed r (v ∷ []) is)) $
-          releases L ! fm release_met n y.0.0 y.0.1 a.0 (change z.0.0 z.0.3) r v (and_then ! (get ! refl) (no_more !)) (λ u t is'.
-          lands_as ! refl refl ((bare_lawful 𝓛 L y.0.0.0).typed t (u ∷ []) is').0 $
-          returns ! (look_at ! 0 refl) $ free_all ! refl $ leaves_step Cs-variadic Q-variadic K-variadic asked change y u t ws)))) in
-          ((x.0 ∷ [], tt), ((λ i. (x.1.0 i, tt)), walk x.0 x.1.1)))
-
-  -- one constant and two arguments that are moved
-  module _ (X : Constant 𝓛) (A B : Argument 𝓛 (suc n)) where
-    abbrev Cs-binary : List (Constant 𝓛)
-    Cs-binary = X ∷ []
-
-    abbrev Q-binary : List (Slot (suc n))
-    Q-binary = plain A.row ∷ plain B.row ∷ []
-
-    abbrev K-binary : Kepts Q-binary
-    K-binary = (A.kept, (B.kept, tt))
-
-    module _ (asked : (κs : Lfts (suc n)) → MutBor D₀ × Denots (types_at (also 𝓛 Cs-binary Q-binary) κs) → SProp 𝓤)
-        (change : (κs : Lfts (suc n)) → MutBor D₀ × Denots (types_at (also 𝓛 Cs-binary Q-binary) κs) → Effect D₀) (fn : Fn) (kg ko name : Callee) where
-      abbrev pub Code-binary : Type 0
-      Code-binary = (fn.locals ≡ l0 ∷ l1 ∷ local A.ty value_local ∷ local B.ty value_local ∷ kept ∷ borrowed ∷ local (layout X.row) value_local ∷ local A.ty
-          value_local ∷ local B.ty value_local ∷ [])
-          × (fn.body ≡ seq (assign (place 5 []) (addr_of (place 1 (deref (layout L.row) ∷ []))))
-          (seq (assign (place 6 []) (aggregate (int w8 X.tag ∷ []))) (seq (assign (place 7 []) (rv_opd (copy (place 2 [])))) (
-          seq (assign (place 8 []) (rv_opd (copy (place 3 []))))
-          (seq (call kg (copy (place 5 []) ∷ copy (place 6 []) ∷ copy (place 7 []) ∷ copy (place 8 []) ∷ []) (place 4 []))
-          (seq (call ko (copy (place 4 []) ∷ []) (place 0 [])) (return)))))))
-
-      abbrev pub Coded-binary : Type 2
-      Coded-binary = Coded Cs-binary Q-binary K-binary asked change fn name
-
-      abbrev pub Method-binary : Type 1
-      Method-binary = Method Cs-binary Q-binary K-binary asked change name
-
-      pub by-binary : Code-binary → Coded-binary → StepMeets Cs-binary Q-binary K-binary asked change kg
-          → Releases Cs-binary Q-binary K-binary asked change ko → Method-binary
-      by-binary code closed met release_met =
-          let fm = framed 𝓤 𝓛.H 𝓜 (tables 𝓤 𝓛.H 𝓜 𝓡 𝓡.env) in
-          chains Q-binary K-binary (asks' Cs-binary Q-binary asked) (change' Cs-binary Q-binary change) fn name closed (A.goes, (B.goes, tt)) (λ y₀ are.
-          let a = y₀.0.3 in let p = vptr a.0.ref_ptr.0 a.0.ref_ptr.1 in
-          let x = A.one y₀.0.0 a.1.0 y₀.0.4.1.0 are.0 in
-          let x' = B.one y₀.0.0 a.1.1.0 y₀.0.4.1.1.0 are.1.0 in
-          let walk : (w w' : Val) → Good A.ty w → Good B.ty w'
-          → Walks Cs-binary Q-binary K-binary asked change ((y₀.0.0, y₀.0.1, y₀.0.2, a, (p ∷ [], (w ∷ [], (w' ∷ [], tt)))), tt) fn = λ w w' good good'.
-          let y : At_entry Cs-binary Q-binary K-binary asked change = ((y₀.0.0, y₀.0.1, y₀.0.2, a, (p ∷ [], (w ∷ [], (w' ∷ [], tt)))), tt) in
-          let z = more Cs-binary Q-binary K-binary asked change y in
-          qed 𝓛 (raw (at_entry Cs-binary Q-binary K-binary asked change y) ∷ []) ∵ coded Q-binary K-binary (asks' Cs-binary Q-binary asked)
-          (change' Cs-binary Q-binary change) fn _ _ code.0 code.1 _ _ $
-          alloc_all ! (λ l. pass_all ! refl ((tt, tt), (good, (good', tt))) $
-          sets ! (addr ! (through ! refl (stop !))) refl (tt, tt) $ sets ! (agg ! (and_then ! (lit ! X.is_byte) (no_more !))) refl X.good $
-          sets ! (of_opd ! (get ! refl)) refl good $ sets ! (of_opd ! (get ! refl)) refl good' $
-          use1 𝓛 (raw (at_step Cs-binary Q-binary K-binary asked change y)) (widened Cs-binary Q-binary K-binary asked change y) $
-          calls_at ! fm _ met z (and_then ! (get ! refl) (and_then ! (get ! refl) (and_then ! (get ! refl) (and_then ! (get ! refl) (no_more !))))) (λ v.
-          returned ! tt (StepEnded Cs-binary Q-binary K-binary asked change) (step_clauses Cs-binary Q-binary K-binary asked change) z v (λ r ws is.
-          lands_as ! refl refl (fits 𝓛 L y.0.0.0 v ((kept_lawful 𝓛 L y.0.0.0).typed r (v ∷ []) is)) $
-          releases L ! fm release_met n y.0.0 y.0.1 a.0 (change z.0.0 z.0.3) r v (and_then ! (get ! refl) (no_more !)) (λ u t is'.
-          lands_as ! refl refl ((bare_lawful 𝓛 L y.0.0.0).typed t (u ∷ []) is').0 $
-          returns ! (look_at ! 0 refl) $ free_all ! refl $ leaves_step Cs-binary Q-binary K-binary asked change y u t ws)))) in
-          ((x.0 ∷ [], (x'.0 ∷ [], tt)), ((λ i. (x.1.0 i, (x'.1.0 i, tt))), walk x.0 x'.0 x.1.1 x'.1.1)))
-
-  -- one argument that is moved, and one that is copied
-  module _ (A B : Argument 𝓛 (suc n)) where
-    abbrev Cs-flagged : List (Constant 𝓛)
-    Cs-flagged = []
-
-    abbrev Q-flagged : List (Slot (suc n))
-    Q-flagged = plain A.row ∷ plain B.row ∷ []
-
-    abbrev K-flagged : Kepts Q-flagged
-    K-flagged = (A.kept, (B.kept, tt))
-
-    module _ (asked : (κs : Lfts (suc n)) → MutBor D₀ × Denots (types_at (also 𝓛 Cs-flagged Q-flagged) κs) → SProp 𝓤)
-        (change : (κs : Lfts (suc n)) → MutBor D₀ × Denots (types_at (also 𝓛 Cs-flagged Q-flagged) κs) → Effect D₀) (fn : Fn) (kg ko name : Callee) where
-      abbrev pub Code-flagged : Type 0
-      Code-flagged = (fn.locals ≡ l0 ∷ l1 ∷ local A.ty value_local ∷ local B.ty value_local ∷ kept ∷ borrowed ∷ local A.ty value_local ∷ [])
-          × (fn.body ≡ seq (assign (place 5 []) (addr_of (place 1 (deref (layout L.row) ∷ []))))
-          (seq (assign (place 6 []) (rv_opd (copy (place 2 []))))
-          (seq (call kg (copy (place 5 []) ∷ copy (place 6 []) ∷ copy (place 3 []) ∷ []) (place 4 [])) (
-          seq (call ko (copy (place 4 []) ∷ []) (place 0 [])) (return)))))
-
-      abbrev pub Coded-flagged : Type 2
-      Coded-flagged = Coded Cs-flagged Q-flagged K-flagged asked change fn name
-
-      abbrev pub Method-flagged : Type 1
-      Method-flagged = Method Cs-flagged Q-flagged K-flagged asked change name
-
-      pub by-flagged : Code-flagged → Coded-flagged → StepMeets Cs-flagged Q-flagged K-flagged asked change kg
-          → Releases Cs-flagged Q-flagged K-flagged asked change ko → Method-flagged
-      by-flagged code closed met release_met =
-          let fm = framed 𝓤 𝓛.H 𝓜 (tables 𝓤 𝓛.H 𝓜 𝓡 𝓡.env) in
-          chains Q-flagged K-flagged (asks' Cs-flagged Q-flagged asked) (change' Cs-flagged Q-flagged change) fn name closed (A.goes, (B.goes, tt)) (λ y₀ are.
-          let a = y₀.0.3 in let p = vptr a.0.ref_ptr.0 a.0.ref_ptr.1 in
-          let x = A.one y₀.0.0 a.1.0 y₀.0.4.1.0 are.0 in
-          let x' = B.one y₀.0.0 a.1.1.0 y₀.0.4.1.1.0 are.1.0 in
-          let walk : (w w' : Val) → Good A.ty w → Good B.ty w'
-          → Walks Cs-flagged Q-flagged K-flagged asked change ((y₀.0.0, y₀.0.1, y₀.0.2, a, (p ∷ [], (w ∷ [], (w' ∷ [], tt)))), tt) fn = λ w w' good good'.
-          let y : At_entry Cs-flagged Q-flagged K-flagged asked change = ((y₀.0.0, y₀.0.1, y₀.0.2, a, (p ∷ [], (w ∷ [], (w' ∷ [], tt)))), tt) in
-          let z = more Cs-flagged Q-flagged K-flagged asked change y in
-          qed 𝓛 (raw (at_entry Cs-flagged Q-flagged K-flagged asked change y) ∷ []) ∵ coded Q-flagged K-flagged (asks' Cs-flagged Q-flagged asked)
-          (change' Cs-flagged Q-flagged change) fn _ _ code.0 code.1 _ _ $
-          alloc_all ! (λ l. pass_all ! refl ((tt, tt), (good, (good', tt))) $
-          sets ! (addr ! (through ! refl (stop !))) refl (tt, tt) $
-          sets ! (of_opd ! (get ! refl)) refl good $
-          use1 𝓛 (raw (at_step Cs-flagged Q-flagged K-flagged asked change y)) (widened Cs-flagged Q-flagged K-flagged asked change y) $
-          calls_at ! fm _ met z (and_then ! (get ! refl) (and_then ! (get ! refl) (and_then ! (get ! refl) (no_more !)))) (λ v.
-          returned ! tt (StepEnded Cs-flagged Q-flagged K-flagged asked change) (step_clauses Cs-flagged Q-flagged K-flagged asked change) z v (λ r ws is.
-          lands_as ! refl refl (fits 𝓛 L y.0.0.0 v ((kept_lawful 𝓛 L y.0.0.0).typed r (v ∷ []) is)) $
-          releases L ! fm release_met n y.0.0 y.0.1 a.0 (change z.0.0 z.0.3) r v (and_then ! (get ! refl) (no_more !)) (λ u t is'.
-          lands_as ! refl refl ((bare_lawful 𝓛 L y.0.0.0).typed t (u ∷ []) is').0 $
-          returns ! (look_at ! 0 refl) $ free_all ! refl $ leaves_step Cs-flagged Q-flagged K-flagged asked change y u t ws)))) in
-          ((x.0 ∷ [], (x'.0 ∷ [], tt)), ((λ i. (x.1.0 i, (x'.1.0 i, tt))), walk x.0 x'.0 x.1.1 x'.1.1)))
+  -- an argument that is moved, and one that is copied
+  pub by-flagged : {A B : Argument 𝓛 (suc n)} {K : Call [] (moved A ∷ copied B ∷ [])} → Compiled K → StepMeets K → Releases K → Method K
+  by-flagged {K = K} its met release_met = proved K its.closed (λ y₀ ws good.
+      let fm = framed 𝓤 𝓛.H 𝓜 (tables 𝓤 𝓛.H 𝓜 𝓡 𝓡.env) in let y : Entry K = entry K y₀ ws in
+      qed 𝓛 (raw (at_entry K y) ∷ []) ∵ begins K its.code _ _ $ alloc_all ! (λ l. pass_all ! refl ((tt, tt), good) $
+      sets ! (addr ! (through ! refl (stop !))) refl (tt, tt) $
+      sets ! (of_opd ! (get ! refl)) refl good.0 $
+      use1 𝓛 (raw (at_step K y)) (widens K y) $
+      calls_at ! fm _ met (step_entry K y) (and_then ! (get ! refl) (and_then ! (get ! refl) (and_then ! (get ! refl) (no_more !)))) (λ v.
+      returned ! tt (StepEnded K) (step_clauses K) (step_entry K y) v (λ r ws is.
+      lands_as ! refl refl (fits 𝓛 L y.0.0.0 v ((kept_lawful 𝓛 L y.0.0.0).typed r (v ∷ []) is)) $
+      releases L ! fm release_met n y.0.0 y.0.1 y.0.3.0 (does K y.0.0 y.0.3) r v (and_then ! (get ! refl) (no_more !)) (λ u t is'.
+      lands_as ! refl refl ((bare_lawful 𝓛 L y.0.0.0).typed t (u ∷ []) is').0 $
+      returns ! (look_at ! 0 refl) $ free_all ! refl $ finishes K y u t ws)))))
 
   -- two constants and two arguments that are moved
-  module _ (X Y : Constant 𝓛) (A B : Argument 𝓛 (suc n)) where
-    abbrev Cs-chosen-binary : List (Constant 𝓛)
-    Cs-chosen-binary = X ∷ Y ∷ []
+  pub by-chosen-binary : {X Y : Constant 𝓛} {A B : Argument 𝓛 (suc n)} {K : Call (X ∷ Y ∷ []) (moved A ∷ moved B ∷ [])} → Compiled K → StepMeets K → Releases K → Method K
+  by-chosen-binary {X = X} {Y = Y} {K = K} its met release_met = proved K its.closed (λ y₀ ws good.
+      let fm = framed 𝓤 𝓛.H 𝓜 (tables 𝓤 𝓛.H 𝓜 𝓡 𝓡.env) in let y : Entry K = entry K y₀ ws in
+      qed 𝓛 (raw (at_entry K y) ∷ []) ∵ begins K its.code _ _ $ alloc_all ! (λ l. pass_all ! refl ((tt, tt), good) $
+      sets ! (addr ! (through ! refl (stop !))) refl (tt, tt) $
+      sets ! (agg ! (and_then ! (lit ! X.is_byte) (no_more !))) refl X.good $ sets ! (agg ! (and_then ! (lit ! Y.is_byte) (no_more !))) refl Y.good $
+      sets ! (of_opd ! (get ! refl)) refl good.0 $ sets ! (of_opd ! (get ! refl)) refl good.1.0 $
+      use1 𝓛 (raw (at_step K y)) (widens K y) $
+      calls_at ! fm _ met (step_entry K y) (and_then ! (get ! refl) (and_then ! (get ! refl) (and_then ! (get ! refl) (and_then ! (get ! refl) (and_then ! (get ! refl) (no_more !)))))) (λ v.
+      returned ! tt (StepEnded K) (step_clauses K) (step_entry K y) v (λ r ws is.
+      lands_as ! refl refl (fits 𝓛 L y.0.0.0 v ((kept_lawful 𝓛 L y.0.0.0).typed r (v ∷ []) is)) $
+      releases L ! fm release_met n y.0.0 y.0.1 y.0.3.0 (does K y.0.0 y.0.3) r v (and_then ! (get ! refl) (no_more !)) (λ u t is'.
+      lands_as ! refl refl ((bare_lawful 𝓛 L y.0.0.0).typed t (u ∷ []) is').0 $
+      returns ! (look_at ! 0 refl) $ free_all ! refl $ finishes K y u t ws)))))
 
-    abbrev Q-chosen-binary : List (Slot (suc n))
-    Q-chosen-binary = plain A.row ∷ plain B.row ∷ []
-
-    abbrev K-chosen-binary : Kepts Q-chosen-binary
-    K-chosen-binary = (A.kept, (B.kept, tt))
-
-    module _ (asked : (κs : Lfts (suc n)) → MutBor D₀ × Denots (types_at (also 𝓛 Cs-chosen-binary Q-chosen-binary) κs) → SProp 𝓤)
-        (change : (κs : Lfts (suc n)) → MutBor D₀ × Denots (types_at (also 𝓛 Cs-chosen-binary Q-chosen-binary) κs) → Effect D₀) (fn : Fn)
-        (kg ko name : Callee) where
-      abbrev pub Code-chosen-binary : Type 0
-      Code-chosen-binary = (fn.locals ≡ l0 ∷ l1 ∷ local A.ty value_local ∷ local B.ty value_local ∷ kept ∷ borrowed ∷ local (layout X.row) value_local ∷ local
-          (layout Y.row) value_local ∷ local A.ty value_local ∷ local B.ty value_local ∷ [])
-          × (fn.body ≡ seq (assign (place 5 []) (addr_of (place 1 (deref (layout L.row) ∷ []))))
-          (seq (assign (place 6 []) (aggregate (int w8 X.tag ∷ []))) (seq (assign (place 7 []) (aggregate (int w8 Y.tag ∷ []))) (
-          seq (assign (place 8 []) (rv_opd (copy (place 2 []))))
-          (seq (assign (place 9 []) (rv_opd (copy (place 3 []))))
-          (seq (call kg (copy (place 5 []) ∷ copy (place 6 []) ∷ copy (place 7 []) ∷ copy (place 8 []) ∷ copy (place 9 []) ∷ []) (place 4 [])) (
-          seq (call ko (copy (place 4 []) ∷ []) (place 0 [])) (return))))))))
-
-      abbrev pub Coded-chosen-binary : Type 2
-      Coded-chosen-binary = Coded Cs-chosen-binary Q-chosen-binary K-chosen-binary asked change fn name
-
-      abbrev pub Method-chosen-binary : Type 1
-      Method-chosen-binary = Method Cs-chosen-binary Q-chosen-binary K-chosen-binary asked change name
-
-      pub by-chosen-binary : Code-chosen-binary → Coded-chosen-binary → StepMeets Cs-chosen-binary Q-chosen-binary K-chosen-binary asked change kg
-          → Releases Cs-chosen-binary Q-chosen-binary K-chosen-binary asked change ko → Method-chosen-binary
-      by-chosen-binary code closed met release_met =
-          let fm = framed 𝓤 𝓛.H 𝓜 (tables 𝓤 𝓛.H 𝓜 𝓡 𝓡.env) in
-          chains Q-chosen-binary K-chosen-binary (asks' Cs-chosen-binary Q-chosen-binary asked) (change' Cs-chosen-binary Q-chosen-binary change) fn name
-          closed (A.goes, (B.goes, tt)) (λ y₀ are.
-          let a = y₀.0.3 in let p = vptr a.0.ref_ptr.0 a.0.ref_ptr.1 in
-          let x = A.one y₀.0.0 a.1.0 y₀.0.4.1.0 are.0 in
-          let x' = B.one y₀.0.0 a.1.1.0 y₀.0.4.1.1.0 are.1.0 in
-          let walk : (w w' : Val) → Good A.ty w → Good B.ty w'
-          → Walks Cs-chosen-binary Q-chosen-binary K-chosen-binary asked change ((y₀.0.0, y₀.0.1, y₀.0.2, a, (p ∷ [], (w ∷ [], (w' ∷ [], tt)))), tt) fn =
-          λ w w' good good'.
-          let y : At_entry Cs-chosen-binary Q-chosen-binary K-chosen-binary asked change =
-          ((y₀.0.0, y₀.0.1, y₀.0.2, a, (p ∷ [], (w ∷ [], (w' ∷ [], tt)))), tt) in
-          let z = more Cs-chosen-binary Q-chosen-binary K-chosen-binary asked change y in
-          qed 𝓛 (raw (at_entry Cs-chosen-binary Q-chosen-binary K-chosen-binary asked change y) ∷ []) ∵ coded Q-chosen-binary K-chosen-binary
-          (asks' Cs-chosen-binary Q-chosen-binary asked) (change' Cs-chosen-binary Q-chosen-binary change) fn _ _ code.0 code.1 _ _ $
-          alloc_all ! (λ l. pass_all ! refl ((tt, tt), (good, (good', tt))) $
-          sets ! (addr ! (through ! refl (stop !))) refl (tt, tt) $ sets ! (agg ! (and_then ! (lit ! X.is_byte) (no_more !))) refl X.good $ sets !
-          (agg ! (and_then ! (lit ! Y.is_byte) (no_more !))) refl Y.good $
-          sets ! (of_opd ! (get ! refl)) refl good $ sets ! (of_opd ! (get ! refl)) refl good' $
-          use1 𝓛 (raw (at_step Cs-chosen-binary Q-chosen-binary K-chosen-binary asked change y))
-          (widened Cs-chosen-binary Q-chosen-binary K-chosen-binary asked change y) $
-          calls_at ! fm _ met z (and_then ! (get ! refl)
-          (and_then ! (get ! refl) (and_then ! (get ! refl) (and_then ! (get ! refl) (and_then ! (get ! refl) (no_more !)))))) (λ v.
-          returned ! tt (StepEnded Cs-chosen-binary Q-chosen-binary K-chosen-binary asked change)
-          (step_clauses Cs-chosen-binary Q-chosen-binary K-chosen-binary asked change) z v (λ r ws is.
-          lands_as ! refl refl (fits 𝓛 L y.0.0.0 v ((kept_lawful 𝓛 L y.0.0.0).typed r (v ∷ []) is)) $
-          releases L ! fm release_met n y.0.0 y.0.1 a.0 (change z.0.0 z.0.3) r v (and_then ! (get ! refl) (no_more !)) (λ u t is'.
-          lands_as ! refl refl ((bare_lawful 𝓛 L y.0.0.0).typed t (u ∷ []) is').0 $
-          returns ! (look_at ! 0 refl) $ free_all ! refl $ leaves_step Cs-chosen-binary Q-chosen-binary K-chosen-binary asked change y u t ws)))) in
-          ((x.0 ∷ [], (x'.0 ∷ [], tt)), ((λ i. (x.1.0 i, (x'.1.0 i, tt))), walk x.0 x'.0 x.1.1 x'.1.1)))
-
-  -- two constants, one argument that is moved and one that is copied
-  module _ (X Y : Constant 𝓛) (A B : Argument 𝓛 (suc n)) where
-    abbrev Cs-chosen-listed : List (Constant 𝓛)
-    Cs-chosen-listed = X ∷ Y ∷ []
-
-    abbrev Q-chosen-listed : List (Slot (suc n))
-    Q-chosen-listed = plain A.row ∷ plain B.row ∷ []
-
-    abbrev K-chosen-listed : Kepts Q-chosen-listed
-    K-chosen-listed = (A.kept, (B.kept, tt))
-
-    module _ (asked : (κs : Lfts (suc n)) → MutBor D₀ × Denots (types_at (also 𝓛 Cs-chosen-listed Q-chosen-listed) κs) → SProp 𝓤)
-        (change : (κs : Lfts (suc n)) → MutBor D₀ × Denots (types_at (also 𝓛 Cs-chosen-listed Q-chosen-listed) κs) → Effect D₀) (fn : Fn)
-        (kg ko name : Callee) where
-      abbrev pub Code-chosen-listed : Type 0
-      Code-chosen-listed = (fn.locals ≡ l0 ∷ l1 ∷ local A.ty value_local ∷ local B.ty value_local ∷ kept ∷ borrowed ∷ local (layout X.row) value_local ∷ local
-          (layout Y.row) value_local ∷ local A.ty value_local ∷ [])
-          × (fn.body ≡ seq (assign (place 5 []) (addr_of (place 1 (deref (layout L.row) ∷ []))))
-          (seq (assign (place 6 []) (aggregate (int w8 X.tag ∷ []))) (seq (assign (place 7 []) (aggregate (int w8 Y.tag ∷ []))) (
-          seq (assign (place 8 []) (rv_opd (copy (place 2 []))))
-          (seq (call kg (copy (place 5 []) ∷ copy (place 6 []) ∷ copy (place 7 []) ∷ copy (place 8 []) ∷ copy (place 3 []) ∷ []) (place 4 []))
-          (seq (call ko (copy (place 4 []) ∷ []) (place 0 [])) (return)))))))
-
-      abbrev pub Coded-chosen-listed : Type 2
-      Coded-chosen-listed = Coded Cs-chosen-listed Q-chosen-listed K-chosen-listed asked change fn name
-
-      abbrev pub Method-chosen-listed : Type 1
-      Method-chosen-listed = Method Cs-chosen-listed Q-chosen-listed K-chosen-listed asked change name
-
-      pub by-chosen-listed : Code-chosen-listed → Coded-chosen-listed → StepMeets Cs-chosen-listed Q-chosen-listed K-chosen-listed asked change kg
-          → Releases Cs-chosen-listed Q-chosen-listed K-chosen-listed asked change ko → Method-chosen-listed
-      by-chosen-listed code closed met release_met =
-          let fm = framed 𝓤 𝓛.H 𝓜 (tables 𝓤 𝓛.H 𝓜 𝓡 𝓡.env) in
-          chains Q-chosen-listed K-chosen-listed (asks' Cs-chosen-listed Q-chosen-listed asked) (change' Cs-chosen-listed Q-chosen-listed change) fn name
-          closed (A.goes, (B.goes, tt)) (λ y₀ are.
-          let a = y₀.0.3 in let p = vptr a.0.ref_ptr.0 a.0.ref_ptr.1 in
-          let x = A.one y₀.0.0 a.1.0 y₀.0.4.1.0 are.0 in
-          let x' = B.one y₀.0.0 a.1.1.0 y₀.0.4.1.1.0 are.1.0 in
-          let walk : (w w' : Val) → Good A.ty w → Good B.ty w'
-          → Walks Cs-chosen-listed Q-chosen-listed K-chosen-listed asked change ((y₀.0.0, y₀.0.1, y₀.0.2, a, (p ∷ [], (w ∷ [], (w' ∷ [], tt)))), tt) fn =
-          λ w w' good good'.
-          let y : At_entry Cs-chosen-listed Q-chosen-listed K-chosen-listed asked change =
-          ((y₀.0.0, y₀.0.1, y₀.0.2, a, (p ∷ [], (w ∷ [], (w' ∷ [], tt)))), tt) in
-          let z = more Cs-chosen-listed Q-chosen-listed K-chosen-listed asked change y in
-          qed 𝓛 (raw (at_entry Cs-chosen-listed Q-chosen-listed K-chosen-listed asked change y) ∷ []) ∵ coded Q-chosen-listed K-chosen-listed
-          (asks' Cs-chosen-listed Q-chosen-listed asked) (change' Cs-chosen-listed Q-chosen-listed change) fn _ _ code.0 code.1 _ _ $
-          alloc_all ! (λ l. pass_all ! refl ((tt, tt), (good, (good', tt))) $
-          sets ! (addr ! (through ! refl (stop !))) refl (tt, tt) $ sets ! (agg ! (and_then ! (lit ! X.is_byte) (no_more !))) refl X.good $ sets !
-          (agg ! (and_then ! (lit ! Y.is_byte) (no_more !))) refl Y.good $
-          sets ! (of_opd ! (get ! refl)) refl good $
-          use1 𝓛 (raw (at_step Cs-chosen-listed Q-chosen-listed K-chosen-listed asked change y))
-          (widened Cs-chosen-listed Q-chosen-listed K-chosen-listed asked change y) $
-          calls_at ! fm _ met z (and_then ! (get ! refl)
-          (and_then ! (get ! refl) (and_then ! (get ! refl) (and_then ! (get ! refl) (and_then ! (get ! refl) (no_more !)))))) (λ v.
-          returned ! tt (StepEnded Cs-chosen-listed Q-chosen-listed K-chosen-listed asked change)
-          (step_clauses Cs-chosen-listed Q-chosen-listed K-chosen-listed asked change) z v (λ r ws is.
-          lands_as ! refl refl (fits 𝓛 L y.0.0.0 v ((kept_lawful 𝓛 L y.0.0.0).typed r (v ∷ []) is)) $
-          releases L ! fm release_met n y.0.0 y.0.1 a.0 (change z.0.0 z.0.3) r v (and_then ! (get ! refl) (no_more !)) (λ u t is'.
-          lands_as ! refl refl ((bare_lawful 𝓛 L y.0.0.0).typed t (u ∷ []) is').0 $
-          returns ! (look_at ! 0 refl) $ free_all ! refl $ leaves_step Cs-chosen-listed Q-chosen-listed K-chosen-listed asked change y u t ws)))) in
-          ((x.0 ∷ [], (x'.0 ∷ [], tt)), ((λ i. (x.1.0 i, (x'.1.0 i, tt))), walk x.0 x'.0 x.1.1 x'.1.1)))
+  -- two constants, an argument that is moved and one that is copied
+  pub by-chosen-listed : {X Y : Constant 𝓛} {A B : Argument 𝓛 (suc n)} {K : Call (X ∷ Y ∷ []) (moved A ∷ copied B ∷ [])} → Compiled K → StepMeets K → Releases K → Method K
+  by-chosen-listed {X = X} {Y = Y} {K = K} its met release_met = proved K its.closed (λ y₀ ws good.
+      let fm = framed 𝓤 𝓛.H 𝓜 (tables 𝓤 𝓛.H 𝓜 𝓡 𝓡.env) in let y : Entry K = entry K y₀ ws in
+      qed 𝓛 (raw (at_entry K y) ∷ []) ∵ begins K its.code _ _ $ alloc_all ! (λ l. pass_all ! refl ((tt, tt), good) $
+      sets ! (addr ! (through ! refl (stop !))) refl (tt, tt) $
+      sets ! (agg ! (and_then ! (lit ! X.is_byte) (no_more !))) refl X.good $ sets ! (agg ! (and_then ! (lit ! Y.is_byte) (no_more !))) refl Y.good $
+      sets ! (of_opd ! (get ! refl)) refl good.0 $
+      use1 𝓛 (raw (at_step K y)) (widens K y) $
+      calls_at ! fm _ met (step_entry K y) (and_then ! (get ! refl) (and_then ! (get ! refl) (and_then ! (get ! refl) (and_then ! (get ! refl) (and_then ! (get ! refl) (no_more !)))))) (λ v.
+      returned ! tt (StepEnded K) (step_clauses K) (step_entry K y) v (λ r ws is.
+      lands_as ! refl refl (fits 𝓛 L y.0.0.0 v ((kept_lawful 𝓛 L y.0.0.0).typed r (v ∷ []) is)) $
+      releases L ! fm release_met n y.0.0 y.0.1 y.0.3.0 (does K y.0.0 y.0.3) r v (and_then ! (get ! refl) (no_more !)) (λ u t is'.
+      lands_as ! refl refl ((bare_lawful 𝓛 L y.0.0.0).typed t (u ∷ []) is').0 $
+      returns ! (look_at ! 0 refl) $ free_all ! refl $ finishes K y u t ws)))))
 
   -- two constants and three arguments that are moved
-  module _ (X Y : Constant 𝓛) (A B C : Argument 𝓛 (suc n)) where
-    abbrev Cs-chosen-ternary : List (Constant 𝓛)
-    Cs-chosen-ternary = X ∷ Y ∷ []
-
-    abbrev Q-chosen-ternary : List (Slot (suc n))
-    Q-chosen-ternary = plain A.row ∷ plain B.row ∷ plain C.row ∷ []
-
-    abbrev K-chosen-ternary : Kepts Q-chosen-ternary
-    K-chosen-ternary = (A.kept, (B.kept, (C.kept, tt)))
-
-    module _ (asked : (κs : Lfts (suc n)) → MutBor D₀ × Denots (types_at (also 𝓛 Cs-chosen-ternary Q-chosen-ternary) κs) → SProp 𝓤)
-        (change : (κs : Lfts (suc n)) → MutBor D₀ × Denots (types_at (also 𝓛 Cs-chosen-ternary Q-chosen-ternary) κs) → Effect D₀) (fn : Fn)
-        (kg ko name : Callee) where
-      abbrev pub Code-chosen-ternary : Type 0
-      Code-chosen-ternary = (fn.locals ≡ l0 ∷ l1 ∷ local A.ty value_local ∷ local B.ty value_local ∷ local C.ty value_local ∷ kept ∷ borrowed ∷ local
-          (layout X.row) value_local ∷ local (layout Y.row) value_local ∷ local A.ty value_local ∷ local B.ty value_local ∷ local C.ty value_local ∷ [])
-          × (fn.body ≡ seq (assign (place 6 []) (addr_of (place 1 (deref (layout L.row) ∷ []))))
-          (seq (assign (place 7 []) (aggregate (int w8 X.tag ∷ []))) (seq (assign (place 8 []) (aggregate (int w8 Y.tag ∷ []))) (
-          seq (assign (place 9 []) (rv_opd (copy (place 2 []))))
-          (seq (assign (place 10 []) (rv_opd (copy (place 3 [])))) (seq (assign (place 11 []) (rv_opd (copy (place 4 [])))) (
-          seq (call kg (copy (place 6 []) ∷ copy (place 7 []) ∷ copy (place 8 []) ∷ copy (place 9 []) ∷ copy (place 10 []) ∷ copy (place 11 []) ∷ [])
-          (place 5 [])) (seq (call ko (copy (place 5 []) ∷ []) (place 0 [])) (return)))))))))
-
-      abbrev pub Coded-chosen-ternary : Type 2
-      Coded-chosen-ternary = Coded Cs-chosen-ternary Q-chosen-ternary K-chosen-ternary asked change fn name
-
-      abbrev pub Method-chosen-ternary : Type 1
-      Method-chosen-ternary = Method Cs-chosen-ternary Q-chosen-ternary K-chosen-ternary asked change name
-
-      pub by-chosen-ternary : Code-chosen-ternary → Coded-chosen-ternary → StepMeets Cs-chosen-ternary Q-chosen-ternary K-chosen-ternary asked change kg
-          → Releases Cs-chosen-ternary Q-chosen-ternary K-chosen-ternary asked change ko → Method-chosen-ternary
-      by-chosen-ternary code closed met release_met =
-          let fm = framed 𝓤 𝓛.H 𝓜 (tables 𝓤 𝓛.H 𝓜 𝓡 𝓡.env) in
-          chains Q-chosen-ternary K-chosen-ternary (asks' Cs-chosen-ternary Q-chosen-ternary asked) (change' Cs-chosen-ternary Q-chosen-ternary change) fn
-          name closed (A.goes, (B.goes, (C.goes, tt))) (λ y₀ are.
-          let a = y₀.0.3 in let p = vptr a.0.ref_ptr.0 a.0.ref_ptr.1 in
-          let x = A.one y₀.0.0 a.1.0 y₀.0.4.1.0 are.0 in
-          let x' = B.one y₀.0.0 a.1.1.0 y₀.0.4.1.1.0 are.1.0 in
-          let x'' = C.one y₀.0.0 a.1.1.1.0 y₀.0.4.1.1.1.0 are.1.1.0 in
-          let walk : (w w' w'' : Val) → Good A.ty w → Good B.ty w' → Good C.ty w''
-          → Walks Cs-chosen-ternary Q-chosen-ternary K-chosen-ternary asked change
-          ((y₀.0.0, y₀.0.1, y₀.0.2, a, (p ∷ [], (w ∷ [], (w' ∷ [], (w'' ∷ [], tt))))), tt) fn = λ w w' w'' good good' good''.
-          let y : At_entry Cs-chosen-ternary Q-chosen-ternary K-chosen-ternary asked change =
-          ((y₀.0.0, y₀.0.1, y₀.0.2, a, (p ∷ [], (w ∷ [], (w' ∷ [], (w'' ∷ [], tt))))), tt) in
-          let z = more Cs-chosen-ternary Q-chosen-ternary K-chosen-ternary asked change y in
-          qed 𝓛 (raw (at_entry Cs-chosen-ternary Q-chosen-ternary K-chosen-ternary asked change y) ∷ []) ∵ coded Q-chosen-ternary K-chosen-ternary
-          (asks' Cs-chosen-ternary Q-chosen-ternary asked) (change' Cs-chosen-ternary Q-chosen-ternary change) fn _ _ code.0 code.1 _ _ $
-          alloc_all ! (λ l. pass_all ! refl ((tt, tt), (good, (good', (good'', tt)))) $
-          sets ! (addr ! (through ! refl (stop !))) refl (tt, tt) $ sets ! (agg ! (and_then ! (lit ! X.is_byte) (no_more !))) refl X.good $ sets !
-          (agg ! (and_then ! (lit ! Y.is_byte) (no_more !))) refl Y.good $
-          sets ! (of_opd ! (get ! refl)) refl good $ sets ! (of_opd ! (get ! refl)) refl good' $ sets ! (of_opd ! (get ! refl)) refl good'' $
-          use1 𝓛 (raw (at_step Cs-chosen-ternary Q-chosen-ternary K-chosen-ternary asked change y))
-          (widened Cs-chosen-ternary Q-chosen-ternary K-chosen-ternary asked change y) $
-          calls_at ! fm _ met z (and_then ! (get ! refl)
-          (and_then ! (get ! refl) (and_then ! (get ! refl) (and_then ! (get ! refl) (and_then ! (get ! refl) (and_then ! (get ! refl) (no_more !)))))))
-          (λ v.
-          returned ! tt (StepEnded Cs-chosen-ternary Q-chosen-ternary K-chosen-ternary asked change)
-          (step_clauses Cs-chosen-ternary Q-chosen-ternary K-chosen-ternary asked change) z v (λ r ws is.
-          lands_as ! refl refl (fits 𝓛 L y.0.0.0 v ((kept_lawful 𝓛 L y.0.0.0).typed r (v ∷ []) is)) $
-          releases L ! fm release_met n y.0.0 y.0.1 a.0 (change z.0.0 z.0.3) r v (and_then ! (get ! refl) (no_more !)) (λ u t is'.
-          lands_as ! refl refl ((bare_lawful 𝓛 L y.0.0.0).typed t (u ∷ []) is').0 $
-          returns ! (look_at ! 0 refl) $ free_all ! refl $ leaves_step Cs-chosen-ternary Q-chosen-ternary K-chosen-ternary asked change y u t ws)))) in
-          ((x.0 ∷ [], (x'.0 ∷ [], (x''.0 ∷ [], tt))), ((λ i. (x.1.0 i, (x'.1.0 i, (x''.1.0 i, tt)))), walk x.0 x'.0 x''.0 x.1.1 x'.1.1 x''.1.1)))
+  pub by-chosen-ternary : {X Y : Constant 𝓛} {A B C : Argument 𝓛 (suc n)} {K : Call (X ∷ Y ∷ []) (moved A ∷ moved B ∷ moved C ∷ [])} → Compiled K → StepMeets K → Releases K → Method K
+  by-chosen-ternary {X = X} {Y = Y} {K = K} its met release_met = proved K its.closed (λ y₀ ws good.
+      let fm = framed 𝓤 𝓛.H 𝓜 (tables 𝓤 𝓛.H 𝓜 𝓡 𝓡.env) in let y : Entry K = entry K y₀ ws in
+      qed 𝓛 (raw (at_entry K y) ∷ []) ∵ begins K its.code _ _ $ alloc_all ! (λ l. pass_all ! refl ((tt, tt), good) $
+      sets ! (addr ! (through ! refl (stop !))) refl (tt, tt) $
+      sets ! (agg ! (and_then ! (lit ! X.is_byte) (no_more !))) refl X.good $ sets ! (agg ! (and_then ! (lit ! Y.is_byte) (no_more !))) refl Y.good $
+      sets ! (of_opd ! (get ! refl)) refl good.0 $ sets ! (of_opd ! (get ! refl)) refl good.1.0 $
+      sets ! (of_opd ! (get ! refl)) refl good.1.1.0 $
+      use1 𝓛 (raw (at_step K y)) (widens K y) $
+      calls_at ! fm _ met (step_entry K y) (and_then ! (get ! refl) (and_then ! (get ! refl) (and_then ! (get ! refl) (and_then ! (get ! refl) (and_then ! (get ! refl) (and_then ! (get ! refl) (no_more !))))))) (λ v.
+      returned ! tt (StepEnded K) (step_clauses K) (step_entry K y) v (λ r ws is.
+      lands_as ! refl refl (fits 𝓛 L y.0.0.0 v ((kept_lawful 𝓛 L y.0.0.0).typed r (v ∷ []) is)) $
+      releases L ! fm release_met n y.0.0 y.0.1 y.0.3.0 (does K y.0.0 y.0.3) r v (and_then ! (get ! refl) (no_more !)) (λ u t is'.
+      lands_as ! refl refl ((bare_lawful 𝓛 L y.0.0.0).typed t (u ∷ []) is').0 $
+      returns ! (look_at ! 0 refl) $ free_all ! refl $ finishes K y u t ws)))))

@@ -10,10 +10,12 @@ use mir.Val.{has_ty, vstruct, vint, vcons, vnil}
 abbrev tagged : ℕ → Val
 tagged tag = vstruct (vcons (vint w8 tag) vnil)
 
--- a variant of an enum whose variants hold nothing
-abbrev pub variant : (E : Declared) (L : Laws E) (value : E.D) (tag : ℕ) → T (ltb tag (2 ^ 8))
-    → T (has_ty (layout (row E)) (tagged tag)) → Fields (variants E) (spellss E.parts L) (E.to value)
+-- a variant of an enum whose variants hold nothing, by its value and its tag
+abbrev pub Variants : (E : Declared) → Laws E → Type 0
+Variants E L = (value : E.D) (tag : ℕ) → T (ltb tag (2 ^ 8)) → T (has_ty (layout (row E)) (tagged tag)) → Fields (variants E) (spellss E.parts L) (E.to value)
     → val E L value ≡ tagged tag → Variant E
+
+abbrev pub variant : (E : Declared) (L : Laws E) → Variants E L
 variant E L value tag is_byte is_tag fields is = record {
   value = value;
   tag = tag;

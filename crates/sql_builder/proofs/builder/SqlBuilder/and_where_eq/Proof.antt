@@ -1,17 +1,7 @@
-use Rattle.sql_parts.proofs.chains.Prelude.{refl}
-use Rattle.sql_builder.proofs.chains.ConstantFacts as constants
-use Rattle.sql_builder.proofs.chains.MethodLemmas.{adds_chosen_binary}
-use Rattle.sql_builder.specs.Condition.{Compare}
-use Rattle.sql_builder.specs.contracts.builder.SqlBuilder.and_where_eq.Key.{name as #self}
-use Rattle.sql_builder.specs.contracts.builder.SqlBuilder.hold_compare as step
-use Rattle.sql_builder.proofs.builder.SqlBuilder.hold_compare.Met.{met}
-use Rattle.sql_builder.proofs.builder.SqlBuilder.hold_compare.Symbol as symbol
-use Rattle.sql_builder.proofs.builder.SqlBuilder.and_where_eq.Statement.{statement}
-use Rattle.sql_builder.proofs.builder.SqlBuilder.and_where_eq.Code as code
+use Rattle.sql_builder.proofs.chains.MethodLemmas as by
+use Rattle.sql_builder.proofs.builder.SqlBuilder.and_where_eq as its
 
-pub and_where_eq_spec : {M : Type 1} → statement M
+pub and_where_eq_spec : {M : Type 1} → its.Statement.statement M
 and_where_eq_spec 𝓤 𝓛 𝓜 𝓡 w S T LS LT s d t e d' e' ms mt md me =
-    adds_chosen_binary 𝓤 𝓛 𝓜 𝓡 constants.family-and constants.relation-eq Compare code.function #self symbol.name S T LS LT s t d e d' e'
-    (λ κs a. (step.clauses S T s d t e d' e' 𝓛 𝓜.mem 𝓡.returns κs a).requires tt)
-    (met 𝓤 𝓛 𝓜 𝓡 (code.calls-sql_builder::builder::SqlBuilder::hold_compare 𝓡.env w) S T LS LT s d t e d' e' ms mt md me)
-    (refl, refl) (code.unfolded 𝓤 𝓛.H 𝓜 𝓡 w (S, (T, tt)) d e d' e') (code.calls-sql_parts::loan::release 𝓡.env w)
+    by.compare 𝓤 𝓛 𝓜 𝓡 S T LS LT s d t e d' e' ms mt md me by.family-and by.relation-eq (its.Code.calls-sql_builder::builder::SqlBuilder::hold_compare 𝓡.env w)
+    (record { code = (by.refl, by.refl); closed = its.Code.unfolded 𝓤 𝓛.H 𝓜 𝓡 w (S, (T, tt)) d e d' e' }) (its.Code.calls-sql_parts::loan::release 𝓡.env w)

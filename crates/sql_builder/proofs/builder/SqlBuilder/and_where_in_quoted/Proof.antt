@@ -1,19 +1,8 @@
-use Rattle.sql_parts.proofs.chains.Prelude.{refl}
-use Rattle.sql_builder.proofs.chains.ConstantFacts as constants
-use Rattle.sql_builder.proofs.chains.MethodLemmas.{adds_chosen_listed}
-use Rattle.sql_builder.specs.Condition.{InQuoted}
-use Rattle.sql_builder.specs.Steps.{is_negated}
-use Rattle.sql_builder.specs.contracts.builder.SqlBuilder.and_where_in_quoted.Key.{name as #self}
-use Rattle.sql_builder.specs.contracts.builder.SqlBuilder.hold_in_quoted as step
-use Rattle.sql_builder.proofs.builder.SqlBuilder.hold_in_quoted.Met.{met}
-use Rattle.sql_builder.proofs.builder.SqlBuilder.hold_in_quoted.Symbol as symbol
-use Rattle.sql_builder.proofs.builder.SqlBuilder.and_where_in_quoted.Statement.{statement}
-use Rattle.sql_builder.proofs.builder.SqlBuilder.and_where_in_quoted.Code as code
+use Rattle.sql_builder.proofs.chains.MethodLemmas as by
+use Rattle.sql_builder.proofs.builder.SqlBuilder.and_where_in_quoted as its
 
-pub and_where_in_quoted_spec : {M : Type 1} → statement M
+pub and_where_in_quoted_spec : {M : Type 1} → its.Statement.statement M
 and_where_in_quoted_spec 𝓤 𝓛 𝓜 𝓡 w S T LS LT s d t e d' e' ms mt md me =
-    adds_chosen_listed 𝓤 𝓛 𝓜 𝓡 constants.family-and constants.sense-plain (λ sense. InQuoted (is_negated sense)) code.function #self symbol.name S T LS LT s t
-    d e d' e' (step.signature S T).outlives
-    (λ κs a. (step.clauses S T s d t e d' e' 𝓛 𝓜.mem 𝓡.returns κs a).requires tt)
-    (met 𝓤 𝓛 𝓜 𝓡 (code.calls-sql_builder::builder::SqlBuilder::hold_in_quoted 𝓡.env w) S T LS LT s d t e d' e' ms mt md me)
-    (refl, refl) (code.unfolded 𝓤 𝓛.H 𝓜 𝓡 w (S, (T, tt)) d e d' e') (code.calls-sql_parts::loan::release 𝓡.env w)
+    by.in_quoted 𝓤 𝓛 𝓜 𝓡 S T LS LT s d t e d' e' ms mt md me by.family-and by.sense-plain
+    (its.Code.calls-sql_builder::builder::SqlBuilder::hold_in_quoted 𝓡.env w)
+    (record { code = (by.refl, by.refl); closed = its.Code.unfolded 𝓤 𝓛.H 𝓜 𝓡 w (S, (T, tt)) d e d' e' }) (its.Code.calls-sql_parts::loan::release 𝓡.env w)

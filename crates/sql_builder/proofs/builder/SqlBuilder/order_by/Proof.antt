@@ -1,11 +1,7 @@
-use Rattle.sql_parts.proofs.chains.Prelude.{refl}
-use Rattle.sql_builder.proofs.chains.MethodLemmas.{by_order}
-use Rattle.sql_builder.specs.contracts.builder.SqlBuilder.order_by.Key.{name as #self}
-use Rattle.sql_builder.proofs.builder.SqlBuilder.order_by.Statement.{statement}
-use Rattle.sql_builder.proofs.builder.SqlBuilder.order_by.Code as code
+use Rattle.sql_builder.proofs.chains.MethodLemmas as by
+use Rattle.sql_builder.proofs.builder.SqlBuilder.order_by as its
 
-pub order_by_spec : {M : Type 1} → statement M
+pub order_by_spec : {M : Type 1} → its.Statement.statement M
 order_by_spec 𝓤 𝓛 𝓜 𝓡 w S LS s d d' ms md =
-    by_order 𝓤 𝓛 𝓜 𝓡 code.function #self S LS s d d' ms md
-    (refl, refl) (code.unfolded 𝓤 𝓛.H 𝓜 𝓡 w (S, tt) d d')
-    (code.calls-sql_builder::builder::SqlBuilder::hold_order 𝓡.env w) (code.calls-sql_parts::loan::release 𝓡.env w)
+    by.order 𝓤 𝓛 𝓜 𝓡 S LS s d d' ms md (its.Code.calls-sql_builder::builder::SqlBuilder::hold_order 𝓡.env w)
+    (record { code = (by.refl, by.refl); closed = its.Code.unfolded 𝓤 𝓛.H 𝓜 𝓡 w (S, tt) d d' }) (its.Code.calls-sql_parts::loan::release 𝓡.env w)

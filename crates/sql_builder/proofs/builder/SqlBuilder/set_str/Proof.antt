@@ -1,15 +1,8 @@
-use Rattle.sql_parts.proofs.chains.Prelude.{refl}
-use Rattle.sql_parts.proofs.chains.VariantLemmas.{variant}
-use Rattle.sql_builder.proofs.chains.MethodLemmas.{by_binary}
-use Rattle.sql_builder.specs.contracts.steps.BinaryClause as clause
-use Rattle.sql_builder.specs.declared.steps.BinaryClause.TheVariants as clause_case
-use Rattle.sql_builder.proofs.steps.BinaryClause.TheLaws as laws
-use Rattle.sql_builder.specs.contracts.builder.SqlBuilder.set_str.Key.{name as #self}
-use Rattle.sql_builder.proofs.builder.SqlBuilder.set_str.Statement.{statement}
-use Rattle.sql_builder.proofs.builder.SqlBuilder.set_str.Code as code
+use Rattle.sql_builder.proofs.chains.MethodLemmas as by
+use Rattle.sql_builder.proofs.builder.SqlBuilder.set_str as its
 
-pub set_str_spec : {M : Type 1} → statement M
+pub set_str_spec : {M : Type 1} → its.Statement.statement M
 set_str_spec 𝓤 𝓛 𝓜 𝓡 w S T LS LT s d t e d' e' ms mt md me =
-    by_binary 𝓤 𝓛 𝓜 𝓡 (variant clause.the_type laws.the_laws clause_case.SetStr 3 tt tt tt refl) code.function #self S T LS LT s d t e d' e' ms mt md me
-    (refl, refl) (code.unfolded 𝓤 𝓛.H 𝓜 𝓡 w (S, (T, tt)) d e d' e')
-    (code.calls-sql_builder::builder::SqlBuilder::hold_binary 𝓡.env w) (code.calls-sql_parts::loan::release 𝓡.env w)
+    by.binary 𝓤 𝓛 𝓜 𝓡 S T LS LT s d t e d' e' ms mt md me (by.binary_clause by.binary_case.SetStr 3 tt tt tt by.refl)
+    (its.Code.calls-sql_builder::builder::SqlBuilder::hold_binary 𝓡.env w)
+    (record { code = (by.refl, by.refl); closed = its.Code.unfolded 𝓤 𝓛.H 𝓜 𝓡 w (S, (T, tt)) d e d' e' }) (its.Code.calls-sql_parts::loan::release 𝓡.env w)
