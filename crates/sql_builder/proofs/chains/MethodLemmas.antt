@@ -1,6 +1,6 @@
 -- The chain calls of each step. A chain call's proof is one use of these.
 use Rattle.sql_builder.proofs.Imports.{◌≡◌, ℕ, List, [], ◌∷◌, a_type, dcons, dnil, bounded, Ura, Logic, RattleType, Args, Callee, Dict, Fn, Running, codes, map}
-use Rattle.sql_builder.proofs.Imports.{Bool, true, false, suc, Raw}
+use Rattle.sql_builder.proofs.Imports.{true, false, suc, Raw}
 pub use Rattle.sql_builder.proofs.Imports.{refl}
 use Rattle.sql_parts.proofs.chains.LoanLemmas.{Constant, Effect, BorrowedType, Variant, boolean, constant, generic, passed_laws, passed_row, release_name}
 use Rattle.sql_parts.proofs.chains.LoanLemmas.{release_triple, slice}

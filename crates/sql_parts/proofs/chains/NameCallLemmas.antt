@@ -1,14 +1,13 @@
 -- The calls that change a name and return it. Such a call's proof is one use of `by_change`.
-use Rattle.sql_parts.proofs.chains.Prelude.{◌≡◌, [], ◌∷◌, a_type, dcons, dnil, bounded, refl, Ura, Logic, RattleType, SProp}
-use Rattle.sql_parts.proofs.chains.LoanLemmas.{Effect, BorrowedType, Variant, constant, generic, passed_laws, passed_row, release_name}
+use Rattle.sql_parts.proofs.chains.Prelude.{◌≡◌, [], ◌∷◌, a_type, dcons, dnil, bounded, refl, Ura, Logic, RattleType}
+use Rattle.sql_parts.proofs.chains.LoanLemmas.{BorrowedType, Variant, constant, generic, passed_laws, passed_row, release_name}
 use Rattle.sql_parts.proofs.chains.VariantLemmas.{variant}
 use Rattle.sql_parts.proofs.chains.ChainCallLemmas as calls
 use mir.Syntax.{Args, Callee, Dict, Fn}
-use Rattle.sql_parts.proofs.Imports.{⊑_refl, Lfts, Running, Model, Laws, Denots, types_at}
+use Rattle.sql_parts.proofs.Imports.{⊑_refl, Running, Model, Laws}
 use prog.Wired.{Wired}
 use denote.Param.Glue.{Met as Drops}
 use Rattle.sql_parts.specs.{IsMemory, with_change}
-use Rattle.sql_parts.specs.Name.{Name}
 use Rattle.sql_parts.specs.declared.text.ToText.{Ghosts}
 use Rattle.sql_parts.specs.contracts.text.ToText.TheBound.{Met}
 use Rattle.sql_parts.specs.contracts.name.SqlName.{the_row}
