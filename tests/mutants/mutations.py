@@ -174,7 +174,7 @@ def renamed(function, at, new, names):
             yield f"{enum}-{old}".lower(), f"{enum}-{it}".lower()
             yield f"{old} {names.numbers.get((enum, old))}", f"{it} {names.numbers[enum, it]}"
         elif it.startswith("hold_"):
-            yield from ((old, it), ("".join(word.title() for word in name.split("_")[1:]) for name in (old, it)))
+            yield from ((old, it), (old.removeprefix("hold_"), it.removeprefix("hold_")))
 
 
 def replaced(function, at, number, new, names, folder):
