@@ -141,58 +141,21 @@ mysql-inside = record {
 pub mysql_plain-inside : IsInside (mysql false) but_zero 39 39
 mysql_plain-inside = record { stays = λ byte plain isnt. rw (ne_eqb byte 39 isnt) refl; goes_on = refl }
 
-mysql-opens : (state : ℕ) → mysql true state 39 ≡ 39 → OpensLiteral (mysql true) plain_in_mysql Single state
-mysql-opens state into = subst (λ inside. IsInside (mysql true) plain_in_mysql 39 inside) (sym into) mysql-inside
+-- Where a quote opens a string: in words and numbers, behind signs, behind N and a character set, behind two dashes without a blank, in a flat
+-- comment, and behind what ends a literal. A backslash escapes in both kinds of strings, and not in a name.
+mysql-opens : list_all (λ text. after (mysql true) 0 text == 39)
+    (codes "SELECT * FROM t WHERE a = '" ∷ codes "a1'" ∷ codes "a.x'" ∷ codes "@x'" ∷ codes "a /'" ∷ codes "a -'" ∷ codes "N'" ∷ codes "_utf8mb4'"
+    ∷ codes "1--1 = '" ∷ codes "/* /* ' */ a = '" ∷ codes "-- '\n'" ∷ codes "# '\n'" ∷ codes "x'' = '" ∷ codes "'\\'' = \"\\\"\" = `\\` = '" ∷ [])
+    ≡ true
+mysql-opens = refl
 
-abbrev OpensInMysql : List ℕ → Type 0
-OpensInMysql text = OpensLiteral (mysql true) plain_in_mysql Single (after (mysql true) 0 text)
+-- and where not: in a comment, in bits, in a string or a name, and where the reader is lost
+mysql-opens_none : list_all (λ text. not (after (mysql true) 0 text == 39))
+    (codes "a = -- b '" ∷ codes "a = --\t'" ∷ codes "a = # b '" ∷ codes "a = /* b '" ∷ codes "a = x'" ∷ codes "a = B'" ∷ codes "a = 'b'" ∷ codes "a = \"b'"
+    ∷ codes "a = `b'" ∷ codes "/*!50000 a = '" ∷ codes "/*M! a = '" ∷ codes "/*+ a */ '" ∷ codes "a = $$'" ∷ [])
+    ≡ true
+mysql-opens_none = refl
 
--- in words and numbers, behind signs, and behind what ends a literal
-mysql-outside : list_all (λ state. mysql true state 39 == 39) (0 ∷ 119 ∷ 45 ∷ 301 ∷ 47 ∷ 295 ∷ 290 ∷ 352 ∷ []) ≡ true
-mysql-outside = refl
-
-mysql-where : OpensInMysql (codes "SELECT * FROM t WHERE a = ")
-mysql-where = mysql-opens (after (mysql true) 0 (codes "SELECT * FROM t WHERE a = ")) refl
-
-mysql-national : OpensInMysql (codes "a = N")
-mysql-national = mysql-opens (after (mysql true) 0 (codes "a = N")) refl
-
-mysql-introducer : OpensInMysql (codes "a = _utf8mb4")
-mysql-introducer = mysql-opens (after (mysql true) 0 (codes "a = _utf8mb4")) refl
-
--- two dashes begin a comment only before a blank or a control character
-mysql-two_dashes : OpensInMysql (codes "1--1 = ")
-mysql-two_dashes = mysql-opens (after (mysql true) 0 (codes "1--1 = ")) refl
-
-mysql-flat_comment : OpensInMysql (codes "/* /* ' */ a = ")
-mysql-flat_comment = mysql-opens (after (mysql true) 0 (codes "/* /* ' */ a = ")) refl
-
--- a backslash escapes in both kinds of strings, and not in a name
-mysql-escaped : OpensInMysql (codes "'\\'' = \"\\\"\" = `\\` = ")
-mysql-escaped = mysql-opens (after (mysql true) 0 (codes "'\\'' = \"\\\"\" = `\\` = ")) refl
-
-mysql-line_comment : OpensInMysql (codes "a = -- b ") → ⊥
-mysql-line_comment opens = eqb-false 0 10 refl (opens.stays 10 refl (eqb-false 10 39 refl))
-
-mysql-hash : OpensInMysql (codes "a = # b ") → ⊥
-mysql-hash opens = eqb-false 0 10 refl (opens.stays 10 refl (eqb-false 10 39 refl))
-
-mysql-comment : OpensInMysql (codes "a = /* b ") → ⊥
-mysql-comment opens = eqb-false 42 1 refl (opens.stays 42 refl (eqb-false 42 39 refl))
-
-mysql-bits : OpensInMysql (codes "a = x") → ⊥
-mysql-bits opens = eqb-false 39 98 refl opens.goes_on
-
-mysql-string : OpensInMysql (codes "a = 'b") → ⊥
-mysql-string opens = eqb-false 119 295 refl (opens.stays 97 refl (eqb-false 97 39 refl))
-
-mysql-double : OpensInMysql (codes "a = \"b") → ⊥
-mysql-double opens = eqb-false 290 34 refl (opens.stays 34 refl (eqb-false 34 39 refl))
-
--- where it is lost
-mysql-lost : list_all (λ text. after (mysql true) 0 text == 33) (codes "/*!50000 a = " ∷ codes "/*M! a = " ∷ codes "/*+ a */" ∷ codes "a = $$" ∷ []) ≡ true
-mysql-lost = refl
-
--- by NO_BACKSLASH_ESCAPES it is plain
-mysql_plain-where : OpensLiteral (mysql false) but_zero Single (after (mysql false) 0 (codes "'\\' = "))
-mysql_plain-where = mysql_plain-inside
+-- by NO_BACKSLASH_ESCAPES a backslash is plain
+mysql_plain-opens : after (mysql false) 0 (codes "'\\' = '") ≡ 39
+mysql_plain-opens = refl

@@ -38,10 +38,6 @@ in_literal escapes state byte =
     else if escapes && byte == code "\\" && not (state == code "`") then 512 + state
     else state
 
--- in a comment that `*/` ends
-abbrev pub in_block : ℕ → ℕ
-in_block byte = if byte == code "*" then byte else 1
-
 -- in a comment of a line, and behind what may begin one: behind two dashes a blank or a control character does
 abbrev pub in_line : ℕ → ℕ → ℕ
 in_line state byte =
@@ -51,14 +47,15 @@ in_line state byte =
     else if byte == code "-" then state
     else begun byte
 
--- in such a comment, and behind what begins it
+-- in a comment that `*/` ends, and behind what may begin one
 abbrev pub in_comment : ℕ → ℕ → ℕ
 in_comment state byte =
     if state == code "/" then (if byte == code "*" then 256 + state else begun byte)
     else if state == 256 + code "/" && is_one_of (codes "!+M") byte then (if byte == code "M" then byte else code "!")
     else if state == code "M" && byte == code "!" then byte
     else if state == code "*" && byte == code "/" then 0
-    else in_block byte
+    else if byte == code "*" then byte
+    else 1
 
 -- the state behind a byte
 abbrev pub mysql : Bool → Reader

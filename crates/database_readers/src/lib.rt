@@ -78,13 +78,14 @@ impl Database {
         state
     }
 
-    /// Returns whether the database reads a statement as meant that is printed with an empty text
-    /// for each value: it opens a string at each. This is what `readers_ignore_quoted_texts` and
-    /// `readers_ignore_bound_texts` ask, so no text of plain bytes changes the rest of it. What counts
-    /// as a value is each pair of quotes with nothing between them, or the percent signs of a mask. So
-    /// a doubled quote in a string of yours gives `false`. Never fails.
-    /// `Database::Sqlite.reads_as_meant("title LIKE ''")` gives `true`, and of `"title LIKE '%?%'"` with
-    /// an empty text `Database::Sqlite.reads_as_meant("title LIKE '%''%'")` gives `false`
+    /// Returns whether the database reads a printed statement as meant. Print it with an empty text
+    /// for each value: the database has to open a string at each. Then no text of plain bytes changes
+    /// the rest, by `readers_ignore_quoted_texts` and `readers_ignore_bound_texts`.
+    ///
+    /// Two quotes with nothing between them, or percent signs, are taken for a value. So a doubled
+    /// quote in a string of yours gives `false`. Never fails.
+    /// `Database::Sqlite.reads_as_meant("title LIKE ''")`, of `title LIKE ?`, gives `true`, and
+    /// `Database::Sqlite.reads_as_meant("title LIKE '%''%'")`, of `title LIKE '%?%'`, gives `false`
     pub fn reads_as_meant(self, text: &str) -> bool
         ensures exact { IsTrue result ↔ IsInsideAtEmptyValues (reader_of self) (in_string self) 0 text.now }
         ensures statements { IsTrue result → OpensStringsOfStatements self text.now }

@@ -1,7 +1,8 @@
 //! How MySQL and MariaDB read a text.
 ghost use Rattle.std.specs.Prelude.{◌≡◌};
-ghost use Rattle.sql_parts.specs.Tokens.{is_word_byte};
-ghost use Rattle.database_readers.specs.MysqlReader.{begun, in_block, in_comment, in_line, in_literal, in_word, mysql};
+ghost use Rattle.database_readers.specs.MysqlReader.{begun, in_comment, in_line, in_literal, in_word, mysql};
+
+use crate::postgres::is_word_byte;
 
 const OUTSIDE: u64 = 0;
 
@@ -28,12 +29,6 @@ const LETTER: u64 = b'x' as u64;
 const DASHES: u64 = 256 + DASH;
 
 const SLASH_STAR: u64 = 256 + SLASH;
-
-fn is_word_byte(byte: u8) -> bool
-    ensures { result ≡ is_word_byte byte }
-{
-    byte.is_ascii_alphanumeric() || byte == b'_' || byte >= 128
-}
 
 fn begun(byte: u8) -> u64
     ensures { result ≡ begun byte }
@@ -99,12 +94,6 @@ fn in_line(state: u64, byte: u8) -> u64
     }
 }
 
-fn in_block(byte: u8) -> u64
-    ensures { result ≡ in_block byte }
-{
-    if byte == b'*' { STAR } else { BLOCK }
-}
-
 fn in_comment(state: u64, byte: u8) -> u64
     ensures { result ≡ in_comment state byte }
 {
@@ -118,7 +107,8 @@ fn in_comment(state: u64, byte: u8) -> u64
         SLASH_STAR if matches!(byte, b'!' | b'+') => LOST,
         LETTER_M if byte == b'!' => LOST,
         STAR if byte == b'/' => OUTSIDE,
-        _ => in_block(byte),
+        _ if byte == b'*' => STAR,
+        _ => BLOCK,
     }
 }
 

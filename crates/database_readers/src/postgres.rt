@@ -92,7 +92,7 @@ fn nested(place: u64, more: u64) -> u64
     NESTED + 8 * more + place
 }
 
-fn is_word_byte(byte: u8) -> bool
+pub(crate) fn is_word_byte(byte: u8) -> bool
     ensures { result ≡ is_word_byte byte }
 {
     byte.is_ascii_alphanumeric() || byte == b'_' || byte >= 128
