@@ -16,7 +16,10 @@ fn reads_as_databases(rt: HostRuntime) -> Result<(), Fail> {
     assert_eq!(rt; postgres_state(b"SELECT E'a\\'"), 24);
     assert_eq!(rt; postgres_state(b"/* /* */ SELECT 'it''s' "), 48);
     assert_eq!(rt; Database::Mysql.state(b"SELECT 'a\\'"), 39);
-    assert_eq!(rt; Database::MysqlNoBackslashEscapes.state(b"SELECT 'a\\'"), 295);
+    assert_eq!(rt;
+        Database::MysqlNoBackslashEscapes.state(b"SELECT 'a\\'"),
+        295
+    );
     Ok(())
 }
 
@@ -36,10 +39,20 @@ fn reads_as_meant(rt: HostRuntime) -> Result<(), Fail> {
     let alloc = rt.alloc();
     assert_eq!(rt; is_read(alloc, "title LIKE ?")?, [true; 4]);
     assert_eq!(rt; is_read(alloc, "title LIKE '%?%'")?, [false; 4]);
-    assert_eq!(rt; is_read(alloc, "a = 'it\\'s' AND b = ?")?, [false, false, true, false]);
-    assert_eq!(rt; is_read(alloc, "a = /* /* */ ?")?, [true, false, true, true]);
+    assert_eq!(rt;
+        is_read(alloc, "a = 'it\\'s' AND b = ?")?,
+        [false, false, true, false]
+    );
+    assert_eq!(rt;
+        is_read(alloc, "a = /* /* */ ?")?,
+        [true, false, true, true]
+    );
     assert_eq!(rt; is_read(alloc, "a # ?")?, [true, true, false, false]);
-    let all = SqlBuilder::select_from(alloc, "t")?.and_where_like_any("a", "")?.sql()?;
+    assert_eq!(rt; is_read(alloc, "a = x?")?, [false; 4]);
+    assert_eq!(rt; is_read(alloc, "a = E?")?, [true, false, true, true]);
+    let all = SqlBuilder::select_from(alloc, "t")?
+        .and_where_like_any("a", "")?
+        .sql()?;
     assert!(rt; Database::Sqlite.reads_as_meant(all.as_str()));
     Ok(())
 }

@@ -90,86 +90,66 @@ module _ (next : Reader) (inside : ℕ) where
 
   module _ (plain : ℕ → Bool) (opens : IsInside next plain 39 inside) where
     -- these parts make this text, and where the reader is inside at empty values it is so at each untrusted text
-    abbrev AreRead : List Part → List ℕ → Type 0
-    AreRead parts text = (parts_bytes parts ≡ text) × ((state : ℕ) → At state text → IsInsideAtEach next plain state parts)
+    record AreRead (parts : List Part) (text : List ℕ) : Type 0 where
+      is : parts_bytes parts ≡ text
+      read : (state : ℕ) → At state text → IsInsideAtEach next plain state parts
+
+    read-append : {one other : List Part} {first second : List ℕ} → AreRead one first → AreRead other second → AreRead (one ++ other) (first ++ second)
+    read-append {one = one} {other = other} {first = first} {second = second} reads later = record {
+      is = flat_map-append part_bytes one other ∙ (λ i. reads.is i ++ later.is i);
+      read = λ state all. inside-append next plain state one other (reads.read state (at-front state first second all))
+          (subst (λ (bytes : List ℕ). IsInsideAtEach next plain (after next state bytes) other) (sym reads.is)
+          (later.read (after next state first) (at-behind state first second all)));
+    }
 
     read-none : AreRead [] []
-    read-none = (refl, λ state all. tt)
-
-    read-append : (one other : List Part) (first second : List ℕ) → AreRead one first → AreRead other second → AreRead (one ++ other) (first ++ second)
-    read-append one other first second reads later = (
-      flat_map-append part_bytes one other ∙ (λ i. reads.0 i ++ later.0 i),
-      λ state all. inside-append next plain state one other (reads.1 state (at-front state first second all))
-          (subst (λ (bytes : List ℕ). IsInsideAtEach next plain (after next state bytes) other) (sym reads.0)
-          (later.1 (after next state first) (at-behind state first second all))),
-    )
+    read-none = record { is = refl; read = λ state all. tt }
 
     read-constant : (text : List ℕ) → AreRead (Constant text ∷ []) text
-    read-constant text = (append-nil text, λ state all. (tt, tt))
+    read-constant text = record { is = append-nil text; read = λ state all. (tt, tt) }
 
     read-value : (mask : List ℕ) → list_all is_percent mask ≡ true → AreRead (between_parts Single mask) (quoted mask)
-    read-value mask masks = (
-      refl,
-      λ state all. (
-        tt,
-        (
-          subst (IsInside next plain 39)
-              (sym (all [] (doubled 39 mask ++ 39 ∷ []) 39 refl (refl, mask-found mask masks))) opens,
-          (tt, tt),
-        ),
-      ),
-    )
+    read-value mask masks = record {
+      is = refl;
+      read = λ state all. (tt, (subst (IsInside next plain 39) (sym (all [] (doubled 39 mask ++ 39 ∷ []) 39 refl (refl, mask-found mask masks))) opens, (tt, tt)));
+    }
 
     pieces-read : (printed : Pieces) → list_all (has_plain_text is_percent) (parts_in printed) ≡ true → AreRead (parts_in printed) (pieces_text printed)
     pieces-read [] masks = read-none
-    pieces-read (Fixed text ∷ printed) masks =
-        read-append (Constant text ∷ []) (parts_in printed) text (pieces_text printed) (read-constant text) (pieces-read printed masks)
-    pieces-read (Raw text ∷ printed) masks =
-        read-append (Constant text ∷ []) (parts_in printed) text (pieces_text printed) (read-constant text) (pieces-read printed masks)
+    pieces-read (Fixed text ∷ printed) masks = read-append (read-constant text) (pieces-read printed masks)
+    pieces-read (Raw text ∷ printed) masks = read-append (read-constant text) (pieces-read printed masks)
     pieces-read (Quoted mask ∷ printed) masks =
         let both = and_parts (list_all is_percent mask) (list_all (has_plain_text is_percent) (parts_in printed)) masks in
-        read-append (between_parts Single mask) (parts_in printed) (quoted mask) (pieces_text printed) (read-value mask both.0) (pieces-read printed both.1)
+        read-append (read-value mask both.0) (pieces-read printed both.1)
 
-    literal-read : (literal : LiteralValue) → AreRead (literal_parts (blank_literal literal)) (literal_text (blank_literal literal))
-    literal-read null = read-constant (literal_text null)
-    literal-read (truth value) = read-constant (literal_text (truth value))
-    literal-read (whole number) = read-constant (literal_text (whole number))
-    literal-read (words text) = read-value [] refl
+    printed-read : (printed : Result Pieces SqlBuilderError) (text : List ℕ) → At 0 text → text_unless_error printed ≡ Ok text
+        → IfOk printed (λ pieces. list_all (has_plain_text is_percent) (parts_in pieces) ≡ true)
+        → IfOk printed (λ pieces. IsInsideAtEach next plain 0 (parts_in pieces))
+    printed-read (Ok printed) text all is masks = (pieces-read printed masks).read 0 (subst (At 0) (sym (cc is)) all)
+    printed-read (Err error) text all is masks = tt
 
     module _ (literals : Value → LiteralValue) where
       abbrev blanks : Value → LiteralValue
       blanks value = blank_literal (literals value)
 
-      abbrev segment_parts : Value × List ℕ → List Part
-      segment_parts part = literal_parts (blanks part.0) ++ Constant part.1 ∷ []
+      literal-read : (literal : LiteralValue) → AreRead (literal_parts (blank_literal literal)) (literal_text (blank_literal literal))
+      literal-read (words text) = read-value [] refl
+      literal-read null = read-constant (literal_text null)
+      literal-read (truth value) = read-constant (literal_text (truth value))
+      literal-read (whole number) = read-constant (literal_text (whole number))
 
-      abbrev segment_text : Value × List ℕ → List ℕ
-      segment_text part = literal_text (blanks part.0) ++ part.1
-
-      segments-read : (segments : List (Value × List ℕ)) → AreRead (flat_map segment_parts segments) (flat_map segment_text segments)
+      segments-read : (segments : List (Value × List ℕ))
+          → AreRead (flat_map (λ part. literal_parts (blanks part.0) ++ Constant part.1 ∷ []) segments)
+          (flat_map (λ part. literal_text (blanks part.0) ++ part.1) segments)
       segments-read [] = read-none
       segments-read (segment ∷ segments) =
-          read-append (segment_parts segment) (flat_map segment_parts segments) (segment_text segment) (flat_map segment_text segments)
-          (read-append (literal_parts (blanks segment.0)) (Constant segment.1 ∷ []) (literal_text (blanks segment.0)) segment.1 (literal-read (literals segment.0))
-          (read-constant segment.1))
-          (segments-read segments)
+          read-append (read-append (literal-read (literals segment.0)) (read-constant segment.1)) (segments-read segments)
 
       bound-read : (resolved : Option Resolved) (text : List ℕ) → At 0 text → option_map (written blanks) resolved ≡ Some text
           → IsInsideAtEach next plain 0 (unwrap_or (option_map (resolved_parts blanks) resolved) [])
       bound-read None text all is = cc is
       bound-read (Some resolved) text all is =
-          let made : resolved.0 ++ flat_map segment_text resolved.1 ≡ text = cc is in
-          (read-append (Constant resolved.0 ∷ []) (flat_map segment_parts resolved.1) resolved.0 (flat_map segment_text resolved.1) (read-constant resolved.0)
-          (segments-read resolved.1)).1 0
-          (subst (At 0) (sym made) all)
-
-    printed-read : (printed : Result Pieces SqlBuilderError) (text : List ℕ) → At 0 text → text_unless_error printed ≡ Ok text
-        → IfOk printed (λ pieces. list_all (has_plain_text is_percent) (parts_in pieces) ≡ true)
-        → IfOk printed (λ pieces. IsInsideAtEach next plain 0 (parts_in pieces))
-    printed-read (Ok printed) text all is masks =
-        let made : pieces_text printed ≡ text = cc is in
-        (pieces-read printed masks).1 0 (subst (At 0) (sym made) all)
-    printed-read (Err error) text all is masks = tt
+          (read-append (read-constant resolved.0) (segments-read resolved.1)).read 0 (subst (At 0) (sym (cc is)) all)
 
 -- ---- the texts that calls without texts quote
 
