@@ -1,27 +1,21 @@
 -- A text that is read as meant gives the premises of the laws of readers.
-use Rattle.std.proofs.Common.{◌≡◌, refl, sym, ◌∙◌, ap, subst, ℕ, Bool, true, List, [], ◌∷◌, ◌++◌, Option, None, Some, Result, Ok, Err, map, append-nil, append_assoc, length, arith}
-use Rattle.std.specs.Prelude.{◌==◌, ◌↔◌, IfOk, find, flat_map, not, option_map, unwrap_or}
-use Rattle.std.specs.List.{list_all}
-use Rattle.std.specs.Option.{option_or}
-use Rattle.std.proofs.lemmas.Bool.{and_from, and_parts, eqb-true}
-use Rattle.std.proofs.lemmas.Grind.{flat_map-append}
+use Rattle.sql_builder.proofs.Imports.{◌≡◌, refl, sym, ◌∙◌, ap, subst, ℕ, Bool, true, List, [], ◌∷◌, ◌++◌, Option, None, Some, Result, Ok, Err, map, not}
+use Rattle.sql_builder.proofs.Imports.{◌==◌, IfOk, flat_map, option_map, list_all, option_or, length, arith, append-nil, append_assoc, and_from, and_parts}
+use Rattle.sql_builder.proofs.Imports.{eqb-true, flat_map-append, LiteralValue, literal_text, null, truth, whole, words, doubled, quoted, Value, Single}
+use Rattle.sql_builder.proofs.Imports.{SqlBuilderError, Pieces}
+use Rattle.std.specs.Prelude.{◌↔◌, find, unwrap_or}
 use Rattle.std.proofs.lemmas.List.Folds.{find-append}
-use Rattle.sql_parts.specs.Literal.{LiteralValue, literal_text, null, truth, whole, words}
-use Rattle.sql_parts.specs.Quoting.{doubled, quoted}
 use Rattle.sql_parts.specs.ReaderLaws.{literal_parts, resolved_parts}
-use Rattle.sql_parts.specs.Readers.{Part, Constant, Reader, IsInside, IsInsideAtEach, after, between_parts, part_bytes, parts_bytes, has_plain_text}
 use Rattle.sql_parts.specs.StringTexts.{blank_literal}
-use Rattle.sql_parts.specs.Templates.{Resolved, Value, resolve, written}
-use Rattle.sql_parts.specs.declared.delimiters.Quotes.TheVariants.{Single}
-use Rattle.sql_parts.specs.declared.error.SqlBuilderError.{SqlBuilderError}
+use Rattle.sql_parts.specs.Templates.{Resolved, resolve, written}
+use Rattle.sql_parts.specs.Readers.{Part, Constant, Reader, IsInside, IsInsideAtEach, after, between_parts, part_bytes, parts_bytes, has_plain_text}
 use Rattle.sql_parts.proofs.tokens.ReaderLemmas.{inside-append}
-use Rattle.sql_builder.specs.Calls as call
-use Rattle.sql_builder.specs.Calls.{CallText}
-use Rattle.sql_builder.specs.Condition as condition
 use Rattle.sql_builder.specs.Interference.{blank_call, call_quoted_texts}
-use Rattle.sql_builder.specs.Pieces.{Pieces, Fixed, Quoted, Raw, pieces_text}
 use Rattle.sql_builder.specs.Statement.{pieces, text_unless_error}
 use Rattle.sql_builder.specs.StatementReaders.{parts_in, quotes_plain_texts}
+use Rattle.sql_builder.specs.Calls as call
+use Rattle.sql_builder.specs.Condition as condition
+use Rattle.sql_builder.specs.Pieces.{Fixed, Quoted, Raw, pieces_text}
 use Rattle.sql_builder.specs.declared.condition.Percent.TheVariants as sign
 use Rattle.sql_builder.proofs.interference.StatementReaderLemmas.{plain-printed}
 use Rattle.database_readers.specs.AsMeant.{OpensStringsOfStatements, OpensStringsOfTemplates, in_string, is_plain, reader_of}
@@ -157,7 +151,7 @@ blanks-percent : (values : List (List ℕ)) → list_all (list_all is_percent) (
 blanks-percent [] = refl
 blanks-percent (value ∷ values) = blanks-percent values
 
-call-percent : (c : CallText) → list_all (list_all is_percent) (call_quoted_texts (blank_call c)) ≡ true
+call-percent : (c : call.CallText) → list_all (list_all is_percent) (call_quoted_texts (blank_call c)) ≡ true
 call-percent (call.Cond family (condition.Like negated sign.Plain field mask)) = refl
 call-percent (call.Cond family (condition.Like negated sign.Left field mask)) = refl
 call-percent (call.Cond family (condition.Like negated sign.Right field mask)) = refl
@@ -165,7 +159,7 @@ call-percent (call.Cond family (condition.Like negated sign.Any field mask)) = r
 call-percent (call.Cond family (condition.InQuoted negated field values)) = blanks-percent values
 call-percent _ = refl
 
-calls-percent : (calls : List CallText) → quotes_plain_texts is_percent (map blank_call calls) ≡ true
+calls-percent : (calls : List call.CallText) → quotes_plain_texts is_percent (map blank_call calls) ≡ true
 calls-percent [] = refl
 calls-percent (c ∷ calls) = and_from _ _ (call-percent c) (calls-percent calls)
 
