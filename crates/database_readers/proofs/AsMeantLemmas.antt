@@ -1,9 +1,9 @@
 -- A text that is read as meant gives the premises of the laws of readers.
 use Rattle.sql_builder.proofs.Imports.{◌≡◌, refl, sym, ◌∙◌, ap, subst, ℕ, Bool, true, List, [], ◌∷◌, ◌++◌, Option, None, Some, Result, Ok, Err, map, not}
-use Rattle.sql_builder.proofs.Imports.{◌==◌, IfOk, flat_map, option_map, list_all, option_or, length, arith, append-nil, append_assoc, and_from, and_parts}
+use Rattle.sql_builder.proofs.Imports.{◌==◌, IfOk, flat_map, option_map, list_all, option_or, length, arith, append-nil, and_from, and_parts}
 use Rattle.sql_builder.proofs.Imports.{eqb-true, flat_map-append, LiteralValue, literal_text, null, truth, whole, words, doubled, quoted, Value, Single}
 use Rattle.sql_builder.proofs.Imports.{SqlBuilderError, Pieces}
-use Rattle.std.specs.Prelude.{◌↔◌, find, unwrap_or}
+use Rattle.std.specs.Prelude.{find, unwrap_or}
 use Rattle.std.proofs.lemmas.List.Folds.{find-append}
 use Rattle.sql_parts.specs.ReaderLaws.{literal_parts, resolved_parts}
 use Rattle.sql_parts.specs.StringTexts.{blank_literal}
@@ -19,7 +19,7 @@ use Rattle.sql_builder.specs.Pieces.{Fixed, Quoted, Raw, pieces_text}
 use Rattle.sql_builder.specs.declared.condition.Percent.TheVariants as sign
 use Rattle.sql_builder.proofs.interference.StatementReaderLemmas.{plain-printed}
 use Rattle.database_readers.specs.AsMeant.{OpensStringsOfStatements, OpensStringsOfTemplates, in_string, is_plain, reader_of}
-use Rattle.database_readers.specs.EmptyValues.{EmptyValueBegins, IsBeforeQuote, IsInsideAtEmptyValues}
+use Rattle.database_readers.specs.EmptyValues.{IsBeforeQuote, IsInsideAtEmptyValues}
 use Rattle.database_readers.specs.declared.Database.{Database}
 use Rattle.database_readers.specs.declared.Database.TheVariants.{Sqlite, Postgres, Mysql, MysqlNoBackslashEscapes}
 use Rattle.database_readers.proofs.ReaderRows.{mysql-inside, mysql_plain-inside, postgres-inside, sqlite-inside}
@@ -38,47 +38,20 @@ module _ (next : Reader) (inside : ℕ) where
   abbrev At : ℕ → List ℕ → Type 0
   At state text = IsInsideAtEmptyValues next inside state text
 
-  at-more : (state byte : ℕ) (text : List ℕ) → (EmptyValueBegins byte text → next state byte ≡ inside) → At (next state byte) text → At state (byte ∷ text)
-  at-more state byte text here later [] behind quote is begins =
-      let first : byte ≡ quote = cc is in
-      let rest : text ≡ behind = cc is in
-      ap (next state) (sym first) ∙ here (first ∙ begins.0, subst IsBeforeQuote (sym rest) begins.1)
-  at-more state byte text here later (other ∷ before) behind quote is begins =
-      let first : byte ≡ other = cc is in
-      let rest : text ≡ before ++ quote ∷ behind = cc is in
-      subst (λ (b : ℕ). after next (next state b) (before ++ quote ∷ []) ≡ inside) first (later before behind quote rest begins)
-
-  at-rest : (state byte : ℕ) (text : List ℕ) → At state (byte ∷ text) → At (next state byte) text
-  at-rest state byte text all before behind quote is begins = all (byte ∷ before) behind quote (ap (λ more. byte ∷ more) is) begins
-
-  -- what is left of a text is read so exactly where the text is: at each byte, at the end and where a value is wrong
-  module _ (state : ℕ) (rest text : List ℕ) (invariant : At state rest ↔ At 0 text) where
-    pub at-step : (byte : ℕ) (behind : List ℕ) → rest ≡ byte ∷ behind → (EmptyValueBegins byte behind → next state byte ≡ inside)
-        → At (next state byte) behind ↔ At 0 text
-    at-step byte behind is here = (
-      λ later. invariant.0 (subst (At state) (sym is) (at-more state byte behind here later)),
-      λ all. at-rest state byte behind (subst (At state) is (invariant.1 all)),
-    )
-
-    pub at-wrong : (byte : ℕ) (behind : List ℕ) → rest ≡ byte ∷ behind → ((EmptyValueBegins byte behind → next state byte ≡ inside) → ⊥) → At 0 text → ⊥
-    at-wrong byte behind is wrong all = wrong (λ begins. invariant.1 all [] behind byte is begins)
-
-  at-none : (state : ℕ) → At state []
-  at-none state [] behind quote is begins = cc is
-  at-none state (byte ∷ before) behind quote is begins = cc is
-
-  pub at-end : (state : ℕ) (rest text : List ℕ) → (At state rest ↔ At 0 text) → length rest ≡ 0 → At 0 text
-  at-end state [] text invariant is = invariant.0 (at-none state)
-  at-end state (byte ∷ rest) text invariant is = absurd (omega arith)
+  pub at-end : (state : ℕ) (text : List ℕ) → length text ≡ 0 → At state text
+  at-end state [] none = tt
+  at-end state (byte ∷ text) none = absurd (omega arith)
 
   at-behind : (state : ℕ) (front text : List ℕ) → At state (front ++ text) → At (after next state front) text
   at-behind state [] text all = all
-  at-behind state (byte ∷ front) text all = at-behind (next state byte) front text (at-rest state byte (front ++ text) all)
+  at-behind state (byte ∷ front) text all = at-behind (next state byte) front text all.1
 
   at-front : (state : ℕ) (text more : List ℕ) → At state (text ++ more) → At state text
-  at-front state text more all before behind quote is begins =
-      all before (behind ++ more) quote (ap (λ t. t ++ more) is ∙ append_assoc before (quote ∷ behind) more)
-      (begins.0, find-append (λ byte. not (byte == 37)) behind more ∙ ap (λ o. option_or o (find (λ byte. not (byte == 37)) more)) begins.1)
+  at-front state [] more all = tt
+  at-front state (byte ∷ text) more all = (
+    λ begins. all.0 (begins.0, find-append (λ byte. not (byte == 37)) text more ∙ ap (λ o. option_or o (find (λ byte. not (byte == 37)) more)) begins.1),
+    at-front (next state byte) text more all.1,
+  )
 
   -- ---- parts
 
@@ -105,7 +78,7 @@ module _ (next : Reader) (inside : ℕ) where
     read-value : (mask : List ℕ) → list_all is_percent mask ≡ true → AreRead (between_parts Single mask) (quoted mask)
     read-value mask masks = record {
       is = refl;
-      read = λ state all. (tt, (subst (IsInside next plain 39) (sym (all [] (doubled 39 mask ++ 39 ∷ []) 39 refl (refl, mask-found mask masks))) opens, (tt, tt)));
+      read = λ state all. (tt, (subst (IsInside next plain 39) (sym (all.0 (refl, mask-found mask masks))) opens, (tt, tt)));
     }
 
     pieces-read : (printed : Pieces) → list_all (has_plain_text is_percent) (parts_in printed) ≡ true → AreRead (parts_in printed) (pieces_text printed)
@@ -141,7 +114,7 @@ module _ (next : Reader) (inside : ℕ) where
 
       bound-read : (resolved : Option Resolved) (text : List ℕ) → At 0 text → option_map (written blanks) resolved ≡ Some text
           → IsInsideAtEach next plain 0 (unwrap_or (option_map (resolved_parts blanks) resolved) [])
-      bound-read None text all is = cc is
+      bound-read None text all is = cc
       bound-read (Some resolved) text all is =
           (read-append (read-constant resolved.0) (segments-read resolved.1)).read 0 (subst (At 0) (sym (cc is)) all)
 
