@@ -190,18 +190,9 @@ def replaced(function, at, number, new, names, folder):
 
 
 # What a program changes in a function, the first of these that it has.
-OPERATORS = (
-    swapping("true false"),
-    variant,
-    emptied,
-    swapping("is_some is_none", "is_ok is_err", "any all", "split_first split_last", before="("),
-    affirmed,
-    swapping("== !="),
-    field,
-    number,
-    swapping("< <=", "> >="),
-    argument,
-)
+TESTS = ("is_some is_none", "is_ok is_err", "any all", "split_first split_last")
+OPERATORS = (swapping("true false"), variant, emptied, swapping(*TESTS, before="("), affirmed, swapping("== !="), field, number)
+OPERATORS += (swapping("< <=", "> >="), argument)
 
 
 def is_code(body, at):
