@@ -1,4 +1,0 @@
-use Rattle.sql_builder.proofs.builder.SqlBuilder.delete_from.Goals as goal
-
-pub returns-clause-made : goal.returns-clause-made
-returns-clause-made g c = c.starting_from.ensures.made
