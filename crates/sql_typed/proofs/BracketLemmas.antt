@@ -1,5 +1,8 @@
 -- Texts between brackets of our own.
-use Rattle.sql_typed.proofs.Prelude.{◌≡◌, ◌==◌, ◌⊎◌, inl, inr, Option, None, Some, if◌then◌else◌, refl, sym, arith, ◌∙◌, ap, ◌++◌, ℕ, Bool, true, false, List, [], ◌∷◌, codes, append_assoc, nat_eq, starts_with, and_from, cases_Bool, false≢true, not_from_false, or_from, or_parts, true≢false, balanced, is_clause_word, is_symbol, ServesAsOperand, Token, Name, Str, Word, Symbol, begins_with, first, inside, is_blank, is_one_of, is_word_byte, tokens, tokens_from, unquoted, has_top_level-is, is_balanced, is_balanced-is, is_even, is_operand, is_operand-is, serves, enclosed-tokens, byte_units, balanced_closed, even_text, is_balanced-append, is_even-append, is_even-brackets, is_operand-brackets, no_clause-brackets, bracket_fronts, may_begin_bracketed, united_text}
+use Rattle.sql_typed.proofs.Imports.{◌≡◌, ◌==◌, ◌⊎◌, inl, inr, Option, None, Some, if◌then◌else◌, refl, sym, arith, ◌∙◌, ap, ◌++◌, ℕ, Bool, true, false, List, [], ◌∷◌, codes, append_assoc, nat_eq, starts_with, and_from, cases_Bool}
+use Rattle.sql_typed.proofs.Imports.{false≢true, not_from_false, or_from, or_parts, true≢false, balanced, is_clause_word, is_symbol, ServesAsOperand, Token, Name, Str, Word, Symbol, begins_with, first, inside, is_blank, is_one_of}
+use Rattle.sql_typed.proofs.Imports.{is_word_byte, tokens, tokens_from, unquoted, has_top_level-is, is_balanced, is_balanced-is, is_even, is_operand, is_operand-is, serves, enclosed-tokens, byte_units, balanced_closed, even_text}
+use Rattle.sql_typed.proofs.Imports.{is_balanced-append, is_even-append, is_even-brackets, is_operand-brackets, no_clause-brackets, bracket_fronts, may_begin_bracketed, united_text}
 use Rattle.std.proofs.lemmas.Bool.Decides.{nat_tests}
 use Rattle.sql_builder.specs.Phrases as phrase
 use Rattle.sql_builder.specs.WhereTokens.{in_brackets}

@@ -1,5 +1,7 @@
 -- Conditions, and what is known of their texts.
-use Rattle.sql_typed.proofs.Prelude.{◌≡◌, ◌∙◌, ◌++◌, ap, append_assoc, codes, refl, sym, subst, ℕ, Bool, true, false, if◌then◌else◌, List, [], ◌∷◌, map, length, ◌≤◌, arith, string_bytes, list_all, and_from, false≢true, ServesAsOperand, is_fragment, tokens, ConditionText, Raw, Compare, Like, IsNull, IsNotNull, InList, InQuoted, InQuery, Between, IsCombined, combined_text, like_text, condition_bytes, condition_raw_texts, has_operands, not_text, is_fit, IsAtom, and_all, or_all, row_fits, all_combined, any_combined, condition_fragment, condition_is_atom, OperandsServe, list_text}
+use Rattle.sql_typed.proofs.Imports.{◌≡◌, ◌∙◌, ◌++◌, ap, append_assoc, codes, refl, sym, subst, ℕ, Bool, true, false, if◌then◌else◌, List, [], ◌∷◌, map, length, ◌≤◌, arith, string_bytes, list_all, and_from, false≢true, ServesAsOperand}
+use Rattle.sql_typed.proofs.Imports.{is_fragment, tokens, ConditionText, Raw, Compare, Like, IsNull, IsNotNull, InList, InQuoted, InQuery, Between, IsCombined, combined_text, like_text, condition_bytes, condition_raw_texts, has_operands}
+use Rattle.sql_typed.proofs.Imports.{not_text, is_fit, IsAtom, and_all, or_all, row_fits, all_combined, any_combined, condition_fragment, condition_is_atom, OperandsServe, list_text}
 use Rattle.sql_parts.proofs.fragments.OperandFacts.{is-fragment}
 use Rattle.sql_typed.specs.declared.texts.Condition.{Condition}
 

@@ -1,8 +1,11 @@
 -- What a statement has after one more call, and how a call fails where another does.
-use Rattle.sql_typed.proofs.Prelude.{◌≡◌, ◌∙◌, ◌++◌, ap, refl, sym, subst, Bool, true, false, List, [], ◌∷◌, Option, None, Some, list_any, Err, IfSome, IsErrAnd, IsNone, Ok, Result, ◌&&◌, ◌||◌, not, FailsOnlyByMemory, SqlBuilderError, ClauseTexts, with_call, CallText, FinishText, is_join, call_fits, error_at, made_by, FailsBy, changes_rows, has_early_constraint, is_constraint, is_filter, is_order, is_returning, is_union, IsFitBy, Made, adding, meaning_all_rows, marks_of, noted, FailsWith, Builder}
+use Rattle.sql_typed.proofs.Imports.{MatchResult, IsOk, ◌≡◌, ◌∙◌, ◌++◌, ap, refl, sym, subst, Bool, true, false, List, [], ◌∷◌, Option, None, Some, list_any, Err, IfSome, IsErrAnd, IsNone, Ok, Result, ◌&&◌, ◌||◌, not, FailsOnlyByMemory}
+use Rattle.sql_typed.proofs.Imports.{SqlBuilderError}
+use Rattle.sql_typed.proofs.Imports.{ClauseTexts, with_call, CallText, FinishText, is_join, call_fits, error_at, made_by, FailsBy, changes_rows, has_early_constraint, is_constraint, is_filter, is_order, is_returning, is_union, IsFitBy}
+use Rattle.sql_typed.proofs.Imports.{Made, adding, marks_of, noted, FailsWith, Builder, clauses-push, all-more}
+use Rattle.sql_typed.specs.Faults.{IsMemory}
 use Rattle.sql_typed.specs.declared.error.Error.{Error}
 use Rattle.sql_typed.specs.declared.marks.Marks.{Marks}
-use Rattle.sql_typed.proofs.FitLemmas.{one_more}
 
 -- of three tests one passes, in any order
 either : (x y z : Bool) → (x || (y || z)) ≡ (y || (x || z))
@@ -48,16 +51,12 @@ marks_more made c = λ i. record {
 pub held_more : (made now : Made) (c : CallText) (old new : ClauseTexts) (marks : Marks) → now ≡ adding c made → new ≡ with_call c old
     → IsFitBy made old × (marks ≡ marks_of made) → call_fits c ≡ true → IsFitBy now new × (noted c marks ≡ marks_of now)
 held_more made now c old new marks is called held fits = (
-  subst (λ (m : Made). IsFitBy m new) (sym is) (one_more made c old new called held.0 fits),
+  subst (λ (m : Made). IsFitBy m new) (sym is) (record {
+    is_made = called ∙ ap (with_call c) held.0.is_made ∙ sym (clauses-push made.start made.calls c);
+    start_fits = held.0.start_fits;
+    calls_fit = all-more made.calls c held.0.calls_fit fits;
+  }),
   ap (noted c) held.1 ∙ marks_more made c ∙ ap marks_of (sym is),
-)
-
--- and with every row meant
-pub held_meant : (made now : Made) (r : ClauseTexts) (marks : Marks) → now ≡ meaning_all_rows made → IsFitBy made r × (marks ≡ marks_of made)
-    → IsFitBy now r × (record marks { needs_filter = false } ≡ marks_of now)
-held_meant made now r marks is held = (
-  subst (λ (m : Made). IsFitBy m r) (sym is) (record { is_made = held.0.is_made; start_fits = held.0.start_fits; calls_fit = held.0.calls_fit }),
-  ap (λ (m : Marks). record m { needs_filter = false }) held.1 ∙ ap marks_of (sym is),
 )
 
 -- ---- how a call fails, where it has no fault
@@ -68,48 +67,34 @@ pub fails_with : {T : Type 0} (known : Option SqlBuilderError) (result : Result 
 fails_with None result failed memory = memory refl
 fails_with (Some error) result failed memory = failed
 
-module _ (made : Made) (finish : FinishText) (r : ClauseTexts) (fit : IsFitBy made r) (fault : Option Error) (none : fault ≡ None) where
+module _ {made : Made} {r : ClauseTexts} (finish : FinishText) (fit : IsFitBy made r) (fault : Option Error) (none : fault ≡ None) where
   abbrev known : Option SqlBuilderError
   known = error_at finish (made_by made.start made.calls)
 
-  by-builder : {T U : Type 0} (inner : Result T SqlBuilderError) (result : Result U Error) → (FailsWith known inner → FailsBy None known result)
-      → FailsWith (error_at finish r) inner → FailsBy fault known result
-  by-builder inner result passes fails =
-      subst (λ (f : Option Error). FailsBy f known result) (sym none)
-      (passes (subst (λ (k : ClauseTexts). FailsWith (error_at finish k) inner) fit.is_made fails))
-
-  -- a `?` passes an error of the builder on
-  pub failed : {U : Type 0} (T : Type 0) (is : SqlBuilderError) (result : Result U Error) → IsErrAnd result (λ error. error ≡ Builder is)
-      → FailsWith {T = T} (error_at finish r) (Err is) → FailsBy fault known result
-  failed T is (Ok x) passed fails = absurd passed
-  failed {U} T is (Err error) passed fails =
-      by-builder {T = T} {U = U} (Err is) (Err error) (λ given. subst (λ (e : Error). FailsBy {T = U} None known (Err e)) (sym passed) (by known given)) fails
+  -- as `?` passes an error of the builder on
+  pub passed_by : {T U : Type 0} (inner : Result T SqlBuilderError) (outer : Result U Error)
+      → MatchResult inner (λ x. IsOk outer) (λ is. IsErrAnd outer (λ e. e ≡ Builder is)) → FailsWith (error_at finish r) inner → FailsBy fault known outer
+  passed_by {T} {U} inner outer same fails =
+      subst (λ (f : Option Error). FailsBy f known outer) (sym none)
+      (by known inner outer same (subst (λ (k : ClauseTexts). FailsWith (error_at finish k) inner) fit.is_made fails))
     where
-      by : (known : Option SqlBuilderError) → FailsWith {T = T} known (Err is) → FailsBy {T = U} None known (Err (Builder is))
-      by None memory = memory
-      by (Some wanted) given = cc given
+      by : (known : Option SqlBuilderError) (inner : Result T SqlBuilderError) (outer : Result U Error)
+          → MatchResult inner (λ x. IsOk outer) (λ is. IsErrAnd outer (λ e. e ≡ Builder is)) → FailsWith known inner → FailsBy None known outer
+      by known (Ok x) (Err e) same fails = cc same
+      by known (Err is) (Ok y) same fails = absurd same
+      by None (Ok x) (Ok y) same fails = tt
+      by (Some wanted) (Ok x) (Ok y) same fails = cc fails
+      by None (Err is) (Err e) same fails = subst IsMemory (sym same) fails
+      by (Some wanted) (Err is) (Err e) same fails = cc
 
-  -- it gives what it gave
-  pub succeeded : {T U : Type 0} (x : T) (y : U) → FailsWith (error_at finish r) (Ok x) → FailsBy fault known (Ok y)
-  succeeded {T} {U} x y fails = by-builder {T = T} {U = U} (Ok x) (Ok y) (by known) fails
-    where
-      by : (known : Option SqlBuilderError) → FailsWith {T = T} known (Ok x) → FailsBy {T = U} None known (Ok y)
-      by None memory = tt
-      by (Some wanted) given = cc given
-
--- ---- an answer is passed on
-
-pub passed : {U : Type 0} (T : Type 0) (fault : Option Error) (known : Option SqlBuilderError) (is : Error) (result : Result U Error)
-    → IsErrAnd result (λ error. error ≡ is) → FailsBy {T = T} fault known (Err is) → FailsBy fault known result
-passed T fault known is (Ok x) same fails = absurd same
-passed {U} T fault known is (Err error) same fails = subst (λ (e : Error). FailsBy {T = U} fault known (Err e)) (sym same) (by fault known fails)
-  where
-    by : (fault : Option Error) (known : Option SqlBuilderError) → FailsBy {T = T} fault known (Err is) → FailsBy {T = U} fault known (Err is)
-    by (Some wanted) known given = cc given
-    by None (Some wanted) given = cc given
-    by None None memory = memory
-
-pub gave : {T U : Type 0} (fault : Option Error) (known : Option SqlBuilderError) (x : T) (y : U) → FailsBy fault known (Ok x) → FailsBy fault known (Ok y)
-gave (Some wanted) known x y given = cc given
-gave None (Some wanted) x y given = cc given
-gave None None x y memory = tt
+-- an answer is passed on
+pub passed_on : {T U : Type 0} (fault : Option Error) (known : Option SqlBuilderError) (one : Result T Error) (other : Result U Error)
+    → MatchResult one (λ x. IsOk other) (λ is. IsErrAnd other (λ e. e ≡ is)) → FailsBy fault known one → FailsBy fault known other
+passed_on fault known (Ok x) (Err e) same fails = cc same
+passed_on fault known (Err is) (Ok y) same fails = absurd same
+passed_on (Some wanted) known (Ok x) (Ok y) same fails = cc fails
+passed_on None (Some wanted) (Ok x) (Ok y) same fails = cc fails
+passed_on None None (Ok x) (Ok y) same fails = tt
+passed_on (Some wanted) known (Err is) (Err e) same fails = cc
+passed_on None (Some wanted) (Err is) (Err e) same fails = cc
+passed_on None None (Err is) (Err e) same fails = subst IsMemory (sym same) fails

@@ -1,5 +1,7 @@
 -- The loop that fills the holes of a template, and what is made of it.
-use Rattle.sql_typed.proofs.Prelude.{◌≡◌, ◌∙◌, ◌+◌, ◌<◌, ◌++◌, add-one, ap, append_assoc, drop, drop-cons, get_or, length, suc, ◌≤◌, List, [], ◌∷◌, ℕ, sym, refl, true, false, String, string_bytes, not, AllByRecursion, list_all, and_from, and_parts, or_right, list_all-append, balanced, has_clause_word, filled, holes_apart, in_hole, is_dotted, is_unit, unsigned, tokens, ServesAsOperand, has_no_clause, is_bare_operand, is_fragment, is_typed_fragment, is_typed_operand, texts, LacksHole, bracketed, filled-fragment, filled-hole, filled-serves, in_hole-serves, byte_units, in_brackets, serves}
+use Rattle.sql_typed.proofs.Imports.{◌≡◌, ◌∙◌, ◌+◌, ◌<◌, ◌++◌, add-one, ap, append_assoc, drop, drop-cons, get_or, length, suc, ◌≤◌, List, [], ◌∷◌, ℕ, sym, refl, true, false, String, string_bytes, not, AllByRecursion, list_all, and_from}
+use Rattle.sql_typed.proofs.Imports.{and_parts, or_right, list_all-append, balanced, has_clause_word, filled, holes_apart, in_hole, is_dotted, is_unit, unsigned, tokens, ServesAsOperand, has_no_clause, is_bare_operand, is_fragment}
+use Rattle.sql_typed.proofs.Imports.{is_typed_fragment, is_typed_operand, texts, LacksHole, bracketed, filled-fragment, filled-hole, filled-serves, in_hole-serves, byte_units, in_brackets, serves}
 use Rattle.std.proofs.Math.ListN.{drop_of_length-le}
 use Rattle.sql_typed.proofs.ConditionLemmas.{serves_as}
 

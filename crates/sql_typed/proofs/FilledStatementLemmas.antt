@@ -1,5 +1,7 @@
 -- What is known of a statement that a template makes.
-use Rattle.sql_typed.proofs.Prelude.{◌≡◌, ◌∙◌, ◌++◌, ap, append_assoc, codes, List, [], ◌∷◌, map, ℕ, Bool, sym, refl, true, false, not, eqb-true, ◌&&◌, flat_map, list_any, and_from, and_parts, false≢true, not-true, not_from_false, or_from, or_parts, flat_map-append, map-append, AllByRecursion, cut, filled, holding, holes_apart, ServesAsOperand, Part, Constant, emptied, marks, outer_states, part_bytes, parts_bytes, Token, Word, Str, Name, Symbol, Open, is_semicolon, tokens, balanced_whole, filled-keeps, EndsInOneSemicolon, ReadersIgnoreHeldTexts, filled_parts, held_parts}
+use Rattle.sql_typed.proofs.Imports.{◌≡◌, ◌∙◌, ◌++◌, ap, append_assoc, codes, List, [], ◌∷◌, map, ℕ, Bool, sym, refl, true, false, not, eqb-true, ◌&&◌, flat_map, list_any, and_from, and_parts, false≢true, not-true, not_from_false, or_from}
+use Rattle.sql_typed.proofs.Imports.{or_parts, flat_map-append, map-append, AllByRecursion, cut, filled, holding, holes_apart, ServesAsOperand, Part, Constant, emptied, marks, outer_states, part_bytes, parts_bytes, Token, Word, Str, Name}
+use Rattle.sql_typed.proofs.Imports.{Symbol, Open, is_semicolon, tokens, balanced_whole, filled-keeps, EndsInOneSemicolon, ReadersIgnoreHeldTexts, filled_parts, held_parts}
 use Rattle.sql_parts.proofs.tokens.ReaderLemmas.{readers-alike}
 
 -- ---- its only `;` is last

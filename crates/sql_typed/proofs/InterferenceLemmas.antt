@@ -1,5 +1,6 @@
 -- Templates, and statements without their `;`, are the same but for texts of strings where what they are made of is.
-use Rattle.sql_typed.proofs.Prelude.{◌≡◌, ◌∙◌, ◌++◌, ap, codes, map, refl, sym, true, List, [], ◌∷◌, ℕ, AllByRecursion, list_all, and_parts, or_right, append_cancel_right, map-append, cut, filled, holding, blank, blank_token, outline, Symbol, Token, closed, tokens, filled-tokens, seam, TemplatesFollowTheirOperands, FrontsFollowTheirStatements}
+use Rattle.sql_typed.proofs.Imports.{◌≡◌, ◌∙◌, ◌++◌, ap, codes, map, refl, sym, true, List, [], ◌∷◌, ℕ, AllByRecursion, list_all, and_parts, or_right, append_cancel_right, map-append, cut, filled, holding, blank, blank_token, outline}
+use Rattle.sql_typed.proofs.Imports.{Symbol, Token, closed, tokens, filled-tokens, seam, TemplatesFollowTheirOperands, FrontsFollowTheirStatements}
 use Rattle.sql_parts.proofs.fragments.StringTextFacts.{closed-alike}
 use Rattle.sql_parts.proofs.templates.ApartFacts.{part_tokens}
 

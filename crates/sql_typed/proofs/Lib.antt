@@ -1,4 +1,4 @@
-pub mod Prelude
+pub mod Imports
 pub mod FilledLemmas
 pub mod FilledStatementLemmas
 pub mod FitLemmas

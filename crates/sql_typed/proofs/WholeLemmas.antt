@@ -1,5 +1,9 @@
 -- Texts one behind another are whole, where each is.
-use Rattle.sql_typed.proofs.Prelude.{◌≡◌, ◌==◌, ◌∙◌, ◌++◌, ap, append-nil, append_assoc, codes, length, refl, sym, subst, ℕ, true, false, not, List, [], ◌∷◌, map, flat_map, list_all, list_any, and_from, and_parts, not_from_false, not-true, true≢false, list_all-append, balanced, ServesAsOperand, join_with, begins_with, closed, ends_with, has_semicolon, is_edge, is_semicolon, tokens, is_balanced, is_balanced-is, balanced_whole, clean-before, clean-behind, seam, ClauseTexts, with_call, CallText, Select, Sql, StartText, clauses, concat_sections, statement_sections, has_balanced_fragments, has_closed_fragments, has_no_semicolons, is_closed_piece, is_without_semicolon, EndsInOneSemicolon, made_by, fit_texts_balanced, texts_pass_call_by_call, clauses-push, text_of_layout, even_text, is_balanced-append, is_even-append, IsFitBy, Made, HasWholeFront, asking, conflict_text, is_whole, may_follow, may_join}
+use Rattle.sql_typed.proofs.Imports.{◌≡◌, ◌==◌, ◌∙◌, ◌++◌, ap, append-nil, append_assoc, codes, length, refl, sym, subst, ℕ, true, false, not, List, [], ◌∷◌, map, flat_map, list_all, list_any, and_from, and_parts, not_from_false, not-true}
+use Rattle.sql_typed.proofs.Imports.{true≢false, list_all-append, balanced, ServesAsOperand, join_with, begins_with, closed, ends_with, has_semicolon, is_edge, is_semicolon, tokens, is_balanced, is_balanced-is, balanced_whole, clean-before}
+use Rattle.sql_typed.proofs.Imports.{clean-behind, seam, ClauseTexts, with_call, CallText, Select, Sql, StartText, clauses, concat_sections, statement_sections, has_balanced_fragments, has_closed_fragments, has_no_semicolons}
+use Rattle.sql_typed.proofs.Imports.{is_closed_piece, is_without_semicolon, EndsInOneSemicolon, made_by, fit_texts_balanced, texts_pass_call_by_call, clauses-push, text_of_layout, even_text, is_balanced-append, is_even-append, IsFitBy}
+use Rattle.sql_typed.proofs.Imports.{Made, HasWholeFront, asking, conflict_text, is_whole, may_follow, may_join}
 use Rattle.sql_builder.specs.Pieces.{Pieces, fixed_piece, pieces_text, raw_piece}
 use Rattle.sql_builder.specs.TextTests.{is_plain, raw_text, texts_pass}
 use Rattle.sql_builder.proofs.fragments.NeutralLemmas.{clauses-inside}
@@ -29,12 +33,6 @@ words_whole : (words : List ℕ) → is_whole words ≡ true → Whole words
 words_whole words is = let both = and_parts (closed words) (not (has_semicolon words)) is in record { is_closed = both.0; plain = not-true _ both.1 }
 
 module _ (text : List ℕ) (is : is_whole text ≡ true) where
-  shut : has_closed_fragments (raw_piece text) ≡ true
-  shut = and_from _ _ (and_parts (closed text) _ is).0 refl
-
-  plain : has_no_semicolons (raw_piece text) ≡ true
-  plain = and_from _ _ (and_parts (closed text) _ is).1 refl
-
   -- words behind it
   pub ended_whole : (words : List ℕ) → may_follow words ≡ true → is_whole (text ++ words) ≡ true
   ended_whole words may =

@@ -13,7 +13,7 @@ use Rattle.sql_builder.specs.Interference.{answer_of, outlines}
 use Rattle.sql_builder.specs.Meaning.{HasTruthOf, condition_groups, is_nested, is_unenclosed, prints_where}
 use Rattle.sql_builder.specs.Reading.{clause_list, read}
 use Rattle.sql_builder.specs.Shape.{EndsInOneSemicolon, shape}
-use Rattle.sql_builder.specs.Statement.{error_at, statement}
+use Rattle.sql_builder.specs.Statement.{statement}
 use Rattle.sql_builder.specs.StatementLaws.{made_by}
 use Rattle.sql_builder.specs.StatementReaders.{parts_at, text_of_parts}
 use Rattle.sql_builder.specs.Subqueries.{makes_table}

@@ -77,6 +77,7 @@ impl Statement<UpdateKind> {
 
     /// Sets a field to a text, which is quoted in place. Fails only if memory runs out.
     /// `Update::table(alloc, Fragment::of("t"))?.set_str(Operand::of("a"), Value("it's"))?.all_rows().sql()?` gives `UPDATE t SET a = 'it''s';`
+    #[tactic(auto, using(sql_builder::proofs::truth::CombinedLemmas::fits_as))]
     pub fn set_str<F: OperandText>(self, field: F, value: Value<&str>) -> Result<Update>
         ensures made { Gives result (adding (SetStr (F.text field) value.entry.0.now) self) }
     {

@@ -64,6 +64,7 @@ impl<K> Printed<K> {
     }
 
     // Words behind it.
+    #[tactic(auto, using(crate::proofs::WholeLemmas::ended_whole))]
     fn ended<L>(self, words: &str) -> Result<Printed<L>>
         requires words { IsTrue (may_follow words.now) }
         ensures text { Continues result (string_bytes self.text ++ words.now) }
@@ -105,6 +106,7 @@ impl<K> Printed<K> {
     }
 
     // A query under a name.
+    #[tactic(auto, using(crate::proofs::WholeLemmas::balanced_is_whole))]
     fn named<N: OperandText>(self, words: &str, name: N, query: &Query) -> Result<With>
         requires words { IsTrue (may_join words.now) }
         ensures text { Continues result (string_bytes self.text ++ named_text words.now (N.text name) (string_bytes query.now.text)) }
@@ -433,6 +435,7 @@ impl Query {
     /// Returns the query as a statement, which may have a lock. Fails only if memory runs out.
     /// `query.except(alloc, &query)?.printed(alloc)?.sql()?` gives
     /// `SELECT b FROM t EXCEPT SELECT b FROM t;`
+    #[tactic(auto, using(crate::proofs::WholeLemmas::balanced_is_whole))]
     pub fn printed(&self, alloc: Global) -> Result<Printed<Selected>>
         ensures text { Continues result (string_bytes self.now.text) }
     {

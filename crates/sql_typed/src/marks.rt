@@ -41,23 +41,15 @@ fn is_like(condition: &str, like: &str, not_like: &str) -> bool
 }
 
 #[tactic(auto, unfolding(crate::specs::Faults::selects_every_row))]
-fn selects_every_row(condition: &str) -> bool
-    ensures { result ≡ selects_every_row condition.now }
+fn selects_every_row(text: &str) -> bool
+    ensures { result ≡ selects_every_row text.now }
 {
-    condition == "1 = 1"
-        || condition == "NOT (1 = 0)"
-        || is_like(condition, " LIKE '%'", " NOT LIKE '%'")
-        || is_like(condition, " LIKE '%%'", " NOT LIKE '%%'")
-        || is_like(
-            condition,
-            " LIKE '%' ESCAPE '!'",
-            " NOT LIKE '%' ESCAPE '!'",
-        )
-        || is_like(
-            condition,
-            " LIKE '%%' ESCAPE '!'",
-            " NOT LIKE '%%' ESCAPE '!'",
-        )
+    text == "1 = 1"
+        || text == "NOT (1 = 0)"
+        || is_like(text, " LIKE '%'", " NOT LIKE '%'")
+        || is_like(text, " LIKE '%%'", " NOT LIKE '%%'")
+        || is_like(text, " LIKE '%' ESCAPE '!'", " NOT LIKE '%' ESCAPE '!'")
+        || is_like(text, " LIKE '%%' ESCAPE '!'", " NOT LIKE '%%' ESCAPE '!'")
 }
 
 impl Marks {

@@ -215,6 +215,7 @@ impl Statement<SelectKind> {
     /// `Select::from(alloc, Fragment::of("t"))?.union(&query)?.sql()?` gives
     /// `SELECT * FROM t UNION SELECT b FROM t;`,
     /// or of a query with a LIMIT `SELECT * FROM t UNION SELECT * FROM (SELECT b FROM t LIMIT 1) AS u;`
+    #[tactic(auto, using(crate::proofs::BracketLemmas::united_balanced))]
     pub fn union(self, query: &Query) -> Result<Select>
         ensures made { Gives result (adding
             (Union (united_text query.now.needs_brackets (string_bytes query.now.text))) self) }
@@ -227,6 +228,7 @@ impl Statement<SelectKind> {
     /// memory runs out.
     /// `Select::from(alloc, Fragment::of("t"))?.union_all(&query)?.sql()?` gives
     /// `SELECT * FROM t UNION ALL SELECT b FROM t;`
+    #[tactic(auto, using(crate::proofs::BracketLemmas::united_balanced))]
     pub fn union_all(self, query: &Query) -> Result<Select>
         ensures made { Gives result (adding
             (UnionAll (united_text query.now.needs_brackets (string_bytes query.now.text))) self) }

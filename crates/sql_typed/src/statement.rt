@@ -169,53 +169,30 @@ impl<K> Statement<K> {
 
     // One more call, whose texts fit.
     #[inline(always)]
-    pub(crate) fn add(self, step: Step<'_>) -> Result<Statement<K>>
+    pub(crate) fn add(mut self, step: Step<'_>) -> Result<Statement<K>>
         requires fits { IsTrue (call_fits (step_call step)) }
         ensures made { Gives result (adding (step_call step.entry) self) }
         ensures error { IfErr result (IsStepError step.entry) }
     {
-        let Statement {
-            alloc,
-            mut builder,
-            marks,
-            made,
-            kind,
-        } = self;
         let call: GhostList<MadeOf> = GhostList::of(&step);
-        let made = GhostList::of(&(&made, &call));
-        let marks = marks.with(&step);
-        make_step(&mut builder, step)?;
-        Ok(Statement {
-            alloc,
-            builder,
-            marks,
-            made,
-            kind,
-        })
+        let made = GhostList::of(&(&self.made, &call));
+        let marks = self.marks.with(&step);
+        make_step(&mut self.builder, step)?;
+        self.marks = marks;
+        self.made = made;
+        Ok(self)
     }
 
     // One more row, whose texts are balanced.
-    pub(crate) fn with_values<V: ToText>(self, values: &[V]) -> Result<Statement<K>>
+    pub(crate) fn with_values<V: ToText>(mut self, values: &[V]) -> Result<Statement<K>>
         requires fits { IsTrue (list_all balanced (map V.text values.now)) }
         ensures made { Gives result (adding (Values (map V.text values.now)) self) }
     {
-        let Statement {
-            alloc,
-            mut builder,
-            marks,
-            made,
-            kind,
-        } = self;
-        let made = GhostList::of(&(&made, &values));
+        let made = GhostList::of(&(&self.made, &values));
         let values = Items { items: values };
-        make_variadic(&mut builder, VariadicClause::Values, values)?;
-        Ok(Statement {
-            alloc,
-            builder,
-            marks,
-            made,
-            kind,
-        })
+        make_variadic(&mut self.builder, VariadicClause::Values, values)?;
+        self.made = made;
+        Ok(self)
     }
 
     #[inline(always)]
@@ -393,26 +370,12 @@ impl<K: Changes> Statement<K> {
     /// Says that every row is meant. Without this call or a filter, printing fails with `NoCondition`.
     /// Never fails.
     /// `Delete::from(alloc, Fragment::of("t"))?.all_rows().sql()?` gives `DELETE FROM t;`
-    pub fn all_rows(self) -> Statement<K>
+    pub fn all_rows(mut self) -> Statement<K>
         ensures made { result ≡ meaning_all_rows self }
     {
-        let Statement {
-            alloc,
-            builder,
-            marks,
-            made,
-            kind,
-        } = self;
-        Statement {
-            alloc,
-            builder,
-            marks: Marks {
-                needs_filter: false,
-                ..marks
-            },
-            made: GhostList::of(&made),
-            kind,
-        }
+        self.marks.needs_filter = false;
+        self.made = GhostList::of(&self.made);
+        self
     }
 }
 

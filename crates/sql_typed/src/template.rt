@@ -120,6 +120,7 @@ impl Operands {
     /// Adds a condition in brackets, as an operand. Fails only if memory runs out.
     /// `Operands::new(alloc).with_condition(&is_null(alloc, Operand::of("a"))?)?.written` gives
     /// `[(a IS NULL)]`
+    #[tactic(auto, using(crate::proofs::FilledLemmas::condition_balanced))]
     pub fn with_condition(self, condition: &Condition) -> Result<Operands>
         ensures texts { IfOk result (λ operands. texts operands.written.items
             ≡ texts self.written.items ++ in_brackets byte_units (string_bytes condition.now.text) ∷ []) }
@@ -227,6 +228,7 @@ impl<'a> Template<'a> {
     /// that as a fragment. Fails only if memory runs out.
     /// `Template::of("instr(title, ?) > 0").condition(alloc, &Operands::new(alloc).with(Value("it's"))?)?.text` gives
     /// `instr(title, 'it''s') > 0`
+    #[tactic(auto, using(crate::proofs::FilledLemmas::fragment_filled))]
     pub fn condition(self, alloc: Global, operands: &Operands) -> Result<Condition>
         requires fits { IsTrue (is_typed_fragment self.text.now) }
         requires count { hole_count self.text.now ≡ length operands.now.written.items }

@@ -1,5 +1,5 @@
 -- Worked rows of conditions: what the definitions give, by computing.
-use Rattle.sql_typed.proofs.Prelude.{◌≡◌, [], ◌∷◌, ◌++◌, codes, refl, true, false, quoted, exists_text, like_text, Any, Left, Right, escaped_mask, list_text}
+use Rattle.sql_typed.proofs.Imports.{◌≡◌, [], ◌∷◌, ◌++◌, codes, refl, true, false, quoted, exists_text, like_text, Any, Left, Right, escaped_mask, list_text}
 
 no_values : list_text true (codes "a") [] ≡ codes "1 = 1"
 no_values = refl

@@ -1,5 +1,7 @@
 -- Worked rows of statements that aren't printed: what the definitions give, by computing.
-use Rattle.sql_typed.proofs.Prelude.{◌≡◌, ℕ, Bool, false, true, List, [], ◌∷◌, codes, refl, None, Some, list_all, list_any, quoted, Cond, DeleteFrom, InsertInto, Join, On, OnEq, OrderDesc, Returning, ReturningId, SelectFrom, Union, UpdateTable, constant_text, like_text, negation_text, Like, Raw, condition_bytes, Any, Left, Right, escaped_mask, fault_of, following_fault_of, adding, beginning, meaning_all_rows, NoCondition, NoJoin, OrderBesideUnion, ReturningFirst}
+use Rattle.sql_typed.proofs.Imports.{◌≡◌, ℕ, Bool, false, true, List, [], ◌∷◌, codes, refl, None, Some, list_all, list_any, quoted, Cond, DeleteFrom, InsertInto, Join, On, OnEq, OrderDesc, Returning, ReturningId, SelectFrom, Union}
+use Rattle.sql_typed.proofs.Imports.{UpdateTable, constant_text, like_text, negation_text, Like, Raw, condition_bytes, Any, Left, Right, escaped_mask, fault_of, following_fault_of, adding, beginning, meaning_all_rows, NoCondition, NoJoin}
+use Rattle.sql_typed.proofs.Imports.{OrderBesideUnion, ReturningFirst}
 use Rattle.sql_builder.specs.declared.condition.Family.TheVariants.{And}
 use Rattle.sql_builder.specs.declared.condition.Percent.{Percent}
 use Rattle.sql_typed.specs.Faults.{selects_every_row}

@@ -1,5 +1,5 @@
 -- Worked rows of queries behind a UNION: what the definitions give, by computing.
-use Rattle.sql_typed.proofs.Prelude.{◌≡◌, [], ◌∷◌, codes, refl, true, false, Field, GroupBy, Limit, Offset, OrderAsc, OrderDesc, SelectFrom, Union, UnionAll, made_by, united_text}
+use Rattle.sql_typed.proofs.Imports.{◌≡◌, Bool, List, [], ◌∷◌, codes, refl, true, false, list_all, CallText, Field, GroupBy, Limit, Offset, OrderAsc, OrderDesc, SelectFrom, Union, UnionAll, made_by, united_text}
 use Rattle.sql_builder.specs.Unions.{needs_brackets}
 
 plain : united_text false (codes "SELECT a FROM t") ≡ codes "SELECT a FROM t"
@@ -8,23 +8,14 @@ plain = refl
 as_a_table : united_text true (codes "SELECT a FROM t LIMIT 1") ≡ codes "SELECT * FROM (SELECT a FROM t LIMIT 1) AS u"
 as_a_table = refl
 
-without_any : needs_brackets (made_by (SelectFrom (codes "t")) (Field (codes "a") ∷ GroupBy (codes "a") ∷ [])) ≡ false
+-- a SELECT of these calls
+abbrev needs : List CallText → Bool
+needs calls = needs_brackets (made_by (SelectFrom (codes "t")) calls)
+
+without_any : needs (Field (codes "a") ∷ GroupBy (codes "a") ∷ []) ≡ false
 without_any = refl
 
-with_a_limit : needs_brackets (made_by (SelectFrom (codes "t")) (Limit (codes "1") ∷ Field (codes "a") ∷ [])) ≡ true
-with_a_limit = refl
-
-with_an_offset : needs_brackets (made_by (SelectFrom (codes "t")) (Offset (codes "1") ∷ [])) ≡ true
-with_an_offset = refl
-
-with_an_order : needs_brackets (made_by (SelectFrom (codes "t")) (OrderAsc (codes "a") ∷ [])) ≡ true
-with_an_order = refl
-
-with_a_falling_order : needs_brackets (made_by (SelectFrom (codes "t")) (OrderDesc (codes "a") ∷ [])) ≡ true
-with_a_falling_order = refl
-
-with_a_union : needs_brackets (made_by (SelectFrom (codes "t")) (Union (codes "SELECT 1") ∷ [])) ≡ true
-with_a_union = refl
-
-with_a_union_of_all : needs_brackets (made_by (SelectFrom (codes "t")) (UnionAll (codes "SELECT 1") ∷ [])) ≡ true
-with_a_union_of_all = refl
+with_one : list_all needs
+    ((Limit (codes "1") ∷ Field (codes "a") ∷ []) ∷ (Offset (codes "1") ∷ []) ∷ (OrderAsc (codes "a") ∷ []) ∷ (OrderDesc (codes "a") ∷ [])
+    ∷ (Union (codes "SELECT 1") ∷ []) ∷ (UnionAll (codes "SELECT 1") ∷ []) ∷ []) ≡ true
+with_one = refl

@@ -1,5 +1,5 @@
 -- Worked rows of clauses behind a text: what the definitions give, by computing.
-use Rattle.sql_typed.proofs.Prelude.{◌≡◌, ℕ, List, [], ◌∷◌, ◌++◌, codes, refl, true, false, filled, holes_apart, quoted, outline, Word, tokens, conflict_text, inserted_text, is_whole, lock_text, may_follow, may_join, named_text, set_text}
+use Rattle.sql_typed.proofs.Imports.{◌≡◌, ℕ, List, [], ◌∷◌, ◌++◌, codes, refl, true, false, filled, holes_apart, quoted, outline, Word, tokens, conflict_text, inserted_text, is_whole, lock_text, may_follow, may_join, named_text, set_text}
 use Rattle.sql_typed.specs.Whole.{combined_text}
 use Rattle.sql_typed.specs.declared.printed.Lock.TheVariants.{Update, Share}
 use Rattle.sql_typed.specs.declared.printed.Wait.TheVariants.{NoWait, SkipLocked}

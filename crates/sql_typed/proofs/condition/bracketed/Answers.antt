@@ -1,4 +1,4 @@
-use Rattle.sql_typed.proofs.Prelude.{◌∙◌, ◌++◌, ap, subst, sym, ServesAsOperand, byte_units, in_brackets}
+use Rattle.sql_typed.proofs.Imports.{◌∙◌, ◌++◌, ap, subst, sym, ServesAsOperand, byte_units, in_brackets}
 use Rattle.sql_typed.proofs.BracketLemmas.{brackets_serve}
 use Rattle.sql_typed.proofs.condition.bracketed.Goals as goal
 

@@ -1,4 +1,4 @@
-use Rattle.sql_typed.proofs.Prelude.{◌≡◌, ◌∙◌, ap, arith, if◌then◌else◌, map, string_bytes, subst, sym, common_steps, is_fragment, IsCombined, combined_text, and_all, or_all, combined_fragment}
+use Rattle.sql_typed.proofs.Imports.{◌≡◌, ◌∙◌, ap, arith, if◌then◌else◌, map, string_bytes, subst, sym, common_steps, is_fragment, IsCombined, combined_text, and_all, or_all, combined_fragment}
 use Rattle.sql_typed.proofs.ConditionLemmas.{combined_truth, conditions_fit}
 use Rattle.sql_typed.proofs.condition.combined.Goals as goal
 

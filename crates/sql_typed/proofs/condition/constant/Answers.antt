@@ -1,4 +1,4 @@
-use Rattle.sql_typed.proofs.Prelude.{◌≡◌, rules, string_bytes, subst, sym, tokens, constant_text, IsAtom, constant_is_atom}
+use Rattle.sql_typed.proofs.Imports.{◌≡◌, rules, string_bytes, subst, sym, tokens, constant_text, IsAtom, constant_is_atom}
 use Rattle.sql_typed.proofs.condition.constant.Goals as goal
 
 pub returns-clause-atom : goal.returns-clause-atom

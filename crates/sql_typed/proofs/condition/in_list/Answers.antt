@@ -1,4 +1,4 @@
-use Rattle.sql_typed.proofs.Prelude.{◌∙◌, refl, operands_balanced}
+use Rattle.sql_typed.proofs.Imports.{◌∙◌, refl, operands_balanced}
 use Rattle.sql_typed.proofs.ConditionLemmas.{serves_as}
 use Rattle.sql_typed.proofs.condition.in_list.Goals as goal
 
@@ -10,6 +10,3 @@ made-requires g c κs = (
     operands_balanced g.V.ToText.text g.met.V.OperandText.serves_as_operand c.args.values.now,
   ),
 )
-
-pub returns-clause-text : goal.returns-clause-text
-returns-clause-text g c = rw (c.as_str.ensures.value, c.in_ok-field.ensures.text) at c.made.ensures.text

@@ -1,4 +1,4 @@
-use Rattle.sql_typed.proofs.Prelude.{◌∙◌, subst, sym, IsTrue, balanced}
+use Rattle.sql_typed.proofs.Imports.{◌∙◌, subst, sym, IsTrue, balanced}
 use Rattle.sql_typed.proofs.condition.in_one.Goals as goal
 
 pub bracketed-requires : goal.bracketed-requires

@@ -4,6 +4,3 @@ use Rattle.sql_typed.proofs.condition.is_not_null.Goals as goal
 
 pub made-requires : goal.made-requires
 made-requires g c κs = ((refl, tt), serves_as (c.as_str.ensures.value ∙ c.in_ok-field.ensures.text) (g.met.F.OperandText.serves_as_operand c.args.field))
-
-pub returns-clause-text : goal.returns-clause-text
-returns-clause-text g c = rw (c.as_str.ensures.value, c.in_ok-field.ensures.text) at c.made.ensures.text

@@ -1,4 +1,4 @@
-use Rattle.sql_typed.proofs.Prelude.{◌≡◌, ◌++◌, map, string_bytes, take, flat_map, byte_units, in_brackets}
+use Rattle.sql_typed.proofs.Imports.{◌≡◌, ◌++◌, map, string_bytes, take, flat_map, byte_units, in_brackets}
 use Rattle.sql_typed.proofs.condition.joined.Given as goal
 
 abbrev pub invariant-loop-condition : goal.invariant-loop-condition

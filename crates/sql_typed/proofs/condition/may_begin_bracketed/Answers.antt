@@ -1,4 +1,4 @@
-use Rattle.sql_typed.proofs.Prelude.{◌≡◌, ◌∙◌, arith, common_steps, may_begin_bracketed}
+use Rattle.sql_typed.proofs.Imports.{◌≡◌, ◌∙◌, arith, common_steps, may_begin_bracketed}
 use Rattle.sql_typed.proofs.BracketLemmas.{bracket_found}
 use Rattle.sql_typed.proofs.condition.may_begin_bracketed.Goals as goal
 

@@ -1,4 +1,4 @@
-use Rattle.sql_typed.proofs.Prelude.{◌∙◌, ap, string_bytes, true, is_fragment, tokens, exists_text, truth, exists_fragment, not_exists_truth}
+use Rattle.sql_typed.proofs.Imports.{◌∙◌, ap, string_bytes, true, is_fragment, tokens, exists_text, truth, exists_fragment, not_exists_truth}
 use Rattle.sql_typed.proofs.condition.not_exists.Goals as goal
 
 pub invariant_of-result : goal.invariant_of-result

@@ -1,4 +1,4 @@
-use Rattle.sql_typed.proofs.Prelude.{◌∙◌, refl, subst, sym, IsTrue, balanced}
+use Rattle.sql_typed.proofs.Imports.{◌∙◌, refl, subst, sym, IsTrue, balanced}
 use Rattle.sql_typed.proofs.ConditionLemmas.{serves_as}
 use Rattle.sql_typed.proofs.condition.queried.Goals as goal
 
@@ -10,6 +10,3 @@ made-requires g c κs = (
     subst (λ text. IsTrue (balanced text)) (sym c.as_str-2.ensures.value) c.args.query.now.fits,
   ),
 )
-
-pub returns-clause-text : goal.returns-clause-text
-returns-clause-text g c = rw (c.as_str.ensures.value, c.in_ok-field.ensures.text, c.as_str-2.ensures.value) at c.made.ensures.text

@@ -11,7 +11,3 @@ made-requires g c κs = (
     serves_as (c.as_str-3.ensures.value ∙ c.in_ok-greatest.ensures.text) (g.met.G.OperandText.serves_as_operand c.args.greatest),
   ),
 )
-
-pub returns-clause-text : goal.returns-clause-text
-returns-clause-text g c = rw (c.as_str.ensures.value, c.in_ok-field.ensures.text, c.as_str-2.ensures.value, c.in_ok-least.ensures.text, c.as_str-3.ensures.value, c.in_ok-greatest.ensures.text)
-    at c.made.ensures.text

@@ -1,4 +1,4 @@
-use Rattle.sql_typed.proofs.Prelude.{sym, ◌∙◌, ap, blank, between-tokens}
+use Rattle.sql_typed.proofs.Imports.{sym, ◌∙◌, ap, blank, between-tokens}
 use Rattle.sql_parts.specs.declared.delimiters.Quotes.TheVariants.{Single}
 use Rattle.sql_typed.proofs.laws.values_do_not_interfere.Goals as goal
 

@@ -1,4 +1,4 @@
-use Rattle.sql_typed.proofs.Prelude.{◌∙◌, ◌+◌, ◌++◌, None, Some, ap, arith, drop, rules, string_bytes, sym, filled, texts, filled-none, uncut}
+use Rattle.sql_typed.proofs.Imports.{◌∙◌, ◌+◌, ◌++◌, None, Some, ap, arith, drop, rules, string_bytes, sym, filled, texts, filled-none, uncut}
 use Rattle.std.proofs.lemmas.Str.Pattern.{split_parts}
 use Rattle.sql_typed.proofs.FilledLemmas.{filled_more, none_left, one_left}
 use Rattle.sql_typed.proofs.template.filled.Goals.{else-loop-operand-test, then-loop-operand-test+in_default}

@@ -1,4 +1,4 @@
-use Rattle.sql_typed.proofs.Prelude.{◌≡◌, ◌++◌, drop, string_bytes, filled, texts}
+use Rattle.sql_typed.proofs.Imports.{◌≡◌, ◌++◌, drop, string_bytes, filled, texts}
 use denote.Shadow.{shadow}
 use denote.Text.{Utf8}
 use Rattle.sql_typed.proofs.template.filled.Given as goal

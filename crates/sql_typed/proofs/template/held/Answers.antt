@@ -1,4 +1,4 @@
-use Rattle.sql_typed.proofs.Prelude.{◌∙◌, ◌++◌, ap, string_bytes, sym, byte_units, in_brackets, is_unit}
+use Rattle.sql_typed.proofs.Imports.{◌∙◌, ◌++◌, ap, string_bytes, sym, byte_units, in_brackets, is_unit}
 use Rattle.sql_typed.proofs.FilledLemmas.{held_is}
 use Rattle.sql_typed.proofs.template.held.Goals as goal
 

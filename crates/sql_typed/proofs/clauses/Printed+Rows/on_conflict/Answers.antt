@@ -1,4 +1,4 @@
-use Rattle.sql_typed.proofs.Prelude.{◌∙◌, ◌++◌, ap, append_assoc, codes, map, string_bytes, subst, sym, join_with, Continues, is_whole}
+use Rattle.sql_typed.proofs.Imports.{◌∙◌, ◌++◌, ap, append_assoc, codes, map, string_bytes, subst, sym, join_with, Continues, is_whole}
 use Rattle.sql_typed.proofs.WholeLemmas.{conflict_given, listed_whole}
 use Rattle.sql_typed.proofs.clauses.Printed+Rows.on_conflict.Goals as goal
 

@@ -1,5 +1,5 @@
-use Rattle.sql_typed.proofs.Prelude.{◌≡◌, ◌⊎◌, refl, rules, string_bytes, subst, sym, IfErr, Some, IsMemory, ClauseTexts, Sql, error_at, HasWholeFront, asking}
-use Rattle.sql_typed.proofs.PrintLemmas.{bare_statement, borrowed, may_fail}
+use Rattle.sql_typed.proofs.Imports.{◌≡◌, ◌⊎◌, ◌++◌, codes, refl, rules, string_bytes, subst, sym, IfErr, Some, IsMemory, ClauseTexts, Sql, error_at, HasWholeFront, asking}
+use Rattle.sql_typed.proofs.PrintLemmas.{printed_statement, borrowed, may_fail}
 use Rattle.sql_typed.proofs.WholeLemmas.{asked_is, asking_whole}
 use Rattle.sql_typed.proofs.clauses.Statement+InsertKind.asking.Goals as goal
 
@@ -15,7 +15,7 @@ bare-requires c =
 pub returns-clause-statement : goal.returns-clause-statement
 returns-clause-statement c =
     let query = string_bytes c.args.query.now.text in
-    bare_statement c.args.self.start (asking query c.args.self.calls) c.deref.result.now (λ p. string_bytes p.text) c.bare.result
+    printed_statement c.args.self.start (asking query c.args.self.calls) Sql c.deref.result.now (λ p. string_bytes p.text ++ codes ";") c.bare.result
     (asked_is c.args.self c.self.inside.builder.value c.deref.result.now query (borrowed c.self.view_is refl c.self.invariant.0) (search rules)) c.bare.ensures.text
     c.bare.ensures.error
 

@@ -1,6 +1,6 @@
-use Rattle.sql_typed.proofs.Prelude.{Ok, rules, string_bytes, Sql, following_fault_of}
-use Rattle.sql_typed.proofs.FaultLemmas.{failed, succeeded}
-use Rattle.sql_typed.proofs.PrintLemmas.{bare_printed}
+use Rattle.sql_typed.proofs.Imports.{Err, Ok, refl, rules, string_bytes, ◌++◌, codes, Sql, following_fault_of}
+use Rattle.sql_typed.proofs.FaultLemmas.{passed_by}
+use Rattle.sql_typed.proofs.PrintLemmas.{all_printed}
 use Rattle.sql_typed.proofs.WholeLemmas.{made_whole}
 use Rattle.sql_typed.proofs.clauses.Statement+InsertKind.rows.Goals as goal
 
@@ -9,17 +9,14 @@ bare-requires c = record { front = made_whole c.args.self.now c.clauses.result.n
 
 pub returns-clause-printed : goal.returns-clause-printed
 returns-clause-printed c =
-    bare_printed c.args.self.now c.clauses.result.now c.clauses.ensures (λ p. string_bytes p.text) (Ok c.in_ok-printed.printed) c.in_ok-printed.ensures.text
+    all_printed Sql c.clauses.ensures refl (λ p. string_bytes p.text ++ codes ";") (Ok c.in_ok-printed.printed) c.in_ok-printed.ensures.text
     c.in_ok-printed.ensures.error
 
 pub returns-in_err-printed-clause-error : goal.returns-in_err-printed-clause-error
 returns-in_err-printed-clause-error c =
-    let made = c.args.self.now in
-    failed made Sql c.clauses.result.now c.clauses.ensures (following_fault_of made) (search rules) _ c.in_err-printed.field-0.0 _ c.from_residual-in_err-printed.ensures.1
+    passed_by Sql c.clauses.ensures (following_fault_of c.args.self.now) (search rules) (Err c.in_err-printed.field-0.0) _ c.from_residual-in_err-printed.ensures.1
     c.in_err-printed.ensures.error
 
 pub returns-clause-error : goal.returns-clause-error
 returns-clause-error c =
-    let made = c.args.self.now in
-    succeeded made Sql c.clauses.result.now c.clauses.ensures (following_fault_of made) (search rules) c.in_ok-printed.printed c.in_ok-printed.printed
-    c.in_ok-printed.ensures.error
+    passed_by Sql c.clauses.ensures (following_fault_of c.args.self.now) (search rules) (Ok c.in_ok-printed.printed) _ refl c.in_ok-printed.ensures.error

@@ -1,4 +1,4 @@
-use Rattle.sql_typed.proofs.Prelude.{◌∙◌, ◌++◌, ap, append_assoc, string_bytes, is_whole}
+use Rattle.sql_typed.proofs.Imports.{◌∙◌, ◌++◌, ap, append_assoc, string_bytes, is_whole}
 use Rattle.sql_typed.proofs.WholeLemmas.{followed_whole}
 use Rattle.sql_typed.proofs.printed.Printed.followed.Goals as goal
 

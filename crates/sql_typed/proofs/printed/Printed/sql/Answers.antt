@@ -1,4 +1,4 @@
-use Rattle.sql_typed.proofs.Prelude.{◌∙◌, ap, string_bytes, subst, sym, closed, tokens, EndsInOneSemicolon}
+use Rattle.sql_typed.proofs.Imports.{◌∙◌, ap, string_bytes, subst, sym, closed, tokens, EndsInOneSemicolon}
 use Rattle.sql_typed.proofs.WholeLemmas.{whole_closed, whole_ends}
 use Rattle.sql_typed.proofs.printed.Printed.sql.Goals as goal
 

@@ -1,17 +1,16 @@
-use Rattle.sql_typed.proofs.Prelude.{Subquery, error_at, made_by, fault_of}
-use Rattle.sql_typed.proofs.FaultLemmas.{gave, passed}
-use Rattle.sql_typed.proofs.PrintLemmas.{serves_of}
+use Rattle.sql_typed.proofs.Imports.{Err, Ok, refl, serves, Subquery, error_at, made_by, fault_of}
+use Rattle.sql_typed.proofs.FaultLemmas.{passed_on}
 use Rattle.sql_typed.proofs.select.Statement+SelectKind.subquery.Goals as goal
 
 pub of_built-requires : goal.of_built-requires
-of_built-requires c = record { fits = serves_of c.in_ok-text.ensures.printed.nests c.in_ok-text.ensures.printed.is_closed }
+of_built-requires c = record { fits = serves _ c.in_ok-text.ensures.printed.nests }
 
 pub returns-in_err-text-clause-error : goal.returns-in_err-text-clause-error
 returns-in_err-text-clause-error c =
     let made = c.args.self.now in
-    passed _ (fault_of made) (error_at Subquery (made_by made.start made.calls)) c.in_err-text.field-0.0 _ c.from_residual.ensures.1 c.in_err-text.ensures.error
+    passed_on (fault_of made) (error_at Subquery (made_by made.start made.calls)) (Err c.in_err-text.field-0.0) _ c.from_residual.ensures.1 c.in_err-text.ensures.error
 
 pub returns-clause-error : goal.returns-clause-error
 returns-clause-error c =
     let made = c.args.self.now in
-    gave (fault_of made) (error_at Subquery (made_by made.start made.calls)) c.in_ok-text.text _ c.in_ok-text.ensures.error
+    passed_on (fault_of made) (error_at Subquery (made_by made.start made.calls)) (Ok c.in_ok-text.text) _ refl c.in_ok-text.ensures.error

@@ -1,9 +1,9 @@
-use Rattle.sql_typed.proofs.Prelude.{◌++◌, ◌∙◌, List, ap, rules, Made, made_in, step_call}
+use Rattle.sql_typed.proofs.Imports.{◌++◌, ◌∙◌, List, ap, rules, Made, made_in, step_call}
 use Rattle.sql_typed.proofs.FaultLemmas.{held_more}
 use Rattle.sql_typed.proofs.statement.Statement.add.Goals as goal
 
-pub invariant_of-result : goal.invariant_of-result
-invariant_of-result g c =
+pub invariant_of-self : goal.invariant_of-self
+invariant_of-self g c =
     let before = made_in c.self.inside.made.items in
     let held = held_more before _ (step_call c.args.step) c.self.inside.builder.value c.make_step.new.builder c.self.inside.marks
     (ap made_in c.of-made.ensures

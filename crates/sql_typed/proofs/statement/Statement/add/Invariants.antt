@@ -1,4 +1,4 @@
-use Rattle.sql_typed.proofs.Prelude.{[], ◌∷◌, ◌++◌, SelectFrom, Made, adding, beginning, made_in, step_call}
+use Rattle.sql_typed.proofs.Imports.{[], ◌∷◌, ◌++◌, SelectFrom, Made, adding, beginning, made_in, step_call}
 use Rattle.sql_typed.proofs.statement.Statement.add.Given as goal
 
 -- the call alone, and then behind those before it

@@ -1,4 +1,4 @@
-use Rattle.sql_typed.proofs.Prelude.{[], ◌∷◌, made_in, meaning_all_rows}
+use Rattle.sql_typed.proofs.Imports.{[], ◌∷◌, made_in, meaning_all_rows}
 use Rattle.sql_typed.proofs.statement.Statement.all_rows.Given as goal
 
 abbrev pub ghost-of : goal.ghost-of

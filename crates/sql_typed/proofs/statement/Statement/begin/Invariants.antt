@@ -1,4 +1,4 @@
-use Rattle.sql_typed.proofs.Prelude.{[], ◌∷◌, start_on, beginning}
+use Rattle.sql_typed.proofs.Imports.{[], ◌∷◌, start_on, beginning}
 use Rattle.sql_typed.proofs.statement.Statement.begin.Given as goal
 
 abbrev pub ghost-of : goal.ghost-of

@@ -1,4 +1,4 @@
-use Rattle.sql_typed.proofs.Prelude.{◌∙◌, ap, sym, made_in, marks_of}
+use Rattle.sql_typed.proofs.Imports.{◌∙◌, ap, sym, made_in, marks_of}
 use Rattle.sql_typed.proofs.PrintLemmas.{borrowed}
 use Rattle.sql_typed.proofs.statement.Statement.clone.Goals as goal
 

@@ -1,4 +1,4 @@
-use Rattle.sql_typed.proofs.Prelude.{◌∙◌, unary_fits}
+use Rattle.sql_typed.proofs.Imports.{◌∙◌, unary_fits}
 use Rattle.sql_typed.proofs.statement.Statement.with_fragment.Goals as goal
 
 pub add-requires : goal.add-requires

@@ -1,4 +1,4 @@
-use Rattle.sql_typed.proofs.Prelude.{◌∙◌, refl, fits_as, unary_fits}
+use Rattle.sql_typed.proofs.Imports.{◌∙◌, refl, fits_as, unary_fits}
 use Rattle.sql_typed.proofs.statement.Statement.with_operand.Goals as goal
 
 pub add-requires : goal.add-requires

@@ -1,4 +1,4 @@
-use Rattle.sql_typed.proofs.Prelude.{◌∙◌, fits_as, binary_fits}
+use Rattle.sql_typed.proofs.Imports.{◌∙◌, fits_as, binary_fits}
 use Rattle.sql_typed.proofs.statement.Statement.with_pair.Goals as goal
 
 pub add-requires : goal.add-requires

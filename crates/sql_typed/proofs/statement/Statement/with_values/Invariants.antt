@@ -1,4 +1,4 @@
-use Rattle.sql_typed.proofs.Prelude.{[], ◌∷◌, map, Values, adding, made_in}
+use Rattle.sql_typed.proofs.Imports.{[], ◌∷◌, map, Values, adding, made_in}
 use Rattle.sql_typed.proofs.statement.Statement.with_values.Given as goal
 
 abbrev pub ghost-of : goal.ghost-of

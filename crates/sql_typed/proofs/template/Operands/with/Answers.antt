@@ -1,4 +1,4 @@
-use Rattle.sql_typed.proofs.Prelude.{◌∙◌, ◌++◌, ◌∷◌, [], ap, string_bytes, map-append, list_all, in_hole, is_bare_operand, texts}
+use Rattle.sql_typed.proofs.Imports.{◌∙◌, ◌++◌, ◌∷◌, [], ap, string_bytes, map-append, list_all, in_hole, is_bare_operand, texts}
 use Rattle.sql_typed.proofs.FilledLemmas.{all_more}
 use Rattle.sql_typed.proofs.template.Operands.with.Goals as goal
 

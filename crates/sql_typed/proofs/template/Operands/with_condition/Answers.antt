@@ -1,10 +1,6 @@
-use Rattle.sql_typed.proofs.Prelude.{◌∙◌, ◌++◌, ◌∷◌, [], ap, string_bytes, byte_units, in_brackets, balanced, in_hole, texts}
+use Rattle.sql_typed.proofs.Imports.{◌∙◌, ◌++◌, ◌∷◌, [], ap, string_bytes, byte_units, in_brackets, in_hole, texts}
 use Rattle.sql_typed.proofs.FilledLemmas.{bracketed_held, condition_balanced}
 use Rattle.sql_typed.proofs.template.Operands.with_condition.Goals as goal
-
-pub bracketed-requires : goal.bracketed-requires
-bracketed-requires c =
-    record { balanced = ap balanced c.as_str.ensures.value ∙ condition_balanced (string_bytes c.args.condition.now.text) c.args.condition.now.fits }
 
 pub returns-clause-texts : goal.returns-clause-texts
 returns-clause-texts c =

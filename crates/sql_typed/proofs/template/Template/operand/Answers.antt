@@ -1,4 +1,4 @@
-use Rattle.sql_typed.proofs.Prelude.{◌∙◌, ap, filled, texts}
+use Rattle.sql_typed.proofs.Imports.{◌∙◌, ap, filled, texts}
 use Rattle.sql_typed.proofs.FilledLemmas.{operand_filled}
 use Rattle.sql_typed.proofs.template.Template.operand.Goals as goal
 

@@ -1,4 +1,4 @@
-use Rattle.sql_typed.proofs.Prelude.{◌∙◌, ap, subst, sym, filled, texts, closed, tokens, filled-closed, EndsInOneSemicolon}
+use Rattle.sql_typed.proofs.Imports.{◌∙◌, ap, subst, sym, filled, texts, closed, tokens, filled-closed, EndsInOneSemicolon}
 use Rattle.sql_typed.proofs.FilledLemmas.{all_serve}
 use Rattle.sql_typed.proofs.FilledStatementLemmas.{filled_ends, readers_ignore_held}
 use Rattle.sql_typed.proofs.template.Template.sql.Goals as goal

@@ -1,4 +1,4 @@
-use Rattle.sql_typed.proofs.Prelude.{◌∙◌, ◌++◌, ap, append_assoc, string_bytes, balanced, united_text}
+use Rattle.sql_typed.proofs.Imports.{◌∙◌, ◌++◌, ap, append_assoc, string_bytes, balanced, united_text}
 use Rattle.sql_typed.proofs.BracketLemmas.{united_balanced}
 use Rattle.sql_typed.proofs.WholeLemmas.{balanced_followed}
 use Rattle.sql_typed.proofs.texts.Query.combined.Goals as goal
