@@ -1,9 +1,11 @@
-"""Hostile texts, for the tests on databases and on their parsers."""
+"""Hostile texts, for the tests on databases and on their parsers, and what a mask means."""
 
 import ast
+import functools
 import itertools
 import random
 import re
+import sys
 
 from repository import read
 
@@ -44,7 +46,31 @@ def fits_line(text):
 
 def attacks():
     """The texts in the code of docs/SECURITY.md and docs/reference/readings.md, each once, attacks among them; without those with a zero byte."""
-    found = []
-    for page in ("docs/SECURITY.md", "docs/reference/readings.md"):
-        found += [ast.literal_eval(text) for text in re.findall(r'"(?:[^"\\]|\\.)*"', read(page))]
+    pages = read("docs/SECURITY.md") + read("docs/reference/readings.md")
+    found = [ast.literal_eval(text) for text in re.findall(r'"(?:[^"\\]|\\.)*"', pages)]
     return [*dict.fromkeys(text for text in found if "\0" not in text)]
+
+
+def quoted(text):
+    return "'" + text.replace("'", "''") + "'"
+
+
+@functools.cache
+def pattern(mask):
+    """The regular expression of a mask in which `!` escapes, or None where nothing is behind the last `!`."""
+    parts = re.findall(r"!.|[^!]|!$", mask, re.DOTALL)
+    if parts and parts[-1] == "!":
+        return None
+    wildcards = {"%": ".*", "_": "."}
+    return re.compile("".join(wildcards.get(it, re.escape(it[-1])) for it in parts), re.DOTALL)
+
+
+def is_like(text, mask):
+    """Whether a mask without an escape character matches a text."""
+    return bool(pattern(mask.replace("!", "!!")).fullmatch(text))
+
+
+def asked(*numbers):
+    """The numbers that are given as arguments, or else these."""
+    given = [int(it) for it in sys.argv[1:]]
+    return [*given, *numbers[len(given) :]]

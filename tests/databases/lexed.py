@@ -4,13 +4,11 @@ text.
 
 Behind a text a lexer is outside of everything (in a word or number, or behind a sign), or in a string of a kind, a name between quotes, a
 comment or the like. SQLite says so by the token that it doesn't recognize, where a control character follows the text in a statement that
-takes any tokens; PostgreSQL's own lexer, by the Python module pglast (python3-pglast in Debian, hence Debian's Python), by the tokens, or
-by what isn't ended. MariaDB parses a statement that ends the string or the like behind the text and goes on, and refuses it with one more
-bracket. Each text of few characters is tried, so also what a quote behind each of them begins, and longer ones. Texts with a token that is
-refused before their end show nothing, nor do those in which a reader is lost, nor on MariaDB those that no SELECT has; they are counted.
-
-What is not installed is printed as SKIPPED. The readers are proved and built first, in a temporary folder. The arguments are how many
-longer texts are made (200,000 without one) and a seed. The status is 0 where no text differed and some were compared."""
+takes any tokens; PostgreSQL's own lexer, by the Python module pglast, by the tokens, or by what isn't ended. MariaDB parses a statement that
+ends the string or the like behind the text and goes on, and refuses it with one more bracket. Each text of few characters is tried, so also
+what a quote behind each of them begins, and longer ones. Texts with a token that is refused before their end show nothing, nor do those in
+which a reader is lost, nor on MariaDB those that no SELECT has; they are counted. The arguments are how many longer texts are made and a
+seed."""
 
 import collections
 import ctypes
@@ -22,9 +20,9 @@ import sys
 import tempfile
 
 sys.path.append(os.path.realpath(f"{__file__}/../../lib"))
-from built import proved
-from connections import Refused, Skipped, end_with, maria, measuring, sqlite
-from hostile import all_of
+from built import SEPARATOR, proved
+from connections import Refused, each
+from hostile import all_of, asked
 from tally import Tally
 
 try:
@@ -32,7 +30,7 @@ try:
 except ImportError:
     scan = None
 
-SEPARATOR, CONTROL = "\x1e", b"\x01"
+CONTROL = b"\x01"
 # Every text of up to four of the first of these is tried, for each database, and longer ones are made of all.
 CHARACTERS = {"SQLite": "'x-/*\n$:a[", "PostgreSQL": "'e-/*\n$a\\&", "MariaDB": "'x-/*\n #\"\\"}
 PIECES = [
@@ -136,33 +134,46 @@ def compare(name, read, meant, states, all_texts, tally):
     print(f"{name}: {counts.total() - counts['not compared']} of {counts.total()} texts were compared: {shown}", flush=True)
 
 
-def main():
-    count = int(sys.argv[1]) if len(sys.argv) > 1 else 200000
-    chance = random.Random(int(sys.argv[2]) if len(sys.argv) > 2 else 52)
-    longer = ["".join(chance.choices(PIECES, k=chance.randint(1, 12))) for _ in range(count)]
-    # MariaDB parses dozens of statements for each text
-    most = {"MariaDB": count // 4}
-    all_texts = {name: [*dict.fromkeys([*all_of(it, 4), *longer[: most.get(name, count)]])] for name, it in CHARACTERS.items()}
-    tally, states = Tally("databases_lexed"), {}
+def states_of(all_texts, tally):
+    """Of each database the readers' states behind its texts."""
+    states = {}
     with tempfile.TemporaryDirectory(prefix="states-") as folder:
         program = proved(folder, "lexed", "database_readers")
         for name, texts in all_texts.items():
             made = subprocess.run([program], input=SEPARATOR.join(texts).encode(), stdout=subprocess.PIPE, check=True).stdout
             states[name] = [*zip(*([int(state) for state in line.split()] for line in made.decode().splitlines()))]
             tally.expect(f"{name}: texts that were read", len(states[name][0]), len(texts))
-    with measuring("SQLite", tally), sqlite() as db:
-        compare(db.name, lambda text: read_by_sqlite(db, text), of_sqlite, states["SQLite"][0], all_texts["SQLite"], tally)
-    with measuring("PostgreSQL", tally):
-        if not scan:
-            raise Skipped("there is no Python module pglast")
+    return states
+
+
+def measure(db, all_texts, states, tally):
+    """Compares SQLite, or MariaDB by its settings, with the readers."""
+    texts, found = all_texts[db.product], states[db.product]
+    if db.product == "SQLite":
+        compare(db.name, lambda text: read_by_sqlite(db, text), of_sqlite, found[0], texts, tally)
+        return
+    for setting, one in zip(db.settings, found[2:]):
+        db.set(setting)
+        compare(db.name, lambda text: read_by_maria(db, text), of_maria, one, texts, tally)
+
+
+def main():
+    count, seed = asked(200000, 52)
+    chance = random.Random(seed)
+    longer = ["".join(chance.choices(PIECES, k=chance.randint(1, 12))) for _ in range(count)]
+    # MariaDB parses dozens of statements for each text
+    most = {"MariaDB": count // 4}
+    all_texts = {name: [*dict.fromkeys([*all_of(it, 4), *longer[: most.get(name, count)]])] for name, it in CHARACTERS.items()}
+    tally = Tally("databases_lexed")
+    states = states_of(all_texts, tally)
+    each(tally, lambda db: measure(db, all_texts, states, tally), ("SQLite", "MariaDB"))
+    if scan:
         read = lambda text: None if COMMENT_IN_GAP.search(text) else read_by_postgres(text)
         compare("PostgreSQL's lexer", read, of_postgres, states["PostgreSQL"][1], all_texts["PostgreSQL"], tally)
-    with measuring("MariaDB", tally), maria() as db:
-        for setting, found in zip(db.settings, states["MariaDB"][2:]):
-            db.set(setting)
-            compare(db.name, lambda text: read_by_maria(db, text), of_maria, found, all_texts["MariaDB"], tally)
+    else:
+        print("SKIPPED: PostgreSQL: there is no Python module pglast")
     return tally.end()
 
 
 if __name__ == "__main__":
-    end_with(main)
+    sys.exit(main())

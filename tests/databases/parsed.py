@@ -7,9 +7,7 @@ statement; its string constants are the texts; its WHERE is the AND of its group
 parsed alone (AND and OR flattened); its other clauses are those of the statement by hand; and the kinds of its tokens are those of the
 same statement with empty texts. First corrupted statements are parsed, each of which one of these comparisons has to refuse.
 
-The parser is the Python module pglast (python3-pglast in Debian, hence Debian's Python); where it is not installed, that is printed as
-SKIPPED. sqlb has to be built. The arguments are how many statements are made (80,000 without one) and a seed. The last line counts what
-passed and failed, and the status is 0 where nothing failed and something passed."""
+The parser is the Python module pglast. sqlb has to be built. The arguments are how many statements are made and a seed."""
 
 import itertools
 import json
@@ -20,9 +18,9 @@ from dataclasses import dataclass, field
 
 sys.path.append(os.path.realpath(f"{__file__}/../../lib"))
 from built import printed
-from hostile import fits_line, mixed, texts
+from hostile import asked, fits_line, mixed, quoted, texts
 from tally import Tally
-from where import Condition, Maker, quoted, texts_of, where_lines
+from where import Condition, Maker, texts_of, where_lines
 
 try:
     from pglast.parser import ParseError, parse_sql_json, scan
@@ -312,11 +310,10 @@ def hostile_texts(chance, fixed):
 
 
 def main():
-    count = int(sys.argv[1]) if len(sys.argv) > 1 else 80000
-    seed = int(sys.argv[2]) if len(sys.argv) > 2 else 52
+    count, seed = asked(80000, 52)
     tally, fixed = Tally("databases_parsed"), texts()
     corrupted(tally)
-    before, number_of_texts, longest = tally.passed, 0, 0
+    before, number_of_texts = tally.passed, 0
     maker = lambda number, all_texts: StatementMaker(random.Random(f"{seed} {number}"), all_texts).statement()
     for start in range(0, count, BATCH):
         numbers = range(start, min(start + BATCH, count))
@@ -327,7 +324,7 @@ def main():
         for number, made, statement, emptied in zip(numbers, all_made, statements, statements[len(numbers) :]):
             why = wrong(statement, emptied, made)
             tally.count(why is None, f"statement {number} of seed {seed}: {why}\n  {statement[:2000]!r}")
-            number_of_texts, longest = number_of_texts + len(made.texts), max(longest, len(statement))
+            number_of_texts += len(made.texts)
     print(f"{tally.passed - before} of {count} statements with {number_of_texts} string constants are as they are meant")
     return tally.end()
 

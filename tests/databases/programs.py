@@ -1,14 +1,13 @@
-#!/usr/bin/env python3
+#!/usr/bin/python3
 """Stores texts with control characters by each way to run a file of statements, and compares what is stored.
 
 Each text is a literal of a script, with its quotes doubled. The script goes to a database's command-line program on standard input, as a
 file and as an argument, and to a library, where no program reads it. The table that is printed counts the texts that were stored as they
 are. Each has to be, but that the ways of LOSING drop a carriage return before a line feed. Each text with a carriage return is also
-written without one in a literal, by `char(13)` or the like, and has then to be stored as it is.
-
-What is not installed is printed as SKIPPED. The status is 0 where all texts were stored so, and some were."""
+written without one in a literal, by `char(13)` or the like, and has then to be stored as it is."""
 
 import contextlib
+import functools
 import os
 import sqlite3
 import subprocess
@@ -16,7 +15,8 @@ import sys
 import tempfile
 
 sys.path.append(os.path.realpath(f"{__file__}/../../lib"))
-from connections import Refused, maria, measuring, postgres, sqlite
+from connections import Refused, each, head, row
+from hostile import quoted
 from tally import Tally
 
 CR, LF = "\r", "\n"
@@ -39,6 +39,13 @@ TEXTS = {
     "another control character": [text for it in CONTROLS for text in around(it)],
     "a line like a command": [text for it in COMMANDS for text in (f"{LF}{it}{LF}", f"{LF}{it};{LF}", f"a;{LF}{it}")],
 }
+# The ways to run a script by a program, by the words behind those that start it.
+FILE, SCRIPT = "FILE", "SCRIPT"
+WAYS = {
+    "SQLite": {"sqlite3 < file": [], "sqlite3 '.read file'": [f".read {FILE}"], "sqlite3, in an argument": [SCRIPT]},
+    "PostgreSQL": {"psql < file": [], "psql -f file": ["-f", FILE], "psql -c": ["-c", SCRIPT]},
+    "MariaDB": {"mariadb < file": [], "mariadb -e 'source file'": ["-e", f"source {FILE}"], "mariadb -e": ["-e", SCRIPT]},
+}
 # The ways that lose a carriage return before a line feed, and change no other text.
 LOSING = ("sqlite3 < file", "sqlite3 '.read file'", "mariadb < file", "mariadb -e 'source file'")
 # Where the backslash is a character like any other.
@@ -47,83 +54,43 @@ SETUP = {"MariaDB": "SET SESSION sql_mode = CONCAT(@@sql_mode, ',NO_BACKSLASH_ES
 NUMBERED = {"SQLite": "{} || char(13) || {}", "PostgreSQL": "{} || chr(13) || {}", "MariaDB": "CONCAT({}, char(13), {})"}
 
 
-def literal(text):
-    return "'" + text.replace("'", "''") + "'"
-
-
 def numbered(product, text):
     """An expression for the text, without a carriage return in a literal."""
-    first, *others = map(literal, text.split(CR))
+    first, *others = map(quoted, text.split(CR))
     for it in others:
         first = NUMBERED[product].format(first, it)
     return first
 
 
-def from_input(db, *words):
-    """Runs a script on a program's standard input."""
-
-    def run(script):
-        done = subprocess.run(words, input=script.encode(), env={**os.environ, **db.variables}, capture_output=True, check=False)
-        return done.stderr.decode(errors="replace")
-
-    return run
-
-
-def from_file(db, path, *words):
-    """Runs a script that is in a file of this path, which the program's arguments name."""
-
-    def run(script):
-        with open(path, "w", encoding="utf-8", newline="") as it:
-            it.write(script)
-        return from_input(db, *words)("")
-
-    return run
+def by_program(db, path, words, script):
+    """Runs a script by the command-line program, on its standard input if no word has it or the file. Gives what the program says."""
+    with open(path, "w", encoding="utf-8", newline="") as it:
+        it.write(script)
+    words = [script if it == SCRIPT else it.replace(FILE, path) for it in words]
+    given = "" if words else script
+    done = subprocess.run([*db.words(), *words], input=given.encode(), env={**os.environ, **db.variables}, capture_output=True)
+    return done.stderr.decode(errors="replace")
 
 
-def from_argument(db, *words):
-    """Runs a script that is the program's last argument."""
-    return lambda script: from_input(db, *words, script)("")
-
-
-def by_library(db):
-    """Runs a script by the connection."""
-
-    def run(script):
-        try:
-            db.run(script)
-        except Refused as why:
-            return f"{why}"
+def by_library(db, script):
+    try:
+        db.run(script)
         return ""
-
-    return run
-
-
-def by_python(path):
-    """Runs a script by Python's library of SQLite."""
-
-    def run(script):
-        with contextlib.closing(sqlite3.connect(path)) as db:
-            db.executescript(script)
-        return ""
-
-    return run
+    except Refused as why:
+        return f"{why}"
 
 
-def ways(db, product, path):
+def by_python(path, script):
+    with contextlib.closing(sqlite3.connect(path)) as db:
+        db.executescript(script)
+
+
+def ways(db, path):
     """The ways to run a script, by their names."""
-    words = db.words()
-    yield f"{os.path.basename(words[0])} < file", from_input(db, *words)
-    if product == "SQLite":
-        yield "sqlite3 '.read file'", from_file(db, path, *words, f".read {path}")
-        yield "sqlite3, in an argument", from_argument(db, *words)
-        yield "Python's `executescript`", by_python(db.path)
-    if product == "PostgreSQL":
-        yield "psql -f file", from_file(db, path, *words, "-f", path)
-        yield "psql -c", from_argument(db, *words, "-c")
-    if product == "MariaDB":
-        yield "mariadb -e 'source file'", from_file(db, path, *words, "-e", f"source {path}")
-        yield "mariadb -e", from_argument(db, *words, "-e")
-    yield "its C library", by_library(db)
+    yield from ((name, functools.partial(by_program, db, path, words)) for name, words in WAYS[db.product].items())
+    if db.product == "SQLite":
+        yield "Python's `executescript`", functools.partial(by_python, db.path)
+    yield "its C library", functools.partial(by_library, db)
 
 
 def stored(db, run, setup, expressions):
@@ -134,30 +101,28 @@ def stored(db, run, setup, expressions):
     return [rows.get(number, said) for number in range(len(expressions))]
 
 
-def measure(db, product, folder, tally):
+def measure(db, folder, tally):
     """Prints a line of the table for each way."""
-    db.run("DROP TABLE IF EXISTS stored")
-    db.run(f"CREATE TABLE stored (id INTEGER, x {db.column})")
-    for name, run in ways(db, product, f"{folder}/script.sql"):
-        cells, setup = [], SETUP.get(product, "")
+    db.set(db.standard)
+    db.make("stored", f"id INTEGER, x {db.column}")
+    for name, run in ways(db, f"{folder}/script.sql"):
+        cells, setup = [], SETUP.get(db.product, "")
         for what, texts in TEXTS.items():
-            found = stored(db, run, setup, [*map(literal, texts)])
+            found = stored(db, run, setup, [*map(quoted, texts)])
             wanted = [it.replace(CR + LF, LF) if name in LOSING else it for it in texts]
             tally.expect(f"{db.name}: {name}: texts with {what}", found, wanted)
             cells.append(f"{sum(map(str.__eq__, found, texts))} of {len(texts)}")
             if what.startswith("CR"):
-                found = stored(db, run, setup, [numbered(product, it) for it in texts])
+                found = stored(db, run, setup, [numbered(db.product, it) for it in texts])
                 tally.expect(f"{db.name}: {name}: the same by numbers", found, texts)
-        print(f"| {db.name.split(',')[0]} | {name} | {' | '.join(cells)} |", flush=True)
+        row(db.name.split(",")[0], name, *cells)
 
 
 def main():
     tally = Tally("databases_programs")
-    print(f"| database | way | {' | '.join(TEXTS)} |\n|---|---{'|---' * len(TEXTS)}|")
-    for product, opened in (("SQLite", sqlite), ("PostgreSQL", postgres), ("MariaDB", maria)):
-        with measuring(product, tally), opened() as db, tempfile.TemporaryDirectory(prefix="programs-") as folder:
-            db.set(db.settings[-1] if product == "MariaDB" else db.settings[0])
-            measure(db, product, folder, tally)
+    head("database", "way", *TEXTS)
+    with tempfile.TemporaryDirectory(prefix="programs-") as folder:
+        each(tally, lambda db: measure(db, folder, tally))
     return tally.end()
 
 

@@ -1,43 +1,43 @@
-#!/usr/bin/env python3
-"""Puts hostile texts into statements, runs these on real databases, reads each text back and compares.
+#!/usr/bin/python3
+"""Puts hostile texts into statements, runs these on databases, reads each text back and compares.
 
-Texts go through sqlb by `set_str`, `_in_quoted` and LIKE, and through tests/databases/texts.rt.txt by `quote`, each call of binding and
-`escape_like`, whose masks have to find the texts that are, begin with, end with or contain the text. The attacks of docs/SECURITY.md and docs/reference/readings.md are
-also put as a `Value` into each argument of sql_typed that takes one, and there change nothing of the statement but literals, which a
-database may refuse as a name, or to group or order by; one that is no column is refused by `Operand::of_trusted`, and one that is finds no
-further rows. The first table that is printed counts the statements that gave their texts back as they went in, those that gave something
-else, those that were refused, and those that dropped a table that only texts name: there a text left its literal. So it does of scripts
-of two statements that the database's command-line program is given, with a zero byte in the first one's text. The second table counts
-what each database makes of literals where a backslash escapes, and of masks with ESCAPE, and how often it is what specs/Backslash.antt
-and specs/Like.antt of sql_parts say, which are said here once more and held to their worked rows (proofs/rows/BackslashRows.antt,
-proofs/rows/LikeRows.antt).
-The third table has fragments that a database may read otherwise than by the rules of docs/PROVED.md, whether `is_balanced` and
-`has_clause_word` let them in, and what each database answers to a SELECT of them: where they are let in and a second row comes, the
-database has found a UNION in them.
+Texts go through sqlb by `set_str`, `_in_quoted` and LIKE, and through texts.rt.txt by `quote`, each call of binding and `escape_like`,
+whose masks have to find the texts that are, begin with, end with or contain the text. The attacks of docs/SECURITY.md and
+docs/reference/readings.md are also put as a `Value` into each argument of sql_typed that takes one, and there change nothing of the
+statement but literals. A database may refuse such a literal as a name, or to group or order by; one that is no column is refused by
+`Operand::of_trusted`, and one that is finds no further rows.
 
-What is installed is measured: SQLite by libsqlite3, PostgreSQL by libpq and a cluster of its own, MariaDB or MySQL by its client
-library and a server of its own, each in a temporary folder, and not as root. What is not installed is printed as SKIPPED. sqlb is
-proved and built first, unless the argument is --built. The status is 1 where a text did not come back that has to (each one, but for
-one with a backslash where a backslash escapes, and one with a zero byte, which may be refused), where a definition is not what a
-database does, and where none was measured."""
+The first table counts the statements that gave their texts back, those that gave something else, those that were refused, and those that
+dropped a table that only texts name: there a text left its literal. So it does of scripts of two statements that the database's
+command-line program is given, with a zero byte in the first one's text. The second table counts how often a database makes of literals
+where a backslash escapes, and of masks with ESCAPE, what specs/Backslash.antt and specs/Like.antt of sql_parts say, which are said here
+once more and held to their worked rows. The third table has fragments that a database may read otherwise than by the rules of
+docs/PROVED.md, whether `is_balanced` and `has_clause_word` let them in, and what each database answers to a SELECT of them: where they
+are let in and a second row comes, the database has found a UNION in them.
+
+Each text has to come back, but for one with a backslash where a backslash escapes, and one with a zero byte, which may be refused. sqlb is
+proved and built first, unless the argument is --built."""
 
 import collections
+import itertools
 import operator
 import os
 import re
-import subprocess
 import sys
 import tempfile
+from dataclasses import dataclass
 
 sys.path.append(os.path.realpath(f"{__file__}/../../lib"))
-from built import build, printed, proved
-from connections import Broken, Refused, Skipped, end_with, maria, measuring, postgres, sqlite
-from hostile import all_of, attacks, fits_line, texts
-from repository import ROOT
+from built import SEPARATOR, build, parts_of, printed, proved
+from connections import Refused, each, head, row
+from hostile import all_of, attacks, fits_line, is_like, pattern, texts
+from repository import read
+from servers import Broken, Skipped
 from tally import Tally
 
-SEPARATOR, TAB, BACKSLASH = "\x1e", "\t", "\\"
-# The calls of tests/databases/texts.rt.txt, in its order.
+TAB, BACKSLASH = "\t", "\\"
+IN_ORDER = "SELECT id, x FROM one ORDER BY id"
+# The calls of texts.rt.txt, in its order.
 CALLS = ("quote", "bind", "binds", "bind_num", "bind_nums", "bind_name", "bind_names")
 # The calls of LIKE, and which texts fit a mask without wildcards.
 LIKES = {
@@ -46,8 +46,8 @@ LIKES = {
     "and_where_like_right": str.endswith,
     "and_where_like_any": str.__contains__,
 }
-# The masks of tests/databases/texts.rt.txt, in its order, which follow its calls.
-MASKS = (str.__eq__, str.startswith, str.endswith, str.__contains__)
+# The masks of texts.rt.txt, in its order, which follow its calls.
+MASKS = tuple(LIKES.values())
 # Behind these is whether the text is let in, and then statements by types. These store it in this row, or have it as a name too.
 LET_IN = len(CALLS) + len(MASKS)
 STORES = {"set": 2, "set_str": 2, "values": 4, "row": 4, "operand": 4}
@@ -126,32 +126,8 @@ FRAGMENTS = (
 
 def literal(text):
     """What the literal at the beginning of a text stands for where a backslash escapes, and its length, or None where it has no end."""
-    if not text.startswith("'"):
-        return None
-    stands, at = "", 1
-    while at < len(text):
-        pair = text[at : at + 2]
-        if len(pair) == 2 and (pair[0] == BACKSLASH or pair == "''"):
-            stands, at = stands + pair[1], at + 2
-        elif pair[0] == "'":
-            return stands, at + 1
-        else:
-            stands, at = stands + pair[0], at + 1
-    return None
-
-
-def pattern(mask):
-    """The regular expression of a mask in which `!` escapes, or None where nothing is behind the last `!`."""
-    parts = re.findall(r"!.|[^!]|!$", mask, re.DOTALL)
-    if parts and parts[-1] == "!":
-        return None
-    wildcards = {"%": ".*", "_": "."}
-    return re.compile("".join(wildcards.get(it, re.escape(it[-1])) for it in parts), re.DOTALL)
-
-
-def is_like(text, mask):
-    """Whether a mask without an escape character matches a text."""
-    return bool(pattern(mask.replace("!", "!!")).fullmatch(text))
+    found = re.match(r"'((?:\\.|''|[^'\\])*+)'", text, re.DOTALL)
+    return (re.sub(r"\\(.)|''", lambda it: it[1] or "'", found[1], flags=re.DOTALL), found.end()) if found else None
 
 
 def written(term):
@@ -165,10 +141,9 @@ def written(term):
 
 def worked(file, shape):
     """The worked rows of a definition, in which a proof by computing says what it gives."""
-    with open(f"{ROOT}/crates/sql_parts/proofs/rows/{file}.antt", encoding="utf-8") as it:
-        found = re.findall(shape, it.read(), re.M)
+    found = re.findall(shape, read(f"crates/sql_parts/proofs/rows/{file}.antt"), re.M)
     if not found:
-        raise Broken(f"proofs/rows/{file}.antt has no such row: {shape}")
+        sys.exit(f"FAILED: proofs/rows/{file}.antt has no such row: {shape}")
     return found
 
 
@@ -189,53 +164,77 @@ def update(number, text):
     return f"update_table\tone\nset_str\tx\t{text}\nand_where_eq\tid\t{number}\nsql\n"
 
 
-def output(path, text):
-    return subprocess.run([path], input=text.encode(), stdout=subprocess.PIPE, check=True).stdout.decode()
+@dataclass
+class Case:
+    """A statement: its call, the texts in it, and the rows that are wanted of it, or of what is asked behind it; and the text of a row
+    that is there before."""
+
+    call: str
+    statement: str
+    texts: list
+    wanted: list
+    asked: str = ""
+    before: str | None = None
 
 
 class Statements:
-    """What sqlb and tests/databases/texts.rt.txt make of the texts."""
+    """What sqlb and texts.rt.txt make of the texts."""
 
-    def __init__(self, calls):
-        self.calls, self.attacks = calls, attacks()
+    def __init__(self, program):
+        self.program, self.attacks = program, attacks()
         self.all = texts()
         self.rows = [*dict.fromkeys([*self.all, *self.attacks])]
+        self.numbers = {text: number for number, text in enumerate(self.rows)}
         self.lines = [*filter(fits_line, self.all)]
         self.zeros = [*(it for it in all_of(OF_ZEROS, 3) if "\0" in it), ZERO_ATTACK]
         self.made = self.called(self.all)
         self.typed = list(zip(self.called(self.attacks), self.attacks))
-        self.kept = [*self.keeping(), *self.storing()]
-        self.found = [*self.finding(), *self.matching(), *self.asking()]
-        self.given = [*self.giving()]
+        # the ones after the others, each of which begins with the table `one` as it was
+        self.cases = [
+            [*self.keeping(), *self.storing()],
+            [*self.finding(), *self.matching(), *self.asking()],
+            [*self.giving()],
+        ]
         self.scripts = {"a zero byte": self.scripted(self.zeros), "a digit": self.scripted([it.replace("\0", "0") for it in self.zeros])}
 
     def called(self, texts):
         """Of each text its statements by CALLS, those by MASKS, whether it is let in, and its statements by types."""
-        made, width = output(self.calls, SEPARATOR.join(texts)).split(SEPARATOR), WIDTH + 2 * len(FILTERS)
-        if len(made) != width * len(texts) + 1:
-            raise Broken(f"tests/databases/texts.rt.txt wrote {len(made) - 1} answers for {len(texts)} texts")
-        return [made[it : it + width] for it in range(0, len(made) - 1, width)]
+        width = WIDTH + 2 * len(FILTERS)
+        parts = parts_of(self.program, SEPARATOR.join(texts), width * len(texts))
+        return [[*itertools.islice(parts, width)] for _ in texts]
+
+    def numbered(self, texts):
+        """The rows of these texts as a query finds them."""
+        return [(b"%d" % it,) for it in sorted(self.numbers[it] for it in texts)]
+
+    def kept(self, call, statement, text, row):
+        """A statement that puts a text into this row."""
+        if row == 4:
+            return Case(call, statement, [text], [(b"4", text.encode())], "DELETE FROM one WHERE id > 3 RETURNING id, x")
+        return Case(call, statement, [text], [(b"1", None), (b"2", text.encode()), (b"3", None)], IN_ORDER)
 
     def keeping(self):
-        """Statements that put a text into a row: the name of the call, the statement, the text, the row."""
+        """Statements that put a text into a row."""
         lines = [*self.lines, *self.zeros]
-        yield from (("set_str", *it, 2) for it in zip(printed([update(2, it) for it in lines]), lines))
+        yield from (self.kept("set_str", *it, 2) for it in zip(printed([update(2, it) for it in lines]), lines))
         made, texts = [*self.made, *self.called(self.zeros)], [*self.all, *self.zeros]
         for number, call in enumerate(CALLS):
             name = "quote" if call == "quote" else "the six calls of binding"
-            yield from ((name, statements[number], text, 2) for statements, text in zip(made, texts))
+            yield from (self.kept(name, statements[number], text, 2) for statements, text in zip(made, texts))
 
     def storing(self):
         """The same of statements by types."""
-        for number, (call, row) in enumerate([*STORES.items(), *NAMES.items()], LET_IN + 1):
+        for number, (call, place) in enumerate([*STORES.items(), *NAMES.items()], LET_IN + 1):
             name = "a name or constant by types" if call in NAMES else "set, set_str, values and row by types"
-            yield from ((name, statements[number], text, row) for statements, text in self.typed)
+            yield from (self.kept(name, statements[number], text, place) for statements, text in self.typed)
 
     def giving(self):
-        """The statements by types that give rows: the name of the call, the statement, the text, and what it gives."""
+        """The statements by types that give rows."""
         for number, (call, gives) in enumerate({**MAY_GIVE, **GIVES}.items(), COLUMN):
             name = "other arguments by types" if call in GIVES else "a column by types" if call == "column" else "a name or constant by types"
-            yield from ((name, statements[number], text, gives, call == "delete") for statements, text in self.typed)
+            for statements, text in self.typed:
+                wanted = gives(text, self.numbered([text]))
+                yield Case(name, statements[number], [text], wanted, before=text if call == "delete" else None)
 
     def scripted(self, texts):
         """Scripts that put each text into a row, and SECOND into the next one."""
@@ -243,34 +242,34 @@ class Statements:
         return [("\n".join(made[at : at + 2]) + "\n", text) for at, text in zip(range(0, len(made), 2), texts)]
 
     def finding(self):
-        """Statements that ask for the rows of texts: the name of the call, the statement, the texts in it, those that it asks for."""
+        """Statements that ask for the rows of texts."""
         start, end = "select_from\ttexts\nfield\tid\n", "\norder_asc\tid\nsql\n"
         for some in (*([it for it in self.lines if (BACKSLASH in it) == escaped] for escaped in (False, True)), self.zeros):
             some = [[*some[it : it + 3], "a"] for it in range(len(some))]
             made = printed([f"{start}and_where_in_quoted\tx\t{TAB.join(it)}{end}" for it in some])
-            yield from (("_in_quoted", *it, {*it[1]} - {*self.zeros}) for it in zip(made, some))
+            yield from (Case("_in_quoted", it, texts, self.numbered({*texts} - {*self.zeros})) for it, texts in zip(made, some))
         # what a wildcard or a backslash means in a mask is no matter of quoting
         masks = [it for it in self.lines if len(it) <= 100 and not {"%", "_", BACKSLASH} & {*it}]
         for number, (call, fits) in enumerate(LIKES.items()):
             some = [*masks[number :: len(LIKES)], *self.zeros]
             made = printed([f"{start}{call}\tx\t{it}{end}" for it in some])
-            yield from (("LIKE", it, [mask], [text for text in self.rows if fits(text, mask)]) for it, mask in zip(made, some))
+            yield from (Case("LIKE", it, [mask], self.numbered(text for text in self.rows if fits(text, mask))) for it, mask in zip(made, some))
 
     def matching(self):
         """Statements that ask for the rows that an escaped text matches."""
         for number, fits in enumerate(MASKS, len(CALLS)):
             for statements, text in zip(self.made, self.all):
-                yield "escape_like", statements[number], [text], [it for it in self.rows if fits(it, text)]
+                yield Case("escape_like", statements[number], [text], self.numbered(it for it in self.rows if fits(it, text)))
 
     def asking(self):
         """Statements by types that ask for the rows that a condition on an attack finds; what a backslash means in a mask is no matter here."""
         for number, fits in enumerate(FILTERS):
             for statements, text in self.typed:
                 if not (number in (6, 7) and BACKSLASH in text):
-                    found = [it for it in self.rows if fits(it, text)]
-                    yield "conditions by types", statements[WIDTH + number], [text], found
-                    found = [text] if fits(text, text) else []
-                    yield "conditions by types", statements[WIDTH + len(FILTERS) + number], [text], found
+                    found = self.numbered(it for it in self.rows if fits(it, text))
+                    yield Case("conditions by types", statements[WIDTH + number], [text], found)
+                    found = self.numbered([text] if fits(text, text) else [])
+                    yield Case("conditions by types", statements[WIDTH + len(FILTERS) + number], [text], found)
 
     def differing(self):
         """The statements by types in which an attack changes more than its literals: what is around them has to be what is there with a
@@ -283,68 +282,41 @@ class Statements:
                     yield made[number]
 
 
-def prepare(db, texts):
-    """Makes the tables: `one`, whose second row takes a text; `texts`, with all of them; `t`, which is there to be dropped."""
-    for table in ("one", "texts", "t"):
-        db.run(f"DROP TABLE IF EXISTS {table}")
-        db.run(f"CREATE TABLE {table} (id INTEGER, x {db.column})")
-    fill(db)
-    rows = [f"({number}, {db.text_of(text)})" for number, text in enumerate(texts)]
-    for at in range(0, len(rows), 500):
-        db.run(f"INSERT INTO texts VALUES {', '.join(rows[at : at + 500])}")
-
-
-def fill(db):
-    """Fills the table `one` anew."""
-    db.run("DELETE FROM one")
-    db.run("INSERT INTO one (id) VALUES (1), (2), (3)")
-
-
 def is_dropped(db):
-    """Whether the table `t` is gone, which is then made anew."""
+    """Whether the table `t` is gone, which is there to be dropped, and is then made anew."""
     try:
         db.run("SELECT id FROM t")
         return False
     except Refused:
-        db.run(f"CREATE TABLE t (id INTEGER, x {db.column})")
+        db.make_texts("t", [])
         return True
 
 
-def tried(db, statement, wanted, asked=None):
-    """What comes of a statement whose rows, or those of what is asked behind it, are wanted."""
+def came(db, case):
+    """What comes of a statement."""
+    if case.before is not None:
+        db.run(f"INSERT INTO one VALUES (4, {db.text_of(case.before)})")
     try:
-        rows = db.run(statement)
-        came = "same" if (db.run(asked) if asked else rows) == wanted else "other"
+        rows = db.run(case.statement)
+        found = "same" if (db.run(case.asked) if case.asked else rows) == case.wanted else "other"
     except Refused:
-        came = "refused"
-    if came != "same":
-        came = "dropped" if is_dropped(db) else came
-        fill(db)
-    return came
+        found = "refused"
+    if found != "same":
+        found = "dropped" if is_dropped(db) else found
+        db.fill()
+    return found
 
 
-def measure(db, statements):
+def count_came(db, statements):
     """How often what came of the statements, by their call and, where a backslash escapes, by whether one is in a text."""
     counts = collections.defaultdict(collections.Counter)
-    number_of = {text: number for number, text in enumerate(statements.rows)}
-    prepare(db, statements.rows)
-
-    def count(call, texts, came):
-        counts[call + kind_of(db, "".join(texts))][came] += 1
-
-    for call, statement, text, row in statements.kept:
-        wanted, asked = [(b"1", None), (b"2", text.encode()), (b"3", None)], "SELECT id, x FROM one ORDER BY id"
-        if row == 4:
-            wanted, asked = [(b"4", text.encode())], "DELETE FROM one WHERE id > 3 RETURNING id, x"
-        count(call, [text], tried(db, statement, wanted, asked))
-    for call, statement, texts, found in statements.found:
-        wanted = [(b"%d" % it,) for it in sorted(number_of[it] for it in found)]
-        count(call, texts, tried(db, statement, wanted))
-    fill(db)
-    for call, statement, text, gives, is_delete in statements.given:
-        if is_delete:
-            db.run(f"INSERT INTO one VALUES (4, {db.text_of(text)})")
-        count(call, [text], tried(db, statement, gives(text, [(b"%d" % number_of[text],)])))
+    db.make_texts("texts", statements.rows)
+    db.make_texts("t", [])
+    db.make_texts("one", [])
+    for cases in statements.cases:
+        db.fill()
+        for it in cases:
+            counts[it.call + kind_of(db, "".join(it.texts))][came(db, it)] += 1
     if is_dropped(db):
         raise Broken("a table was dropped by a statement whose texts came back")
     return counts
@@ -362,10 +334,9 @@ def given(db, scripts):
     counts = collections.Counter()
     for script, text in scripts:
         is_silent = db.is_silent(script)
-        rows = db.run("SELECT id, x FROM one ORDER BY id")
-        same = rows == [(b"1", None), (b"2", text.encode()), (b"3", SECOND.encode())]
+        same = db.run(IN_ORDER) == [(b"1", None), (b"2", text.encode()), (b"3", SECOND.encode())]
         counts["dropped" if is_dropped(db) else "refused" if not is_silent else "same" if same else "other"] += 1
-        db.run("UPDATE one SET x = NULL")
+        db.fill()
     return counts
 
 
@@ -387,16 +358,13 @@ def defined(db):
     """What was defined, how often it was tried, and how often it was what the database did."""
     if db.escapes:
         literals = ["'" + it for it in all_of(OF_LITERALS, 6)]
-        yield "literals where a backslash escapes", len(literals), sum(is_as_defined(db, it) for it in literals)
+        yield db.name, "literals where a backslash escapes", len(literals), sum(is_as_defined(db, it) for it in literals)
     texts = all_of(OF_MASKS, 3)
-    db.run("DROP TABLE IF EXISTS matched")
-    db.run(f"CREATE TABLE matched (id INTEGER, x {db.column})")
-    for number, text in enumerate(texts):
-        db.run(f"INSERT INTO matched VALUES ({number}, {db.text_of(text)})")
+    db.make_texts("matched", texts)
     masks = [it for it in all_of(OF_MASKS, 4) if pattern(it)]
     fits = lambda mask: [(b"%d" % number,) for number, text in enumerate(texts) if pattern(mask).fullmatch(text)]
     same = sum(db.run(f"SELECT id FROM matched WHERE x LIKE '{it}' ESCAPE '!' ORDER BY id") == fits(it) for it in masks)
-    yield f"masks, each of {len(texts)} texts", len(masks), same
+    yield db.name, f"masks, each of {len(texts)} texts", len(masks), same
 
 
 def is_as_defined(db, text):
@@ -419,55 +387,54 @@ def answers(db, zero):
         yield f"refused: {why}"[:60]
 
 
-def row(*cells):
-    """Prints a line of a table."""
-    shown = (f"{it}".replace("|", "\\|") for it in cells)
-    print(f"| {' | '.join(shown)} |".translate({0: "\\0", 9: "\\t", 10: "\\n", 13: "\\r"}), flush=True)
+def measure(db, statements, checked, shown, tally):
+    """Measures a database by each of its settings: prints what came of the statements, and adds what is as defined, and what fragments show."""
+    zero = statements.called(["a\0b"])[0][CALLS.index("bind")]
+    for setting in db.settings:
+        db.set(setting)
+        for call, counts in count_came(db, statements).items():
+            row(db.name, call, counts.total(), *(counts[it] for it in CAME))
+            if not call.endswith("with a backslash"):
+                may_fail = call.startswith("a ") or call.endswith("with a zero byte")
+                fit = counts["same"] + (counts["refused"] if may_fail else 0)
+                tally.expect(f"{db.name}: statements by {call} that gave their texts back", fit, counts.total())
+        if setting == db.settings[0]:
+            measure_program(db, statements.scripts, tally)
+        for name, what, tried, same in defined(db):
+            checked.append((name, what, tried, same))
+            tally.expect(f"{name}: {what} that are as defined", same, tried)
+        shown[db.name] = [*answers(db, zero)]
 
 
-def main():
-    tally, checked, shown = Tally("databases"), [], []
-    tally.expect("worked rows that are not what is tried on the databases", [*differing_rows()], [])
-    with tempfile.TemporaryDirectory(prefix="calls-") as folder:
-        build()
-        statements = Statements(proved(folder, "texts"))
-        let_in = [it[LET_IN] for it in statements.called([fragment for _, fragment in FRAGMENTS])]
-        zero = statements.called(["a\0b"])[0][CALLS.index("bind")]
-        tally.expect("statements by types in which an attack changes more than its literal", [*statements.differing()], [])
-    print(f"{len(statements.all)} texts, of which {len(statements.lines)} go through sqlb, and {len(statements.attacks)} of docs/SECURITY.md and docs/reference/readings.md\n")
-    row("database", "call", "statements", *CAME)
-    row(*["---"] * (3 + len(CAME)))
-    for name, opened in (("SQLite", sqlite), ("PostgreSQL", postgres), ("MariaDB", maria)):
-        with measuring(name, tally), opened() as db:
-            for setting in db.settings:
-                db.set(setting)
-                for call, counts in measure(db, statements).items():
-                    row(db.name, call, counts.total(), *(counts[it] for it in CAME))
-                    if not call.endswith("with a backslash"):
-                        may_fail = call.startswith("a ") or call.endswith("with a zero byte")
-                        fit = counts["same"] + (counts["refused"] if may_fail else 0)
-                        tally.expect(f"{db.name}: statements by {call} that gave their texts back", fit, counts.total())
-                if setting == db.settings[0]:
-                    measure_program(db, statements.scripts, tally)
-                checked += [(db.name, *it) for it in defined(db)]
-                shown.append((db.name, [*answers(db, zero)]))
-    for name, what, tried, same in checked:
-        tally.expect(f"{name}: {what} that are as defined", same, tried)
-    tally.count(shown, "no database was measured")
+def show(statements, checked, shown):
+    """Prints the tables of what is as defined, and of what fragments show."""
     print()
-    row("database", "defined", "tried", "as defined")
-    row(*["---"] * 4)
+    head("database", "defined", "tried", "as defined")
     for it in checked:
         row(*it)
     print()
-    row("what", "fragment", "let in", *(name for name, _ in shown))
-    row(*["---"] * (3 + len(shown)))
+    head("what", "fragment", "let in", *shown)
+    let_in = [it[LET_IN] for it in statements.called([fragment for _, fragment in FRAGMENTS])]
     for number, (what, fragment) in enumerate(FRAGMENTS):
-        row(what, fragment, let_in[number], *(given[number] for _, given in shown))
-    row("a zero character in a bound text", "a\0b", "", *(given[-1] for _, given in shown))
+        row(what, fragment, let_in[number], *(given[number] for given in shown.values()))
+    row("a zero character in a bound text", "a\0b", "", *(given[-1] for given in shown.values()))
     print()
+
+
+def main():
+    tally, checked, shown = Tally("databases"), [], {}
+    tally.expect("worked rows that are not what is tried on the databases", [*differing_rows()], [])
+    build()
+    with tempfile.TemporaryDirectory(prefix="calls-") as folder:
+        statements = Statements(proved(folder, "texts", "sql_typed"))
+        tally.expect("statements by types in which an attack changes more than its literal", [*statements.differing()], [])
+        print(f"{len(statements.all)} texts, of which {len(statements.lines)} go through sqlb, and {len(statements.attacks)} attacks of pages\n")
+        head("database", "call", "statements", *CAME)
+        each(tally, lambda db: measure(db, statements, checked, shown, tally))
+        show(statements, checked, shown)
+    tally.count(shown, "no database was measured")
     return tally.end()
 
 
 if __name__ == "__main__":
-    end_with(main)
+    sys.exit(main())

@@ -1,17 +1,14 @@
-#!/usr/bin/env python3
-"""Runs random WHEREs of groups on real databases, and compares the rows that come back with those that the groups mean.
+#!/usr/bin/python3
+"""Runs random WHEREs of groups on databases, and compares the rows that come back with those that the groups mean.
 
-Each statement is made by sqlb: groups of conditions of every kind (comparisons, NULLs, LIKE, IN of values, of texts and of queries,
-BETWEEN, their NOT forms, and conditions of their own with OR, AND, NOT and CASE in them), by `and_where` and `or_where`. What the groups
-mean is computed here, in three-valued logic: a row is found where the AND of the groups, each the OR of its conditions, is true. The
-table has every row of small values and NULLs. What is installed is measured, as in texts.py, and what is not is printed as
-SKIPPED.
-
-sqlb has to be built. The arguments are how many statements are made (5,000 without one) and a seed. The last line counts the
-statements that found these rows and those that found others, and the status is 0 where none found others and some were run."""
+Each statement is made by sqlb, which has to be built: groups of conditions of every kind (comparisons, NULLs, LIKE, IN of values, of texts
+and of queries, BETWEEN, their NOT forms, and conditions of their own with OR, AND, NOT and CASE in them), by `and_where` and `or_where`.
+What the groups mean is computed here, in three-valued logic: a row is found where the AND of the groups, each the OR of its conditions, is
+true. The table has every row of small values and NULLs. The arguments are how many statements are made and a seed."""
 
 import functools
 import itertools
+import operator
 import os
 import random
 import sys
@@ -20,21 +17,16 @@ from typing import Any, Callable
 
 sys.path.append(os.path.realpath(f"{__file__}/../../lib"))
 from built import printed
-from connections import Refused, end_with, maria, measuring, postgres, sqlite
+from connections import Refused, each
+from hostile import asked, is_like, quoted
 from tally import Tally
 
 NUMBERS, TEXTS = (None, 0, 1, 2), (None, "", "a", "ab", "b'a", "a%b")
 COLUMNS = ("a", "b", "c")
 ROWS = [dict(zip((*COLUMNS, "d"), it)) for it in itertools.product(NUMBERS, NUMBERS, NUMBERS, TEXTS)]
-SIGNS = {"eq": "=", "ne": "<>", "gt": ">", "ge": ">=", "lt": "<", "le": "<="}
-COMPARED = {
-    "eq": lambda x, y: x == y,
-    "ne": lambda x, y: x != y,
-    "gt": lambda x, y: x > y,
-    "ge": lambda x, y: x >= y,
-    "lt": lambda x, y: x < y,
-    "le": lambda x, y: x <= y,
-}
+# The comparisons, by the calls' endings.
+COMPARED = {it.__name__: it for it in (operator.eq, operator.ne, operator.gt, operator.ge, operator.lt, operator.le)}
+SIGNS = dict(zip(COMPARED, ("=", "<>", ">", ">=", "<", "<=")))
 # The calls of LIKE, and the mask of each.
 MASKS = {"like": "{}", "like_left": "{}%", "like_right": "%{}", "like_any": "%{}%"}
 
@@ -68,15 +60,6 @@ def is_between(x, least, greatest):
     return and3((compared("ge", x, least), compared("le", x, greatest)))
 
 
-def matches(text, mask):
-    """Whether a mask matches a text, without an escape."""
-    if not mask:
-        return not text
-    if mask[0] == "%":
-        return any(matches(text[it:], mask[1:]) for it in range(len(text) + 1))
-    return bool(text) and mask[0] in ("_", text[0]) and matches(text[1:], mask[1:])
-
-
 @dataclass
 class Condition:
     """A condition: the ending of its call with the arguments, its text, its truth for a row, and the texts that are quoted in it."""
@@ -88,15 +71,6 @@ class Condition:
     texts: list = field(default_factory=list)
 
 
-def negated(name, words, truth, is_not):
-    """The call's ending and words, in the NOT form or not, and the truth."""
-    return (f"not_{name}", f"NOT {words}", lambda row: not3(truth(row))) if is_not else (name, words, truth)
-
-
-def quoted(text):
-    return "'" + text.replace("'", "''") + "'"
-
-
 class Maker:
     """Makes conditions and statements by chance."""
 
@@ -106,8 +80,7 @@ class Maker:
     def number(self):
         """A number as it is written, and its value for a row: a column, a constant or NULL."""
         if self.chance.random() < 0.4:
-            name = self.chance.choice(COLUMNS)
-            return name, lambda row: row[name]
+            return self.column()
         value = self.chance.choice(NUMBERS)
         return "NULL" if value is None else str(value), lambda row: value
 
@@ -124,42 +97,38 @@ class Maker:
 
     def null(self):
         name, is_not = self.chance.choice((*COLUMNS, "d")), self.chance.random() < 0.5
-        return Condition(
-            "_is_not_null" if is_not else "_is_null",
-            [name],
-            f"{name} IS {'NOT ' if is_not else ''}NULL",
-            lambda row: (row[name] is None) != is_not,
-        )
+        call, words = ("_is_not_null", "IS NOT NULL") if is_not else ("_is_null", "IS NULL")
+        return Condition(call, [name], f"{name} {words}", lambda row: (row[name] is None) != is_not)
+
+    def either(self, call, name, arguments, words, truth, texts=()):
+        """A condition, or its NOT form."""
+        if self.chance.random() < 0.4:
+            return Condition(f"_not_{call}", [name, *arguments], f"{name} NOT {words}", lambda row: not3(truth(row)), [*texts])
+        return Condition(f"_{call}", [name, *arguments], f"{name} {words}", truth, [*texts])
 
     def like(self):
-        name, part, is_not = self.chance.choice([*MASKS]), self.text(), self.chance.random() < 0.4
-        mask = MASKS[name].format(part)
-        truth = lambda row: None if row["d"] is None else matches(row["d"], mask)
-        call, words, truth = negated(name, f"LIKE {quoted(mask)}", truth, is_not)
-        return Condition(f"_{call}", ["d", part], f"d {words}", truth, [mask])
+        call, part = self.chance.choice([*MASKS]), self.text()
+        mask = MASKS[call].format(part)
+        truth = lambda row: None if row["d"] is None else is_like(row["d"], mask)
+        return self.either(call, "d", [part], f"LIKE {quoted(mask)}", truth, [mask])
 
     def some(self, make):
         return [make() for _ in range(self.chance.randint(1, 3))]
 
     def listed(self):
-        name, value = self.column()
-        items = self.some(self.number)
+        (name, value), items = self.column(), self.some(self.number)
         truth = lambda row: is_in(value(row), [it[1](row) for it in items])
-        words = f"IN ({', '.join(it[0] for it in items)})"
-        call, words, truth = negated("in", words, truth, self.chance.random() < 0.4)
-        return Condition(f"_{call}", [name, *(it[0] for it in items)], f"{name} {words}", truth)
+        written = [it[0] for it in items]
+        return self.either("in", name, written, f"IN ({', '.join(written)})", truth)
 
     def listed_texts(self):
         items = self.some(self.text)
-        words = f"IN ({', '.join(map(quoted, items))})"
-        call, words, truth = negated("in_quoted", words, lambda row: is_in(row["d"], items), self.chance.random() < 0.4)
-        return Condition(f"_{call}", ["d", *items], f"d {words}", truth, items)
+        return self.either("in_quoted", "d", items, f"IN ({', '.join(map(quoted, items))})", lambda row: is_in(row["d"], items), items)
 
     def between(self):
         (name, value), (least, x), (most, y) = self.column(), self.number(), self.number()
         truth = lambda row: is_between(value(row), x(row), y(row))
-        call, words, truth = negated("between", f"BETWEEN {least} AND {most}", truth, self.chance.random() < 0.4)
-        return Condition(f"_{call}", [name, least, most], f"{name} {words}", truth)
+        return self.either("between", name, [least, most], f"BETWEEN {least} AND {most}", truth)
 
     def nested(self):
         """An IN of a query, whose rows its own groups give."""
@@ -168,8 +137,7 @@ class Maker:
         query = f"SELECT {selected} FROM w WHERE {where_text(groups)}"
         values = functools.cache(lambda: [found(row) for row in ROWS if where_truth(groups, row) is True])
         truth = lambda row: is_in(value(row), values())
-        call, words, truth = negated("in_query", f"IN ({query})", truth, self.chance.random() < 0.4)
-        return Condition(f"_{call}", [name, query], f"{name} {words}", truth, texts_of(itertools.chain(*groups)))
+        return self.either("in_query", name, [query], f"IN ({query})", truth, texts_of(itertools.chain(*groups)))
 
     def plain(self):
         return self.chance.choice((self.comparison, self.null, self.like, self.listed, self.listed_texts, self.between))()
@@ -234,27 +202,27 @@ def lines(groups):
 
 
 def prepare(db):
-    db.run("DROP TABLE IF EXISTS w")
-    db.run(f"CREATE TABLE w (id INTEGER, a INTEGER, b INTEGER, c INTEGER, d {db.column})")
-    shown = lambda value: "NULL" if value is None else str(value)
-    for number, row in enumerate(ROWS):
-        text = "NULL" if row["d"] is None else db.text_of(row["d"])
-        db.run(f"INSERT INTO w VALUES ({number}, {shown(row['a'])}, {shown(row['b'])}, {shown(row['c'])}, {text})")
+    shown = lambda value: "NULL" if value is None else db.text_of(value) if isinstance(value, str) else str(value)
+    rows = (", ".join(map(shown, (number, *row.values()))) for number, row in enumerate(ROWS))
+    db.make("w", f"id INTEGER, a INTEGER, b INTEGER, c INTEGER, d {db.column}", *(f"({it})" for it in rows))
 
 
-def compare(db, statements, wanted, tally):
+def measure(db, statements, wanted, tally):
     """Counts the statements that found the rows that are wanted, and prints each other one."""
+    # (a mask's backslashes are no matter here: there are none)
+    prepare(db)
+    before = tally.passed
     for statement, numbers in zip(statements, wanted):
         try:
             found = [int(it[0]) for it in db.run(statement)]
         except Refused as why:
             found = f"refused: {why}"
         tally.count(found == numbers, f"{db.name}: {statement}\n  wanted {numbers}\n  found  {found}")
+    print(f"{db.name}: {tally.passed - before} of {len(statements)} statements found the rows that their groups mean", flush=True)
 
 
 def main():
-    count = int(sys.argv[1]) if len(sys.argv) > 1 else 5000
-    seed = int(sys.argv[2]) if len(sys.argv) > 2 else 41
+    count, seed = asked(5000, 41)
     maker = Maker(random.Random(seed))
     all_groups = [maker.groups(3, maker.condition) for _ in range(count)]
     wanted = [[number for number, row in enumerate(ROWS) if where_truth(groups, row) is True] for groups in all_groups]
@@ -262,16 +230,9 @@ def main():
     some = sum(bool(it) and len(it) < len(ROWS) for it in wanted)
     print(f"{count} statements over {len(ROWS)} rows, of which {some} find some of the rows and not all")
     tally = Tally("databases_where")
-    for name, opened in (("SQLite", sqlite), ("PostgreSQL", postgres), ("MariaDB", maria)):
-        with measuring(name, tally), opened() as db:
-            # a mask's backslashes are no matter here: there are none
-            db.set(db.settings[0])
-            prepare(db)
-            before = tally.passed
-            compare(db, statements, wanted, tally)
-            print(f"{db.name}: {tally.passed - before} of {count} statements found the rows that their groups mean", flush=True)
+    each(tally, lambda db: measure(db, statements, wanted, tally))
     return tally.end()
 
 
 if __name__ == "__main__":
-    end_with(main)
+    sys.exit(main())

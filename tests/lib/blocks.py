@@ -3,6 +3,8 @@
 import re
 from dataclasses import dataclass, field
 
+from repository import read
+
 ITEM_WORDS = ("use ", "pub ", "fn ", "struct ", "enum ", "impl ", "impl<", "trait ", "const ", "mod ", "#[")
 # A comment right above further code is of the statement before it only where it is a statement of SQL.
 PRINTED = re.compile(r"(SELECT|INSERT INTO|UPDATE|DELETE FROM) ")
@@ -136,6 +138,12 @@ class Page:
         self.is_list = bool(re.match(r"\s*([-*]|\d+\.) ", line)) or self.is_list and line.startswith(" ")
         self.paragraph.append(line)
         self.last = " ".join(self.paragraph)
+
+
+def tables(page, heading):
+    """The tables of a page of the repository below a heading of the second level."""
+    section = read(page).partition(f"\n## {heading}\n")[2].partition("\n## ")[0]
+    return [it for it in Page(page, section).parts if isinstance(it, Table)]
 
 
 class Splitter:

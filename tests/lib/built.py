@@ -1,14 +1,18 @@
-"""Runs what is built: the program and the tests, also with calls of the C library that fail."""
+"""Builds programs and runs what is built: sqlb and the tests, also with calls of the C library that fail, and programs of tests."""
 
+import itertools
 import os
+import re
 import shutil
 import subprocess
 import sys
 from dataclasses import dataclass
 
-from repository import CRATES, LIBRARIES, ROOT
+from repository import CRATES, ROOT, read
 
 SQLB = f"{CRATES}/sqlb/out/sqlb"
+# What is between the texts that a program of tests/databases reads and writes.
+SEPARATOR = "\x1e"
 
 
 @dataclass
@@ -24,30 +28,49 @@ class Ran:
         return self.out, self.err, self.status
 
 
+def rt(folder, *words):
+    """Runs `rt` in a crate's folder, and ends if it fails."""
+    ran = subprocess.run(["rt", *words], cwd=folder, stdin=subprocess.DEVNULL, capture_output=True, text=True)
+    if ran.returncode:
+        sys.exit(f"{ran.stdout}{ran.stderr}FAILED: rt {' '.join(words)} in {folder}")
+
+
 def build(crate="sqlb", command="run"):
     """Proves and builds the program or the tests of a crate, unless an argument is --built."""
     if "--built" not in sys.argv:
-        ran = subprocess.run(["rt", command], cwd=f"{CRATES}/{crate}", stdin=subprocess.DEVNULL, capture_output=True, text=True)
-        if ran.returncode:
-            sys.exit(f"{ran.stdout}{ran.stderr}{crate} isn't built")
+        rt(f"{CRATES}/{crate}", command)
 
 
-def proved(folder, name, *others):
-    """Proves and builds tests/databases/NAME.rt.txt, over copies of the libraries and with these other crates, ours or the kit's. Gives the path."""
-    ours = [*LIBRARIES, *(it for it in others if os.path.exists(f"{CRATES}/{it}"))]
-    crate = f"{folder}/crates/{name}"
-    os.makedirs(f"{crate}/src")
-    shutil.copyfile(f"{ROOT}/tests/databases/{name}.rt.txt", f"{crate}/src/main.rt")
-    for library in ours:
-        shutil.copytree(f"{CRATES}/{library}", f"{folder}/crates/{library}")
-    with open(f"{folder}/crates.txt", "w", encoding="utf-8") as it:
-        it.write("".join(f"{it}: {' '.join(ours[:at])}\n" for at, it in enumerate(ours)))
-        it.write(f"{name}: {' '.join([*LIBRARIES, *others])}\n")
+def lay_out(folder, name, uses, sources, parts=("",)):
+    """Lays out a crate with these sources in a repository of its own, with the crates that it uses, or these parts of them. Gives its folder."""
+    known = dict(re.findall(r"(?m)^(\w+): ?(.*)$", read("crates.txt")))
+    used = [*dict.fromkeys(it for crate in uses for it in (crate, *known.get(crate, "").split()))]
+    copied = [it for it in used if it in known]
+    for crate, part in itertools.product(copied, parts):
+        shutil.copytree(f"{CRATES}/{crate}/{part}", f"{folder}/crates/{crate}/{part}")
+    os.makedirs(f"{folder}/crates/{name}/src")
+    files = {f"crates/{name}/src/{source}.rt": text for source, text in sources.items()}
+    files["crates.txt"] = "".join(f"{it}: {known[it]}\n" for it in copied) + f"{name}: {' '.join(used)}\n"
+    for path, text in files.items():
+        with open(f"{folder}/{path}", "w", encoding="utf-8") as it:
+            it.write(text)
     subprocess.run(["git", "init", "-q"], cwd=folder, check=True)
-    ran = subprocess.run(["rt", "run"], cwd=crate, stdin=subprocess.DEVNULL, capture_output=True, text=True)
-    if ran.returncode:
-        sys.exit(f"{ran.stdout}{ran.stderr}{name} isn't built")
+    return f"{folder}/crates/{name}"
+
+
+def proved(folder, name, *uses):
+    """Proves and builds tests/databases/NAME.rt.txt, over the proofs of the crates that it uses. Gives the program's path."""
+    crate = lay_out(folder, name, uses, {"main": read(f"tests/databases/{name}.rt.txt")})
+    rt(crate, "run")
     return f"{crate}/out/{name}"
+
+
+def parts_of(program, given, count):
+    """The so many parts that a program writes of an input, each with a separator behind it, one after another."""
+    parts = subprocess.run([program], input=given.encode(), stdout=subprocess.PIPE, check=True).stdout.decode().split(SEPARATOR)
+    if len(parts) != count + 1:
+        sys.exit(f"FAILED: {program} wrote {len(parts) - 1} parts, not {count}")
+    return iter(parts[:-1])
 
 
 def build_failing(folder):
