@@ -1,4 +1,4 @@
-"""Reads pages: their blocks of code and their tables; and blocks of Rust as statements with the comments after them."""
+"""Reads pages: their blocks of code, tables and texts; and blocks of Rust as statements with the comments after them."""
 
 import re
 from dataclasses import dataclass, field
@@ -6,6 +6,8 @@ from dataclasses import dataclass, field
 from repository import read
 
 ITEM_WORDS = ("use ", "pub ", "fn ", "struct ", "enum ", "impl ", "impl<", "trait ", "const ", "mod ", "#[")
+# A list's item, a heading or a quotation: its text begins behind the mark.
+MARK = re.compile(r"\s*(?:[-*] |\d+\. |#+ |> )")
 # A comment right above further code is of the statement before it only where it is a statement of SQL.
 PRINTED = re.compile(r"(SELECT|INSERT INTO|UPDATE|DELETE FROM) ")
 TOKEN = re.compile(r"""//[^\n]*|"(?:[^"\\]|\\.)*"|'(?:[^'\\\n]|\\(?:.|u\{[0-9a-f]+\}))'|[()\[\]{};]|\n|[^\n]""", re.S)
@@ -43,7 +45,7 @@ class Table:
 
 @dataclass
 class Statement:
-    """A statement: where it begins in its block, its code, and what the comment after it says, if there is one."""
+    """A statement: the line of the page where it begins, its code, and what the comment after it says, if there is one."""
 
     line: int
     code: str
@@ -81,10 +83,10 @@ def marked(text, test, wanted=True):
 
 
 class Page:
-    """The blocks and the tables of a page, in their order."""
+    """The blocks and the tables of a page, in their order; and its paragraphs, items and headings, each with its first line."""
 
     def __init__(self, name, text):
-        self.name, self.parts, self.paragraph, self.last = name, [], [], ""
+        self.name, self.parts, self.texts, self.paragraph, self.last = name, [], [], [], ""
         self.open, self.fence, self.is_list = None, "", False
         for number, line in enumerate(text.split("\n"), 1):
             self.read(number, line)
@@ -113,7 +115,7 @@ class Page:
             self.read_row(number, line)
         else:
             self.end()
-            self.read_prose(line)
+            self.read_prose(number, line)
 
     def goes_on_indented(self, line):
         return isinstance(self.open, Block) and re.match(r"    |\s*$", line)
@@ -131,11 +133,16 @@ class Page:
         elif number > self.open.line + 1:
             self.open.rows.append((number, cells(line)))
 
-    def read_prose(self, line):
-        if not line.strip():
+    def read_prose(self, number, line):
+        if not line.strip() or line.startswith("<!--"):
             self.paragraph = []
             return
+        mark = MARK.match(line)
         self.is_list = bool(re.match(r"\s*([-*]|\d+\.) ", line)) or self.is_list and line.startswith(" ")
+        if mark or not self.paragraph:
+            self.texts.append((number, line[mark.end() if mark else 0 :]))
+        else:
+            self.texts[-1] = (self.texts[-1][0], f"{self.texts[-1][1]} {line}")
         self.paragraph.append(line)
         self.last = " ".join(self.paragraph)
 
@@ -150,8 +157,8 @@ class Splitter:
     """Splits a text of Rust into its statements, and gives each the comment after it: on the line where it ends, or on the lines
     right below, where a blank line or the end follows these."""
 
-    def __init__(self, text):
-        self.found, self.code, self.depth, self.line, self.begin = [], "", 0, 1, 1
+    def __init__(self, text, line):
+        self.found, self.code, self.depth, self.line, self.begin = [], "", 0, line, line
         self.ended, self.note, self.note_end = 0, [], 0
         tokens = TOKEN.findall(text)
         for at, token in enumerate(tokens):
@@ -197,8 +204,8 @@ class Splitter:
         self.note, self.note_end = [], 0
 
 
-def statements(text):
-    return Splitter(text).found
+def statements(block):
+    return Splitter(block.text, block.line).found
 
 
 def without_texts(code):

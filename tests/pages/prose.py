@@ -5,12 +5,10 @@ A sentence is read without code, of which each piece is one word, as a link is i
 
 import re
 
-from blocks import cells, split_spans
+from blocks import Page, Table, split_spans
 
 # How many words all pages may have, how many words and lines README.md, and how many words a sentence.
 ALL_WORDS, README_WORDS, README_LINES, SENTENCE_WORDS = 12_000, 900, 110, 30
-# A list's item, a heading or a quotation: its text begins behind the mark.
-MARK = re.compile(r"\s*(?:[-*] |\d+\. |#+ |> )")
 # A line of a doc comment: its text is behind the mark.
 DOC = re.compile(r"\s*//[/!] ?(.*)")
 # A sentence ends here. (`..` ends none)
@@ -28,30 +26,12 @@ def without_code(text):
     return re.sub(r"!?\[([^]]*)\]\([^)]*\)", r"\1", "".join(spans))
 
 
-def parts(text):
-    """The paragraphs, items, headings and cells of a page, each with its first line, without blocks of code."""
-    found, begins, is_code, is_list = [], True, False, False
-    for number, line in enumerate(text.split("\n"), 1):
-        if re.match(r"\s*```", line):
-            begins, is_code = True, not is_code
-        elif is_code or not line.strip() or line.startswith("<!--") or begins and not is_list and line.startswith("    "):
-            begins = True
-        elif line.startswith("|"):
-            found += [(number, it) for it in cells(line)]
-        else:
-            mark = MARK.match(line)
-            is_list = bool(mark) or is_list and line.startswith(" ")
-            if begins or mark:
-                found.append((number, line[mark.end() if mark else 0 :]))
-            else:
-                found[-1] = (found[-1][0], f"{found[-1][1]} {line}")
-            begins = False
-    return found
-
-
 def sentences(text):
-    """The sentences of a page, each with the line where its part begins."""
-    return [(number, it) for number, part in parts(text) for it in END.split(without_code(part))]
+    """The sentences of a page, each with the line where its paragraph, item, heading or cell begins."""
+    page = Page("", text)
+    rows = (row for it in page.parts if isinstance(it, Table) for row in [(it.line, it.head), *it.rows])
+    parts = [*page.texts, *((line, cell) for line, row in rows for cell in row)]
+    return [(line, it) for line, part in sorted(parts) for it in END.split(without_code(part))]
 
 
 def word_count(sentence):
