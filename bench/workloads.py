@@ -4,27 +4,14 @@ An amount of a workload is a pair: so many turns on an input that is so many tim
 import os
 import subprocess
 from dataclasses import dataclass
-from typing import Callable, ClassVar, Optional
+from functools import partial
+from typing import Callable, Optional
 
 STATEMENTS = f"{os.path.dirname(os.path.realpath(__file__))}/statements"
 
 
-class Workload:
-    """Of which program of ours something is measured, beside which one of the crate, and above which limit."""
-
-    ours: ClassVar = "library"
-    crate: ClassVar = None
-    limit: ClassVar = None
-    memory: ClassVar = 1.0
-    growth: ClassVar = 10.5
-    prints_same: ClassVar = True
-
-    def is_right(self, _printed):
-        return True
-
-
 @dataclass
-class Lines(Workload):
+class Lines:
     """Lines of a kind of `statements`: how many in all, of which a tenth is counted, and the greatest ratios aimed at."""
 
     name: str
@@ -33,13 +20,10 @@ class Lines(Workload):
     aim: float
     memory: float
 
-    ours: ClassVar = "sqlb"
-    crate: ClassVar = "lines"
-    limit: ClassVar = "limit"
-    unit: ClassVar = "line"
-    counted: ClassVar = (1, 1)
-    tenfold: ClassVar = (1, 10)
-    whole: ClassVar = (1, 10)
+    # Of which program of ours something is measured, beside which one of the crate, and above which limit.
+    ours, crate, limit = "sqlb", "lines", "limit"
+    unit, growth, prints_same = "line", 10.5, True
+    counted, tenfold, whole = (1, 1), (1, 10), (1, 10)
 
     def difference(self, amount):
         """Two amounts, whose difference it is: the other reads nothing."""
@@ -55,100 +39,63 @@ class Lines(Workload):
     def units(self, _turns, text):
         return text.count(b"\n")
 
+    def is_right(self, _printed):
+        return True
+
 
 @dataclass
-class Calls(Workload):
-    """Turns of one step of the library's programs: how many in all, of which a fiftieth is counted, the greatest ratio aimed
-    at, and the text, so many times as large, if the step reads one; else ten times the input are ten times the turns."""
+class Calls:
+    """Turns of one step of the library's programs: how many in all, of which a fiftieth is counted, the greatest ratio aimed at, and the
+    text, so many times as large, if the step reads one; else ten times the input are ten times the turns, and how many times as much these
+    may take. The ratio is that of two programs, which may print other texts. What is of no crate is counted for each byte."""
 
     name: str
     step: str
     count: int
     aim: float
     text: Optional[Callable[[int], str]] = None
+    growth: float = 10.5
+    ours: str = "library"
+    crate: Optional[str] = "calls"
+    memory: float = 1.0
+    prints_same: bool = True
+    is_test: bool = False
 
-    crate: ClassVar = "calls"
-    unit: ClassVar = "turn"
+    limit = None
 
-    @property
-    def whole(self):
-        return self.count, 1
-
-    @property
-    def counted(self):
-        return self.count // 50, 1
-
-    @property
-    def tenfold(self):
-        turns, times = self.counted
-        return (turns, 10 * times) if self.text else (10 * turns, times)
+    def __post_init__(self):
+        self.unit = "turn" if self.crate else "byte"
+        self.whole, self.counted = (self.count, 1), (self.count // 50, 1)
+        self.tenfold = (self.count // 50, 10) if self.text else (self.count // 50 * 10, 1)
 
     def difference(self, amount):
         """Two amounts, whose difference it is: the other makes one turn on the same text, and prints what that made."""
         turns, times = amount
         return (turns + 1, times), (1, times)
 
-    def words(self, turns, _program):
-        return [self.step, str(turns)]
+    def words(self, turns, program):
+        return [self.step if self.ours == "library" else f"{program}_{self.step}", str(turns)]
 
     def input(self, times):
         return self.text(times).encode() if self.text else b""
 
-    def units(self, turns, _text):
-        return turns
-
-
-@dataclass
-class Sorted(Calls):
-    """Turns of a step that sorts what it reads, so ten times of it are a little more than ten times the instructions."""
-
-    growth: ClassVar = 14
-
-
-@dataclass
-class Typed(Calls):
-    """Turns of a step by types, beside the same statements by the builder: the ratio is between these two."""
-
-    ours: ClassVar = "typed"
-    crate: ClassVar = "built"
-    memory: ClassVar = 1.15
-
-    def words(self, turns, program):
-        return [f"{program}_{self.step}", str(turns)]
-
-
-@dataclass
-class Bound(Typed):
-    """Turns of a step by parameters, beside the same statements by `Value`s, which print other texts."""
-
-    prints_same: ClassVar = False
-
-
-@dataclass
-class Copied(Calls):
-    """Copies of so few texts that the C library has room for them at hand, which it hasn't for ten times as many."""
-
-    growth: ClassVar = 14
-
-
-@dataclass
-class Own(Calls):
-    """Steps that the crate doesn't have: what is aimed at is the greatest number of instructions for a byte."""
-
-    crate: ClassVar = None
-    unit: ClassVar = "byte"
-
     def units(self, turns, text):
-        return turns * len(text)
-
-
-@dataclass
-class Tests(Own):
-    """Tests of fragments. Each goes through the whole text: those whose names begin with `has_` answer false there, the others
-    true."""
+        return turns if self.crate else turns * len(text)
 
     def is_right(self, printed):
-        return int(printed.readline()) == (0 if self.step.startswith("has_") else self.count)
+        """A test of fragments goes through the whole text: one whose name begins with `has_` answers false there, another true."""
+        return not self.is_test or int(printed.readline()) == (0 if self.step.startswith("has_") else self.count)
+
+
+# Steps by types, beside the same statements by the builder; by parameters, beside the same by `Value`s; and those that the crate doesn't
+# have: what is aimed at is the greatest number of instructions for a byte.
+Typed = partial(Calls, ours="typed", crate="built", memory=1.15)
+Bound = partial(Typed, prints_same=False)
+Own = partial(Calls, crate=None)
+Tests = partial(Own, is_test=True)
+# What sorts takes a little more than ten times the instructions for ten times of it. The C library has room at hand for copies of a few
+# texts, which it hasn't for ten times as many.
+Sorted = Copied = partial(Calls, growth=14)
 
 
 def lines(kind, count=1_000_000, name="a statement with {count:,} `{kind}` lines", aim=0.55, memory=1.0):
