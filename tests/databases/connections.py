@@ -75,6 +75,11 @@ class Database:
         """Makes a table of texts anew, with their numbers."""
         self.make(table, f"id INTEGER, x {self.column}", *(f"({number}, {self.text_of(it)})" for number, it in enumerate(texts)))
 
+    def fill(self):
+        """Fills the table `one` anew, with three rows without a text."""
+        self.run("DELETE FROM one")
+        self.run("INSERT INTO one (id) VALUES (1), (2), (3)")
+
 
 class Pointer(ctypes.c_void_p):
     """What a function of a C library gives. (a `c_void_p` itself would be a number)"""
@@ -91,11 +96,6 @@ def library(given, *names):
         getattr(lib, name).restype = gives
     return lib
 
-
-    def fill(self):
-        """Fills the table `one` anew, with three rows without a text."""
-        self.run("DELETE FROM one")
-        self.run("INSERT INTO one (id) VALUES (1), (2), (3)")
 
 
 class Sqlite(Database):
