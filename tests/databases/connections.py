@@ -190,7 +190,10 @@ class Postgres(Database):
         binary = lambda it: it.to_bytes(8, "big", signed=True) if isinstance(it, int) else it.encode()
         sent = [None if it is None else binary(it) if is_binary else f"{it}".encode() for it in values]
         types = [number if isinstance(it, int) else text for it in values]
-        return self.rows(self.db.exec_params(statement.encode(), sent, types, [pq.Format(is_binary)] * len(values)))
+        try:
+            return self.rows(self.db.exec_params(statement.encode(), sent, types, [pq.Format(is_binary)] * len(values)))
+        except MemoryError as why:  # libpq sends no more values than a statement takes, and gives no result then
+            raise Refused(first_line(self.db.error_message)) from why
 
     def rows(self, result):
         if result.status not in (0, 1, 2):  # of nothing, of a statement without rows, of one with rows
