@@ -1,6 +1,6 @@
 -- How MySQL and MariaDB read a text, byte by byte, as a reader: what their lexer (sql_lex.cc) is in behind each byte, by the default sql_mode,
--- or where no backslash escapes, by NO_BACKSLASH_ESCAPES. What is behind a token that they refuse means nothing, and a zero byte isn't read. It
--- is lost behind `/*!`, `/*M!`, `/*+`, and a `$` that begins a word: what is read there differs between versions.
+-- or where no backslash escapes, by NO_BACKSLASH_ESCAPES. What is behind a token that they refuse means nothing, and a zero byte isn't read. The
+-- reader is lost behind `/*!`, `/*M!`, `/*+`, and a `$` that begins a word: what is read there differs between versions.
 use Prim.Native.Char.{code}
 use Rattle.std.specs.Prelude.{ℕ, ◌+◌, ◌-◌, ◌==◌, ◌||◌, ◌&&◌, Bool, codes, not, nat_le, if◌then◌else◌}
 use Rattle.sql_parts.specs.Readers.{Reader}
