@@ -32,7 +32,7 @@ pub struct Placeholder {
 pub struct Parameters<V: Drop> {
     /// How their placeholders are written: set it once.
     pub style: Style,
-    /// The values: the first one has the number 1.
+    /// The values: the first one has the number 1. If there are many, reserve room for them here.
     pub values: Vec<V>,
 }
 
