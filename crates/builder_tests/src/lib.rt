@@ -1,4 +1,4 @@
-//! Tests of `sql_builder` that aren't rows. Rows of statements are lines, in `tests/rows/statements` and
+//! Tests of the libraries that aren't rows. Rows of statements are lines, in `tests/rows/statements` and
 //! `docs/reference/conditions.md`, and rows of calls are in `tests/rows/calls.md` and `docs/reference/every_call.md`.
 #![tactic(auto)]
 

@@ -15,7 +15,7 @@ impl Model for Bytes {
     ghost view = { λ _. [] };
 }
 
-/// A list that only proofs read. For the crates here alone.
+/// A list that only proofs read. Public for `sql_typed` alone.
 #[derive(Drop)]
 pub struct GhostList<T> {
     of: PhantomData<T>,
