@@ -90,7 +90,7 @@ def statements():
 
 
 def main():
-    tally, made = Tally("databases_fragments"), statements()
+    tally, made = Tally("fragments"), statements()
     for text in (it for it in FRAGMENTS if it not in LET_IN):
         tally.expect(f"by types {text!r} is", {*made[text][1]}, {REFUSED})
     for text in (*HARMLESS, *LET_IN):

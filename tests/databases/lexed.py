@@ -164,7 +164,7 @@ def main():
     # MariaDB parses dozens of statements for each text
     most = {"MariaDB": count // 4}
     all_texts = {name: [*dict.fromkeys([*all_of(it, 4), *longer[: most.get(name, count)]])] for name, it in CHARACTERS.items()}
-    tally = Tally("databases_lexed")
+    tally = Tally("lexed")
     states = states_of(all_texts, tally)
     each(tally, lambda db: measure(db, all_texts, states, tally), ("SQLite", "MariaDB"))
     if scan:

@@ -238,7 +238,7 @@ def line_of_kit(line):
 
 
 def main():
-    tally, results = Tally("databases_lines"), {}
+    tally, results = Tally("lines"), {}
     lines, attacks = made()
     check(lines, attacks, tally)
     head("database", "texts", "statements", "as meant", "otherwise", "refused")

@@ -237,7 +237,7 @@ def is_right_of_kit(statement, result, _):
 
 
 def main():
-    tally, limited = Tally("databases_parameters"), []
+    tally, limited = Tally("parameters"), []
     statements, positional = made()
     check(statements, tally)
     head("database", "texts", "statements", "as meant", "LIKE to a zero byte", "without case", "otherwise", "refused")

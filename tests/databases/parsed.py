@@ -311,7 +311,7 @@ def hostile_texts(chance, fixed):
 
 def main():
     count, seed = asked(80000, 52)
-    tally, fixed = Tally("databases_parsed"), texts()
+    tally, fixed = Tally("parsed"), texts()
     corrupted(tally)
     before, number_of_texts = tally.passed, 0
     maker = lambda number, all_texts: StatementMaker(random.Random(f"{seed} {number}"), all_texts).statement()

@@ -119,7 +119,7 @@ def measure(db, folder, tally):
 
 
 def main():
-    tally = Tally("databases_programs")
+    tally = Tally("programs")
     head("database", "way", *TEXTS)
     with tempfile.TemporaryDirectory(prefix="programs-") as folder:
         each(tally, lambda db: measure(db, folder, tally))

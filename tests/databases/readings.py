@@ -98,7 +98,7 @@ def measure(db, tally):
 
 
 def main():
-    tally = Tally("databases_readings")
+    tally = Tally("readings")
     meant = {code_spans(row[table.head.index("prints")])[0] for table in tables(MEANT, "Not what was meant") for _, row in table.rows}
     tally.expect(f"statements of {MEANT} that are not measured", meant - {it for it, *_ in found_rows("Readings")}, set())
     each(tally, lambda db: measure(db, tally))

@@ -422,7 +422,7 @@ def show(statements, checked, shown):
 
 
 def main():
-    tally, checked, shown = Tally("databases"), [], {}
+    tally, checked, shown = Tally("texts"), [], {}
     tally.expect("worked rows that are not what is tried on the databases", [*differing_rows()], [])
     build()
     with tempfile.TemporaryDirectory(prefix="calls-") as folder:

@@ -229,7 +229,7 @@ def main():
     statements = printed([*map(lines, all_groups)])
     some = sum(bool(it) and len(it) < len(ROWS) for it in wanted)
     print(f"{count} statements over {len(ROWS)} rows, of which {some} find some of the rows and not all")
-    tally = Tally("databases_where")
+    tally = Tally("where")
     each(tally, lambda db: measure(db, statements, wanted, tally))
     return tally.end()
 

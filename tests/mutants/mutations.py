@@ -115,6 +115,11 @@ def functions(folder):
     return found
 
 
+def neighbour(names, at):
+    """What takes the place of a name: of the first, the third and so on the next one, and else the one before."""
+    return names[at + 1] if at % 2 == 0 and at + 1 < len(names) else names[at - 1]
+
+
 def declared(folder):
     """What a crate and those beside it declare, its own first. Of a field that two structs have, the type isn't known."""
     found, fields = Declared({}, {}, {}), collections.defaultdict(list)
@@ -125,7 +130,7 @@ def declared(folder):
                 alike[contents].append(name)
                 found.numbers.setdefault((type_, name), place)
             for names, at, name in ((names, at, name) for names in alike.values() for at, name in enumerate(names)):
-                other = names[at ^ 1 if at ^ 1 < len(names) else at - 1]
+                other = neighbour(names, at)
                 if kind == "struct":
                     fields[name].append(other)
                 elif name != other:
@@ -145,10 +150,11 @@ def variant(words, at, names, _):
 
 
 def emptied(words, at, *_):
-    return '""' if words[at][0] == '"' != words[at][1:] else None
+    return '""' if words[at].startswith('"') and words[at] != '""' else None
 
 
 def affirmed(words, at, *_):
+    # (behind a name, a `!` is a macro's)
     return "" if words[at] == "!" and not re.match(r"(?!(?:if|while|match|return|in)$)[a-z]", words[at - 1]) else None
 
 
