@@ -1,7 +1,6 @@
 //! The lines of a text, and the parts of a line between TABs: its name and its arguments.
 ghost use Rattle.std.specs.Prelude.{◌≡◌, ◌<◌, [], ◌∷◌, false, IsTrue, MatchOption, OnOk};
-ghost use Rattle.sqlb.specs.Arguments.{IsNextLine, IsTaken, first_of, none_of, one_of, three_of, two_of};
-ghost use Rattle.sqlb.specs.Script.{Checks};
+ghost use Rattle.sqlb.specs.{IsNextLine, IsTaken, first_of, none_of, one_of, three_of, two_of, Checks};
 
 use crate::fault::Reason;
 use crate::scan::end_at;

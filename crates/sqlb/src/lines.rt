@@ -1,8 +1,6 @@
 //! What each line makes of the open statement.
 ghost use Rattle.std.specs.Prelude.{◌≡◌, Ok, OnErr, OnOk, ok_or, string_bytes};
-ghost use Rattle.sqlb.specs.Arguments.{IsTaken};
-ghost use Rattle.sqlb.specs.Lines.{Finishes, command, command_in_parts, finish_of, flag_in};
-ghost use Rattle.sqlb.specs.Script.{Answers, Checks, Runs, printed_if, given_after, given_answer};
+ghost use Rattle.sqlb.specs.{IsTaken, Finishes, command, command_in_parts, finish_of, flag_in, Answers, Checks, Runs, printed_if, given_after, given_answer};
 ghost use Rattle.sqlb.specs.declared.fault.Reason.TheVariants.{WrongArguments};
 
 use crate::arguments::Arguments;

@@ -1,10 +1,8 @@
 //! The names that a line may begin with, and the conditions that some of them add.
 ghost use Rattle.std.specs.Prelude.{◌≡◌, OnOk, ok_or};
 ghost use Rattle.sql_builder.specs.Condition.{borrowed_view};
-ghost use Rattle.sqlb.specs.Arguments.{IsTaken};
-ghost use Rattle.sqlb.specs.Names.{comparisons, condition_of, ending_of, likes, memberships};
-ghost use Rattle.sqlb.specs.Names.{condition_call, ends, found_in, lists, meaning_of, nullaries, tables};
-ghost use Rattle.sqlb.specs.Script.{Checks};
+ghost use Rattle.sqlb.specs.{IsTaken, comparisons, condition_of, ending_of, likes, memberships, condition_call, ends, found_in, lists, meaning_of, nullaries};
+ghost use Rattle.sqlb.specs.{tables, Checks};
 ghost use Rattle.sqlb.specs.declared.fault.Reason.TheVariants.{WrongArguments};
 
 use crate::arguments::Arguments;

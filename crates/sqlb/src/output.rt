@@ -2,8 +2,7 @@
 ghost use Rattle.std.specs.Prelude.{◌≡◌, ◌≤◌, ℕ, List, ◌++◌};
 ghost use Rattle.std.specs.Prelude.{codes, decimal, drop, false, flat_map};
 ghost use Rattle.std.specs.Io.KnownBytes.{Appends};
-ghost use Rattle.sqlb.specs.Streams.{WritesOrFails};
-ghost use Rattle.sqlb.specs.Fault.{fault_text};
+ghost use Rattle.sqlb.specs.{WritesOrFails, fault_text};
 
 use crate::fault::Fault;
 use crate::watched::Watched;

@@ -2,9 +2,7 @@
 ghost use Rattle.std.specs.Prelude.{◌≡◌, ◌↔◌, ◌<◌, ◌^◌, ℕ, List, None, true, false, IfErr, IsErrOf};
 ghost use Rattle.std.specs.Io.KnownBytes.{Appends, Consumes, IsAtEnd};
 ghost use Rattle.std.specs.Io.Buffered.{writer_contents};
-ghost use Rattle.sqlb.specs.Output.{output};
-ghost use Rattle.sqlb.specs.RunResults.{EndsUnlessStopped, FailsOnlyToWrite, NamesNoMemory, MemoryRunsOutInLine};
-ghost use Rattle.sqlb.specs.RunResults.{AgreesWithOutput, RunsBuffered, result_at_end};
+ghost use Rattle.sqlb.specs.{output, EndsUnlessStopped, FailsOnlyToWrite, NamesNoMemory, MemoryRunsOutInLine, AgreesWithOutput, RunsBuffered, result_at_end};
 
 use crate::arguments::Arguments;
 use crate::fault::{Fault, LineError, Reason};

@@ -2,9 +2,7 @@
 ghost use Rattle.std.specs.Prelude.{◌≡◌, ◌↔◌, ◌++◌, ℕ, List, Err, codes, false, true, IfErr, IfSome, IsErrOf, IsNone, IsSomeAnd, OnOk, is_some};
 ghost use Rattle.std.specs.Io.Buffered.{writer_contents};
 ghost use Rattle.std.specs.Io.KnownBytes.{Appends};
-ghost use Rattle.sqlb.specs.Streams.{IsWrittenUnless};
-ghost use Rattle.sqlb.specs.Fault.{fault_text};
-ghost use Rattle.sqlb.specs.RunResults.{NamesNoMemory, RunsBuffered, status_of};
+ghost use Rattle.sqlb.specs.{IsWrittenUnless, fault_text, NamesNoMemory, RunsBuffered, status_of};
 
 use crate::fault::Fault;
 use crate::output::write_fault;

@@ -1,16 +1,10 @@
 -- What a step over one part leaves of a text that is read by lines.
-use Rattle.std.proofs.Common.{◌≡◌, ℕ, suc, ◌+◌, ◌-◌, ◌<◌, ◌≤◌, ◌==◌, Bool, true, false, ◌||◌, not, List, [], ◌∷◌, length, take, drop, get_or, length-drop, refl}
-use Rattle.std.proofs.Common.{sym, subst, ap, ap₂, ◌∙◌, arith, inl, inr}
-use Rattle.std.specs.List.{after_first, before_first, onto_first, position_or_len}
+use Rattle.sqlb.proofs.Imports.{◌≡◌, ℕ, suc, ◌+◌, ◌-◌, ◌<◌, ◌≤◌, ◌==◌, Bool, true, false, ◌||◌, not, List, [], ◌∷◌, length, take, drop, get_or, length-drop}
+use Rattle.sqlb.proofs.Imports.{refl, sym, subst, ap, ap₂, ◌∙◌, arith, inl, inr, after_first, before_first, onto_first, position_or_len, IsCharBoundary}
+use Rattle.sqlb.proofs.Imports.{cases_lt, eqb-true, IsCharBoundary-after_ascii, IsCharBoundary-before_ascii, IsCharBoundary-end, drop-drop, drop_all}
+use Rattle.sqlb.proofs.Imports.{get_or-drop, get_or_past, passes_at_first, prefix_len-le-length, slice_split-cons_no, slice_split-cons_yes}
 use Rattle.std.specs.Prelude.{IsUtf8}
-use Rattle.std.specs.Str.{IsCharBoundary}
-use Rattle.std.proofs.lemmas.Bool.{cases_lt, eqb-true}
-use Rattle.std.proofs.lemmas.Str.{IsCharBoundary-after_ascii, IsCharBoundary-before_ascii, IsCharBoundary-end}
-use Rattle.std.proofs.lemmas.List.{drop-drop, drop_all, get_or-drop, get_or_past}
-use Rattle.std.proofs.lemmas.List.Sums.{passes_at_first, prefix_len-le-length}
-use Rattle.std.proofs.lemmas.List.Splits.{slice_split-cons_no, slice_split-cons_yes}
-use Rattle.sqlb.specs.Lines.{parts_of}
-use Rattle.sqlb.specs.Arguments.{Remaining, is_or_feed, is_separator, remaining_of}
+use Rattle.sqlb.specs.{parts_of, Remaining, is_or_feed, is_separator, remaining_of}
 
 abbrev tab : ℕ → Bool
 tab byte = byte == 9

@@ -1,9 +1,6 @@
 -- A bit for each byte of a block that is in a range.
-use Rattle.std.proofs.Common.{◌≡◌, ℕ, ◌%◌, ◌^◌, ◌<◌, ◌⊎◌, Bool, true, false, ◌&&◌, cond, List, map, length, replicate, leb, bit_and, refl, ap, ◌∙◌, inl, inr}
-use Rattle.std.proofs.Common.{arith, leb-true, leb-false}
-use lib.Lanes.{mask_l, top, zip2}
-use Rattle.std.specs.Int.{is_in_range, IsInRange}
-use Rattle.std.proofs.lemmas.List.{length-map}
+use Rattle.sqlb.proofs.Imports.{◌≡◌, ℕ, ◌%◌, ◌^◌, ◌<◌, ◌⊎◌, Bool, true, false, ◌&&◌, cond, List, map, length, replicate, leb, bit_and, refl, ap, ◌∙◌, inl, inr}
+use Rattle.sqlb.proofs.Imports.{arith, leb-true, leb-false, mask_l, top, zip2, is_in_range, IsInRange, length-map}
 use Rattle.std.proofs.lemmas.Simd.{map-map, mask_l-mod, zip2_of_maps, zip2_splat, zip2_splat_left}
 
 abbrev pub mask : ℕ → ℕ → List ℕ → ℕ

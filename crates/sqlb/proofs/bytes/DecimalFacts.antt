@@ -1,8 +1,6 @@
 -- The decimal digits of a number, written from the last one on into the end of a list of 20.
-use Rattle.std.proofs.Common.{◌≡◌, ◌≢◌, ℕ, ◌+◌, ◌-◌, ◌/◌, ◌%◌, ◌<◌, ◌≤◌, ◌^◌, List, [], ◌∷◌, ◌++◌, length, drop, set, ap, sym, ◌∙◌, arith, append_assoc}
-use Rattle.std.proofs.Common.{decimal, length-append, length-drop, lit<}
-use Rattle.std.proofs.lemmas.List.{drop-set}
-use Rattle.std.proofs.lemmas.Fmt.{decimal_digit, decimal_step, decimal_is_IsNumeral, length-decimal-le}
+use Rattle.sqlb.proofs.Imports.{◌≡◌, ◌≢◌, ℕ, ◌+◌, ◌-◌, ◌/◌, ◌%◌, ◌<◌, ◌≤◌, ◌^◌, List, [], ◌∷◌, ◌++◌, length, drop, set, ap, sym, ◌∙◌, arith, append_assoc}
+use Rattle.sqlb.proofs.Imports.{decimal, length-append, length-drop, lit<, drop-set, decimal_digit, decimal_step, decimal_is_IsNumeral, length-decimal-le}
 
 -- while a digit is left to write, there is room for it
 pub room : (digits : List ℕ) (start rest number : ℕ) → length digits ≡ 20 → start ≤ 20 → rest < 2 ^ 64 → number < 2 ^ 64

@@ -1,19 +1,12 @@
 -- A text is its first line and the lines of the text behind it; an input has the lines before its first that is not UTF-8.
-use Rattle.std.proofs.Common.{◌≡◌, ℕ, ◌+◌, ◌<◌, ◌≤◌, ◌==◌, Bool, true, false, List, [], ◌∷◌, length, drop, length-drop, arith, refl, ap, ap₂, ◌∙◌, sym, inl}
-use Rattle.std.proofs.Common.{inr, ◌≢◌, ◌-◌, ◌++◌, take, get_or, length-take, take-add, subst, append_assoc, cond, lit<}
-use Rattle.std.specs.Prelude.{IsTrue, IsUtf8, nat_lt}
-use Rattle.std.specs.List.{after_first, before_first, position_or_len, slice_split, onto_first}
-use Rattle.std.specs.Str.{IsCharBoundary, IsValidUpTo}
-use Rattle.std.proofs.lemmas.List.{drop_all, take_all, append-nil, get_or-drop, get_or-take, take-append-drop, take-take, take_more}
-use Rattle.std.proofs.lemmas.List.Sums.{fails_before_first, passes_at_first}
-use Rattle.std.proofs.lemmas.List.Splits.{slice_split_first, slice_split_none, length-slice_split}
-use Rattle.std.proofs.lemmas.Bool.{cases_lt, eqb-true, ltb-true}
-use Rattle.std.proofs.lemmas.Str.{IsCharBoundary-before_ascii, IsUtf8-drop, IsUtf8-take, IsCharBoundary-after_ascii, IsCharBoundary-start, IsUtf8-append}
-use Rattle.std.proofs.lemmas.Str.{IsUtf8-from_ascii}
-use Rattle.sqlb.specs.Lines.{without_empty_last, lines}
-use Rattle.sqlb.specs.Arguments.{IsNextLine, remaining_of}
-use Rattle.std.proofs.lemmas.Str.Ascii.{IsAscii-cons, IsAscii-nil}
-use Rattle.sqlb.specs.Utf8.{EndsBeforeInvalidLine}
+use Rattle.sqlb.proofs.Imports.{◌≡◌, ℕ, ◌+◌, ◌<◌, ◌≤◌, ◌==◌, Bool, true, false, List, [], ◌∷◌, length, drop, length-drop, arith, refl, ap, ap₂, ◌∙◌, sym, inl}
+use Rattle.sqlb.proofs.Imports.{inr, ◌≢◌, ◌-◌, ◌++◌, take, get_or, length-take, take-add, subst, append_assoc, cond, lit<, IsTrue, nat_lt, after_first}
+use Rattle.sqlb.proofs.Imports.{before_first, position_or_len, slice_split, onto_first, IsCharBoundary, IsValidUpTo, drop_all, take_all, append-nil}
+use Rattle.sqlb.proofs.Imports.{get_or-drop, get_or-take, take-append-drop, take-take, take_more, fails_before_first, passes_at_first, slice_split_first}
+use Rattle.sqlb.proofs.Imports.{slice_split_none, length-slice_split, cases_lt, eqb-true, ltb-true, IsCharBoundary-before_ascii, IsUtf8-drop, IsUtf8-take}
+use Rattle.sqlb.proofs.Imports.{IsCharBoundary-after_ascii, IsCharBoundary-start, IsUtf8-append, IsUtf8-from_ascii, IsAscii-cons, IsAscii-nil}
+use Rattle.std.specs.Prelude.{IsUtf8}
+use Rattle.sqlb.specs.{without_empty_last, lines, IsNextLine, remaining_of, EndsBeforeInvalidLine}
 
 abbrev pub feed : ℕ → Bool
 feed byte = byte == 10

@@ -1,16 +1,12 @@
 -- How far the first byte of a text is that is one of two, by blocks.
-use Rattle.std.proofs.Common.{◌≡◌, ◌≢◌, ℕ, ◌+◌, ◌%◌, ◌^◌, ◌≤◌, ◌<◌, Bool, true, false, ◌||◌, not, cond, List, map, length, take, drop, replicate, eqb, refl}
-use Rattle.std.proofs.Common.{sym, ap, ◌∙◌, arith, bit_or}
-use Rattle.std.specs.Prelude.{position, Some, None}
+use Rattle.sqlb.proofs.Imports.{◌≡◌, ◌≢◌, ℕ, ◌+◌, ◌%◌, ◌^◌, ◌≤◌, ◌<◌, Bool, true, false, ◌||◌, not, cond, List, map, length, take, drop, replicate, eqb, refl}
+use Rattle.sqlb.proofs.Imports.{sym, ap, ◌∙◌, arith, bit_or, position, Some, None, cond-true, cond-false, eq-eqb, ltb-false, ne_eqb, prefix_len-le-length}
+use Rattle.sqlb.proofs.Imports.{position_or_len, length-map}
 use lib.Count.{count_trailing_zeros}
-use Rattle.std.proofs.lemmas.Bool.{cond-true, cond-false, eq-eqb, ltb-false, ne_eqb}
-use Rattle.std.proofs.lemmas.List.Sums.{prefix_len-le-length}
-use Rattle.std.specs.List.{position_or_len}
 use Rattle.std.specs.Simd.Lanes.{mask_l, top, zip2}
-use Rattle.std.proofs.lemmas.List.{length-map}
 use Rattle.std.proofs.lemmas.List.Folds.{prefix_len-append}
 use Rattle.std.proofs.lemmas.Simd.{chunk-drop, length-chunk, mask_l-mod, zip2_splat, zip2_of_maps, map-map, leading_from_mask_l, trailing_mask_l}
-use Rattle.sqlb.specs.Arguments.{is_or_feed}
+use Rattle.sqlb.specs.{is_or_feed}
 
 -- the lanes that are equal to a byte
 abbrev equal : ℕ → ℕ → ℕ

@@ -1,17 +1,8 @@
 -- What is read behind the bytes of a buffer that are filled, and a text that is written in several writes.
-use Rattle.std.proofs.Common.{◌≡◌, ℕ, ◌+◌, ◌≤◌, List, ◌++◌, length, take, take-add, append_assoc, ap, ap₂, ◌∙◌, arith, ◌-◌, ◌<◌, Bool, ◌∷◌, drop, get_or, sym}
-use Rattle.std.proofs.Common.{subst, add-one, drop-cons}
-use Rattle.std.proofs.Math.Seq.{drop-append_seam, take-append_seam}
-use Rattle.std.proofs.lemmas.List.{take-append-le, take-take, take-append-drop}
-use Rattle.std.specs.Prelude.{Option, Result, Err, flat_map}
-use Rattle.std.specs.Io.{StartsWith}
-use Rattle.std.specs.Io.KnownBytes.{Appends}
-use Rattle.std.proofs.KnownBytes.{Appends-trans, starts_with_rest}
-use Rattle.std.proofs.lemmas.List.Concat.{flat_map-append}
-use Rattle.std.proofs.lemmas.Grind.{common_steps}
-use Rattle.sqlb.specs.Streams.{WritesOrFails}
-use Rattle.sqlb.specs.declared.fault.Fault.{Fault}
-use Rattle.sqlb.specs.declared.fault.Fault.TheVariants.{At, Memory, Read, Write}
+use Rattle.sqlb.proofs.Imports.{◌≡◌, ℕ, ◌+◌, ◌≤◌, List, ◌++◌, length, take, take-add, append_assoc, ap, ap₂, ◌∙◌, arith, ◌-◌, ◌<◌, Bool, ◌∷◌, drop, get_or, sym}
+use Rattle.sqlb.proofs.Imports.{subst, add-one, drop-cons, drop-append_seam, take-append_seam, take-append-le, take-take, take-append-drop, Option, Result, Err}
+use Rattle.sqlb.proofs.Imports.{flat_map, StartsWith, Appends, Appends-trans, starts_with_rest, flat_map-append, common_steps, Fault, At, Memory, Read, Write}
+use Rattle.sqlb.specs.{WritesOrFails}
 
 behind_front : (front xs : List ℕ) (filled n : ℕ) → length front ≡ filled → take (filled + n) (front ++ xs) ≡ front ++ take n xs
 behind_front front xs filled n is =

@@ -1,16 +1,12 @@
 -- Bytes that are UTF-8: a front of a text and what follows it, and a block of short characters, by the masks of their bytes.
-use Rattle.std.proofs.Common.{◌≡◌, ℕ, ◌+◌, ◌-◌, ◌≤◌, List, length, take, take-add, drop, subst, arith, ◌*◌, ◌/◌, ◌%◌, ◌^◌, ◌<◌, ◌⊎◌, ◌≢◌, true, false, [], ◌∷◌}
-use Rattle.std.proofs.Common.{◌++◌, map, get_or, refl, sym, ap, ◌∙◌, inl, inr, lt-ltb, le-leb, le-ltb, Fits, w8}
-use Rattle.std.specs.Str.{IsUtf8, IsValidUpTo, IsCharBoundary}
-use Rattle.std.proofs.lemmas.List.{drop-take, length-drop, length-take, take-append-drop, take_all, take-take, get_or-map, get_or_append_left, length-append}
-use Rattle.std.proofs.lemmas.List.{length-map, take-append-le}
-use Rattle.std.proofs.lemmas.Str.{IsCharBoundary-from_take, IsUtf8-append, IsUtf8-drop, IsUtf8-encode, IsUtf8-nil, IsUtf8-take, encode_ascii}
-use lib.Lanes.{Each1}
+use Rattle.sqlb.proofs.Imports.{◌≡◌, ℕ, ◌+◌, ◌-◌, ◌≤◌, List, length, take, take-add, drop, subst, arith, ◌*◌, ◌/◌, ◌%◌, ◌^◌, ◌<◌, ◌⊎◌, ◌≢◌, true, false, []}
+use Rattle.sqlb.proofs.Imports.{◌∷◌, ◌++◌, map, get_or, refl, sym, ap, ◌∙◌, inl, inr, lt-ltb, le-leb, le-ltb, Fits, w8, IsUtf8, IsValidUpTo, IsCharBoundary}
+use Rattle.sqlb.proofs.Imports.{drop-take, length-drop, length-take, take-append-drop, take_all, take-take, get_or-map, get_or_append_left, length-append}
+use Rattle.sqlb.proofs.Imports.{length-map, take-append-le, IsCharBoundary-from_take, IsUtf8-append, IsUtf8-drop, IsUtf8-encode, IsUtf8-nil, IsUtf8-take}
+use Rattle.sqlb.proofs.Imports.{encode_ascii, Each1, bit_at, is_in_range, IsInRange, cases_lt}
 use lib.Utf8.{encode, low_scalar, next, scalar}
-use Rattle.std.specs.Int.{bit_at, is_in_range, IsInRange}
-use Rattle.sqlb.specs.Utf8.{BeginsText}
+use Rattle.sqlb.specs.{BeginsText}
 use Rattle.std.proofs.Math.Nat.{pow-succ'}
-use Rattle.std.proofs.lemmas.Bool.{cases_lt}
 use Rattle.std.proofs.lemmas.Simd.{bit_mask_l, mask_l-lt}
 use Rattle.sqlb.proofs.bytes.ByteMaskFacts.{bit, bit_is, mask, number}
 

@@ -1,25 +1,17 @@
 -- What a line says, by whether it is UTF-8; its reason is never out of memory.
-use Rattle.std.proofs.Common.{◌≡◌, ℕ, Bool, true, false, List, refl, [], ◌∷◌, subst}
-use Rattle.std.specs.Prelude.{Err, IsUtf8, Option, None, Some, Ok, IfErr, IfSome, ok_or}
-use Rattle.std.specs.Str.{is_utf8}
-use Rattle.std.proofs.lemmas.Str.{IsUtf8-from_is_utf8, is_utf8-from_IsUtf8}
-use Rattle.sqlb.specs.Lines.{command_of, command_in, CommandText, Starts, Calls, Finishes, CommandResult, command, command_in_parts, command_with}
-use Rattle.sqlb.specs.declared.fault.Reason.TheVariants.{NotUtf8, WrongArguments}
+use Rattle.sqlb.proofs.Imports.{◌≡◌, ℕ, Bool, true, false, List, refl, [], ◌∷◌, subst, Err, Option, None, Some, Ok, IfErr, ok_or, is_utf8, IsUtf8-from_is_utf8}
+use Rattle.sqlb.proofs.Imports.{is_utf8-from_IsUtf8, NotUtf8, WrongArguments, NoGroupBy, NoSetFields, NoValues, ClauseTexts, Reason}
+use Rattle.std.specs.Prelude.{IsUtf8, IfSome}
+use Rattle.sqlb.specs.{command_of, command_in, CommandText, Starts, Calls, Finishes, CommandResult, command, command_in_parts, command_with, meaning_of, Answer}
+use Rattle.sqlb.specs.{finish_answer, given_answer, HoldsNoMemory}
 use Rattle.sql_builder.specs.Error.{IsMemory}
 use Rattle.sql_builder.specs.SqlBuilderError.{SqlBuilderError}
-use Rattle.sql_builder.specs.SqlBuilderError.TheVariants.{NoGroupBy, NoSetFields, NoValues}
 use Rattle.sql_builder.specs.Calls.{FinishText, Sql, Query, QueryValues, Subquery, SubqueryAs}
 use Rattle.sql_builder.specs.Clauses.{Clauses}
 use Rattle.sql_builder.specs.Layout.{query_error, error_of, empty_error, no_group_by_error, no_rows_error, no_table_error}
 use Rattle.sql_builder.specs.Statement.{error_at, text_at, unless_error}
 use Rattle.sql_builder.specs.declared.clauses.Kind.{Kind}
 use Rattle.sql_builder.specs.declared.clauses.Kind.TheVariants.{SelectFrom, SelectValues, InsertInto, UpdateTable, DeleteFrom}
-use Rattle.sqlb.specs.Names.{meaning_of}
-use Rattle.sqlb.specs.Output.{Answer, finish_answer}
-use Rattle.sqlb.specs.Script.{given_answer}
-use Rattle.sql_builder.specs.Builder.{ClauseTexts}
-use Rattle.sqlb.specs.RunResults.{HoldsNoMemory}
-use Rattle.sqlb.specs.declared.fault.Reason.{Reason}
 use Rattle.sqlb.specs.declared.names.Meaning.{Meaning}
 
 pub command_of-text : (line : List ℕ) → IsUtf8 line → command_of line ≡ command_in line

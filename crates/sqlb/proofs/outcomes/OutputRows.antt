@@ -1,22 +1,10 @@
 -- Worked rows: what the definitions give, by computing.
-use Rattle.std.specs.Prelude.{◌≡◌, ℕ, List, [], ◌∷◌, Some, None, Ok, Err, codes, is_err, refl, map, Bool, true, false, ◌&&◌, nat_lt}
-use Rattle.std.specs.List.{list_all}
-use Rattle.std.specs.Str.{IsAscii}
-use Rattle.std.proofs.Common.{ap, ap₂, arith, lit<}
+use Rattle.sqlb.proofs.Imports.{◌≡◌, ℕ, List, [], ◌∷◌, Some, None, Ok, Err, codes, is_err, refl, map, Bool, true, false, ◌&&◌, nat_lt, list_all, IsAscii, ap}
+use Rattle.sqlb.proofs.Imports.{ap₂, arith, lit<, decimal_digit, IsUtf8-from_ascii, IsAscii-nil, IsAscii-cons, until, NoTableName, Output, At, Memory, Read}
+use Rattle.sqlb.proofs.Imports.{Write, Reason, UnknownCall, NoEnd, NotUtf8, Builder}
 use Rattle.std.proofs.lemmas.Bool.Decides.{nat_tests}
-use Rattle.std.proofs.lemmas.Fmt.{decimal_digit}
-use Rattle.std.proofs.lemmas.Str.{IsUtf8-from_ascii}
-use Rattle.std.proofs.lemmas.Str.Ascii.{IsAscii-nil, IsAscii-cons}
-use Rattle.sql_builder.specs.Filters.{until}
-use Rattle.sql_builder.specs.SqlBuilderError.TheVariants.{NoTableName}
-use Rattle.sqlb.specs.Fault.{fault_text}
-use Rattle.sqlb.specs.Lines.{lines, command_of, command_in}
-use Rattle.sqlb.specs.Names.{comparisons, ending_of, ends, likes, lists, meaning_of, memberships, nullaries, tables}
-use Rattle.sqlb.specs.Output.{Output, accepted_answers, answers, open_statement, output, output_of}
-use Rattle.sqlb.specs.RunResults.{status_of}
-use Rattle.sqlb.specs.declared.fault.Fault.TheVariants.{At, Memory, Read, Write}
-use Rattle.sqlb.specs.declared.fault.Reason.{Reason}
-use Rattle.sqlb.specs.declared.fault.Reason.TheVariants.{UnknownCall, NoEnd, NotUtf8, Builder}
+use Rattle.sqlb.specs.{fault_text, lines, command_of, command_in, comparisons, ending_of, ends, likes, lists, meaning_of, memberships, nullaries, tables}
+use Rattle.sqlb.specs.{accepted_answers, answers, open_statement, output, output_of, status_of}
 use Rattle.sqlb.proofs.outcomes.CommandFacts.{command_of-text}
 
 abbrev is_ascii : List ℕ → Bool

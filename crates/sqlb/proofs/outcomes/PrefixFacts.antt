@@ -1,13 +1,9 @@
 -- What follows a prefix.
-use Rattle.std.proofs.Common.{◌≡◌, ◌≢◌, refl, sym, ◌∙◌, ap, ℕ, Bool, true, false, cond, List, ◌++◌, Option, None, Some, drop, length, take}
-use Rattle.std.proofs.Math.Seq.{drop-append_seam, take-append_seam}
-use Rattle.std.proofs.lemmas.Bool.{cond-true}
-use Rattle.std.proofs.lemmas.List.{take-append-drop}
+use Rattle.sqlb.proofs.Imports.{◌≡◌, ◌≢◌, refl, sym, ◌∙◌, ap, ℕ, Bool, true, false, cond, List, ◌++◌, Option, None, Some, drop, length, take, drop-append_seam}
+use Rattle.sqlb.proofs.Imports.{take-append_seam, cond-true, take-append-drop, bytes_eq, option_map, Family}
 use Rattle.std.proofs.lemmas.Slice.Eq.{bytes_eq-Decides}
 use Rattle.std.specs.Option.{option_and_then}
-use Rattle.std.specs.Prelude.{bytes_eq, option_map}
-use Rattle.sql_builder.specs.declared.condition.Family.{Family}
-use Rattle.sqlb.specs.Names.{ending_of, without_prefix, condition_call}
+use Rattle.sqlb.specs.{ending_of, without_prefix, condition_call}
 use Rattle.sqlb.specs.declared.names.Ending.{Ending}
 use Rattle.sqlb.specs.declared.names.Meaning.TheVariants.{Where}
 

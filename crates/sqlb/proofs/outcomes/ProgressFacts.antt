@@ -1,31 +1,17 @@
 -- How far a run of the lines of an input has come, and how it ends.
-use Rattle.std.proofs.Common.{◌≡◌, ℕ, ◌+◌, ◌-◌, Bool, true, false, List, [], ◌∷◌, ◌++◌, Option, None, Some, Result, Ok, Err, if◌then◌else◌, length, take, map}
-use Rattle.std.proofs.Common.{filter_map, flat_map, refl, sym, ap, ap₂, ◌∙◌, append_assoc, arith, add-zero, codes, length-append, subst}
-use Rattle.std.specs.Prelude.{IfErr, IsOk, IsTrue, IsUtf8, is_err, is_some, option_map}
-use Rattle.std.specs.Io.{StartsWith}
-use Rattle.std.specs.Io.KnownBytes.{Appends}
-use Rattle.std.specs.List.{enumerate_from}
-use Rattle.std.proofs.KnownBytes.{Appends-nil, Appends-trans}
-use Rattle.std.proofs.lemmas.List.{append-nil, map-append}
+use Rattle.sqlb.proofs.Imports.{◌≡◌, ℕ, ◌+◌, ◌-◌, Bool, true, false, List, [], ◌∷◌, ◌++◌, Option, None, Some, Result, Ok, Err, if◌then◌else◌, length, take, map}
+use Rattle.sqlb.proofs.Imports.{filter_map, flat_map, refl, sym, ap, ap₂, ◌∙◌, append_assoc, arith, add-zero, codes, length-append, subst, IfErr, IsTrue}
+use Rattle.sqlb.proofs.Imports.{is_err, is_some, option_map, StartsWith, Appends, enumerate_from, Appends-nil, Appends-trans, append-nil, map-append}
+use Rattle.sqlb.proofs.Imports.{common_steps, flat_map-append, ClauseTexts, since, until, Fault, At, Memory, Read, Write, Reason, NoEnd}
+use Rattle.std.specs.Prelude.{IsOk, IsUtf8}
 use Rattle.std.proofs.lemmas.List.Elements.{filter_map-append}
-use Rattle.std.proofs.lemmas.Grind.{common_steps, flat_map-append}
-use Rattle.sql_builder.specs.Builder.{ClauseTexts}
 use Rattle.sql_builder.specs.Calls.{StartText, CallText}
-use Rattle.sql_builder.specs.Filters.{since, until}
 use Rattle.sql_builder.proofs.lists.PushLemmas.{any_unfollowed-push, since-push}
-use Rattle.sqlb.specs.Arguments.{IsNextLine, Remaining}
-use Rattle.sqlb.specs.Lines.{lines, CommandResult, command_in_parts, command_of, Starts, Calls, Finishes}
-use Rattle.sqlb.specs.Output.{Answer, OpenStatement, accepted_answers, answer, answer_at, answers, call_in, end_fault, fault_at, first, is_finish, is_inside}
-use Rattle.sqlb.specs.Output.{is_start, open_statement, open_statement_in, output, output_text, printed_line, start_in}
-use Rattle.sqlb.specs.RunResults.{AgreesWithOutput, AreWhole, FailsOnlyToWrite, MemoryRunsOutInLine, NamesNoMemory, result_at_end}
-use Rattle.sqlb.specs.Script.{given, given_after, given_answer}
-use Rattle.sqlb.specs.Streams.{WritesOrFails}
-use Rattle.sqlb.specs.Utf8.{EndsBeforeInvalidLine}
-use Rattle.sqlb.specs.declared.fault.Fault.{Fault}
-use Rattle.sqlb.specs.declared.fault.Fault.TheVariants.{At, Memory, Read, Write}
-use Rattle.sqlb.specs.declared.fault.Reason.{Reason}
-use Rattle.sqlb.specs.declared.fault.Reason.TheVariants.{NoEnd}
-use Rattle.sqlb.proofs.bytes.StreamFacts.{begins}
+use Rattle.sqlb.specs.{IsNextLine, Remaining, lines, CommandResult, command_in_parts, command_of, Starts, Calls, Finishes, Answer, OpenStatement}
+use Rattle.sqlb.specs.{accepted_answers, answer, answer_at, answers, call_in, end_fault, fault_at, first, is_finish, is_inside, is_start, open_statement}
+use Rattle.sqlb.specs.{open_statement_in, output, output_text, printed_line, start_in, AgreesWithOutput, AreWhole, FailsOnlyToWrite, MemoryRunsOutInLine}
+use Rattle.sqlb.specs.{NamesNoMemory, result_at_end, given, given_after, given_answer, WritesOrFails, EndsBeforeInvalidLine}
+use Rattle.sqlb.proofs.bytes.{begins}
 use Rattle.sqlb.proofs.outcomes.CommandFacts.{command_of-no_text, command_of-text}
 use Rattle.sqlb.proofs.outcomes.ScriptFacts.{open_after, given-after, given-answer, given-is_some}
 

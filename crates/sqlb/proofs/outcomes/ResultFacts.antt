@@ -1,18 +1,10 @@
 -- A run that stops before the end of its input, and one over a buffered writer that is flushed.
-use Rattle.std.proofs.Common.{◌≡◌, ℕ, Bool, List, [], refl, true, false, ◌++◌, ap, subst, sym, ◌∙◌}
-use Rattle.std.specs.Prelude.{◌||◌, Option, Result, Err, Ok, OnOk, flat_map, is_err}
-use Rattle.std.specs.Io.KnownBytes.{Appends, Consumes, append_known}
-use Rattle.std.proofs.KnownBytes.{Appends-nil}
-use Rattle.sqlb.specs.Streams.{ReadingFails}
-use Rattle.sqlb.specs.Output.{output, Output, output_text}
-use Rattle.sqlb.specs.RunResults.{EndsUnlessStopped, AgreesWithOutput, LosesOnlyIfFailed, MemoryRunsOutInLine, UnlessWriteFails}
-use Rattle.sqlb.specs.declared.fault.Fault.{Fault}
-use Rattle.sqlb.specs.declared.fault.Fault.TheVariants.{At, Memory, Read, Write}
+use Rattle.sqlb.proofs.Imports.{◌≡◌, ℕ, Bool, List, [], refl, true, false, ◌++◌, ap, subst, sym, ◌∙◌, ◌||◌, Option, Result, Err, Ok, OnOk, flat_map, is_err}
+use Rattle.sqlb.proofs.Imports.{Appends, Consumes, append_known, Appends-nil, Output, Fault, At, Memory, Read, Write, StartsWith, flat_map-append}
+use Rattle.sqlb.specs.{ReadingFails, output, output_text, EndsUnlessStopped, AgreesWithOutput, LosesOnlyIfFailed, MemoryRunsOutInLine, UnlessWriteFails}
 use Rattle.std.specs.declared.io.buffered.BufWriter.{BufWriter}
 use Rattle.std.specs.Io.Buffered.{writer_buffer, writer_contents, writer_inner}
-use Rattle.std.specs.Io.{StartsWith}
 use Rattle.std.proofs.Transfers.{starts_with_of_append, starts_with_of_eq}
-use Rattle.std.proofs.lemmas.Grind.{flat_map-append}
 
 pub nothing_written : {T : Type 0} (a b old : Option (List ℕ)) (taken : List ℕ) (fault : Fault) (result : Result T Fault) (failed ended : Bool)
     → Consumes a b taken → ReadingFails {T = Unit {0}} (Err fault) failed ended → result ≡ Err fault

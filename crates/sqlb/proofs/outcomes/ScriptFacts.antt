@@ -1,15 +1,10 @@
 -- What a builder was given stands for the open statement.
-use Rattle.std.proofs.Common.{◌≡◌, [], ◌∷◌, ◌++◌, Option, None, Some, Ok, Err, refl, ap, sym}
-use Rattle.std.specs.Prelude.{is_some, ok_or, option_map}
+use Rattle.sqlb.proofs.Imports.{◌≡◌, [], ◌∷◌, ◌++◌, Option, None, Some, Ok, Err, refl, ap, sym, is_some, ok_or, option_map, Family, WrongArguments}
 use Rattle.sql_builder.specs.Calls.{Cond}
 use Rattle.sql_builder.specs.Condition.{ConditionText}
 use Rattle.sql_builder.proofs.statements.RunLemmas.{clauses-push, clauses_start}
 use Rattle.sql_builder.proofs.statements.StatementLawLemmas.{builders_print_statements}
-use Rattle.sqlb.specs.Lines.{CommandResult, Starts, Calls, Finishes}
-use Rattle.sqlb.specs.Output.{OpenStatement, answer, finish_answer}
-use Rattle.sqlb.specs.Script.{given, given_after, given_answer}
-use Rattle.sql_builder.specs.declared.condition.Family.{Family}
-use Rattle.sqlb.specs.declared.fault.Reason.TheVariants.{WrongArguments}
+use Rattle.sqlb.specs.{CommandResult, Starts, Calls, Finishes, OpenStatement, answer, finish_answer, given, given_after, given_answer}
 
 -- the statement that is open after a line, by what was open before it
 abbrev pub open_after : Option OpenStatement → CommandResult → Option OpenStatement

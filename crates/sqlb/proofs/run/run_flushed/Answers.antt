@@ -1,8 +1,7 @@
-use Rattle.std.proofs.Common.{◌∙◌, refl}
+use Rattle.sqlb.proofs.Imports.{◌∙◌, refl, Appends-kept}
 use Rattle.std.specs.Io.Buffered.{writer_buffer}
-use Rattle.std.proofs.KnownBytes.{Appends-kept}
-use Rattle.sqlb.specs.Output.{output}
-use Rattle.sqlb.proofs.outcomes.ResultFacts.{appends-lost, loses_none, ran-begins, unless_write_fails}
+use Rattle.sqlb.specs.{output}
+use Rattle.sqlb.proofs.outcomes.{appends-lost, loses_none, ran-begins, unless_write_fails}
 use Rattle.sqlb.proofs.run.run_flushed.Goals as goal
 
 pub returns-in_default-clause-ran : goal.returns-in_default-clause-ran

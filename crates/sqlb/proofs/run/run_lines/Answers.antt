@@ -1,11 +1,7 @@
-use Rattle.std.proofs.Common.{◌++◌, ◌<◌, ◌^◌, ℕ, List, arith, refl, ap, ◌∙◌, sym, subst, length}
-use Rattle.std.specs.Io.KnownBytes.{Appends}
-use Rattle.std.proofs.KnownBytes.{Appends-nil}
-use Rattle.std.proofs.lemmas.Result.{err_from_is_err_and}
-use Rattle.sqlb.specs.Lines.{lines}
-use Rattle.sqlb.proofs.outcomes.CommandFacts.{rejected-holds_no_memory}
-use Rattle.sqlb.proofs.outcomes.ProgressFacts.{at_end-fails_only_to_write, at_end-no_memory, command_of-line, ends-at_end, fails-in, line_text, progress-first}
-use Rattle.sqlb.proofs.outcomes.ProgressFacts.{progress-next, rejects, runs_out, unread_first}
+use Rattle.sqlb.proofs.Imports.{◌++◌, ◌<◌, ◌^◌, ℕ, List, arith, refl, ap, ◌∙◌, sym, subst, length, Appends, Appends-nil, err_from_is_err_and}
+use Rattle.sqlb.specs.{lines}
+use Rattle.sqlb.proofs.outcomes.{rejected-holds_no_memory, at_end-fails_only_to_write, at_end-no_memory, command_of-line, ends-at_end, fails-in, line_text}
+use Rattle.sqlb.proofs.outcomes.{progress-first, progress-next, rejects, runs_out, unread_first}
 use Rattle.sqlb.proofs.run.run_lines.Goals as goal
 
 pub lines-init : goal.lines-init

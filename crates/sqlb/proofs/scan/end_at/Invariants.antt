@@ -1,6 +1,5 @@
-use Rattle.std.proofs.Common.{◌≡◌, ◌+◌, ◌-◌, ◌≤◌, length, drop}
-use Rattle.std.specs.List.{position_or_len}
-use Rattle.sqlb.specs.Arguments.{is_or_feed}
+use Rattle.sqlb.proofs.Imports.{◌≡◌, ◌+◌, ◌-◌, ◌≤◌, length, drop, position_or_len}
+use Rattle.sqlb.specs.{is_or_feed}
 use Rattle.sqlb.proofs.scan.end_at.Given as goal
 
 -- the first such byte is the first from here on

@@ -1,6 +1,5 @@
-use Rattle.std.proofs.Common.{◌+◌, ◌∙◌, arith, ap, sym, drop, length-drop}
-use Rattle.sqlb.proofs.bytes.ScanFacts.{found_end, no_end}
-use Rattle.sqlb.proofs.bytes.StreamFacts.{take_rest}
+use Rattle.sqlb.proofs.Imports.{◌+◌, ◌∙◌, arith, ap, sym, drop, length-drop}
+use Rattle.sqlb.proofs.bytes.{found_end, no_end, take_rest}
 use Rattle.sqlb.proofs.scan.end_in_rest.Goals as goal
 
 pub returns-in-Some : goal.returns-in-Some

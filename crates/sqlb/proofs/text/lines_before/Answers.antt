@@ -1,5 +1,4 @@
-use Rattle.sqlb.proofs.bytes.LineFacts.{ends_before_invalid_line, text_utf8}
-use Rattle.sqlb.proofs.bytes.Utf8Facts.{no_fault}
+use Rattle.sqlb.proofs.bytes.{ends_before_invalid_line, text_utf8, no_fault}
 use Rattle.sqlb.proofs.text.lines_before.Goals as goal
 
 pub unreachable-requires : goal.unreachable-requires

@@ -1,6 +1,5 @@
-use Rattle.std.proofs.Common.{arith}
-use Rattle.std.proofs.lemmas.List.{take_all}
-use Rattle.sqlb.proofs.bytes.Utf8Facts.{whole_chars}
+use Rattle.sqlb.proofs.Imports.{arith, take_all}
+use Rattle.sqlb.proofs.bytes.{whole_chars}
 use Rattle.sqlb.proofs.utf8.run_in_block.Goals as goal
 
 pub returns-then-is_ascii-clause-text : goal.returns-then-is_ascii-clause-text

@@ -1,6 +1,5 @@
-use Rattle.std.proofs.Common.{◌+◌, arith}
-use Rattle.std.proofs.lemmas.List.{take_rest}
-use Rattle.sqlb.proofs.bytes.Utf8Facts.{text_more}
+use Rattle.sqlb.proofs.Imports.{◌+◌, arith, take_rest}
+use Rattle.sqlb.proofs.bytes.{text_more}
 use Rattle.sqlb.proofs.utf8.text_prefix.Goals as goal
 
 pub returns-then-run-eq0-clause-text : goal.returns-then-run-eq0-clause-text

@@ -1,5 +1,4 @@
-use Rattle.std.proofs.Common.{◌-◌, ◌≤◌, length, take}
-use Rattle.std.specs.Str.{IsUtf8}
+use Rattle.sqlb.proofs.Imports.{◌-◌, ◌≤◌, length, take, IsUtf8}
 use Rattle.sqlb.proofs.utf8.text_prefix.Given as goal
 
 abbrev pub invariant-loop-at : goal.invariant-loop-at
