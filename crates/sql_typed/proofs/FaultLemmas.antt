@@ -19,6 +19,11 @@ any_more : (test : CallText → Bool) (c : CallText) (calls : List CallText) →
 any_more test c [] = refl
 any_more test c (d ∷ calls) = either (test c) (test d) (list_any test calls) ∙ ap (λ b. test d || b) (any_more test c calls)
 
+filtered_more : (needs_none : Bool) (c : CallText) (calls : List CallText)
+    → (is_filter c || (needs_none || list_any is_filter calls)) ≡ (needs_none || list_any is_filter (calls ++ c ∷ []))
+filtered_more needs_none c calls =
+    either (is_filter c) needs_none (list_any is_filter calls) ∙ ap (λ b. needs_none || b) (any_more is_filter c calls)
+
 early_more : (c : CallText) (calls : List CallText)
     → ((is_constraint c && not (list_any is_join calls)) || has_early_constraint calls) ≡ has_early_constraint (calls ++ c ∷ [])
 early_more c [] = alone (is_constraint c) (is_join c)
@@ -38,8 +43,7 @@ early_more c (d ∷ calls) =
 
 marks_more : (made : Made) (c : CallText) → noted c (marks_of made) ≡ marks_of (adding c made)
 marks_more made c = λ i. record {
-  needs_filter = not made.all_rows && changes_rows made.start;
-  has_filter = any_more is_filter c made.calls i;
+  has_filter = filtered_more (made.all_rows || not (changes_rows made.start)) c made.calls i;
   has_join = any_more is_join c made.calls i;
   has_stray_constraint = early_more c made.calls i;
   has_union = any_more is_union c made.calls i;

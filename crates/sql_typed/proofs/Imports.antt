@@ -1,4 +1,5 @@
 -- The names that many proofs use, passed on.
+pub use Rattle.std.proofs.Math.Bool.{or_comm}
 pub use Rattle.std.proofs.Common.{◌≡◌, ◌∙◌, ◌++◌, ap, append_assoc, codes, refl, sym, subst, ℕ, Bool, true, false, if◌then◌else◌, List, [], ◌∷◌, map, length, ◌≤◌, arith, string_bytes, Option, None, Some, Ok, Result, ◌&&◌, not, ◌==◌, ◌⊎◌}
 pub use Rattle.std.proofs.Common.{inl, inr, IfOk, String, ◌+◌, append-nil, ◌<◌, add-one, drop, drop-cons, get_or, suc, eqb-true, rules, take}
 pub use Rattle.sql_builder.proofs.fragments.FitLemmas.{balanced_fragments, fit_conditions, fit_fragments, fit_texts_balanced}

@@ -36,7 +36,7 @@ changes_rows _ = false
 -- an operand that is like this mask
 abbrev pub is_like : List ℕ → List ℕ → Bool
 is_like mask condition =
-    not (ends_with nat_eq condition (codes " NOT LIKE " ++ mask)) && ends_with nat_eq condition (codes " LIKE " ++ mask) && operand condition
+    ends_with nat_eq condition (codes " LIKE " ++ mask) && not (ends_with nat_eq condition (codes " NOT LIKE " ++ mask)) && operand condition
 
 -- masks of an empty word, which any text is like
 abbrev pub empty_masks : List (List ℕ)
@@ -78,6 +78,10 @@ is_order _ = false
 abbrev pub is_returning : CallText → Bool
 is_returning c = is_some (returning_in c)
 
+-- a statement that has a filter, or needs none: all rows are meant, or none are changed
+abbrev pub is_filtered : Made → Bool
+is_filtered made = (made.all_rows || not (changes_rows made.start)) || list_any is_filter made.calls
+
 -- a constraint of a join before the first join
 abbrev pub has_early_constraint : List CallText → Bool
 has_early_constraint [] = false
@@ -87,7 +91,7 @@ has_early_constraint (c ∷ calls) = is_constraint c || (not (is_join c) && has_
 -- meant; a constraint before the first join; an ORDER BY beside a union.
 abbrev pub fault_of : Made → Option Error
 fault_of made =
-    if not made.all_rows && changes_rows made.start && not (list_any is_filter made.calls) then Some NoCondition
+    if not (is_filtered made) then Some NoCondition
     else if has_early_constraint made.calls then Some NoJoin
     else if list_any is_union made.calls && list_any is_order made.calls then Some OrderBesideUnion else None
 

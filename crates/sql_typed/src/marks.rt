@@ -16,9 +16,7 @@ use sql_parts::lex::is_operand;
 /// What a statement has.
 #[derive(Clone, Copy)]
 pub(crate) struct Marks {
-    /// It changes rows, and no call has said that all are meant.
-    pub(crate) needs_filter: bool,
-    /// A condition came that an empty list or word doesn't make.
+    /// A condition came that an empty list or word doesn't make, or none is needed.
     pub(crate) has_filter: bool,
     pub(crate) has_join: bool,
     /// A constraint came before the first join.
@@ -31,13 +29,10 @@ pub(crate) struct Marks {
 // Whether an operand is like a mask.
 #[tactic(auto, using(std::proofs::lemmas::Str::Pattern::ends_text))]
 fn is_like(condition: &str, like: &str, not_like: &str) -> bool
-    ensures { result ≡ (not (ends_with nat_eq condition.now not_like.now)
-        && ends_with nat_eq condition.now like.now && operand condition.now) }
+    ensures { result ≡ (ends_with nat_eq condition.now like.now
+        && not (ends_with nat_eq condition.now not_like.now) && operand condition.now) }
 {
-    if condition.ends_with(not_like) {
-        return false;
-    }
-    condition.ends_with(like) && is_operand(condition)
+    condition.ends_with(like) && !condition.ends_with(not_like) && is_operand(condition)
 }
 
 #[tactic(auto, unfolding(crate::specs::Faults::selects_every_row))]
@@ -57,11 +52,10 @@ impl Marks {
         ensures { (table : List ℕ) → result ≡ marks_of (beginning (start_on start table)) }
     {
         Marks {
-            needs_filter: match start {
-                TableStart::SelectFrom | TableStart::InsertInto => false,
-                TableStart::UpdateTable | TableStart::DeleteFrom => true,
+            has_filter: match start {
+                TableStart::SelectFrom | TableStart::InsertInto => true,
+                TableStart::UpdateTable | TableStart::DeleteFrom => false,
             },
-            has_filter: false,
             has_join: false,
             has_stray_constraint: false,
             has_union: false,
@@ -71,6 +65,7 @@ impl Marks {
     }
 
     // With one more call.
+    #[tactic(auto, using(crate::proofs::Imports::or_comm))]
     #[inline(always)]
     pub(crate) fn with(self, step: &Step<'_>) -> Marks
         ensures { result ≡ noted (step_call step.now) self }
@@ -79,7 +74,7 @@ impl Marks {
             Step::Unary(clause, _) => self.with_unary(*clause),
             Step::Binary(BinaryClause::OnEq, _, _) => self.with_constraint(),
             Step::Condition(_, condition) => Marks {
-                has_filter: !selects_every_row(condition.as_str()) || self.has_filter,
+                has_filter: self.has_filter || !selects_every_row(condition.as_str()),
                 ..self
             },
             Step::Nullary(NullaryClause::ReturningId) => Marks {
@@ -137,7 +132,7 @@ impl Marks {
     pub(crate) fn fault(self) -> Option<Error>
         ensures { result ≡ fault self }
     {
-        if self.needs_filter && !self.has_filter {
+        if !self.has_filter {
             Some(Error::NoCondition)
         } else if self.has_stray_constraint {
             Some(Error::NoJoin)

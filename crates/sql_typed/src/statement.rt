@@ -373,7 +373,7 @@ impl<K: Changes> Statement<K> {
     pub fn all_rows(mut self) -> Statement<K>
         ensures made { result ≡ meaning_all_rows self }
     {
-        self.marks.needs_filter = false;
+        self.marks.has_filter = true;
         self.made = GhostList::of(&self.made);
         self
     }
