@@ -16,8 +16,7 @@ brackets_serve text is =
     let even = even_text text is in
     let written = phrase.in_brackets byte_units text in
     let are : tokens written ≡ in_brackets ts = enclosed-tokens (codes "(") text (codes ")") refl refl (balanced_closed text is) refl in
-    serves written
-    (and_from _ _ (is_operand-is (tokens written) ∙ ap is_operand are ∙ is_operand-brackets ts even)
+    serves written (and_from _ _ (is_operand-is (tokens written) ∙ ap is_operand are ∙ is_operand-brackets ts even)
     (not_from_false _ (has_top_level-is is_clause_word (tokens written) ∙ ap has_clause are ∙ no_clause-brackets ts even)))
 
 -- ---- a query behind a UNION
@@ -35,8 +34,7 @@ table-balanced ts even = is_balanced-append opening (in_brackets ts ++ naming) r
 pub united_balanced : (needs_brackets : Bool) (query : List ℕ) → balanced query ≡ true → balanced (united_text needs_brackets query) ≡ true
 unfolding in_brackets
 united_balanced false query is = is
-united_balanced true query is =
-    is_balanced-is (tokens (united_text true query))
+united_balanced true query is = is_balanced-is (tokens (united_text true query))
     ∙ ap is_balanced (enclosed-tokens (codes "SELECT * FROM (") query (codes ") AS u") refl refl (balanced_closed query is) refl
     ∙ ap (λ ts. opening ++ (Symbol 40 ∷ ts)) (sym (append_assoc (tokens query) (Symbol 41 ∷ []) naming)))
     ∙ table-balanced (tokens query) (even_text query is)

@@ -1,8 +1,7 @@
 -- What a statement has after one more call, and how a call fails where another does.
 use Rattle.sql_typed.proofs.Imports.{MatchResult, IsOk, ◌≡◌, ◌∙◌, ◌++◌, ap, refl, sym, subst, Bool, true, false, List, [], ◌∷◌, Option, None, Some, list_any, Err, IfSome, IsErrAnd, IsNone, Ok, Result, ◌&&◌, ◌||◌, not, FailsOnlyByMemory}
-use Rattle.sql_typed.proofs.Imports.{SqlBuilderError}
-use Rattle.sql_typed.proofs.Imports.{ClauseTexts, with_call, CallText, FinishText, is_join, call_fits, error_at, made_by, FailsBy, changes_rows, has_early_constraint, is_constraint, is_filter, is_order, is_returning, is_union, IsFitBy}
-use Rattle.sql_typed.proofs.Imports.{Made, adding, marks_of, noted, FailsWith, Builder, clauses-push, all-more}
+use Rattle.sql_typed.proofs.Imports.{SqlBuilderError, ClauseTexts, with_call, CallText, FinishText, is_join, call_fits, error_at, made_by, FailsBy, changes_rows, has_early_constraint, is_constraint, is_filter, is_order, is_returning}
+use Rattle.sql_typed.proofs.Imports.{is_union, IsFitBy, Made, adding, marks_of, noted, FailsWith, Builder, clauses-push, all-more}
 use Rattle.sql_typed.specs.Faults.{IsMemory}
 use Rattle.sql_typed.specs.declared.error.Error.{Error}
 use Rattle.sql_typed.specs.declared.marks.Marks.{Marks}
@@ -32,8 +31,7 @@ early_more c [] = alone (is_constraint c) (is_join c)
     alone true j = refl
     alone false true = refl
     alone false false = refl
-early_more c (d ∷ calls) =
-    behind (is_constraint c) (is_join d) (list_any is_join calls) (is_constraint d) (has_early_constraint calls)
+early_more c (d ∷ calls) = behind (is_constraint c) (is_join d) (list_any is_join calls) (is_constraint d) (has_early_constraint calls)
     ∙ ap (λ b. is_constraint d || (not (is_join d) && b)) (early_more c calls)
   where
     behind : (k j js d e : Bool) → ((k && not (j || js)) || (d || (not j && e))) ≡ (d || (not j && ((k && not js) || e)))
@@ -78,8 +76,7 @@ module _ {made : Made} {r : ClauseTexts} (finish : FinishText) (fit : IsFitBy ma
   -- as `?` passes an error of the builder on
   pub passed_by : {T U : Type 0} (inner : Result T SqlBuilderError) (outer : Result U Error)
       → MatchResult inner (λ x. IsOk outer) (λ is. IsErrAnd outer (λ e. e ≡ Builder is)) → FailsWith (error_at finish r) inner → FailsBy fault known outer
-  passed_by {T} {U} inner outer same fails =
-      subst (λ (f : Option Error). FailsBy f known outer) (sym none)
+  passed_by {T} {U} inner outer same fails = subst (λ (f : Option Error). FailsBy f known outer) (sym none)
       (by known inner outer same (subst (λ (k : ClauseTexts). FailsWith (error_at finish k) inner) fit.is_made fails))
     where
       by : (known : Option SqlBuilderError) (inner : Result T SqlBuilderError) (outer : Result U Error)

@@ -1,14 +1,13 @@
 -- The loop that fills the holes of a template, and what is made of it.
 use Rattle.sql_typed.proofs.Imports.{◌≡◌, ◌∙◌, ◌+◌, ◌<◌, ◌++◌, add-one, ap, append_assoc, drop, drop-cons, get_or, length, suc, ◌≤◌, List, [], ◌∷◌, ℕ, sym, refl, true, false, String, string_bytes, not, AllByRecursion, list_all, and_from}
 use Rattle.sql_typed.proofs.Imports.{and_parts, or_right, list_all-append, balanced, has_clause_word, filled, holes_apart, in_hole, is_dotted, is_unit, unsigned, tokens, ServesAsOperand, has_no_clause, is_bare_operand, is_fragment}
-use Rattle.sql_typed.proofs.Imports.{is_typed_fragment, is_typed_operand, texts, LacksHole, bracketed, filled-fragment, filled-hole, filled-serves, in_hole-serves, byte_units, in_brackets, serves}
+use Rattle.sql_typed.proofs.Imports.{is_typed_fragment, is_typed_operand, texts, LacksHole, bracketed, filled-fragment, filled-hole, filled-serves, in_hole-serves, byte_units, in_brackets, serves, map-append}
 use Rattle.std.proofs.Math.ListN.{drop_of_length-le}
 use Rattle.sql_typed.proofs.ConditionLemmas.{serves_as}
 
 pub one_left : {Z : Type 0} (operands : List (String Z)) (i : ℕ) (operand : String Z) → i < length operands → operand ≡ get_or operands i operand
     → texts (drop i operands) ≡ string_bytes operand ∷ texts (drop (i + 1) operands)
-one_left operands i operand less is =
-    rw (add-one, drop-cons operands i operand less) (ap (λ o. string_bytes o ∷ texts (drop (suc i) operands)) (sym is))
+one_left operands i operand less is = rw (add-one, drop-cons operands i operand less) (ap (λ o. string_bytes o ∷ texts (drop (suc i) operands)) (sym is))
 
 pub none_left : {Z : Type 0} (operands : List (String Z)) (i : ℕ) → length operands ≤ i → texts (drop i operands) ≡ []
 none_left operands i past = ap texts (drop_of_length-le operands past)
@@ -29,18 +28,24 @@ all_serve [] all = tt
 all_serve (operand ∷ operands) all =
     let both = and_parts (is_bare_operand operand) (list_all is_bare_operand operands) all in (serves operand both.0, all_serve operands both.1)
 
-pub all_more : (operands : List (List ℕ)) (operand : List ℕ) → list_all is_bare_operand operands ≡ true → ServesAsOperand operand
-    → list_all is_bare_operand (operands ++ in_hole operand ∷ []) ≡ true
-all_more operands operand all one =
+pub one_more : {Z : Type 0} {now : List (String Z)} {operand : List ℕ} (operands : List (String Z)) (text : String Z) → now ≡ operands ++ text ∷ []
+    → string_bytes text ≡ operand → texts now ≡ texts operands ++ operand ∷ []
+one_more operands text is held =
+    ap texts is ∙ map-append string_bytes operands (text ∷ []) ∙ ap (λ o. texts operands ++ o ∷ []) held
+
+pub all_more : {now : List (List ℕ)} (operands : List (List ℕ)) (operand : List ℕ) → now ≡ operands ++ in_hole operand ∷ []
+    → list_all is_bare_operand operands ≡ true → ServesAsOperand operand → list_all is_bare_operand now ≡ true
+all_more operands operand is all one =
     let held = in_hole-serves operand one in
-    list_all-append is_bare_operand operands (in_hole operand ∷ []) ∙ and_from _ _ all (and_from _ _ (and_from _ _ held.is_operand held.no_clause_word) refl)
+    ap (list_all is_bare_operand) is ∙ list_all-append is_bare_operand operands (in_hole operand ∷ [])
+    ∙ and_from _ _ all (and_from _ _ (and_from _ _ held.is_operand held.no_clause_word) refl)
 
 pub held_is : (text written : List ℕ) → is_unit text ≡ false → written ≡ in_brackets byte_units text → written ≡ in_hole text
 held_is text written isnt is = rw isnt is
 
-pub bracketed_held : (text : List ℕ) → balanced text ≡ true → in_hole (in_brackets byte_units text) ≡ in_brackets byte_units text
-bracketed_held text is =
-    rw (or_right (is_dotted (tokens (unsigned (in_brackets byte_units text)))) _ (bracketed (in_brackets byte_units text) _ text refl refl ∙ is)) refl
+pub bracketed_held : {given : List ℕ} (text : List ℕ) → given ≡ in_brackets byte_units text → balanced text ≡ true → in_hole given ≡ in_brackets byte_units text
+bracketed_held text given_is is = ap in_hole given_is
+    ∙ rw (or_right (is_dotted (tokens (unsigned (in_brackets byte_units text)))) _ (bracketed (in_brackets byte_units text) _ text refl refl ∙ is)) refl
 
 pub condition_balanced : (text : List ℕ) → is_fragment text ≡ true → balanced text ≡ true
 condition_balanced text fits = (and_parts (balanced text) (not (has_clause_word text)) fits).0

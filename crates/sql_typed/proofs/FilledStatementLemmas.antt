@@ -1,23 +1,23 @@
 -- What is known of a statement that a template makes.
-use Rattle.sql_typed.proofs.Imports.{◌≡◌, ◌∙◌, ◌++◌, ap, append_assoc, codes, List, [], ◌∷◌, map, ℕ, Bool, sym, refl, true, false, not, eqb-true, ◌&&◌, flat_map, list_any, and_from, and_parts, false≢true, not-true, not_from_false, or_from}
-use Rattle.sql_typed.proofs.Imports.{or_parts, flat_map-append, map-append, AllByRecursion, cut, filled, holding, holes_apart, ServesAsOperand, Part, Constant, emptied, marks, outer_states, part_bytes, parts_bytes, Token, Word, Str, Name}
-use Rattle.sql_typed.proofs.Imports.{Symbol, Open, is_semicolon, tokens, balanced_whole, filled-keeps, EndsInOneSemicolon, ReadersIgnoreHeldTexts, filled_parts, held_parts}
+use Rattle.sql_typed.proofs.Imports.{◌≡◌, ◌∙◌, ◌++◌, ap, append_assoc, codes, List, [], ◌∷◌, map, ℕ, Bool, sym, refl, true, false, eqb-true, flat_map, list_any, false≢true, not-true, or_from, or_parts, flat_map-append, map-append, cut}
+use Rattle.sql_typed.proofs.Imports.{filled, holding, holes_apart, Part, Constant, emptied, marks, outer_states, part_bytes, parts_bytes, Token, Word, Str, Name, Symbol, Open, is_semicolon, tokens, balanced_whole, filled-keeps}
+use Rattle.sql_typed.proofs.Imports.{EndsInOneSemicolon, ReadersIgnoreHeldTexts, filled_parts, held_parts, list_all, is_bare_operand, closed, filled-closed, if◌then◌else◌}
 use Rattle.sql_parts.proofs.tokens.ReaderLemmas.{readers-alike}
+use Rattle.sql_typed.proofs.FilledLemmas.{all_serve}
 
 -- ---- its only `;` is last
 
-is_ended : List Token → Bool
-is_ended [] = false
-is_ended (token ∷ []) = is_semicolon token
-is_ended (token ∷ next ∷ ts) = not (is_semicolon token) && is_ended (next ∷ ts)
+abbrev none_of : List Token → Bool
+none_of ts = list_all (λ (t : Token). false) ts
 
-ended : (front : List Token) → list_any is_semicolon front ≡ false → is_ended (front ++ Symbol 59 ∷ []) ≡ true
-unfolding is_ended
-ended [] none = refl
-ended (token ∷ []) none = and_from _ _ (not_from_false _ (or_parts (is_semicolon token) false none).0) refl
-ended (token ∷ next ∷ front) none =
-    let both = or_parts (is_semicolon token) (list_any is_semicolon (next ∷ front)) none in
-    and_from _ _ (not_from_false _ both.0) (ended (next ∷ front) both.1)
+abbrev is_ended : List Token → Bool
+is_ended [] = false
+is_ended (token ∷ ts) = if is_semicolon token then none_of ts else is_ended ts
+
+passed : (front rest : List Token) → list_any is_semicolon front ≡ false → is_ended (front ++ rest) ≡ is_ended rest
+passed [] rest none = refl
+passed (token ∷ front) rest none =
+    let both = or_parts (is_semicolon token) (list_any is_semicolon front) none in rw both.0 (passed front rest both.1)
 
 semicolon : (token : Token) → is_semicolon token ≡ true → token ∷ [] ≡ Symbol 59 ∷ []
 semicolon (Symbol byte) is = ap (λ (b : ℕ). Symbol b ∷ []) (eqb-true byte 59 is)
@@ -27,49 +27,42 @@ semicolon (Name text) is = absurd (false≢true is)
 semicolon Open is = absurd (false≢true is)
 
 ends : (ts : List Token) → is_ended ts ≡ true → EndsInOneSemicolon ts
-unfolding is_ended
 ends [] is = absurd (false≢true is)
-ends (token ∷ []) is = ([], semicolon token is, refl)
-ends (token ∷ next ∷ ts) is =
-    let both = and_parts (not (is_semicolon token)) (is_ended (next ∷ ts)) is in
-    let rest = ends (next ∷ ts) both.1 in
-    (token ∷ rest.0, ap (λ (more : List Token). token ∷ more) rest.1, or_from _ _ (not-true _ both.0) rest.2)
-
-ended-behind : (token : Token) (ts : List Token) → is_semicolon token ≡ false → is_ended ts ≡ true → is_ended (token ∷ ts) ≡ true
-unfolding is_ended
-ended-behind token [] isnt is = absurd (false≢true is)
-ended-behind token (next ∷ ts) isnt is = and_from _ _ (not_from_false _ isnt) is
-
-ended-held : (op rest : List Token) → list_any is_semicolon op ≡ false → is_ended rest ≡ true → is_ended (op ++ rest) ≡ true
-ended-held [] rest none is = is
-ended-held (token ∷ op) rest none is =
-    let both = or_parts (is_semicolon token) (list_any is_semicolon op) none in ended-behind token (op ++ rest) both.0 (ended-held op rest both.1 is)
+ends (token ∷ ts) is = by (is_semicolon token) ts refl is (ends ts)
+  where
+    by : (last : Bool) (rest : List Token) → is_semicolon token ≡ last → (if last then none_of rest else is_ended rest) ≡ true
+        → (is_ended rest ≡ true → EndsInOneSemicolon rest) → EndsInOneSemicolon (token ∷ rest)
+    by true [] one is further = ([], semicolon token one, refl)
+    by true (next ∷ rest) one is further = absurd (false≢true is)
+    by false rest isnt is further = let more = further is in (token ∷ more.0, ap (λ (ts : List Token). token ∷ ts) more.1, or_from _ _ isnt more.2)
 
 ended-filled : (front rest op : List Token) → list_any is_semicolon op ≡ false → is_ended (front ++ Symbol 63 ∷ rest) ≡ true → is_ended (front ++ (op ++ rest)) ≡ true
-unfolding is_ended
-ended-filled [] [] op none is = absurd (false≢true is)
-ended-filled [] (next ∷ rest) op none is = ended-held op (next ∷ rest) none is
-ended-filled (token ∷ []) rest op none is =
-    let both = and_parts (not (is_semicolon token)) (is_ended (Symbol 63 ∷ rest)) is in
-    ended-behind token (op ++ rest) (not-true _ both.0) (ended-filled [] rest op none both.1)
-ended-filled (token ∷ next ∷ front) rest op none is =
-    let both = and_parts (not (is_semicolon token)) (is_ended (next ∷ front ++ Symbol 63 ∷ rest)) is in
-    and_from _ _ both.0 (ended-filled (next ∷ front) rest op none both.1)
+ended-filled [] rest op none is = passed op rest none ∙ is
+ended-filled (token ∷ front) rest op none is = by (is_semicolon token) front is (ended-filled front rest op none)
+  where
+    by : (last : Bool) (more : List Token) → (if last then none_of (more ++ Symbol 63 ∷ rest) else is_ended (more ++ Symbol 63 ∷ rest)) ≡ true
+        → (is_ended (more ++ Symbol 63 ∷ rest) ≡ true → is_ended (more ++ (op ++ rest)) ≡ true)
+        → (if last then none_of (more ++ (op ++ rest)) else is_ended (more ++ (op ++ rest))) ≡ true
+    by true [] is further = absurd (false≢true is)
+    by true (next ∷ more) is further = absurd (false≢true is)
+    by false more is further = further is
 
-pub filled_ends : (operands : List (List ℕ)) (template : List ℕ) → holes_apart template ≡ true → AllByRecursion ServesAsOperand operands
-    → EndsInOneSemicolon (tokens template) → EndsInOneSemicolon (tokens (filled operands template))
-filled_ends operands template apart all given =
-    ends (tokens (filled operands template))
-    (filled-keeps is_ended (λ front rest text serves. ended-filled front rest (tokens text) (not-true _ (balanced_whole text serves.is_balanced).1)) operands template apart all
-    (ap is_ended given.1 ∙ ended given.0 given.2))
+pub filled_ends : {text : List ℕ} (operands : List (List ℕ)) (template : List ℕ) → text ≡ filled operands template → holes_apart template ≡ true
+    → list_all is_bare_operand operands ≡ true → EndsInOneSemicolon (tokens template) → EndsInOneSemicolon (tokens text)
+filled_ends {text} operands template is apart all given = ends (tokens text) (ap (λ t. is_ended (tokens t)) is
+    ∙ filled-keeps is_ended (λ front rest text serves. ended-filled front rest (tokens text) (not-true _ (balanced_whole text serves.is_balanced).1)) operands template apart
+    (all_serve operands all) (ap is_ended given.1 ∙ passed given.0 (Symbol 59 ∷ []) given.2))
+
+pub closed_filled : {text : List ℕ} (operands : List (List ℕ)) (template : List ℕ) → text ≡ filled operands template → holes_apart template ≡ true
+    → list_all is_bare_operand operands ≡ true → closed text ≡ true
+closed_filled operands template is apart all = ap closed is ∙ filled-closed operands template apart (all_serve operands all)
 
 -- ---- its readers
 
 held-emptied : (held : List (List Part)) (segments : List (List ℕ)) → map emptied (held_parts held segments) ≡ held_parts (map (map emptied) held) segments
 held-emptied held [] = refl
 held-emptied [] (segment ∷ segments) = ap (λ more. Constant (codes "?" ++ segment) ∷ more) (held-emptied [] segments)
-held-emptied (parts ∷ held) (segment ∷ segments) =
-    map-append emptied parts (Constant segment ∷ held_parts held segments)
+held-emptied (parts ∷ held) (segment ∷ segments) = map-append emptied parts (Constant segment ∷ held_parts held segments)
     ∙ ap (λ more. map emptied parts ++ Constant segment ∷ more) (held-emptied held segments)
 
 abbrev texts_held : List (List ℕ) → List (List ℕ) → List ℕ
@@ -78,8 +71,7 @@ texts_held texts segments = flat_map (λ (part : List ℕ × List ℕ). part.0 +
 held-bytes : (held : List (List Part)) (segments : List (List ℕ)) → parts_bytes (held_parts held segments) ≡ texts_held (map parts_bytes held) segments
 held-bytes held [] = refl
 held-bytes [] (segment ∷ segments) = ap (λ more. (codes "?" ++ segment) ++ more) (held-bytes [] segments)
-held-bytes (parts ∷ held) (segment ∷ segments) =
-    flat_map-append part_bytes parts (Constant segment ∷ held_parts held segments)
+held-bytes (parts ∷ held) (segment ∷ segments) = flat_map-append part_bytes parts (Constant segment ∷ held_parts held segments)
     ∙ ap (λ more. parts_bytes parts ++ (segment ++ more)) (held-bytes held segments)
     ∙ sym (append_assoc (parts_bytes parts) segment (texts_held (map parts_bytes held) segments))
 

@@ -4,15 +4,11 @@ use Rattle.sql_typed.proofs.Imports.{Symbol, Token, closed, tokens, filled-token
 use Rattle.sql_parts.proofs.fragments.StringTextFacts.{closed-alike}
 use Rattle.sql_parts.proofs.templates.ApartFacts.{part_tokens}
 
-blank-append : (one other : List Token) → blank (one ++ other) ≡ blank one ++ blank other
-blank-append one other = map-append blank_token one other
-
 pub fronts_follow : FrontsFollowTheirStatements
-fronts_follow one other shut also same =
-    append_cancel_right (outline one) (outline other) (Symbol 59 ∷ []) (sym (ended one shut) ∙ same ∙ ended other also)
+fronts_follow one other shut also same = append_cancel_right (outline one) (outline other) (Symbol 59 ∷ []) (sym (ended one shut) ∙ same ∙ ended other also)
   where
     ended : (text : List ℕ) → closed text ≡ true → outline (text ++ codes ";") ≡ outline text ++ Symbol 59 ∷ []
-    ended text shut = ap blank (seam text (codes ";") shut (or_right _ true refl)) ∙ blank-append (tokens text) (Symbol 59 ∷ [])
+    ended text shut = ap blank (seam text (codes ";") shut (or_right _ true refl)) ∙ map-append blank_token (tokens text) (Symbol 59 ∷ [])
 
 -- ---- templates
 
@@ -44,9 +40,8 @@ held-outline (t ∷ ts) (u ∷ us) (segment ∷ segments) same =
   where
     parted : (text : List ℕ) (texts : List (List ℕ))
         → blank (held_tokens (text ∷ texts) (segment ∷ segments)) ≡ (outline text ++ outline segment) ++ blank (held_tokens texts segments)
-    parted text texts =
-        blank-append (tokens text ++ tokens segment) (held_tokens texts segments)
-        ∙ ap (λ ts. ts ++ blank (held_tokens texts segments)) (blank-append (tokens text) (tokens segment))
+    parted text texts = map-append blank_token (tokens text ++ tokens segment) (held_tokens texts segments)
+        ∙ ap (λ ts. ts ++ blank (held_tokens texts segments)) (map-append blank_token (tokens text) (tokens segment))
 
 pub templates_follow : TemplatesFollowTheirOperands
 templates_follow template one other apart same all =
@@ -54,4 +49,4 @@ templates_follow template one other apart same all =
     by one shut.0 ∙ ap (λ ts. outline (cut template).0 ++ ts) (held-outline one other (cut template).1 same) ∙ sym (by other shut.1)
   where
     by : (texts : List (List ℕ)) → AllClosed texts → outline (filled texts template) ≡ outline (cut template).0 ++ blank (held_tokens texts (cut template).1)
-    by texts shut = ap blank (filled-tokens texts template apart shut) ∙ blank-append (tokens (cut template).0) (held_tokens texts (cut template).1)
+    by texts shut = ap blank (filled-tokens texts template apart shut) ∙ map-append blank_token (tokens (cut template).0) (held_tokens texts (cut template).1)

@@ -25,8 +25,7 @@ serves_whole {text} {given} is serves = ap is_whole is ∙ balanced_is_whole giv
 
 -- pieces are, whose fragments are
 pieces_whole : (ps : Pieces) → Inside ps → has_closed_fragments ps ≡ true → has_no_semicolons ps ≡ true → is_whole (pieces_text ps) ≡ true
-pieces_whole ps inside shut plain =
-    and_from _ _ (shape_closed ps (shaped ps inside) shut)
+pieces_whole ps inside shut plain = and_from _ _ (shape_closed ps (shaped ps inside) shut)
     (not_from_false _ (ap (λ ts. list_any is_semicolon ts) ((shaped ps inside).shape_is shut) ∙ inside.plain.none plain))
 
 words_whole : (words : List ℕ) → is_whole words ≡ true → Whole words
@@ -42,23 +41,24 @@ module _ (text : List ℕ) (is : is_whole text ≡ true) where
       (and_from _ _ (and_parts (closed text) _ is).0 refl) (and_from _ _ (and_parts (closed text) _ is).1 refl)
 
   -- words and another text behind it
-  pub followed_whole : (words other : List ℕ) → may_join words ≡ true → is_whole other ≡ true → is_whole (text ++ (words ++ other)) ≡ true
+  pub followed_whole : (words other : List ℕ) → may_join words ≡ true → is_whole other ≡ true → is_whole ((text ++ words) ++ other) ≡ true
   followed_whole words other may also =
       let ends = and_parts (may_follow words) (ends_with is_edge words) may in
       let begins = and_parts (is_whole words) (begins_with is_edge words) ends.0 in
       let parts = and_parts (closed text) (not (has_semicolon text)) is in
       let others = and_parts (closed other) (not (has_semicolon other)) also in
-      ap (λ t. is_whole (text ++ (words ++ t))) (sym (append-nil other))
+      ap is_whole (append_assoc text words other) ∙ ap (λ t. is_whole (text ++ (words ++ t))) (sym (append-nil other))
       ∙ pieces_whole (raw_piece text ++ (fixed_piece words ++ raw_piece other))
       (words-between words (raw_piece text) (raw_piece other) (words_whole words begins.0) begins.1 ends.1 (raw-inside text) (raw-inside other))
       (and_from _ _ parts.0 (and_from _ _ others.0 refl)) (and_from _ _ parts.1 (and_from _ _ others.1 refl))
 
   -- and `;` behind it
-  pub whole_closed : closed (text ++ codes ";") ≡ true
-  whole_closed = shape_closed (raw_piece text ++ fixed_piece (codes ";")) (statement-shaped (raw_piece text) (raw-inside text)) (and_from _ _ (and_parts (closed text) _ is).0 refl)
+  pub whole_closed : {all : List ℕ} → all ≡ text ++ codes ";" → closed all ≡ true
+  whole_closed also = ap closed also ∙ shape_closed (raw_piece text ++ fixed_piece (codes ";")) (statement-shaped (raw_piece text) (raw-inside text)) (and_from _ _ (and_parts (closed text) _ is).0 refl)
 
-  pub whole_ends : EndsInOneSemicolon (tokens (text ++ codes ";"))
-  whole_ends = ends_in_semicolon (raw_piece text) (raw-inside text) (and_from _ _ (and_parts (closed text) _ is).0 refl) (and_from _ _ (and_parts (closed text) _ is).1 refl)
+  pub whole_ends : {all : List ℕ} → all ≡ text ++ codes ";" → EndsInOneSemicolon (tokens all)
+  whole_ends also = subst (λ t. EndsInOneSemicolon (tokens t)) (sym also)
+      (ends_in_semicolon (raw_piece text) (raw-inside text) (and_from _ _ (and_parts (closed text) _ is).0 refl) (and_from _ _ (and_parts (closed text) _ is).1 refl))
 
 -- texts with words between them
 pub joined_whole : (words : List ℕ) → may_join words ≡ true → (text : List ℕ) (texts : List (List ℕ)) → list_all is_whole (text ∷ texts) ≡ true
@@ -66,7 +66,7 @@ pub joined_whole : (words : List ℕ) → may_join words ≡ true → (text : Li
 joined_whole words may text [] all = ap is_whole (append-nil text) ∙ (and_parts (is_whole text) _ all).0
 joined_whole words may text (next ∷ texts) all =
     let both = and_parts (is_whole text) _ all in
-    ap (λ t. is_whole (text ++ t)) (append_assoc words next (flat_map (λ other. words ++ other) texts))
+    ap is_whole (ap (λ t. text ++ t) (append_assoc words next (flat_map (λ other. words ++ other) texts)) ∙ sym (append_assoc text words _))
     ∙ followed_whole text both.0 words (join_with words (next ∷ texts)) may (joined_whole words may next texts both.1)
 
 module _ {X : Type 0} (text : X → List ℕ) (serves : (x : X) → ServesAsOperand (text x)) where
@@ -86,15 +86,15 @@ conflict_given text [] some = absurd (true≢false some)
 conflict_given text (x ∷ xs) some = refl
 
 -- balanced texts with words between them, that are balanced too
-pub balanced_followed : (text words other : List ℕ) → balanced text ≡ true → may_join words ≡ true → balanced words ≡ true → balanced other ≡ true
-    → balanced (text ++ (words ++ other)) ≡ true
-balanced_followed text words other is may even also =
+pub balanced_followed : {all : List ℕ} (text words other : List ℕ) → all ≡ (text ++ words) ++ other → balanced text ≡ true → may_join words ≡ true
+    → balanced words ≡ true → balanced other ≡ true → balanced all ≡ true
+balanced_followed {all} text words other all_is is may even also =
     let ends = and_parts (may_follow words) (ends_with is_edge words) may in
     let begins = and_parts (is_whole words) (begins_with is_edge words) ends.0 in
-    let tokens_are : tokens (text ++ (words ++ other)) ≡ tokens text ++ (tokens words ++ tokens other) =
-    seam text (words ++ other) (balanced_whole text is).0 (clean-before text words other begins.1)
+    let tokens_are : tokens all ≡ tokens text ++ (tokens words ++ tokens other) =
+    ap tokens (all_is ∙ append_assoc text words other) ∙ seam text (words ++ other) (balanced_whole text is).0 (clean-before text words other begins.1)
     ∙ ap (λ ts. tokens text ++ ts) (seam words other (and_parts (closed words) _ begins.0).0 (clean-behind words other ends.1)) in
-    is_balanced-is (tokens (text ++ (words ++ other))) ∙ ap is_balanced tokens_are
+    is_balanced-is (tokens all) ∙ ap is_balanced tokens_are
     ∙ is_balanced-append (tokens text) (tokens words ++ tokens other) (sym (is_balanced-is (tokens text)) ∙ is)
     (is_even-append (tokens words) (tokens other) (even_text words even) (even_text other also))
 
@@ -123,8 +123,7 @@ module _ (start : StartText) (calls : List CallText) (all : texts_pass balanced 
 
 -- of a statement whose texts fit
 pub made_whole : (made : Made) (r : ClauseTexts) → IsFitBy made r → HasWholeFront r
-made_whole made r fit =
-    subst HasWholeFront (sym fit.is_made)
+made_whole made r fit = subst HasWholeFront (sym fit.is_made)
     (front_whole made.start made.calls (fit_texts_balanced made.start made.calls Sql (texts_fit made Sql r fit refl)))
 
 -- of one with a query for its INSERT
@@ -132,8 +131,7 @@ pub asked_is : (made : Made) (old new : ClauseTexts) (query : List ℕ) → IsFi
     → new ≡ made_by made.start (asking query made.calls)
 asked_is made old new query fit is = is ∙ ap (with_call (Select query)) fit.is_made ∙ sym (clauses-push made.start made.calls (Select query))
 
-pub asking_whole : (made : Made) (r : ClauseTexts) (query : List ℕ) → IsFitBy made r → balanced query ≡ true → HasWholeFront (made_by made.start (asking query made.calls))
-asking_whole made r query fit is =
-    front_whole made.start (asking query made.calls)
+pub asking_whole : (made : Made) (old new : ClauseTexts) (query : List ℕ) → IsFitBy made old → new ≡ with_call (Select query) old → balanced query ≡ true → HasWholeFront new
+asking_whole made old new query fit asks is = subst HasWholeFront (sym (asked_is made old new query fit asks)) (front_whole made.start (asking query made.calls)
     (texts_pass_call_by_call balanced made.start made.calls (Select query ∷ []) Sql
-    ∙ and_from _ _ (fit_texts_balanced made.start made.calls Sql (texts_fit made Sql r fit refl)) (and_from _ _ (and_from _ _ is refl) refl))
+    ∙ and_from _ _ (fit_texts_balanced made.start made.calls Sql (texts_fit made Sql old fit refl)) (and_from _ _ (and_from _ _ is refl) refl)))

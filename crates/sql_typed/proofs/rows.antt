@@ -1,4 +1,3 @@
 pub mod ConditionRows
-pub mod UnionRows
 pub mod FaultRows
 pub mod WholeRows

@@ -45,8 +45,7 @@ empty_masks = codes "'%'" ∷ codes "'%%'" ∷ codes "'%' ESCAPE '!'" ∷ codes 
 -- A condition of an empty list or word that every row meets: `1 = 1`, the NOT of `1 = 0`, or LIKE of an empty word, which a row meets
 -- whose operand isn't NULL.
 unfoldable pub selects_every_row : List ℕ → Bool
-selects_every_row condition =
-    bytes_eq condition (constant_text true) || bytes_eq condition (negation_text (constant_text false))
+selects_every_row condition = bytes_eq condition (constant_text true) || bytes_eq condition (negation_text (constant_text false))
     || list_any (λ mask. is_like mask condition) empty_masks
 
 -- a call that adds any other condition of WHERE
@@ -90,8 +89,7 @@ has_early_constraint (c ∷ calls) = is_constraint c || (not (is_join c) && has_
 -- Why a statement isn't printed, whatever the builder says: an UPDATE or a DELETE without a filter, where no call says that all rows are
 -- meant; a constraint before the first join; an ORDER BY beside a union.
 abbrev pub fault_of : Made → Option Error
-fault_of made =
-    if not (is_filtered made) then Some NoCondition
+fault_of made = if not (is_filtered made) then Some NoCondition
     else if has_early_constraint made.calls then Some NoJoin
     else if list_any is_union made.calls && list_any is_order made.calls then Some OrderBesideUnion else None
 

@@ -44,8 +44,7 @@ abbrev pub ReadersIgnoreHeldTexts : List (List ℕ) → List ℕ → Type 0
 ReadersIgnoreHeldTexts operands template = (next : Reader) (plain : ℕ → Bool) (state : ℕ) (one other : List (List Part))
     → map parts_bytes one ≡ operands → map (map emptied) one ≡ map (map emptied) other
     → IsTrue (list_all (has_plain_text plain) (filled_parts one template)) → IsTrue (list_all (has_plain_text plain) (filled_parts other template))
-    → IsInsideAtEach next plain state (filled_parts one template)
-    → IsInsideAtEach next plain state (filled_parts other template)
+    → IsInsideAtEach next plain state (filled_parts one template) → IsInsideAtEach next plain state (filled_parts other template)
     × (outer_states next state (marks (filled_parts one template)) (filled operands template)
     ≡ outer_states next state (marks (filled_parts other template)) (filled (map parts_bytes other) template))
 

@@ -32,7 +32,6 @@ noted c m = record {
 
 -- why a statement with these marks isn't printed
 abbrev pub fault : Marks → Option Error
-fault m =
-    if not m.has_filter then Some NoCondition
+fault m = if not m.has_filter then Some NoCondition
     else if m.has_stray_constraint then Some NoJoin
     else if m.has_union && m.has_order then Some OrderBesideUnion else None

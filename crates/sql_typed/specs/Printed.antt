@@ -29,8 +29,7 @@ abbrev pub ReadersIgnoreTexts : Made → FinishText → List ℕ → Type 0
 ReadersIgnoreTexts made finish text = (next : Reader) (plain : ℕ → Bool) (state : ℕ) (one other : Clauses (List Part))
     → map_clauses parts_bytes one ≡ made_by made.start made.calls → map_clauses (map emptied) one ≡ map_clauses (map emptied) other
     → IsTrue (list_all (has_plain_text plain) (parts_at finish one)) → IsTrue (list_all (has_plain_text plain) (parts_at finish other))
-    → IsInsideAtEach next plain state (parts_at finish one)
-    → IsInsideAtEach next plain state (parts_at finish other)
+    → IsInsideAtEach next plain state (parts_at finish one) → IsInsideAtEach next plain state (parts_at finish other)
     × (outer_states next state (marks (parts_at finish one)) text ≡ outer_states next state (marks (parts_at finish other)) (text_of_parts finish other))
 
 -- What is known of a text that is printed, whatever texts it was made of.

@@ -35,32 +35,32 @@ fn bare<K>(alloc: Global, builder: &SqlBuilder) -> Result<Printed<K>>
 {
     let mut text = print(builder, &Finish::Sql)?;
     text.pop();
-    Ok(Printed {
-        alloc,
-        text,
-        kind: PhantomData,
-    })
+    Ok(Printed::of_text(alloc, text))
 }
 
 impl<K> Printed<K> {
+    fn of_text(alloc: Global, text: String) -> Printed<K>
+        requires whole { IsTrue (is_whole (string_bytes text)) }
+        ensures { result.text ≡ text }
+    {
+        Printed {
+            alloc,
+            text,
+            kind: PhantomData,
+        }
+    }
+
     // Words and a text behind it.
+    #[tactic(auto, using(crate::proofs::WholeLemmas::followed_whole))]
     fn followed<L>(self, words: &str, text: &str) -> Result<Printed<L>>
         requires words { IsTrue (may_join words.now) }
         requires text { IsTrue (is_whole text.now) }
         ensures text { Continues result (string_bytes self.text ++ (words.now ++ text.now)) }
     {
-        let Printed {
-            alloc,
-            text: mut out,
-            kind: _,
-        } = self;
+        let mut out = self.text;
         out.push_str(words)?;
         out.push_str(text)?;
-        Ok(Printed {
-            alloc,
-            text: out,
-            kind: PhantomData,
-        })
+        Ok(Printed::of_text(self.alloc, out))
     }
 
     // Words behind it.
@@ -69,17 +69,9 @@ impl<K> Printed<K> {
         requires words { IsTrue (may_follow words.now) }
         ensures text { Continues result (string_bytes self.text ++ words.now) }
     {
-        let Printed {
-            alloc,
-            text: mut out,
-            kind: _,
-        } = self;
+        let mut out = self.text;
         out.push_str(words)?;
-        Ok(Printed {
-            alloc,
-            text: out,
-            kind: PhantomData,
-        })
+        Ok(Printed::of_text(self.alloc, out))
     }
 
     // Words and an operand behind it.
@@ -120,17 +112,14 @@ impl<K> Printed<K> {
 impl<K: Complete> Printed<K> {
     /// Returns the statement. Fails only if memory runs out.
     /// `Select::from(alloc, Fragment::of("t"))?.printed()?.sql()?` gives `SELECT * FROM t;`
+    #[tactic(auto, using(crate::proofs::WholeLemmas::whole_closed))]
     pub fn sql(self) -> Result<String>
         ensures text { IfOk result (λ s. string_bytes s ≡ string_bytes self.text ++ codes ";") }
         ensures closed { IfOk result (λ s. IsTrue (closed (string_bytes s))) }
         ensures semicolon { IfOk result (λ s. EndsInOneSemicolon (tokens (string_bytes s))) }
         ensures memory { FailsOnlyByMemory result }
     {
-        let Printed {
-            alloc: _,
-            mut text,
-            kind: _,
-        } = self;
+        let mut text = self.text;
         text.push_str(";")?;
         Ok(text)
     }
@@ -209,8 +198,7 @@ impl Printed<Conflict> {
         field: F,
         value: V,
     ) -> Result<Printed<DoUpdate>>
-        ensures text { Continues result (string_bytes self.text
-            ++ set_text (codes " DO UPDATE SET ") (F.text field) (V.text value)) }
+        ensures text { Continues result (string_bytes self.text ++ set_text (codes " DO UPDATE SET ") (F.text field) (V.text value)) }
     {
         self.set_to(" DO UPDATE SET ", field, value)
     }
@@ -221,8 +209,7 @@ impl<K: Sets> Printed<K> {
     /// `Insert::into(alloc, Fragment::of("t"))?.field(Operand::of("id"))?.values(&[1])?.rows()?.on_conflict(&[Operand::of("id")])?.do_update(Operand::of("n"), 2)?.set(Operand::of("m"), Operand::of("excluded.m"))?.sql()?` gives
     /// `INSERT INTO t (id) VALUES (1) ON CONFLICT (id) DO UPDATE SET n = 2, m = excluded.m;`
     pub fn set<F: OperandText, V: OperandText>(self, field: F, value: V) -> Result<Printed<K>>
-        ensures text { Continues result (string_bytes self.text
-            ++ set_text (codes ", ") (F.text field) (V.text value)) }
+        ensures text { Continues result (string_bytes self.text ++ set_text (codes ", ") (F.text field) (V.text value)) }
     {
         self.set_to(", ", field, value)
     }
@@ -233,8 +220,7 @@ impl Printed<DuplicateKey> {
     /// `Insert::into(alloc, Fragment::of("t"))?.field(Operand::of("id"))?.values(&[1])?.rows()?.on_duplicate_key(Operand::of("n"), 2)?.set_inserted(Operand::of("m"))?.sql()?` gives
     /// `INSERT INTO t (id) VALUES (1) ON DUPLICATE KEY UPDATE n = 2, m = VALUES(m);`
     pub fn set_inserted<F: OperandText>(self, field: F) -> Result<Printed<DuplicateKey>>
-        ensures text { Continues result (string_bytes self.text
-            ++ inserted_text (codes ", ") (F.text field)) }
+        ensures text { Continues result (string_bytes self.text ++ inserted_text (codes ", ") (F.text field)) }
     {
         let printed: Printed<DuplicateKey> = self.with(", ", &field)?;
         let printed: Printed<DuplicateKey> = printed.with(" = VALUES(", field)?;
@@ -250,7 +236,8 @@ impl Printed<Named> {
     pub fn of<N: OperandText>(alloc: Global, name: N, query: &Query) -> Result<With>
         ensures text { Continues result (named_text (codes "WITH ") (N.text name) (string_bytes query.now.text)) }
     {
-        opened(alloc)?.named(" ", name, query)
+        let front: With = Printed::of_text(alloc, String::from_str(alloc, "WITH")?);
+        front.named(" ", name, query)
     }
 
     /// Adds a query under a name. Fails only if memory runs out.
@@ -273,23 +260,11 @@ impl Printed<Named> {
     }
 }
 
-fn opened(alloc: Global) -> Result<With>
-    ensures text { Continues result (codes "WITH") }
-{
-    let text = String::from_str(alloc, "WITH")?;
-    Ok(Printed {
-        alloc,
-        text,
-        kind: PhantomData,
-    })
-}
-
 impl<K> Statement<K> {
     /// Returns the statement without its `;`, for clauses that follow it. Fails as `sql` does.
     /// `Select::from(alloc, Fragment::of("t"))?.printed()?.text` gives `SELECT * FROM t`
     pub fn printed(&self) -> Result<Printed<Whole>, Error>
-        ensures printed { IfOk result (λ p.
-            IsPrinted self.now Sql (string_bytes p.text ++ codes ";")) }
+        ensures printed { IfOk result (λ p. IsPrinted self.now Sql (string_bytes p.text ++ codes ";")) }
         ensures error { FailsAs self.now Sql result }
     {
         self.check()?;
@@ -330,10 +305,8 @@ impl Statement<InsertKind> {
     /// `Insert::into(alloc, Fragment::of("t"))?.values(&[1])?.rows()?.text` gives
     /// `INSERT INTO t () VALUES (1)`
     pub fn rows(&self) -> Result<Printed<Rows>, Error>
-        ensures printed { IfOk result (λ p.
-            IsPrinted self.now Sql (string_bytes p.text ++ codes ";")) }
-        ensures error { FailsBy (following_fault_of self.now)
-            (error_at Sql (made_by self.now.start self.now.calls)) result }
+        ensures printed { IfOk result (λ p. IsPrinted self.now Sql (string_bytes p.text ++ codes ";")) }
+        ensures error { FailsBy (following_fault_of self.now) (error_at Sql (made_by self.now.start self.now.calls)) result }
     {
         self.check_following()?;
         let printed = bare(self.alloc, self.clauses())?;
@@ -345,8 +318,7 @@ impl Statement<InsertKind> {
     /// or if memory runs out.
     /// `Insert::into(alloc, Fragment::of("u"))?.field(Operand::of("a"))?.rows_of(&query)?.sql()?` gives `INSERT INTO u (a) SELECT b FROM t;`
     pub fn rows_of(self, query: &Query) -> Result<Printed<Rows>, Error>
-        ensures statement { IfOk result (λ p.
-            statement self.start (asking (string_bytes query.now.text) self.calls) Sql
+        ensures statement { IfOk result (λ p. statement self.start (asking (string_bytes query.now.text) self.calls) Sql
             ≡ Ok (string_bytes p.text ++ codes ";")) }
         ensures error { MayFailBy (following_fault_of self)
             (error_at Sql (made_by self.start (asking (string_bytes query.now.text) self.calls))) result }
@@ -357,8 +329,7 @@ impl Statement<InsertKind> {
     }
 
     fn check_following(&self) -> Result<(), Error>
-        ensures { MatchResult result (λ _. following_fault_of self.now ≡ None)
-            (λ e. following_fault_of self.now ≡ Some e) }
+        ensures { MatchResult result (λ _. following_fault_of self.now ≡ None) (λ e. following_fault_of self.now ≡ Some e) }
     {
         if self.marks.has_returning {
             return Err(Error::ReturningFirst);
@@ -367,21 +338,14 @@ impl Statement<InsertKind> {
     }
 
     fn asking(self, query: &Query) -> Result<Printed<Rows>>
-        ensures statement { IfOk result (λ p.
-            statement self.start (asking (string_bytes query.now.text) self.calls) Sql
+        ensures statement { IfOk result (λ p. statement self.start (asking (string_bytes query.now.text) self.calls) Sql
             ≡ Ok (string_bytes p.text ++ codes ";")) }
         ensures error { IfErr result (λ e. IsMemory e
             ⊎ (error_at Sql (made_by self.start (asking (string_bytes query.now.text) self.calls)) ≡ Some e)) }
     {
-        let Statement {
-            alloc,
-            mut builder,
-            marks: _,
-            made: _,
-            kind: _,
-        } = self;
+        let mut builder = self.builder;
         make_unary(&mut builder, UnaryClause::Select, query.text.as_str())?;
-        bare(alloc, &builder)
+        bare(self.alloc, &builder)
     }
 }
 
@@ -391,8 +355,7 @@ impl Query {
     /// `query.intersect(alloc, &query)?.text` gives `SELECT b FROM t INTERSECT SELECT b FROM t`
     pub fn intersect(&self, alloc: Global, other: &Query) -> Result<Query>
         ensures text { IfOk result (λ q. string_bytes q.text ≡ combined_text (codes " INTERSECT ")
-            self.now.needs_brackets (string_bytes self.now.text)
-            other.now.needs_brackets (string_bytes other.now.text)) }
+            self.now.needs_brackets (string_bytes self.now.text) other.now.needs_brackets (string_bytes other.now.text)) }
         ensures united { IfOk result (λ q. q.needs_brackets ≡ true) }
         ensures memory { FailsOnlyByMemory result }
     {
@@ -404,8 +367,7 @@ impl Query {
     /// `query.except(alloc, &query)?.text` gives `SELECT b FROM t EXCEPT SELECT b FROM t`
     pub fn except(&self, alloc: Global, other: &Query) -> Result<Query>
         ensures text { IfOk result (λ q. string_bytes q.text ≡ combined_text (codes " EXCEPT ")
-            self.now.needs_brackets (string_bytes self.now.text)
-            other.now.needs_brackets (string_bytes other.now.text)) }
+            self.now.needs_brackets (string_bytes self.now.text) other.now.needs_brackets (string_bytes other.now.text)) }
         ensures united { IfOk result (λ q. q.needs_brackets ≡ true) }
         ensures memory { FailsOnlyByMemory result }
     {
@@ -416,8 +378,7 @@ impl Query {
         requires words { IsTrue (may_join words.now) }
         requires even { IsTrue (balanced words.now) }
         ensures text { IfOk result (λ q. string_bytes q.text ≡ combined_text words.now
-            self.now.needs_brackets (string_bytes self.now.text)
-            other.now.needs_brackets (string_bytes other.now.text)) }
+            self.now.needs_brackets (string_bytes self.now.text) other.now.needs_brackets (string_bytes other.now.text)) }
         ensures united { IfOk result (λ q. q.needs_brackets ≡ true) }
         ensures memory { FailsOnlyByMemory result }
     {
@@ -440,10 +401,6 @@ impl Query {
         ensures text { Continues result (string_bytes self.now.text) }
     {
         let text = String::from_str(alloc, self.text.as_str())?;
-        Ok(Printed {
-            alloc,
-            text,
-            kind: PhantomData,
-        })
+        Ok(Printed::of_text(alloc, text))
     }
 }

@@ -67,65 +67,41 @@ impl Marks {
     // With one more call.
     #[tactic(auto, using(crate::proofs::Imports::or_comm))]
     #[inline(always)]
-    pub(crate) fn with(self, step: &Step<'_>) -> Marks
+    pub(crate) fn with(mut self, step: &Step<'_>) -> Marks
         ensures { result ≡ noted (step_call step.now) self }
     {
         match step {
-            Step::Unary(clause, _) => self.with_unary(*clause),
-            Step::Binary(BinaryClause::OnEq, _, _) => self.with_constraint(),
-            Step::Condition(_, condition) => Marks {
-                has_filter: self.has_filter || !selects_every_row(condition.as_str()),
-                ..self
-            },
-            Step::Nullary(NullaryClause::ReturningId) => Marks {
-                has_returning: true,
-                ..self
-            },
-            Step::Binary(_, _, _) | Step::Nullary(_) | Step::Row(_) => self,
+            Step::Unary(clause, _) => return self.with_unary(*clause),
+            Step::Binary(BinaryClause::OnEq, _, _) => return self.with_constraint(),
+            Step::Condition(_, condition) => {
+                self.has_filter = self.has_filter || !selects_every_row(condition.as_str());
+            }
+            Step::Nullary(NullaryClause::ReturningId) => self.has_returning = true,
+            Step::Binary(_, _, _) | Step::Nullary(_) | Step::Row(_) => {}
         }
+        self
     }
 
     #[inline(always)]
-    fn with_unary(self, clause: UnaryClause) -> Marks
+    fn with_unary(mut self, clause: UnaryClause) -> Marks
         ensures { (text : List ℕ) → result ≡ noted (unary_call clause text) self }
     {
         match clause {
-            UnaryClause::Join => Marks {
-                has_join: true,
-                ..self
-            },
-            UnaryClause::On => self.with_constraint(),
-            UnaryClause::Union | UnaryClause::UnionAll => Marks {
-                has_union: true,
-                ..self
-            },
-            UnaryClause::OrderAsc | UnaryClause::OrderDesc => Marks {
-                has_order: true,
-                ..self
-            },
-            UnaryClause::Returning => Marks {
-                has_returning: true,
-                ..self
-            },
-            UnaryClause::AndTable
-            | UnaryClause::Field
-            | UnaryClause::SetField
-            | UnaryClause::Count
-            | UnaryClause::Select
-            | UnaryClause::GroupBy
-            | UnaryClause::Having
-            | UnaryClause::Limit
-            | UnaryClause::Offset => self,
+            UnaryClause::Join => self.has_join = true,
+            UnaryClause::On => return self.with_constraint(),
+            UnaryClause::Union | UnaryClause::UnionAll => self.has_union = true,
+            UnaryClause::OrderAsc | UnaryClause::OrderDesc => self.has_order = true,
+            UnaryClause::Returning => self.has_returning = true,
+            _ => {}
         }
+        self
     }
 
-    fn with_constraint(self) -> Marks
+    fn with_constraint(mut self) -> Marks
         ensures { result ≡ record self { has_stray_constraint = not self.has_join || self.has_stray_constraint } }
     {
-        Marks {
-            has_stray_constraint: !self.has_join || self.has_stray_constraint,
-            ..self
-        }
+        self.has_stray_constraint = !self.has_join || self.has_stray_constraint;
+        self
     }
 
     // Why a statement isn't printed.

@@ -108,8 +108,7 @@ impl Operands {
     pub fn with<V: OperandText>(mut self, operand: V) -> Result<Operands>
         ensures texts { IfOk result (λ operands. texts operands.written.items
             ≡ texts self.written.items ++ in_hole (V.text operand) ∷ []) }
-        ensures count { IfOk result (λ operands. length operands.written.items
-            ≡ length self.written.items + 1) }
+        ensures count { IfOk result (λ operands. length operands.written.items ≡ length self.written.items + 1) }
         ensures memory { FailsOnlyByMemory result }
     {
         let text = held(self.alloc, operand.to_text(self.alloc)?)?;
@@ -120,12 +119,11 @@ impl Operands {
     /// Adds a condition in brackets, as an operand. Fails only if memory runs out.
     /// `Operands::new(alloc).with_condition(&is_null(alloc, Operand::of("a"))?)?.written` gives
     /// `[(a IS NULL)]`
-    #[tactic(auto, using(crate::proofs::FilledLemmas::condition_balanced))]
+    #[tactic(auto, using(crate::proofs::FilledLemmas::bracketed_held, crate::proofs::FilledLemmas::condition_balanced))]
     pub fn with_condition(self, condition: &Condition) -> Result<Operands>
         ensures texts { IfOk result (λ operands. texts operands.written.items
             ≡ texts self.written.items ++ in_brackets byte_units (string_bytes condition.now.text) ∷ []) }
-        ensures count { IfOk result (λ operands. length operands.written.items
-            ≡ length self.written.items + 1) }
+        ensures count { IfOk result (λ operands. length operands.written.items ≡ length self.written.items + 1) }
         ensures memory { FailsOnlyByMemory result }
     {
         let operand = bracketed(self.alloc, condition.text.as_str())?;
@@ -165,10 +163,8 @@ impl<'a> Template<'a> {
     pub fn of(text: &'a str) -> Template<'a>
         requires apart { IsTrue (holes_apart text.now) }
         ensures text { result.text ≡ text.entry }
-        ensures operand { IsTrue (is_typed_operand text.entry.now)
-            → IsTrue (is_typed_operand result.text.now) }
-        ensures condition { IsTrue (is_typed_fragment text.entry.now)
-            → IsTrue (is_typed_fragment result.text.now) }
+        ensures operand { IsTrue (is_typed_operand text.entry.now) → IsTrue (is_typed_operand result.text.now) }
+        ensures condition { IsTrue (is_typed_fragment text.entry.now) → IsTrue (is_typed_fragment result.text.now) }
     {
         Template { text }
     }
@@ -197,8 +193,7 @@ impl<'a> Template<'a> {
         demand: Demand,
         operands: &Operands,
     ) -> std::result::Result<(), TemplateError>
-        ensures takes { is_ok result
-            ≡ takes demand self.entry.text.now (length operands.now.written.items) }
+        ensures takes { is_ok result ≡ takes demand self.entry.text.now (length operands.now.written.items) }
         ensures error { IfErr result (λ error. error ≡ fault (misfit demand self.entry.text.now)) }
     {
         if let Some(reason) = misfit(self.text, demand) {
@@ -246,6 +241,7 @@ impl<'a> Template<'a> {
     /// let upsert = Template::of("INSERT INTO t (a) VALUES (?) ON CONFLICT DO NOTHING;");
     /// upsert.sql(alloc, &name)?; // INSERT INTO t (a) VALUES ('it''s') ON CONFLICT DO NOTHING;
     /// ```
+    #[tactic(auto, using(crate::proofs::FilledStatementLemmas::closed_filled))]
     pub fn sql(self, alloc: Global, operands: &Operands) -> Result<String>
         requires count { hole_count self.text.now ≡ length operands.now.written.items }
         ensures text { IfOk result (λ s. string_bytes s

@@ -6,53 +6,34 @@ use Rattle.sql_builder.specs.declared.condition.Family.TheVariants.{And}
 use Rattle.sql_builder.specs.declared.condition.Percent.{Percent}
 use Rattle.sql_typed.specs.Faults.{selects_every_row}
 
-delete : fault_of (beginning (DeleteFrom (codes "t"))) ≡ Some NoCondition
-delete = refl
+without_a_condition : (fault_of (beginning (DeleteFrom (codes "t"))) ≡ Some NoCondition)
+    × (fault_of (adding ReturningId (beginning (UpdateTable (codes "t")))) ≡ Some NoCondition)
+    × (fault_of (adding ReturningId (meaning_all_rows (beginning (UpdateTable (codes "t"))))) ≡ None)
+    × (fault_of (beginning (SelectFrom (codes "t"))) ≡ None)
+without_a_condition = (refl, refl, refl, refl)
 
-update : fault_of (adding ReturningId (beginning (UpdateTable (codes "t")))) ≡ Some NoCondition
-update = refl
-
-all_rows : fault_of (adding ReturningId (meaning_all_rows (beginning (UpdateTable (codes "t"))))) ≡ None
-all_rows = refl
-
-with_a_condition : fault_of (adding (Cond And (Raw (codes "a"))) (beginning (DeleteFrom (codes "t")))) ≡ None
+with_a_condition : (fault_of (adding (Cond And (Raw (codes "a"))) (beginning (DeleteFrom (codes "t")))) ≡ None)
+    × (fault_of (adding (Cond And (Raw (codes "1 = 1"))) (adding (Cond And (Raw (codes "a"))) (beginning (DeleteFrom (codes "t"))))) ≡ None)
 unfolding selects_every_row
-with_a_condition = refl
+with_a_condition = (refl, refl)
 
-and_another : fault_of (adding (Cond And (Raw (codes "1 = 1"))) (adding (Cond And (Raw (codes "a"))) (beginning (DeleteFrom (codes "t"))))) ≡ None
-unfolding selects_every_row
-and_another = refl
-
-select : fault_of (beginning (SelectFrom (codes "t"))) ≡ None
-select = refl
-
-early : fault_of (adding (Join (codes "u")) (adding (On (codes "a")) (beginning (SelectFrom (codes "t"))))) ≡ Some NoJoin
-early = refl
-
-behind : fault_of (adding (OnEq (codes "a") (codes "b")) (adding (Join (codes "u")) (beginning (SelectFrom (codes "t"))))) ≡ None
-behind = refl
-
-united : fault_of (adding (Union (codes "SELECT 1")) (beginning (SelectFrom (codes "t")))) ≡ None
-united = refl
-
-ordered_union : fault_of (adding (OrderDesc (codes "a")) (adding (Union (codes "SELECT 1")) (beginning (SelectFrom (codes "t"))))) ≡ Some OrderBesideUnion
-ordered_union = refl
-
-returning : following_fault_of (adding (Returning (codes "id")) (beginning (InsertInto (codes "t")))) ≡ Some ReturningFirst
-returning = refl
+-- a constraint before the first join, or behind it; a union with and without an order
+joined : (fault_of (adding (Join (codes "u")) (adding (On (codes "a")) (beginning (SelectFrom (codes "t"))))) ≡ Some NoJoin)
+    × (fault_of (adding (OnEq (codes "a") (codes "b")) (adding (Join (codes "u")) (beginning (SelectFrom (codes "t"))))) ≡ None)
+    × (fault_of (adding (Union (codes "SELECT 1")) (beginning (SelectFrom (codes "t")))) ≡ None)
+    × (fault_of (adding (OrderDesc (codes "a")) (adding (Union (codes "SELECT 1")) (beginning (SelectFrom (codes "t"))))) ≡ Some OrderBesideUnion)
+    × (following_fault_of (adding (Returning (codes "id")) (beginning (InsertInto (codes "t")))) ≡ Some ReturningFirst)
+joined = (refl, refl, refl, refl, refl)
 
 -- ---- conditions of an empty list or word
 
 abbrev matching : Bool → Percent → List ℕ → List ℕ
 matching negated percent word = like_text negated (codes "lower(a)") (quoted (escaped_mask percent word))
 
-every_row : list_all selects_every_row
+every_row : (list_all selects_every_row
     (constant_text true ∷ negation_text (constant_text false) ∷ matching false Any [] ∷ matching false Left []
-    ∷ condition_bytes (Like false Right (codes "a") []) ∷ []) ≡ true
+    ∷ condition_bytes (Like false Right (codes "a") []) ∷ []) ≡ true)
+    × (list_any selects_every_row
+    (constant_text false ∷ matching false Any (codes "b") ∷ matching true Any [] ∷ codes "a AND b LIKE '%'" ∷ []) ≡ false)
 unfolding selects_every_row
-every_row = refl
-
-fewer_rows : list_any selects_every_row
-    (constant_text false ∷ matching false Any (codes "b") ∷ matching true Any [] ∷ codes "a AND b LIKE '%'" ∷ []) ≡ false
-unfolding selects_every_row
-fewer_rows = refl
+every_row = (refl, refl)

@@ -18,14 +18,11 @@ loop-operand-preserved c =
     }
 
 pub returns-clause-text : goal.returns-clause-text
-returns-clause-text c =
-    c.in_ok-push_str-3.ensures.bytes
-    ∙ ap (λ t. string_bytes c.loop-operand.text ++ t) (elim c.loop-operand-test.branch [
-      | else-loop-operand-test w ↦
-          sym (ap (λ ts. filled ts c.loop-operand.rest.now) (none_left c.args.operands.now c.loop-operand.operand-index w.loop-operand-test.false)
-          ∙ uncut c.loop-operand.rest.now)
-      | then-loop-operand-test+in_default w ↦
-          sym (filled-none (texts (drop c.loop-operand.operand-index c.args.operands.now)) c.loop-operand.rest.now
-          (split_parts 63 c.loop-operand.rest.now None w.in_default.ensures.cases (omega arith)))
-    ])
-    ∙ c.loop-operand.invariant.is_filled
+returns-clause-text c = c.in_ok-push_str-3.ensures.bytes ∙ ap (λ t. string_bytes c.loop-operand.text ++ t) (elim c.loop-operand-test.branch [
+  | else-loop-operand-test w ↦
+      sym (ap (λ ts. filled ts c.loop-operand.rest.now) (none_left c.args.operands.now c.loop-operand.operand-index w.loop-operand-test.false)
+      ∙ uncut c.loop-operand.rest.now)
+  | then-loop-operand-test+in_default w ↦
+      sym (filled-none (texts (drop c.loop-operand.operand-index c.args.operands.now)) c.loop-operand.rest.now
+      (split_parts 63 c.loop-operand.rest.now None w.in_default.ensures.cases (omega arith)))
+]) ∙ c.loop-operand.invariant.is_filled

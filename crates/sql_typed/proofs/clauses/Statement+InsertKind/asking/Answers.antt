@@ -1,16 +1,13 @@
-use Rattle.sql_typed.proofs.Imports.{◌≡◌, ◌⊎◌, ◌++◌, codes, refl, rules, string_bytes, subst, sym, IfErr, Some, IsMemory, ClauseTexts, Sql, error_at, HasWholeFront, asking}
+use Rattle.sql_typed.proofs.Imports.{◌≡◌, ◌⊎◌, ◌++◌, codes, refl, rules, string_bytes, subst, IfErr, Some, IsMemory, ClauseTexts, Sql, error_at, asking}
 use Rattle.sql_typed.proofs.PrintLemmas.{printed_statement, borrowed, may_fail}
 use Rattle.sql_typed.proofs.WholeLemmas.{asked_is, asking_whole}
 use Rattle.sql_typed.proofs.clauses.Statement+InsertKind.asking.Goals as goal
 
 pub bare-requires : goal.bare-requires
-bare-requires c =
-    let query = c.args.query.now in
-    let fit = borrowed c.self.view_is refl c.self.invariant.0 in
-    record {
-      front = subst HasWholeFront (sym (asked_is c.args.self c.self.inside.builder.value c.deref.result.now (string_bytes query.text) fit (search rules)))
-          (asking_whole c.args.self c.self.inside.builder.value (string_bytes query.text) fit query.fits);
-    }
+bare-requires c = record {
+  front = asking_whole c.args.self c.self.inside.builder.value c.deref.result.now (string_bytes c.args.query.now.text)
+      (borrowed c.self.view_is refl c.self.invariant.0) (search rules) c.args.query.now.fits;
+}
 
 pub returns-clause-statement : goal.returns-clause-statement
 returns-clause-statement c =

@@ -1,4 +1,4 @@
-use Rattle.sql_typed.proofs.Imports.{◌∙◌, ◌++◌, ap, append_assoc, string_bytes, balanced, united_text}
+use Rattle.sql_typed.proofs.Imports.{◌∙◌, ◌++◌, ap, string_bytes, balanced}
 use Rattle.sql_typed.proofs.BracketLemmas.{united_balanced}
 use Rattle.sql_typed.proofs.WholeLemmas.{balanced_followed}
 use Rattle.sql_typed.proofs.texts.Query.combined.Goals as goal
@@ -11,8 +11,8 @@ invariant_of-result c =
     let first = c.in_ok-text.ensures.ok ∙ c.as_str.ensures.value ∙ c.in_ok-one.ensures.text in
     let second = c.as_str-2.ensures.value ∙ c.in_ok-other.ensures.text in
     record {
-      fits = ap balanced (c.in_ok-push_str-2.ensures.bytes ∙ ap (λ t. t ++ c.as_str-2.result.now) c.in_ok-push_str.ensures.bytes
-          ∙ append_assoc (string_bytes c.in_ok-text.text) words c.as_str-2.result.now ∙ (λ i. first i ++ (words ++ second i)))
-          ∙ balanced_followed (united_text one.needs_brackets (string_bytes one.text)) words (united_text other.needs_brackets (string_bytes other.text))
-          (united_balanced one.needs_brackets _ one.fits) c.requires.words c.requires.even (united_balanced other.needs_brackets _ other.fits);
+      fits = balanced_followed (string_bytes c.in_ok-text.text) words c.as_str-2.result.now
+          (c.in_ok-push_str-2.ensures.bytes ∙ ap (λ t. t ++ c.as_str-2.result.now) c.in_ok-push_str.ensures.bytes)
+          (ap balanced first ∙ united_balanced one.needs_brackets (string_bytes one.text) one.fits) c.requires.words c.requires.even
+          (ap balanced second ∙ united_balanced other.needs_brackets (string_bytes other.text) other.fits);
     }
