@@ -1,5 +1,5 @@
 //! How databases read a text, as the readers that the laws speak of, and whether they read a statement as
-//! meant. `tests/databases/lexed.py` runs them beside the databases' lexers.
+//! meant. `tests/databases/lexed.py` compares them with SQLite, PostgreSQL and MariaDB.
 #![tactic(auto)]
 
 ghost use Rattle.std.specs.Prelude.{◌≡◌, ◌↔◌, IsTrue};
