@@ -141,8 +141,8 @@ mysql-inside = record {
 pub mysql_plain-inside : IsInside (mysql false) but_zero 39 39
 mysql_plain-inside = record { stays = λ byte plain isnt. rw (ne_eqb byte 39 isnt) refl; goes_on = refl }
 
--- Where a quote opens a string: in words and numbers, behind signs, behind N and a character set, behind two dashes without a blank, in a flat
--- comment, and behind what ends a literal. A backslash escapes in both kinds of strings, and not in a name.
+-- A quote opens a string in words and numbers, and behind signs, N and a character set. It does behind two dashes without a blank, a comment,
+-- and what ends a literal. A backslash escapes in both kinds of strings, and not in a name.
 mysql-opens : list_all (λ text. after (mysql true) 0 text == 39)
     (codes "SELECT * FROM t WHERE a = '" ∷ codes "a1'" ∷ codes "a.x'" ∷ codes "@x'" ∷ codes "a /'" ∷ codes "a -'" ∷ codes "N'" ∷ codes "_utf8mb4'"
     ∷ codes "1--1 = '" ∷ codes "/* /* ' */ a = '" ∷ codes "-- '\n'" ∷ codes "# '\n'" ∷ codes "x'' = '" ∷ codes "'\\'' = \"\\\"\" = `\\` = '" ∷ [])

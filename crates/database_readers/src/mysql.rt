@@ -6,35 +6,41 @@ use crate::postgres::is_word_byte;
 
 const OUTSIDE: u64 = 0;
 
+const WORD: u64 = 119;
+
+const LETTER: u64 = 120;
+
+const BITS: u64 = 98;
+
+const DASH: u64 = 45;
+
+const DASHES: u64 = 301;
+
+const LINE: u64 = 10;
+
+const SLASH: u64 = 47;
+
+const SLASH_STAR: u64 = 303;
+
+const LETTER_M: u64 = 77;
+
 const BLOCK: u64 = 1;
 
-const LINE: u64 = b'\n' as u64;
+const STAR: u64 = 42;
 
-const LOST: u64 = b'!' as u64;
+const LOST: u64 = 33;
 
-const STAR: u64 = b'*' as u64;
+const BEHIND_DELIMITER: u64 = 256;
 
-const DASH: u64 = b'-' as u64;
-
-const SLASH: u64 = b'/' as u64;
-
-const LETTER_M: u64 = b'M' as u64;
-
-const BITS: u64 = b'b' as u64;
-
-const WORD: u64 = b'w' as u64;
-
-const LETTER: u64 = b'x' as u64;
-
-const DASHES: u64 = 256 + DASH;
-
-const SLASH_STAR: u64 = 256 + SLASH;
+const BEHIND_BACKSLASH: u64 = 512;
 
 fn begun(byte: u8) -> u64
     ensures { result ≡ begun byte }
 {
     match byte {
-        b'\'' | b'"' | b'`' | b'-' | b'/' => byte as u64,
+        b'\'' | b'"' | b'`' => byte as u64,
+        b'-' => DASH,
+        b'/' => SLASH,
         b'#' => LINE,
         b'$' => LOST,
         b'x' | b'X' | b'b' | b'B' => LETTER,
@@ -47,32 +53,29 @@ fn begun(byte: u8) -> u64
 fn in_word(state: u64, byte: u8) -> u64
     ensures { result ≡ in_word state byte }
 {
-    if state == BITS {
-        if byte == b'\'' { OUTSIDE } else { BITS }
-    } else if state == LETTER && byte == b'\'' {
-        BITS
-    } else if is_word_byte(byte) || byte == b'$' {
-        WORD
-    } else {
-        begun(byte)
+    match state {
+        BITS => if byte == b'\'' { OUTSIDE } else { BITS },
+        LETTER if byte == b'\'' => BITS,
+        _ if is_word_byte(byte) || byte == b'$' => WORD,
+        _ => begun(byte),
     }
 }
 
 fn in_literal(escapes: bool, state: u64, byte: u8) -> u64
     ensures { result ≡ in_literal escapes state byte }
 {
-    if state >= 512 {
-        state - 512
-    } else if state >= 256 {
-        if byte as u64 == state - 256 {
+    if state >= BEHIND_BACKSLASH {
+        state - BEHIND_BACKSLASH
+    } else if state >= BEHIND_DELIMITER {
+        if state == BEHIND_DELIMITER + byte as u64 {
             byte as u64
         } else {
             begun(byte)
         }
     } else if byte as u64 == state {
-        256 + state
+        BEHIND_DELIMITER + state
     } else if escapes && byte == b'\\' && state != b'`' as u64 {
-        512 + state
+        BEHIND_BACKSLASH + state
     } else {
         state
     }
@@ -81,16 +84,12 @@ fn in_literal(escapes: bool, state: u64, byte: u8) -> u64
 fn in_line(state: u64, byte: u8) -> u64
     ensures { result ≡ in_line state byte }
 {
-    if state == DASH {
-        if byte == b'-' { DASHES } else { begun(byte) }
-    } else if byte == b'\n' {
-        OUTSIDE
-    } else if state == LINE || byte <= b' ' || byte == 127 {
-        LINE
-    } else if byte == b'-' {
-        state
-    } else {
-        begun(byte)
+    match state {
+        DASH => if byte == b'-' { DASHES } else { begun(byte) },
+        _ if byte == b'\n' => OUTSIDE,
+        _ if state == LINE || byte <= b' ' || byte == 127 => LINE,
+        _ if byte == b'-' => DASHES,
+        _ => begun(byte),
     }
 }
 
@@ -98,11 +97,8 @@ fn in_comment(state: u64, byte: u8) -> u64
     ensures { result ≡ in_comment state byte }
 {
     match state {
-        SLASH => if byte == b'*' {
-            SLASH_STAR
-        } else {
-            begun(byte)
-        },
+        SLASH if byte == b'*' => SLASH_STAR,
+        SLASH => begun(byte),
         SLASH_STAR if byte == b'M' => LETTER_M,
         SLASH_STAR if matches!(byte, b'!' | b'+') => LOST,
         LETTER_M if byte == b'!' => LOST,
@@ -121,13 +117,13 @@ pub(crate) fn next(escapes: bool, state: u64, byte: u8) -> u64
         LOST
     } else if state == WORD || state == LETTER || state == BITS {
         in_word(state, byte)
-    } else if state == DASH || state == LINE || state == DASHES {
+    } else if state == DASH || state == DASHES || state == LINE {
         in_line(state, byte)
     } else if state == SLASH
-        || state == LETTER_M
-        || state == STAR
-        || state == BLOCK
         || state == SLASH_STAR
+        || state == LETTER_M
+        || state == BLOCK
+        || state == STAR
     {
         in_comment(state, byte)
     } else {
