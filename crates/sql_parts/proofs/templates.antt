@@ -19,4 +19,3 @@ unfoldable pub use PairLemmas.*
 unfoldable pub use PlaceholderLemmas.*
 unfoldable pub use ResolveLemmas.*
 unfoldable pub use UnchangedTextFacts.*
-pub use Rattle.sql_parts.proofs.templates.HoleFacts.{cut-behind}

@@ -1,156 +1,110 @@
--- An operand's tokens may be in place of a token that no test of fragments asks for.
-use Rattle.sql_parts.proofs.Imports.{◌≡◌, refl, sym, ◌∙◌, ap, ℕ, zero, suc, ◌+◌, Bool, true, false, not, cond, ◌&&◌, List, [], ◌∷◌, ◌++◌, ℤ, pos, negsuc, codes}
-use Rattle.sql_parts.proofs.Imports.{arith, subst, ◌||◌, list_all, list_any, and_from, and_parts, or_from, or_parts, not-true, not_from_false, false≢true}
-use Rattle.sql_parts.proofs.Imports.{suc_ℤ, pred_ℤ}
-use Rattle.sql_parts.specs.{as_placed, at_top_level, is_clause_word, is_joining, is_whole, is_word, lowers, raises, Token, begins_with, is_empty}
-use Rattle.sql_parts.proofs.fragments.DepthFacts.{after, closes_from, has_top_level, is_at_least_0, is_balanced, is_even, is_operand, is_zero, placed_from}
-use Rattle.sql_parts.proofs.fragments.OperandFacts.{Inert}
+-- An operand's tokens may be in place of a `?`: no test of fragments asks for one.
+use Rattle.sql_parts.proofs.Imports.{◌≡◌, refl, sym, ◌∙◌, ℕ, zero, suc, Bool, true, false, not, cond, ◌&&◌, List, [], ◌∷◌, ◌++◌, ℤ, pos, negsuc, codes}
+use Rattle.sql_parts.proofs.Imports.{subst, list_all, list_any, and_from, and_parts, or_from, or_parts, not-true, not_from_false, false≢true, suc_ℤ, pred_ℤ}
+use Rattle.sql_parts.specs.{as_placed, at_top_level, is_joining, is_whole, is_word, lowers, raises, Token, Symbol, begins_with, is_empty}
+use Rattle.sql_parts.specs.Fragments as fragments
+use Rattle.sql_parts.proofs.fragments.DepthFacts.{after, closes_from, has_top_level, has_top_level-is, is_at_least_0, is_balanced, is_balanced-is, is_even}
+use Rattle.sql_parts.proofs.fragments.DepthFacts.{is_zero, placed_from}
 
-zero-first : (n : ℕ) → n ≡ 0 + n
-zero-first n = omega arith
+-- From depth l on: each token is whole, none that passes the test is at depth 0, and the depth is at least 0 after each and 0 after the last.
+abbrev Nests : (Token → Bool) → ℤ → List Token → Type 0
+Nests test l [] = is_zero l ≡ true
+Nests test l (t ∷ ts) =
+    (is_whole t ≡ true) × (at_top_level test (as_placed (is_zero l) t) ≡ false) × (is_at_least_0 (after l t) ≡ true) × Nests test (after l t) ts
 
-suc-first : (k n : ℕ) → suc k + n ≡ suc (k + n)
-suc-first k n = omega arith
+nests : (test : Token → Bool) (l : ℤ) (ts : List Token) → list_all is_whole ts ≡ true → closes_from l ts ≡ true
+    → list_any (at_top_level test) (placed_from l ts) ≡ false → Nests test l ts
+nests test l [] whole closes none = closes
+nests test l (t ∷ ts) whole closes none =
+    let each = and_parts (is_whole t) (list_all is_whole ts) whole in
+    let least = and_parts (is_at_least_0 (after l t)) (closes_from (after l t) ts) closes in
+    let inner = or_parts (at_top_level test (as_placed (is_zero l) t)) (list_any (at_top_level test) (placed_from (after l t) ts)) none in
+    (each.0, inner.0, least.0, nests test (after l t) ts each.1 least.1 inner.1)
 
--- the depth behind a token, where it stays at least 0, n further in
-record Deeper (n k : ℕ) (t : Token) : Type 0 where
-  to : ℕ
-  here : after (pos k) t ≡ pos to
-  there : after (pos (k + n)) t ≡ pos (to + n)
+nested : (test : Token → Bool) (l : ℤ) (ts : List Token) → Nests test l ts
+    → (list_all is_whole ts && closes_from l ts ≡ true) × (list_any (at_top_level test) (placed_from l ts) ≡ false)
+nested test l [] all = (all, refl)
+nested test l (t ∷ ts) all =
+    let more = nested test (after l t) ts all.3 in
+    let even = and_parts (list_all is_whole ts) (closes_from (after l t) ts) more.0 in
+    (and_from _ _ (and_from _ _ all.0 even.0) (and_from _ _ all.2 even.1), or_from _ _ all.1 more.1)
 
-deeper : (n k : ℕ) (t : Token) → is_at_least_0 (after (pos k) t) ≡ true → Deeper n k t
-deeper n k t least = let found = go (raises t) (lowers t) k least in record { to = found.0; here = found.1; there = found.2 }
+-- the depth n further in than k
+abbrev further : ℕ → ℕ → ℕ
+further n zero = n
+further n (suc k) = suc (further n k)
+
+abbrev change : Bool → Bool → ℤ → ℤ
+change up down l = cond up (suc_ℤ l) (cond down (pred_ℤ l) l)
+
+-- the depth behind a token, where it stays at least 0
+deeper : (n k : ℕ) (up down : Bool) → is_at_least_0 (change up down (pos k)) ≡ true
+    → (to : ℕ) × (change up down (pos k) ≡ pos to) × (change up down (pos (further n k)) ≡ pos (further n to))
+deeper n k true down least = (suc k, refl, refl)
+deeper n zero false true least = absurd (false≢true least)
+deeper n (suc k) false true least = (k, refl, refl)
+deeper n k false false least = (k, refl, refl)
+
+-- Tokens that nest by themselves do so n further in, and leave the depth of what is behind them.
+nests-behind : (test : Token → Bool) (n k : ℕ) (op rest : List Token) → Nests test (pos k) op → Nests test (pos n) rest → Nests test (pos (further n k)) (op ++ rest)
+nests-behind test n zero [] rest one more = more
+nests-behind test n (suc k) [] rest one more = absurd (false≢true one)
+nests-behind test n k (t ∷ op) rest one more =
+    let deep = deeper n k (raises t) (lowers t) one.2 in (
+      one.0,
+      inner n k one.1,
+      subst (λ l. is_at_least_0 l ≡ true) (sym deep.2) refl,
+      subst (λ l. Nests test l (op ++ rest)) (sym deep.2) (nests-behind test n deep.0 op rest (subst (λ l. Nests test l op) deep.1 one.3) more),
+    )
   where
-    go : (up down : Bool) (k : ℕ) → is_at_least_0 (cond up (suc_ℤ (pos k)) (cond down (pred_ℤ (pos k)) (pos k))) ≡ true
-        → (j : ℕ) × (cond up (suc_ℤ (pos k)) (cond down (pred_ℤ (pos k)) (pos k)) ≡ pos j) × (cond up (suc_ℤ (pos (k + n))) (cond down (pred_ℤ (pos (k + n))) (pos (k + n))) ≡ pos (j + n))
-    go true down k least = (suc k, refl, ap pos (sym (suc-first k n)))
-    go false true zero least = absurd (false≢true least)
-    go false true (suc k) least = (k, refl, ap (λ m. pred_ℤ (pos m)) (suc-first k n))
-    go false false k least = (k, refl, refl)
+    inner : (n k : ℕ) → at_top_level test (as_placed (is_zero (pos k)) t) ≡ false → at_top_level test (as_placed (is_zero (pos (further n k))) t) ≡ false
+    inner zero zero isnt = isnt
+    inner (suc n) zero isnt = refl
+    inner n (suc k) isnt = refl
 
--- Tokens that close by themselves leave the depth of what is behind them.
-closes-behind : (n k : ℕ) (op rest : List Token) → closes_from (pos k) op ≡ true → closes_from (pos (k + n)) (op ++ rest) ≡ closes_from (pos n) rest
-closes-behind n zero [] rest closes = ap (λ m. closes_from (pos m) rest) (sym (zero-first n))
-closes-behind n (suc k) [] rest closes = absurd (false≢true closes)
-closes-behind n k (t ∷ op) rest closes =
-    let both = and_parts (is_at_least_0 (after (pos k) t)) (closes_from (after (pos k) t) op) closes in
-    let deep = deeper n k t both.0 in
-    let more = closes-behind n deep.to op rest (subst (λ l. closes_from l op ≡ true) deep.here both.1) in
-    ap (λ l. is_at_least_0 l && closes_from l (op ++ rest)) deep.there ∙ more
+nests-filled : (test : Token → Bool) (l : ℤ) (front op rest : List Token) → is_at_least_0 l ≡ true → Nests test (pos 0) op
+    → Nests test l (front ++ Symbol 63 ∷ rest) → Nests test l (front ++ (op ++ rest))
+nests-filled test (pos n) [] op rest least one all = nests-behind test n 0 op rest one all.3
+nests-filled test (negsuc n) [] op rest least one all = absurd (false≢true least)
+nests-filled test l (t ∷ front) op rest least one all = (all.0, all.1, all.2, nests-filled test (after l t) front op rest all.2 one all.3)
 
--- nor is there a top-level token of the kind among them, if there is none by themselves
-none-behind : (test : Token → Bool) (n k : ℕ) (op rest : List Token) → closes_from (pos k) op ≡ true → list_any (at_top_level test) (placed_from (pos k) op) ≡ false
-    → list_any (at_top_level test) (placed_from (pos (k + n)) (op ++ rest)) ≡ list_any (at_top_level test) (placed_from (pos n) rest)
-none-behind test n zero [] rest closes none = ap (λ m. list_any (at_top_level test) (placed_from (pos m) rest)) (sym (zero-first n))
-none-behind test n (suc k) [] rest closes none = absurd (false≢true closes)
-none-behind test n k (t ∷ op) rest closes none =
-    let both = and_parts (is_at_least_0 (after (pos k) t)) (closes_from (after (pos k) t) op) closes in
-    let apart = or_parts (at_top_level test (as_placed (is_zero (pos k)) t)) (list_any (at_top_level test) (placed_from (after (pos k) t) op)) none in
-    let deep = deeper n k t both.0 in
-    let more = none-behind test n deep.to op rest (subst (λ l. closes_from l op ≡ true) deep.here both.1)
-    (subst (λ l. list_any (at_top_level test) (placed_from l op) ≡ false) deep.here apart.1) in
-    ap (λ l. at_top_level test (as_placed (is_zero (pos (k + n))) t) || list_any (at_top_level test) (placed_from l (op ++ rest))) deep.there
-    ∙ ap (λ b. b || list_any (at_top_level test) (placed_from (pos (deep.to + n)) (op ++ rest))) (outer n k apart.0)
-    ∙ more
+-- balanced tokens, none of which is at the top level and passes the test
+abbrev pub fits : (Token → Bool) → List Token → Bool
+fits test ts = fragments.is_balanced ts && not (fragments.has_top_level test ts)
+
+fits-is : (test : Token → Bool) (ts : List Token) → fits test ts ≡ (is_balanced ts && not (has_top_level test ts))
+fits-is test ts = λ i. is_balanced-is ts i && not (has_top_level-is test ts i)
+
+fits-nests : (test : Token → Bool) (ts : List Token) → fits test ts ≡ true → Nests test (pos 0) ts
+fits-nests test ts all =
+    let both = and_parts (is_balanced ts) (not (has_top_level test ts)) (sym (fits-is test ts) ∙ all) in
+    let even = and_parts (list_all is_whole ts) (closes_from (pos 0) ts) (and_parts (not (is_empty ts)) (is_even ts) both.0).1 in
+    nests test (pos 0) ts even.0 even.1 (not-true _ both.1)
+
+pub fits-filled : (test : Token → Bool) (front op rest : List Token) → fits test op ≡ true → fits test (front ++ Symbol 63 ∷ rest) ≡ true
+    → fits test (front ++ (op ++ rest)) ≡ true
+fits-filled test front op rest one all =
+    let found = nested test (pos 0) (front ++ (op ++ rest))
+    (nests-filled test (pos 0) front op rest refl (fits-nests test op one) (fits-nests test (front ++ Symbol 63 ∷ rest) all)) in
+    fits-is test (front ++ (op ++ rest)) ∙ and_from _ _ (and_from _ _ (some front op one) found.0) (not_from_false _ found.1)
   where
-    outer : (n k : ℕ) → at_top_level test (as_placed (is_zero (pos k)) t) ≡ false → at_top_level test (as_placed (is_zero (pos (k + n))) t) ≡ false
-    outer zero zero isnt = isnt
-    outer (suc n) zero isnt = ap (λ m. at_top_level test (as_placed (is_zero (pos m)) t)) (sym (zero-first (suc n)))
-    outer n (suc k) isnt = ap (λ m. at_top_level test (as_placed (is_zero (pos m)) t)) (suc-first k n)
-
--- ---- a hole
-
-after-inert : (l : ℤ) (w : Token) → Inert w → after l w ≡ l
-after-inert l w inert = rw (inert.raising, inert.lowering) refl
-
--- where a list closes with the word, the hole has a depth of at least 0, and the list closes with the operand
-closes-filled : (l : ℤ) (front op rest : List Token) (w : Token) → Inert w → is_at_least_0 l ≡ true → closes_from (pos 0) op ≡ true
-    → closes_from l (front ++ w ∷ rest) ≡ true → closes_from l (front ++ (op ++ rest)) ≡ true
-closes-filled (pos n) [] op rest w inert least closes all =
-    ap (λ m. closes_from (pos m) (op ++ rest)) (zero-first n) ∙ closes-behind n 0 op rest closes
-    ∙ (let both = and_parts (is_at_least_0 (after (pos n) w)) (closes_from (after (pos n) w) rest) all in
-    subst (λ l. closes_from l rest ≡ true) (after-inert (pos n) w inert) both.1)
-closes-filled (negsuc n) [] op rest w inert least closes all = absurd (false≢true least)
-closes-filled l (t ∷ front) op rest w inert least closes all =
-    let both = and_parts (is_at_least_0 (after l t)) (closes_from (after l t) (front ++ w ∷ rest)) all in
-    and_from _ _ both.0 (closes-filled (after l t) front op rest w inert both.0 closes both.1)
-
-none-filled : (test : Token → Bool) (l : ℤ) (front op rest : List Token) (w : Token) → Inert w → test w ≡ false → is_at_least_0 l ≡ true → closes_from (pos 0) op ≡ true
-    → list_any (at_top_level test) (placed_from (pos 0) op) ≡ false → closes_from l (front ++ w ∷ rest) ≡ true
-    → list_any (at_top_level test) (placed_from l (front ++ w ∷ rest)) ≡ false → list_any (at_top_level test) (placed_from l (front ++ (op ++ rest))) ≡ false
-none-filled test (pos n) [] op rest w inert isnt least closes none all here =
-    ap (λ m. list_any (at_top_level test) (placed_from (pos m) (op ++ rest))) (zero-first n) ∙ none-behind test n 0 op rest closes none
-    ∙ subst (λ l. list_any (at_top_level test) (placed_from l rest) ≡ false) (after-inert (pos n) w inert)
-    (or_parts (at_top_level test (as_placed (is_zero (pos n)) w)) (list_any (at_top_level test) (placed_from (after (pos n) w) rest)) here).1
-none-filled test (negsuc n) [] op rest w inert isnt least closes none all here = absurd (false≢true least)
-none-filled test l (t ∷ front) op rest w inert isnt least closes none all here =
-    let both = and_parts (is_at_least_0 (after l t)) (closes_from (after l t) (front ++ w ∷ rest)) all in
-    let apart = or_parts (at_top_level test (as_placed (is_zero l) t)) (list_any (at_top_level test) (placed_from (after l t) (front ++ w ∷ rest))) here in
-    or_from _ _ apart.0 (none-filled test (after l t) front op rest w inert isnt both.0 closes none both.1 apart.1)
-
--- ---- tokens that are one operand, where a word of no role is one
-
--- every token is whole
-whole-filled : (front op rest : List Token) (w : Token) → list_all is_whole op ≡ true → list_all is_whole (front ++ w ∷ rest) ≡ true → list_all is_whole (front ++ (op ++ rest)) ≡ true
-whole-filled [] op rest w whole all = both-whole op rest whole (and_parts (is_whole w) (list_all is_whole rest) all).1
-  where
-    both-whole : (a b : List Token) → list_all is_whole a ≡ true → list_all is_whole b ≡ true → list_all is_whole (a ++ b) ≡ true
-    both-whole [] b one other = other
-    both-whole (t ∷ a) b one other = let parts = and_parts (is_whole t) (list_all is_whole a) one in and_from _ _ parts.0 (both-whole a b parts.1 other)
-whole-filled (t ∷ front) op rest w whole all =
-    let parts = and_parts (is_whole t) (list_all is_whole (front ++ w ∷ rest)) all in and_from _ _ parts.0 (whole-filled front op rest w whole parts.1)
-
-some-filled : (front op rest : List Token) → not (is_empty op) ≡ true → not (is_empty (front ++ (op ++ rest))) ≡ true
-some-filled [] [] rest some = absurd (false≢true some)
-some-filled [] (t ∷ op) rest some = refl
-some-filled (t ∷ front) op rest some = refl
-
-first-filled : (test : Token → Bool) (front op rest : List Token) (w : Token) → not (is_empty op) ≡ true → begins_with test op ≡ false → begins_with test (front ++ w ∷ rest) ≡ false
-    → begins_with test (front ++ (op ++ rest)) ≡ false
-first-filled test [] [] rest w some isnt here = absurd (false≢true some)
-first-filled test [] (t ∷ op) rest w some isnt here = isnt
-first-filled test (t ∷ front) op rest w some isnt here = here
-
-even-filled : (front op rest : List Token) (w : Token) → Inert w → is_balanced op ≡ true → is_balanced (front ++ w ∷ rest) ≡ true
-    → is_balanced (front ++ (op ++ rest)) ≡ true
-even-filled front op rest w inert one all =
-    let o = and_parts (not (is_empty op)) (is_even op) one in
-    let oc = and_parts (list_all is_whole op) (closes_from (pos 0) op) o.1 in
-    let ts = front ++ w ∷ rest in
-    let ac = and_parts (list_all is_whole ts) (closes_from (pos 0) ts) (and_parts (not (is_empty ts)) (is_even ts) all).1 in
-    and_from _ _ (some-filled front op rest o.0)
-    (and_from _ _ (whole-filled front op rest w oc.0 ac.0) (closes-filled (pos 0) front op rest w inert refl oc.1 ac.1))
-
--- no top-level token passes a test that the word fails, if none does in either
-top_level-filled : (test : Token → Bool) (front op rest : List Token) (w : Token) → Inert w → test w ≡ false → is_balanced op ≡ true
-    → is_balanced (front ++ w ∷ rest) ≡ true → not (has_top_level test op) ≡ true → not (has_top_level test (front ++ w ∷ rest)) ≡ true
-    → not (has_top_level test (front ++ (op ++ rest))) ≡ true
-top_level-filled test front op rest w inert isnt one all none here =
-    let ts = front ++ w ∷ rest in
-    not_from_false _ (none-filled test (pos 0) front op rest w inert isnt refl
-    (and_parts (list_all is_whole op) (closes_from (pos 0) op) (and_parts (not (is_empty op)) (is_even op) one).1).1 (not-true _ none)
-    (and_parts (list_all is_whole ts) (closes_from (pos 0) ts) (and_parts (not (is_empty ts)) (is_even ts) all).1).1 (not-true _ here))
-
--- tokens of a fragment
-abbrev pub fits : List Token → Bool
-fits ts = is_balanced ts && not (has_top_level is_clause_word ts)
-
-pub fragment-filled : (front op rest : List Token) (w : Token) → Inert w → fits op ≡ true → fits (front ++ w ∷ rest) ≡ true → fits (front ++ (op ++ rest)) ≡ true
-fragment-filled front op rest w inert one all =
-    let o = and_parts (is_balanced op) (not (has_top_level is_clause_word op)) one in
-    let ts = front ++ w ∷ rest in
-    let a = and_parts (is_balanced ts) (not (has_top_level is_clause_word ts)) all in
-    and_from _ _ (even-filled front op rest w inert o.0 a.0) (top_level-filled is_clause_word front op rest w inert inert.clause o.0 a.0 o.1 a.1)
+    some : (front op : List Token) → fits test op ≡ true → not (is_empty (front ++ (op ++ rest))) ≡ true
+    some [] [] one = absurd (false≢true one)
+    some [] (t ∷ op) one = refl
+    some (t ∷ front) op one = refl
 
 -- tokens of one operand
-pub operand-filled : (front op rest : List Token) (w : Token) → Inert w → is_operand op ≡ true → is_operand (front ++ w ∷ rest) ≡ true
-    → is_operand (front ++ (op ++ rest)) ≡ true
-operand-filled front op rest w inert one all =
-    let o = and_parts (is_balanced op) (not (has_top_level is_joining op) && not (begins_with (is_word (codes "NOT")) op)) one in
-    let joins = and_parts (not (has_top_level is_joining op)) (not (begins_with (is_word (codes "NOT")) op)) o.1 in
-    let ts = front ++ w ∷ rest in
-    let a = and_parts (is_balanced ts) (not (has_top_level is_joining ts) && not (begins_with (is_word (codes "NOT")) ts)) all in
-    let apart = and_parts (not (has_top_level is_joining ts)) (not (begins_with (is_word (codes "NOT")) ts)) a.1 in
-    and_from _ _ (even-filled front op rest w inert o.0 a.0)
-    (and_from _ _ (top_level-filled is_joining front op rest w inert inert.joining o.0 a.0 joins.0 apart.0)
-    (not_from_false _ (first-filled (is_word (codes "NOT")) front op rest w (and_parts (not (is_empty op)) (is_even op) o.0).0 (not-true _ joins.1) (not-true _ apart.1))))
+pub operand-filled : (front op rest : List Token) → fragments.is_operand op ≡ true → fragments.is_operand (front ++ Symbol 63 ∷ rest) ≡ true
+    → fragments.is_operand (front ++ (op ++ rest)) ≡ true
+operand-filled front op rest one all =
+    let o = and_parts (fits is_joining op) _ one in
+    let a = and_parts (fits is_joining (front ++ Symbol 63 ∷ rest)) _ all in
+    and_from _ _ (fits-filled is_joining front op rest o.0 a.0) (first front op o.0 o.1 a.1)
+  where
+    no_not : List Token → Type 0
+    no_not ts = not (begins_with (is_word (codes "NOT")) ts) ≡ true
+
+    first : (front op : List Token) → fits is_joining op ≡ true → no_not op → no_not (front ++ Symbol 63 ∷ rest) → no_not (front ++ (op ++ rest))
+    first [] [] fit isnt here = absurd (false≢true fit)
+    first [] (t ∷ op) fit isnt here = isnt
+    first (t ∷ front) op fit isnt here = here

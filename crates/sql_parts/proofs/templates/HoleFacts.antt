@@ -1,11 +1,10 @@
 -- A template with operands in its holes serves as one does with a word in each.
 use Rattle.sql_parts.proofs.Imports.{◌≡◌, ◌≢◌, ◌<◌, ◌∙◌, ap, arith, codes, refl, sym, subst, ℕ, suc, Bool, true, false, not, cond, eqb-true, ne_eqb, get_or}
 use Rattle.sql_parts.proofs.Imports.{length, take, ◌-◌, List, [], ◌∷◌, ◌++◌, append_assoc, append-nil, ◌&&◌, ◌==◌, flat_map, AllByRecursion, and_from}
-use Rattle.sql_parts.proofs.Imports.{and_parts, common_steps}
+use Rattle.sql_parts.proofs.Imports.{and_parts, cases_Bool, common_steps, inl, inr}
 use Rattle.sql_parts.specs.{balanced, has_clause_word, is_clause_word, operand, cut, filled, holding, holes_apart, in_hole, is_bracketed, is_unit, unsigned}
-use Rattle.sql_parts.specs.{segment_apart, segments_apart, Token, Symbol, closed, ends_with, tokens, ServesAsOperand, is_bare_operand, is_fragment}
-use Rattle.sql_parts.proofs.fragments.DepthFacts.{has_top_level-is}
-use Rattle.sql_parts.proofs.fragments.{is_balanced-is, is_operand, is_operand-is, fits, fragment-filled, operand-filled, serves, Inert, inert, is-fragment}
+use Rattle.sql_parts.specs.{segment_apart, segments_apart, Token, Symbol, closed, ends_with, tokens, ServesAsOperand, is_bare_operand, is_fragment, is_operand}
+use Rattle.sql_parts.proofs.fragments.{fits, fits-filled, operand-filled, serves, is-fragment}
 use Rattle.sql_parts.proofs.templates.ApartFacts.{part_tokens, segments-shut, segments-tokens}
 
 -- ---- the code's loop
@@ -17,35 +16,29 @@ rest_apart first rest = segments_apart first (cut rest).0 (holding [] (cut rest)
 abbrev pub LacksHole : List ℕ → Type 0
 LacksHole text = (i : ℕ) → i < length text → get_or text i 0 ≢ 63
 
-lacks-behind : (byte : ℕ) (text : List ℕ) → LacksHole (byte ∷ text) → LacksHole text
-lacks-behind byte text lacks = λ i less. lacks (suc i) (omega (arith, less))
-
-no-hole : (byte : ℕ) (text : List ℕ) → LacksHole (byte ∷ text) → (byte == 63) ≡ false
-no-hole byte text lacks = ne_eqb byte 63 (lacks 0 (omega arith))
-
 -- a text without a hole is before the first one
-pub cut-behind : (front rest : List ℕ) → LacksHole front → cut (front ++ rest) ≡ (front ++ (cut rest).0, (cut rest).1)
+cut-behind : (front rest : List ℕ) → LacksHole front → cut (front ++ rest) ≡ (front ++ (cut rest).0, (cut rest).1)
 cut-behind [] rest lacks = refl
 cut-behind (byte ∷ front) rest lacks =
-    rw (no-hole byte front lacks) (ap (λ (found : List ℕ × List (List ℕ)). (byte ∷ found.0, found.1)) (cut-behind front rest (lacks-behind byte front lacks)))
+    rw (ne_eqb byte 63 (lacks 0 (omega arith)))
+    (ap (λ (found : List ℕ × List (List ℕ)). (byte ∷ found.0, found.1)) (cut-behind front rest (λ i less. lacks (suc i) (omega (arith, less)))))
 
 -- up to the first hole
-pub cut-hole : (text front behind : List ℕ) → text ≡ front ++ 63 ∷ behind → LacksHole front → cut text ≡ (front, (cut behind).0 ∷ (cut behind).1)
+cut-hole : (text front behind : List ℕ) → text ≡ front ++ 63 ∷ behind → LacksHole front → cut text ≡ (front, (cut behind).0 ∷ (cut behind).1)
 cut-hole text front behind is lacks =
     ap cut is ∙ cut-behind front (63 ∷ behind) lacks ∙ ap (λ (segment : List ℕ). (segment, (cut behind).0 ∷ (cut behind).1)) (append-nil front)
 
 -- without one
-pub cut-none : (text : List ℕ) → LacksHole text → cut text ≡ (text, [])
+cut-none : (text : List ℕ) → LacksHole text → cut text ≡ (text, [])
 cut-none text lacks = ap cut (sym (append-nil text)) ∙ cut-behind text [] lacks ∙ ap (λ (segment : List ℕ). (segment, [])) (append-nil text)
 
 -- whether they are apart, up to the first hole
-pub apart-hole : (first : Bool) (text front behind : List ℕ) → text ≡ front ++ 63 ∷ behind → LacksHole front
-    → rest_apart first text ≡ (segment_apart first false front && rest_apart false behind)
-apart-hole first text front behind is lacks =
-    ap (λ (found : List ℕ × List (List ℕ)). segments_apart first found.0 (holding [] found.1)) (cut-hole text front behind is lacks)
+pub apart-hole : (first : Bool) {here : Bool} {text : List ℕ} (front behind : List ℕ) → text ≡ front ++ 63 ∷ behind → LacksHole front
+    → segment_apart first false front ≡ here → rest_apart first text ≡ (here && rest_apart false behind)
+apart-hole first {text} front behind is lacks apart = rw (cut-hole text front behind is lacks) (ap (λ test. test && rest_apart false behind) apart)
 
 pub apart-none : (first : Bool) (text : List ℕ) → LacksHole text → rest_apart first text ≡ segment_apart first true text
-apart-none first text lacks = ap (λ (found : List ℕ × List (List ℕ)). segments_apart first found.0 (holding [] found.1)) (cut-none text lacks)
+apart-none first text lacks = rw (cut-none text lacks) refl
 
 -- ---- how an operand is written in a hole
 
@@ -80,34 +73,23 @@ bracketed text behind inner is ends = ap is_bracketed is ∙ ap (λ t. is_bracke
 
 -- ---- what the tests of fragments ask for
 
-abbrev Parts : Type 0
-Parts = List (List ℕ × List ℕ)
-
 -- a template is itself, with a `?` in each hole
 pub uncut : (template : List ℕ) → filled [] template ≡ template
 uncut [] = refl
-uncut (byte ∷ behind) = by (uncut behind) (byte == 63) refl
-  where
-    by : filled [] behind ≡ behind → (is : Bool) → (byte == 63) ≡ is
-        → (let rest = cut behind in
-        let found : List ℕ × List (List ℕ) = cond is ([], rest.0 ∷ rest.1) (byte ∷ rest.0, rest.1) in
-        found.0 ++ flat_map (λ (part : List ℕ × List ℕ). part.0 ++ part.1) (holding [] found.1)) ≡ byte ∷ behind
-    by more true is = ap (λ (t : List ℕ). 63 ∷ t) more ∙ ap (λ (b : ℕ). b ∷ behind) (sym (eqb-true byte 63 is))
-    by more false is = ap (λ (t : List ℕ). byte ∷ t) more
+uncut (byte ∷ behind) = elim (cases_Bool (byte == 63)) [
+  | inl is ↦ rw (eqb-true byte 63 is) (ap (λ t. 63 ∷ t) (uncut behind))
+  | inr isnt ↦ rw isnt (ap (λ t. byte ∷ t) (uncut behind))
+]
 
 -- a text in the first hole, and the rest behind it
 pub filled-hole : (text : List ℕ) (texts : List (List ℕ)) (rest front behind : List ℕ) → rest ≡ front ++ 63 ∷ behind → LacksHole front
     → filled (text ∷ texts) rest ≡ front ++ (text ++ filled texts behind)
 filled-hole text texts rest front behind is lacks =
-    ap (λ (found : List ℕ × List (List ℕ)). found.0 ++ flat_map (λ (part : List ℕ × List ℕ). part.0 ++ part.1) (holding (text ∷ texts) found.1))
-    (cut-hole rest front behind is lacks)
-    ∙ ap (λ (t : List ℕ). front ++ t)
-    (append_assoc text (cut behind).0 (flat_map (λ (part : List ℕ × List ℕ). part.0 ++ part.1) (holding texts (cut behind).1)))
+    rw (cut-hole rest front behind is lacks)
+    (ap (λ (t : List ℕ). front ++ t) (append_assoc text (cut behind).0 (flat_map (λ part. part.0 ++ part.1) (holding texts (cut behind).1))))
 
 pub filled-none : (texts : List (List ℕ)) (rest : List ℕ) → LacksHole rest → filled texts rest ≡ rest
-filled-none texts rest lacks =
-    ap (λ (found : List ℕ × List (List ℕ)). found.0 ++ flat_map (λ (part : List ℕ × List ℕ). part.0 ++ part.1) (holding texts found.1)) (cut-none rest lacks)
-    ∙ append-nil rest
+filled-none texts rest lacks = rw (cut-none rest lacks) (append-nil rest)
 
 -- texts in holes are between the same segments
 same-apart : (first : Bool) (segment : List ℕ) (texts segments : List (List ℕ))
@@ -151,16 +133,8 @@ module _ (P : List Token → Bool)
   all-filled front texts segment [] all given = given
   all-filled front [] segment (next ∷ segments) all given = given
   all-filled front (text ∷ texts) segment (next ∷ segments) all given =
-      let more : List Token = part_tokens (λ t. t) (holding [] segments) in
-      let filled_more : List Token = part_tokens (λ t. t) (holding texts segments) in
-      let behind : List Token = front ++ tokens segment in
-      let here = one behind (tokens next ++ more) text all.0
-      (ap P (append_assoc front (tokens segment) (Symbol 63 ∷ (tokens next ++ more))) ∙ given) in
-      let rest = all-filled (behind ++ tokens text) texts next segments all.1 (ap P (append_assoc behind (tokens text) (tokens next ++ more)) ∙ here) in
-      ap P (ap (λ ts. front ++ (tokens segment ++ ts)) (append_assoc (tokens text) (tokens next) filled_more)
-      ∙ sym (append_assoc front (tokens segment) (tokens text ++ (tokens next ++ filled_more)))
-      ∙ sym (append_assoc behind (tokens text) (tokens next ++ filled_more)))
-      ∙ rest
+      let here = one (front ++ tokens segment) (tokens next ++ part_tokens (λ t. t) (holding [] segments)) text all.0 (simp append_assoc given) in
+      simp append_assoc (simp append_assoc at (all-filled ((front ++ tokens segment) ++ tokens text) texts next segments all.1 (simp append_assoc (simp append_assoc at here))))
 
   pub filled-keeps : (texts : List (List ℕ)) (template : List ℕ) → holes_apart template ≡ true → AllByRecursion ServesAsOperand texts
       → P (tokens template) ≡ true → P (tokens (filled texts template)) ≡ true
@@ -169,42 +143,25 @@ module _ (P : List Token → Bool)
       ∙ all-filled [] texts (cut template).0 (cut template).1 all
       (ap P (sym (filled-tokens [] template is tt) ∙ ap tokens (uncut template)) ∙ given)
 
-hole-inert : Inert (Symbol 63)
-hole-inert = inert _ refl
-
-fits-is : (text : List ℕ) → is_fragment text ≡ fits (tokens text)
-fits-is text = λ i. is_balanced-is (tokens text) i && not (has_top_level-is is_clause_word (tokens text) i)
-
 -- a fragment
 pub filled-fragment : (texts : List (List ℕ)) (template : List ℕ) → holes_apart template ≡ true → AllByRecursion ServesAsOperand texts
     → is_fragment template ≡ true → is_fragment (filled texts template) ≡ true
-filled-fragment texts template is all given =
-    fits-is (filled texts template)
-    ∙ filled-keeps fits (λ front rest text op. fragment-filled front (tokens text) rest (Symbol 63) hole-inert (sym (fits-is text) ∙ is-fragment op))
-    texts template is all (sym (fits-is template) ∙ given)
-
--- an operand
-filled-operand : (texts : List (List ℕ)) (template : List ℕ) → holes_apart template ≡ true → AllByRecursion ServesAsOperand texts
-    → operand template ≡ true → operand (filled texts template) ≡ true
-filled-operand texts template is all given =
-    is_operand-is (tokens (filled texts template))
-    ∙ filled-keeps is_operand (λ front rest text op. operand-filled front (tokens text) rest (Symbol 63) hole-inert
-    (sym (is_operand-is (tokens text)) ∙ op.is_operand))
-    texts template is all (sym (is_operand-is (tokens template)) ∙ given)
+filled-fragment = filled-keeps (fits is_clause_word) (λ front rest text op. fits-filled is_clause_word front (tokens text) rest (is-fragment op))
 
 pub filled-serves : (texts : List (List ℕ)) (template : List ℕ) → holes_apart template ≡ true → AllByRecursion ServesAsOperand texts
     → is_bare_operand template ≡ true → ServesAsOperand (filled texts template)
 filled-serves texts template is all given =
-    let whole = filled-fragment texts template is all (is-fragment (serves template given)) in
+    let fragment = filled-fragment texts template is all (is-fragment (serves template given)) in
     serves (filled texts template)
-    (and_from _ _ (filled-operand texts template is all (and_parts (operand template) (not (has_clause_word template)) given).0)
-    (and_parts (balanced (filled texts template)) (not (has_clause_word (filled texts template))) whole).1)
+    (and_from _ _
+    (filled-keeps is_operand (λ front rest text op. operand-filled front (tokens text) rest op.is_operand) texts template is all
+    (and_parts (operand template) (not (has_clause_word template)) given).0)
+    (and_parts (balanced (filled texts template)) (not (has_clause_word (filled texts template))) fragment).1)
 
 -- an operand as it is written in a hole
 pub in_hole-serves : (text : List ℕ) → ServesAsOperand text → ServesAsOperand (in_hole text)
-in_hole-serves text op = by (is_unit text)
-  where
-    by : (unit : Bool) → ServesAsOperand (cond unit text (codes "(" ++ (text ++ codes ")")))
-    by true = op
-    by false = subst ServesAsOperand (ap (λ (t : List ℕ). codes "(" ++ t) (append-nil (text ++ codes ")")))
-        (filled-serves (text ∷ []) (codes "(?)") refl (op, tt) refl)
+in_hole-serves text op = elim (cases_Bool (is_unit text)) [
+  | inl is ↦ rw is op
+  | inr isnt ↦ rw isnt (subst ServesAsOperand (ap (λ (t : List ℕ). codes "(" ++ t) (append-nil (text ++ codes ")")))
+      (filled-serves (text ∷ []) (codes "(?)") refl (op, tt) refl))
+]

@@ -1,22 +1,17 @@
-use Rattle.sql_parts.proofs.Imports.{◌∙◌, None, Some, ap, arith, false, rules, sym, ◌&&◌, split_parts}
-use Rattle.sql_parts.proofs.templates.{apart-hole, apart-none, rest_apart}
+use Rattle.sql_parts.proofs.Imports.{◌∙◌, None, Some, arith, rules, sym, split_parts}
+use Rattle.sql_parts.proofs.templates.{apart-hole, apart-none}
 use Rattle.sql_parts.proofs.holes.holes_apart.Goals as goal
 
 pub returns-then-not-segment_apart : goal.returns-then-not-segment_apart
 returns-then-not-segment_apart c =
     let cut = split_parts 63 c.loop-segment.rest.now (Some (c.in-Some.segment, c.in-Some.behind)) c.in-Some.ensures.cases (omega arith) in
-    ap (λ test. test && rest_apart false c.in-Some.behind.now) (sym c.if-not-segment_apart.true ∙ c.segment_apart.ensures)
-    ∙ sym (apart-hole c.loop-segment.first c.loop-segment.rest.now c.in-Some.segment.now c.in-Some.behind.now cut.0 cut.1)
-    ∙ c.loop-segment.invariant.1
+    sym (apart-hole c.loop-segment.first _ _ cut.0 cut.1 (sym c.segment_apart.ensures ∙ c.if-not-segment_apart.true)) ∙ c.loop-segment.invariant.1
 
 pub loop-segment-preserved : goal.loop-segment-preserved
 loop-segment-preserved c =
-    let cut = split_parts 63 c.loop-segment.rest.now (Some (c.in-Some.segment, c.in-Some.behind)) c.in-Some.ensures.cases (omega arith) in (
-      search rules,
-      ap (λ test. test && rest_apart false c.in-Some.behind.now) (sym c.if-not-segment_apart.false ∙ c.segment_apart.ensures)
-          ∙ sym (apart-hole c.loop-segment.first c.loop-segment.rest.now c.in-Some.segment.now c.in-Some.behind.now cut.0 cut.1)
-          ∙ c.loop-segment.invariant.1,
-    )
+    let cut = split_parts 63 c.loop-segment.rest.now (Some (c.in-Some.segment, c.in-Some.behind)) c.in-Some.ensures.cases (omega arith) in
+    let next = sym (apart-hole c.loop-segment.first _ _ cut.0 cut.1 (sym c.segment_apart.ensures ∙ c.if-not-segment_apart.false)) in
+    (search rules, next ∙ c.loop-segment.invariant.1)
 
 pub returns : goal.returns
 returns c =
