@@ -10,11 +10,7 @@ use crate::tokenizer::{Token, first_token};
 pub fn hole_count(template: &str) -> usize
     ensures { result ≡ hole_count template.now }
 {
-    template
-        .as_bytes()
-        .iter()
-        .filter(|byte| **byte == b'?')
-        .count()
+    template.bytes().filter(|byte| *byte == b'?').count()
 }
 
 /// Returns whether the holes of a template stand apart. Beside a `?` is then only a separator or an

@@ -1,17 +1,15 @@
 -- Worked rows of templates with holes: what the definitions give, by computing.
-use Rattle.sql_parts.proofs.Imports.{◌≡◌, ℕ, Bool, List, [], ◌∷◌, codes, false, map, negsuc, refl, replicate, true}
+use Rattle.sql_parts.proofs.Imports.{◌≡◌, ℕ, Bool, List, [], ◌∷◌, ◌++◌, codes, false, map, negsuc, refl, replicate, true}
 use Rattle.sql_parts.specs.{filled, hole_count, holes_apart, in_hole, literal_text, whole, words, is_typed_fragment, is_typed_operand}
 
 -- its holes stand apart, and it is an operand, a condition
 abbrev tests : List ℕ → Bool × Bool × Bool
 tests template = (holes_apart template, is_typed_operand template, is_typed_fragment template)
 
-operand-rows : map tests (codes "price * ? > ?" ∷ codes "lower(title) = lower(?)" ∷ codes "CAST(? AS date)" ∷ codes "CASE WHEN ? THEN a OR b END"
-    ∷ codes "data->>'k' = ?" ∷ codes "?" ∷ []) ≡ replicate 6 (true, true, true)
-operand-rows = refl
-
-other-rows : map tests (codes "a = ? OR b" ∷ codes "a UNION SELECT ?" ∷ []) ≡ (true, false, true) ∷ (true, false, false) ∷ []
-other-rows = refl
+template-rows : map tests (codes "price * ? > ?" ∷ codes "lower(title) = lower(?)" ∷ codes "CAST(? AS date)" ∷ codes "CASE WHEN ? THEN a OR b END"
+    ∷ codes "data->>'k' = ?" ∷ codes "?" ∷ codes "a = ? OR b" ∷ codes "a UNION SELECT ?" ∷ [])
+    ≡ replicate 6 (true, true, true) ++ (true, false, true) ∷ (true, false, false) ∷ []
+template-rows = refl
 
 -- inside of a string, of a name and of a comment, and beside a word, a minus and another `?`
 touching-rows : map holes_apart (codes "title = '?'" ∷ codes "title = \" ? \"" ∷ codes "title -- ? \n" ∷ codes "title = N?" ∷ codes "a -?" ∷ codes "a ??" ∷ [])

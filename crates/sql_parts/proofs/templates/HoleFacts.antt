@@ -3,8 +3,8 @@ use Rattle.sql_parts.proofs.Imports.{◌≡◌, ◌≢◌, ◌<◌, ◌∙◌, a
 use Rattle.sql_parts.proofs.Imports.{length, take, ◌-◌, List, [], ◌∷◌, ◌++◌, append_assoc, append-nil, ◌&&◌, ◌==◌, flat_map, AllByRecursion, and_from}
 use Rattle.sql_parts.proofs.Imports.{and_parts, cases_Bool, common_steps, inl, inr}
 use Rattle.sql_parts.specs.{balanced, has_clause_word, is_clause_word, operand, cut, filled, holding, holes_apart, in_hole, is_bracketed, is_unit, unsigned}
-use Rattle.sql_parts.specs.{segment_apart, segments_apart, Token, Symbol, closed, ends_with, tokens, ServesAsOperand, is_bare_operand, is_fragment, is_operand}
-use Rattle.sql_parts.proofs.fragments.{fits, fits-filled, operand-filled, serves, is-fragment}
+use Rattle.sql_parts.specs.{segment_apart, segments_apart, Token, Symbol, closed, ends_with, tokens, ServesAsOperand, is_bare_operand, is_fragment, is_joining, is_operand}
+use Rattle.sql_parts.proofs.fragments.{fits, fits-any, fits-filled, serves, is-fragment}
 use Rattle.sql_parts.proofs.templates.ApartFacts.{part_tokens, segments-shut, segments-tokens}
 
 -- ---- the code's loop
@@ -91,19 +91,14 @@ filled-hole text texts rest front behind is lacks =
 pub filled-none : (texts : List (List ℕ)) (rest : List ℕ) → LacksHole rest → filled texts rest ≡ rest
 filled-none texts rest lacks = rw (cut-none rest lacks) (append-nil rest)
 
--- texts in holes are between the same segments
-same-apart : (first : Bool) (segment : List ℕ) (texts segments : List (List ℕ))
-    → segments_apart first segment (holding texts segments) ≡ segments_apart first segment (holding [] segments)
-same-apart first segment texts [] = refl
-same-apart first segment [] (next ∷ segments) = refl
-same-apart first segment (text ∷ texts) (next ∷ segments) = ap (λ test. segment_apart first false segment && test) (same-apart false next texts segments)
-
--- they are closed
-all-closed : (texts segments : List (List ℕ)) → AllByRecursion (λ text. closed text ≡ true) texts
-    → AllByRecursion (λ (part : List ℕ × List ℕ). closed part.0 ≡ true) (holding texts segments)
-all-closed texts [] all = tt
-all-closed [] (segment ∷ segments) all = (refl, all-closed [] segments tt)
-all-closed (text ∷ texts) (segment ∷ segments) all = (all.0, all-closed texts segments all.1)
+-- texts in holes are between the same segments, and closed
+held : (first : Bool) (segment : List ℕ) (texts segments : List (List ℕ)) → AllByRecursion (λ text. closed text ≡ true) texts
+    → (segments_apart first segment (holding texts segments) ≡ segments_apart first segment (holding [] segments))
+    × AllByRecursion (λ (part : List ℕ × List ℕ). closed part.0 ≡ true) (holding texts segments)
+held first segment texts [] all = (refl, tt)
+held first segment [] (next ∷ segments) all = (refl, (refl, (held false next [] segments tt).1))
+held first segment (text ∷ texts) (next ∷ segments) all =
+    let more = held false next texts segments all.1 in (ap (λ test. segment_apart first false segment && test) more.0, (all.0, more.1))
 
 -- the tokens of a template, with those of the texts in its holes
 abbrev pub filled_tokens : List (List ℕ) → List ℕ × List (List ℕ) → List Token
@@ -116,25 +111,28 @@ all-shut (text ∷ texts) all = (all.0.is_closed, all-shut texts all.1)
 pub filled-tokens : (texts : List (List ℕ)) (template : List ℕ) → holes_apart template ≡ true → AllByRecursion (λ text. closed text ≡ true) texts
     → tokens (filled texts template) ≡ filled_tokens texts (cut template)
 filled-tokens texts template is all =
-    segments-tokens (λ text. text) true (cut template).0 (holding texts (cut template).1) (all-closed texts (cut template).1 all)
-    (same-apart true (cut template).0 texts (cut template).1 ∙ is)
+    let both = held true (cut template).0 texts (cut template).1 all in
+    segments-tokens (λ text. text) true (cut template).0 (holding texts (cut template).1) both.1 (both.0 ∙ is)
 
 pub filled-closed : (texts : List (List ℕ)) (template : List ℕ) → holes_apart template ≡ true → AllByRecursion ServesAsOperand texts
     → closed (filled texts template) ≡ true
 filled-closed texts template is all =
-    segments-shut (λ text. text) true (cut template).0 (holding texts (cut template).1) (all-closed texts (cut template).1 (all-shut texts all))
-    (same-apart true (cut template).0 texts (cut template).1 ∙ is)
+    let both = held true (cut template).0 texts (cut template).1 (all-shut texts all) in
+    segments-shut (λ text. text) true (cut template).0 (holding texts (cut template).1) both.1 (both.0 ∙ is)
 
 -- What holds of tokens with a `?`, and with an operand in its place, holds with operands in all holes.
 module _ (P : List Token → Bool)
-    (one : (front rest : List Token) (text : List ℕ) → ServesAsOperand text → P (front ++ Symbol 63 ∷ rest) ≡ true → P (front ++ (tokens text ++ rest)) ≡ true) where
+    (one : (front rest : List Token) (text : List ℕ) → ServesAsOperand text → P (front ++ Symbol 63 ∷ rest) ≡ true
+    → P (front ++ (tokens text ++ rest)) ≡ true) where
   all-filled : (front : List Token) (texts : List (List ℕ)) (segment : List ℕ) (segments : List (List ℕ)) → AllByRecursion ServesAsOperand texts
       → P (front ++ filled_tokens [] (segment, segments)) ≡ true → P (front ++ filled_tokens texts (segment, segments)) ≡ true
   all-filled front texts segment [] all given = given
   all-filled front [] segment (next ∷ segments) all given = given
   all-filled front (text ∷ texts) segment (next ∷ segments) all given =
-      let here = one (front ++ tokens segment) (tokens next ++ part_tokens (λ t. t) (holding [] segments)) text all.0 (simp append_assoc given) in
-      simp append_assoc (simp append_assoc at (all-filled ((front ++ tokens segment) ++ tokens text) texts next segments all.1 (simp append_assoc (simp append_assoc at here))))
+      let behind : List Token = front ++ tokens segment in
+      let here = one behind (tokens next ++ part_tokens (λ t. t) (holding [] segments)) text all.0 (simp append_assoc given) in
+      let rest = all-filled (behind ++ tokens text) texts next segments all.1 (simp append_assoc (simp append_assoc at here)) in
+      simp append_assoc (simp append_assoc at rest)
 
   pub filled-keeps : (texts : List (List ℕ)) (template : List ℕ) → holes_apart template ≡ true → AllByRecursion ServesAsOperand texts
       → P (tokens template) ≡ true → P (tokens (filled texts template)) ≡ true
@@ -146,7 +144,11 @@ module _ (P : List Token → Bool)
 -- a fragment
 pub filled-fragment : (texts : List (List ℕ)) (template : List ℕ) → holes_apart template ≡ true → AllByRecursion ServesAsOperand texts
     → is_fragment template ≡ true → is_fragment (filled texts template) ≡ true
-filled-fragment = filled-keeps (fits is_clause_word) (λ front rest text op. fits-filled is_clause_word front (tokens text) rest (is-fragment op))
+filled-fragment texts template is all given =
+    let any = fits-any is_clause_word in
+    sym (any (tokens (filled texts template)))
+    ∙ filled-keeps (fits is_clause_word (λ token. false)) (λ front rest text op. fits-filled is_clause_word _ front (tokens text) rest (any (tokens text) ∙ is-fragment op))
+    texts template is all (any (tokens template) ∙ given)
 
 pub filled-serves : (texts : List (List ℕ)) (template : List ℕ) → holes_apart template ≡ true → AllByRecursion ServesAsOperand texts
     → is_bare_operand template ≡ true → ServesAsOperand (filled texts template)
@@ -154,7 +156,7 @@ filled-serves texts template is all given =
     let fragment = filled-fragment texts template is all (is-fragment (serves template given)) in
     serves (filled texts template)
     (and_from _ _
-    (filled-keeps is_operand (λ front rest text op. operand-filled front (tokens text) rest op.is_operand) texts template is all
+    (filled-keeps is_operand (λ front rest text op. fits-filled is_joining _ front (tokens text) rest op.is_operand) texts template is all
     (and_parts (operand template) (not (has_clause_word template)) given).0)
     (and_parts (balanced (filled texts template)) (not (has_clause_word (filled texts template))) fragment).1)
 
