@@ -1,7 +1,6 @@
 pub mod BetweenLemmas
 pub mod DepthCountLemmas
 pub mod DepthFacts
-pub mod HoleLemmas
 pub mod KeywordLemmas
 pub mod MisfitLemmas
 pub mod OpenRangeLemmas
@@ -13,7 +12,6 @@ pub mod StringTextFacts
 unfoldable pub use BetweenLemmas.*
 unfoldable pub use DepthCountLemmas.*
 unfoldable pub use DepthFacts.*
-unfoldable pub use HoleLemmas.*
 unfoldable pub use KeywordLemmas.*
 unfoldable pub use MisfitLemmas.*
 unfoldable pub use OpenRangeLemmas.*
