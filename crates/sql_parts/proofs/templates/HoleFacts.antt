@@ -78,10 +78,8 @@ bracketed text behind inner is ends = ap is_bracketed is ∙ ap (λ t. is_bracke
 -- a template is itself, with a `?` in each hole
 pub uncut : (template : List ℕ) → filled [] template ≡ template
 uncut [] = refl
-uncut (byte ∷ behind) = elim (cases_Bool (byte == 63)) [
-  | inl is ↦ rw (eqb-true byte 63 is) (ap (λ t. 63 ∷ t) (uncut behind))
-  | inr isnt ↦ rw isnt (ap (λ t. byte ∷ t) (uncut behind))
-]
+uncut (byte ∷ behind) = elim (cases_Bool (byte == 63))
+    [ inl is ↦ rw (eqb-true byte 63 is) (ap (λ t. 63 ∷ t) (uncut behind)) | inr isnt ↦ rw isnt (ap (λ t. byte ∷ t) (uncut behind)) ]
 
 -- a text in the first hole, and the rest behind it
 pub filled-hole : (text : List ℕ) (texts : List (List ℕ)) (rest front behind : List ℕ) → rest ≡ front ++ 63 ∷ behind → LacksHole front
@@ -212,11 +210,9 @@ fits-filled test first front op rest one all =
     let begins = beginning front op one o.1 a.1 in
     and_from _ _ (inside test (front ++ (op ++ rest)) ∙ and_from _ _ (and_from _ _ begins.0 found.0) (not_from_false _ found.1)) begins.1
   where
-    no : List Token → Type 0
-    no ts = not (begins_with first ts) ≡ true
-
-    beginning : (front op : List Token) → fits test first op ≡ true → no op → no (front ++ Symbol 63 ∷ rest)
-        → (not (is_empty (front ++ (op ++ rest))) ≡ true) × no (front ++ (op ++ rest))
+    beginning : (front op : List Token) → fits test first op ≡ true → not (begins_with first op) ≡ true
+        → not (begins_with first (front ++ Symbol 63 ∷ rest)) ≡ true
+        → not (is_empty (front ++ (op ++ rest))) ≡ true × (not (begins_with first (front ++ (op ++ rest))) ≡ true)
     beginning [] [] one isnt here = absurd (false≢true one)
     beginning [] (t ∷ op) one isnt here = (refl, isnt)
     beginning (t ∷ front) op one isnt here = (refl, here)
