@@ -113,18 +113,12 @@ fn outside_quotes(state: u64, byte: u8) -> u64
         } else {
             in_word(byte)
         },
-        HEXADECIMAL => if byte.is_ascii_hexdigit() {
-            HEXADECIMAL
-        } else {
-            begun(byte)
-        },
+        HEXADECIMAL if byte.is_ascii_hexdigit() => HEXADECIMAL,
+        HEXADECIMAL => begun(byte),
         LETTER_X => if byte == b'\'' { BLOB } else { in_word(byte) },
         BLOB => if byte == b'\'' { OUTSIDE } else { BLOB },
-        MINUS => if byte == b'-' {
-            LINE_COMMENT
-        } else {
-            begun(byte)
-        },
+        MINUS if byte == b'-' => LINE_COMMENT,
+        MINUS => begun(byte),
         LINE_COMMENT => if byte == b'\n' { OUTSIDE } else { LINE_COMMENT },
         SLASH => if byte == b'*' { COMMENT } else { begun(byte) },
         COMMENT => if byte == b'*' { COMMENT_STAR } else { COMMENT },
@@ -145,26 +139,14 @@ fn in_quotes(state: u64, byte: u8) -> u64
     match state {
         TEXT => if byte == b'\'' { TEXT_QUOTE } else { TEXT },
         TEXT_QUOTE => if byte == b'\'' { TEXT } else { begun(byte) },
-        DOUBLE_QUOTED => if byte == b'"' {
-            DOUBLE_QUOTE
-        } else {
-            DOUBLE_QUOTED
-        },
-        DOUBLE_QUOTE => if byte == b'"' {
-            DOUBLE_QUOTED
-        } else {
-            begun(byte)
-        },
-        BACK_QUOTED => if byte == b'`' {
-            BACK_QUOTE
-        } else {
-            BACK_QUOTED
-        },
-        BACK_QUOTE => if byte == b'`' {
-            BACK_QUOTED
-        } else {
-            begun(byte)
-        },
+        DOUBLE_QUOTED if byte == b'"' => DOUBLE_QUOTE,
+        DOUBLE_QUOTED => DOUBLE_QUOTED,
+        DOUBLE_QUOTE if byte == b'"' => DOUBLE_QUOTED,
+        DOUBLE_QUOTE => begun(byte),
+        BACK_QUOTED if byte == b'`' => BACK_QUOTE,
+        BACK_QUOTED => BACK_QUOTED,
+        BACK_QUOTE if byte == b'`' => BACK_QUOTED,
+        BACK_QUOTE => begun(byte),
         BRACKETED => if byte == b']' { OUTSIDE } else { BRACKETED },
         _ => begun(byte),
     }
@@ -184,26 +166,17 @@ fn in_parameter(state: u64, byte: u8) -> u64
         } else {
             begun(byte)
         },
-        VARIABLE_COLON => if byte == b':' {
-            VARIABLE
-        } else {
-            in_variable(byte)
-        },
-        NAME_COLON => if byte == b':' {
-            VARIABLE_NAME
-        } else {
-            in_variable(byte)
-        },
+        VARIABLE_COLON if byte == b':' => VARIABLE,
+        VARIABLE_COLON => in_variable(byte),
+        NAME_COLON if byte == b':' => VARIABLE_NAME,
+        NAME_COLON => in_variable(byte),
         ARGUMENTS => if matches!(byte, b')' | b' ' | b'\t' | b'\n' | b'\r' | b'\x0c') {
             OUTSIDE
         } else {
             ARGUMENTS
         },
-        PARAMETER => if byte.is_ascii_digit() {
-            PARAMETER
-        } else {
-            begun(byte)
-        },
+        PARAMETER if byte.is_ascii_digit() => PARAMETER,
+        PARAMETER => begun(byte),
         _ => begun(byte),
     }
 }
