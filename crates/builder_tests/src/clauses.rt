@@ -108,10 +108,12 @@ fn empty_lists_and_words_filter_nothing(rt: HostRuntime) -> Result<(), Fail> {
     let any_like = like(alloc, Percent::Right, n(), Value(""))?;
     assert_eq!(rt; message(delete(alloc)?.and_where(any_like)?.sql()), wanted);
     let no_n = not_contains(alloc, n(), Value(""))?;
-    assert!(rt; is_made(
-        delete(alloc)?.and_where(no_n)?.sql(),
-        "DELETE FROM t WHERE n NOT LIKE '%%' ESCAPE '!';",
-    ));
+    assert!(rt;
+        is_made(
+            delete(alloc)?.and_where(no_n)?.sql(),
+            "DELETE FROM t WHERE n NOT LIKE '%%' ESCAPE '!';",
+        )
+    );
     let filtered = others.and_where(eq(alloc, id(), 1)?)?;
     assert!(rt; is_made(filtered.sql(), "DELETE FROM t WHERE (1 = 1) AND (id = 1);"));
     Ok(())
