@@ -2,8 +2,6 @@
 //! statements they read as meant.
 
 use database_readers::Database;
-use database_readers::postgres::postgres_state;
-use database_readers::sqlite::sqlite_state;
 use sql_builder::SqlBuilderError;
 use sql_builder::prelude::*;
 use std::alloc::Global;
@@ -11,10 +9,10 @@ use std::test::Fail;
 
 #[test]
 fn reads_as_databases(rt: HostRuntime) -> Result<(), Fail> {
-    assert_eq!(rt; sqlite_state(b"SELECT 'a"), 11);
-    assert_eq!(rt; sqlite_state(b"/* /* */ SELECT 'it''s' "), 0);
-    assert_eq!(rt; postgres_state(b"SELECT E'a\\'"), 24);
-    assert_eq!(rt; postgres_state(b"/* /* */ SELECT 'it''s' "), 48);
+    assert_eq!(rt; Database::Sqlite.state(b"SELECT 'a"), 11);
+    assert_eq!(rt; Database::Sqlite.state(b"/* /* */ SELECT 'it''s' "), 0);
+    assert_eq!(rt; Database::Postgres.state(b"SELECT E'a\\'"), 24);
+    assert_eq!(rt; Database::Postgres.state(b"/* /* */ SELECT 'it''s' "), 48);
     assert_eq!(rt; Database::Mysql.state(b"SELECT 'a\\'"), 39);
     assert_eq!(rt;
         Database::MysqlNoBackslashEscapes.state(b"SELECT 'a\\'"),

@@ -1,10 +1,7 @@
 //! How PostgreSQL reads a text.
 ghost use Rattle.std.specs.Prelude.{◌≡◌, ◌<◌, ◌||◌, ◌==◌, ◌^◌};
-ghost use Rattle.sql_parts.specs.Readers.{after};
 ghost use Rattle.sql_parts.specs.Tokens.{is_word_byte};
-ghost use Rattle.database_readers.specs.PostgresReader.{begun, behind_string, ends_line, in_comment, in_nested, in_string, in_tag, in_tagged, in_token, in_word, is_blank, most, nested, outside, postgres, string};
-
-use crate::Database;
+ghost use Rattle.database_readers.specs.PostgresReader.{begun, behind_string, ends_line, in_comment, in_nested, in_string, in_tag, in_tagged, in_token, in_word, is_blank, most, nested, postgres, string};
 
 const OUTSIDE: u64 = 0;
 
@@ -349,12 +346,4 @@ pub(crate) fn next(state: u64, byte: u8) -> u64
     } else {
         LOST
     }
-}
-
-/// What PostgreSQL is in behind a text, by its number in `specs/PostgresReader.antt`.
-/// `postgres_state(b"SELECT 'a")` gives `16`
-pub fn postgres_state(text: &[u8]) -> u64
-    ensures { result ≡ after postgres outside text.now }
-{
-    Database::Postgres.state(text)
 }

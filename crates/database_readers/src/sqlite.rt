@@ -1,9 +1,6 @@
 //! How SQLite reads a text.
 ghost use Rattle.std.specs.Prelude.{◌≡◌};
-ghost use Rattle.sql_parts.specs.Readers.{after};
-ghost use Rattle.database_readers.specs.SqliteReader.{begun, continues, in_mark, in_parameter, in_quotes, in_variable, in_word, outside, outside_quotes, sqlite};
-
-use crate::Database;
+ghost use Rattle.database_readers.specs.SqliteReader.{begun, continues, in_mark, in_parameter, in_quotes, in_variable, in_word, outside_quotes, sqlite};
 
 const OUTSIDE: u64 = 0;
 
@@ -202,12 +199,4 @@ pub(crate) fn next(state: u64, byte: u8) -> u64
         VARIABLE..=PARAMETER => in_parameter(state, byte),
         _ => in_mark(state, byte),
     }
-}
-
-/// What SQLite is in behind a text, by its number in `specs/SqliteReader.antt`.
-/// `sqlite_state(b"SELECT 'a")` gives `11`
-pub fn sqlite_state(text: &[u8]) -> u64
-    ensures { result ≡ after sqlite outside text.now }
-{
-    Database::Sqlite.state(text)
 }
