@@ -2,18 +2,18 @@
 
 use sql_builder::SqlBuilderError;
 use sql_builder::calls::{
-    Call, CheckedError, Condition, Family, Finish, Place, Relation, Start, Unfit, check,
+    Call, CheckedError, Condition, Family, Finish, InvalidText, Place, Relation, Start, check,
     check_confined, run_checked, run_confined,
 };
-use sql_builder::lex::{Demand, Misfit, has_clause_word, has_dialect_word, misfit};
+use sql_builder::lex::{Requirement, Violation, has_clause_word, has_dialect_word, violation};
 use sql_builder::text::{Fragment, Operand};
 use std::alloc::{AllocError, Global};
 use std::test::Fail;
 
 /// Whether a text has this message as a fragment, and this as an operand; none where it fits.
 fn has_messages(text: &str, as_fragment: Option<&str>, as_operand: Option<&str>) -> bool {
-    message(misfit(text, Demand::Fragment)) == as_fragment
-        && message(misfit(text, Demand::Operand)) == as_operand
+    message(violation(text, Requirement::Fragment)) == as_fragment
+        && message(violation(text, Requirement::Operand)) == as_operand
         && has_typed_messages(text, as_fragment, as_operand)
 }
 
@@ -21,15 +21,15 @@ fn has_messages(text: &str, as_fragment: Option<&str>, as_operand: Option<&str>)
 fn has_typed_messages(text: &str, as_fragment: Option<&str>, as_operand: Option<&str>) -> bool {
     let fragment = Fragment::of_trusted(text).err();
     let operand = Operand::of_trusted(text).err();
-    message(misfit(text, Demand::TypedFragment)) == as_fragment
+    message(violation(text, Requirement::TypedFragment)) == as_fragment
         && message(fragment) == as_fragment
-        && message(misfit(text, Demand::TypedOperand)) == as_operand
+        && message(violation(text, Requirement::TypedOperand)) == as_operand
         && message(operand) == as_operand
 }
 
-fn message(misfit: Option<Misfit>) -> Option<&'static str> {
-    match misfit {
-        Some(misfit) => Some(misfit.message()),
+fn message(violation: Option<Violation>) -> Option<&'static str> {
+    match violation {
+        Some(violation) => Some(violation.message()),
         None => None,
     }
 }
@@ -71,9 +71,9 @@ fn refuses_clauses_of_some_databases(rt: HostRuntime) -> Result<(), Fail> {
     ] {
         assert!(rt; has_typed_messages(text, dialect, dialect), "{text}");
         assert!(rt; has_dialect_word(text) && !has_clause_word(text), "{text}");
-        let as_before = misfit(text, Demand::Operand).is_none();
+        let as_before = violation(text, Requirement::Operand).is_none();
         assert!(rt;
-            as_before && misfit(text, Demand::Fragment).is_none(),
+            as_before && violation(text, Requirement::Fragment).is_none(),
             "{text}"
         );
     }
@@ -100,15 +100,15 @@ fn takes_their_words_elsewhere(rt: HostRuntime) -> Result<(), Fail> {
 }
 
 /// Whether Display prints the message of the reason, and of a list of calls that has it.
-fn is_displayed(alloc: Global, misfit: Misfit, message: &str) -> Result<bool, Fail> {
-    let unfit = Unfit {
+fn is_displayed(alloc: Global, violation: Violation, message: &str) -> Result<bool, Fail> {
+    let invalid = InvalidText {
         place: Place::Start,
         text: 0,
-        misfit,
+        violation,
     };
-    let error = CheckedError::Unfit(unfit);
+    let error = CheckedError::InvalidText(invalid);
     Ok(
-        format!(in alloc; "{misfit}")?.as_str() == message
+        format!(in alloc; "{violation}")?.as_str() == message
             && format!(in alloc; "{error}")?.as_str() == message,
     )
 }
@@ -116,19 +116,19 @@ fn is_displayed(alloc: Global, misfit: Misfit, message: &str) -> Result<bool, Fa
 #[test]
 fn displays_its_errors(rt: HostRuntime) -> Result<(), Fail> {
     let alloc = rt.alloc();
-    for (misfit, message) in [
-        (Misfit::Blank, "No token"),
-        (Misfit::Open, "A quote or a comment has no end"),
+    for (violation, message) in [
+        (Violation::Blank, "No token"),
+        (Violation::Open, "A quote or a comment has no end"),
         (
-            Misfit::DialectWord,
+            Violation::DialectWord,
             "A top-level word that begins a clause in some databases",
         ),
         (
-            Misfit::CaseWord,
+            Violation::CaseWord,
             "A clause keyword or an open bracket between CASE and END",
         ),
     ] {
-        assert!(rt; is_displayed(alloc, misfit, message)?, "{message}");
+        assert!(rt; is_displayed(alloc, violation, message)?, "{message}");
     }
     let error = SqlBuilderError::NoTableName;
     assert_eq!(rt; format!(in alloc; "{error}")?.as_str(), "No table name");
@@ -156,12 +156,17 @@ fn run_list(
 }
 
 /// Whether the error is that this text doesn't fit, as its message says.
-fn is_unfit(ran: &Result<String, CheckedError>, place: Place, text: usize, message: &str) -> bool {
+fn is_invalid(
+    ran: &Result<String, CheckedError>,
+    place: Place,
+    text: usize,
+    message: &str,
+) -> bool {
     match ran {
-        Err(CheckedError::Unfit(unfit)) => {
-            is_same_place(unfit.place, place)
-                && unfit.text == text
-                && unfit.misfit.message() == message
+        Err(CheckedError::InvalidText(invalid)) => {
+            is_same_place(invalid.place, place)
+                && invalid.text == text
+                && invalid.violation.message() == message
         }
         _ => false,
     }
@@ -190,18 +195,18 @@ fn runs_a_list_that_fits(rt: HostRuntime) -> Result<(), Fail> {
     assert!(rt; is_text(&fits, "SELECT a FROM t WHERE b <= 5;"), "fits");
     let table = run_list(alloc, "t; u", "5", &Finish::Sql)?;
     assert!(rt;
-        is_unfit(&table, Place::Start, 0, "A semicolon"),
+        is_invalid(&table, Place::Start, 0, "A semicolon"),
         "the table"
     );
     let value = run_list(alloc, "t", "5 UNION SELECT 1", &Finish::Sql)?;
     assert!(rt;
-        is_unfit(&value, Place::Call(1), 1, "A top-level clause keyword"),
+        is_invalid(&value, Place::Call(1), 1, "A top-level clause keyword"),
         "the value"
     );
     let name = Finish::SubqueryAs(String::from_str(alloc, "s)")?);
     let name = run_list(alloc, "t", "5", &name)?;
     assert!(rt;
-        is_unfit(&name, Place::Finish, 0, "Brackets don't match"),
+        is_invalid(&name, Place::Finish, 0, "Brackets don't match"),
         "the name"
     );
     Ok(())
@@ -255,7 +260,7 @@ fn runs_an_insert_of_a_query(rt: HostRuntime) -> Result<(), Fail> {
     assert_eq!(rt; check_query(alloc)?, (false, true));
     let ran = run_query(alloc, run_checked)?;
     let clause = "A top-level clause keyword";
-    assert!(rt; is_unfit(&ran, Place::Call(1), 0, clause), "run_checked");
+    assert!(rt; is_invalid(&ran, Place::Call(1), 0, clause), "run_checked");
     let ran = run_query(alloc, run_confined)?;
     assert!(rt;
         is_text(&ran, "INSERT INTO t (a) SELECT b FROM u;"),
@@ -263,7 +268,7 @@ fn runs_an_insert_of_a_query(rt: HostRuntime) -> Result<(), Fail> {
     );
     let ran = run_comment(alloc)?;
     assert!(rt;
-        is_unfit(&ran, Place::Call(0), 0, "A quote or a comment has no end"),
+        is_invalid(&ran, Place::Call(0), 0, "A quote or a comment has no end"),
         "a comment"
     );
     Ok(())

@@ -5,7 +5,7 @@ use sql_builder::SqlBuilderError;
 use sql_builder::calls::Percent;
 use sql_builder::prelude::*;
 use sql_builder::text::{Fragment, Operand};
-use sql_parts::lex::Misfit;
+use sql_parts::lex::Violation;
 use sql_typed::condition::{
     all, any, contains, eq, is_null, like, not, not_contains, not_in_values, starts_with,
 };
@@ -289,12 +289,15 @@ fn names_queries(rt: HostRuntime) -> Result<(), Fail> {
 
 fn failing(alloc: Global, step: u8) -> Result<String, Error> {
     match step {
-        0 => Err(Misfit::Semicolon)?,
+        0 => Err(Violation::Semicolon)?,
         1 => Err(TemplateError::OperandCount)?,
         2 => Err(SqlBuilderError::NoSetFields)?,
         _ => {
             let template = Template::of_trusted("a = ?")?;
-            template.check(sql_parts::lex::Demand::TypedFragment, &Operands::new(alloc))?;
+            template.check(
+                sql_parts::lex::Requirement::TypedFragment,
+                &Operands::new(alloc),
+            )?;
             Ok(String::from_str(alloc, template.text)?)
         }
     }

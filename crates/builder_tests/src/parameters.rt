@@ -1,7 +1,7 @@
 //! Values beside a statement: each call once, and values of several types.
 
 use crate::every_call::is_made;
-use callers::asked::{self, Wanted, search};
+use callers::parameters::{self, Wanted, search};
 use sql_builder::SqlBuilderError;
 use sql_builder::prelude::*;
 use sql_builder::text::{Fragment, Operand};
@@ -166,19 +166,19 @@ fn is_asked(
     alloc: Global,
     form: &Wanted<'_>,
     sql: &str,
-    given: &[asked::Given<'_>],
+    given: &[parameters::Given<'_>],
 ) -> Result<bool, Error> {
     let mut values = Parameters::new(alloc, Style::Dollar);
-    values.bind(asked::Given::Number(1))?;
+    values.bind(parameters::Given::Number(1))?;
     let made = search(alloc, form, &mut values)?;
     Ok(made.as_str() == sql && values.values.iter().skip(1).eq(given.iter()))
 }
 
-const SEVEN: asked::Given<'static> = asked::Given::Number(7);
+const SEVEN: parameters::Given<'static> = parameters::Given::Number(7);
 
-const NINE: asked::Given<'static> = asked::Given::Number(9);
+const NINE: parameters::Given<'static> = parameters::Given::Number(9);
 
-fn asks_without_texts(alloc: Global, ids: Option<&[asked::Given<'_>]>) -> Result<bool, Error> {
+fn asks_without_texts(alloc: Global, ids: Option<&[parameters::Given<'_>]>) -> Result<bool, Error> {
     let form = Wanted {
         title: None,
         mask: None,
@@ -242,8 +242,8 @@ fn asks_by_five_parameters(rt: HostRuntime) -> Result<(), Fail> {
     let sql =
         "SELECT title FROM books WHERE (title = $2) AND (title LIKE $3 ESCAPE '!') AND (price >= $4) AND (price <= $5) AND (id IN ($6, $7));";
     let (title, mask) = (
-        asked::Given::Text("'; DROP TABLE books; --"),
-        asked::Given::Text("%5!%%"),
+        parameters::Given::Text("'; DROP TABLE books; --"),
+        parameters::Given::Text("%5!%%"),
     );
     assert!(rt;
         is_asked(alloc, &all, sql, &[title, mask, NINE, SEVEN, SEVEN, NINE])?,

@@ -4,7 +4,7 @@ use sql_builder::SqlBuilderError;
 use sql_builder::prelude::*;
 use sql_builder::text::{Fragment, Operand, OwnedOperand};
 use sql_parts::holes::hole_count;
-use sql_parts::lex::{Demand, Misfit};
+use sql_parts::lex::{Requirement, Violation};
 use sql_parts::{Placeholder, Style};
 use sql_typed::condition::{Condition, eq};
 use sql_typed::{OperandText, Operands, Select, Template, TemplateError};
@@ -30,7 +30,7 @@ fn is_held<V: OperandText>(alloc: Global, operand: V, wanted: &str) -> bool {
 // The condition of a text that is known only when the program runs.
 fn trusted(alloc: Global, text: &str, operands: &Operands) -> Result<Condition, TemplateError> {
     let template = Template::of_trusted(text)?;
-    template.check(Demand::TypedFragment, operands)?;
+    template.check(Requirement::TypedFragment, operands)?;
     Ok(template.condition(alloc, operands)?)
 }
 
@@ -43,7 +43,7 @@ fn trusted_operand(
         return Err(TemplateError::OperandCount);
     }
     let template = Template::of_trusted(text)?;
-    template.check(Demand::TypedOperand, operands)?;
+    template.check(Requirement::TypedOperand, operands)?;
     Ok(template.operand(alloc, operands)?)
 }
 
@@ -228,11 +228,11 @@ fn fails_by_name(rt: HostRuntime) -> Result<(), Fail> {
             Ok(condition) => condition.text.as_str() == wanted,
             Err(TemplateError::HolesTouch) => wanted == "HolesTouch",
             Err(TemplateError::OperandCount) => wanted == "OperandCount",
-            Err(TemplateError::Misfit(Misfit::Semicolon)) => wanted == "Semicolon",
-            Err(TemplateError::Misfit(Misfit::Brackets)) => wanted == "Brackets",
-            Err(TemplateError::Misfit(Misfit::ClauseWord)) => wanted == "ClauseWord",
-            Err(TemplateError::Misfit(Misfit::DialectWord)) => wanted == "DialectWord",
-            Err(TemplateError::Misfit(Misfit::Blank)) => wanted == "Blank",
+            Err(TemplateError::Violation(Violation::Semicolon)) => wanted == "Semicolon",
+            Err(TemplateError::Violation(Violation::Brackets)) => wanted == "Brackets",
+            Err(TemplateError::Violation(Violation::ClauseWord)) => wanted == "ClauseWord",
+            Err(TemplateError::Violation(Violation::DialectWord)) => wanted == "DialectWord",
+            Err(TemplateError::Violation(Violation::Blank)) => wanted == "Blank",
             Err(_) => false,
         };
         assert!(rt; found, "{text}");
@@ -246,7 +246,7 @@ fn says_why(rt: HostRuntime) -> Result<(), Fail> {
     let rows = [
         (TemplateError::HolesTouch, touching),
         (TemplateError::OperandCount, "Not one operand for each ?"),
-        (TemplateError::Misfit(Misfit::Blank), "No token"),
+        (TemplateError::Violation(Violation::Blank), "No token"),
         (TemplateError::from(SqlBuilderError::NoValues), "No values"),
     ];
     for (error, wanted) in rows {

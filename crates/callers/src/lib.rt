@@ -2,11 +2,11 @@
 //! is proved. `docs/CALLING.md` reads them one by one.
 #![tactic(auto)]
 
-pub mod asked;
 pub mod chains;
 pub mod form;
 pub mod interference;
 pub mod lists;
+pub mod parameters;
 pub mod searches;
 pub mod typed;
 pub mod untrusted;

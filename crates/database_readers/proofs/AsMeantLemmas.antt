@@ -1,7 +1,7 @@
 -- A text that is read as meant gives the premises of the laws of readers.
 use Rattle.sql_builder.proofs.Imports.{◌≡◌, refl, sym, ◌∙◌, ap, subst, ℕ, Bool, true, List, [], ◌∷◌, ◌++◌, Option, None, Some, Result, Ok, Err, map, not}
 use Rattle.sql_builder.proofs.Imports.{◌==◌, IfOk, flat_map, option_map, list_all, option_or, length, arith, append-nil, and_from, and_parts}
-use Rattle.sql_builder.proofs.Imports.{eqb-true, flat_map-append, LiteralValue, literal_text, null, truth, whole, words, doubled, quoted, Value, Single}
+use Rattle.sql_builder.proofs.Imports.{eqb-true, flat_map-append, LiteralValue, literal_text, null, truth, whole, words, doubled, quoted, Replacement, Single}
 use Rattle.sql_builder.proofs.Imports.{SqlBuilderError, Pieces}
 use Rattle.std.specs.Prelude.{find, unwrap_or}
 use Rattle.std.proofs.lemmas.List.Folds.{find-append}
@@ -95,8 +95,8 @@ module _ (next : Reader) (inside : ℕ) where
     printed-read (Ok printed) text all is masks = (pieces-read printed masks).read 0 (subst (At 0) (sym (cc is)) all)
     printed-read (Err error) text all is masks = tt
 
-    module _ (literals : Value → LiteralValue) where
-      abbrev blanks : Value → LiteralValue
+    module _ (literals : Replacement → LiteralValue) where
+      abbrev blanks : Replacement → LiteralValue
       blanks value = blank_literal (literals value)
 
       literal-read : (literal : LiteralValue) → AreRead (literal_parts (blank_literal literal)) (literal_text (blank_literal literal))
@@ -105,7 +105,7 @@ module _ (next : Reader) (inside : ℕ) where
       literal-read (truth value) = read-constant (literal_text (truth value))
       literal-read (whole number) = read-constant (literal_text (whole number))
 
-      segments-read : (segments : List (Value × List ℕ))
+      segments-read : (segments : List (Replacement × List ℕ))
           → AreRead (flat_map (λ part. literal_parts (blanks part.0) ++ Constant part.1 ∷ []) segments)
           (flat_map (λ part. literal_text (blanks part.0) ++ part.1) segments)
       segments-read [] = read-none

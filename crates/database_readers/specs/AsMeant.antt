@@ -5,7 +5,7 @@ use Rattle.sql_parts.specs.Literal.{LiteralValue}
 use Rattle.sql_parts.specs.ReaderLaws.{bound_parts}
 use Rattle.sql_parts.specs.Readers.{Reader, IsInsideAtEach}
 use Rattle.sql_parts.specs.StringTexts.{blank_literal}
-use Rattle.sql_parts.specs.Templates.{Marks, Value, bound}
+use Rattle.sql_parts.specs.Templates.{Marks, Replacement, bound}
 use Rattle.sql_builder.specs.Calls.{CallText, FinishText, StartText}
 use Rattle.sql_builder.specs.Interference.{blank_call}
 use Rattle.sql_builder.specs.Statement.{statement}
@@ -43,7 +43,7 @@ OpensStringsOfStatements database text = (start : StartText) (calls : List CallT
 
 -- and at each bound text of every template that is so with no texts bound to it
 abbrev pub OpensStringsOfTemplates : Database → List ℕ → Type 0
-OpensStringsOfTemplates database text = (template : List ℕ) (placeholders : Marks) (literals : Value → LiteralValue)
-    → let blanks : Value → LiteralValue = λ value. blank_literal (literals value) in
+OpensStringsOfTemplates database text = (template : List ℕ) (placeholders : Marks) (literals : Replacement → LiteralValue)
+    → let blanks : Replacement → LiteralValue = λ value. blank_literal (literals value) in
     bound template placeholders blanks ≡ Some text
     → IsInsideAtEach (reader_of database) (is_plain database) 0 (bound_parts template placeholders blanks)

@@ -22,7 +22,7 @@ pub use Rattle.sql_parts.proofs.chains.VariantLemmas.{variant}
 pub use Rattle.sql_parts.proofs.fragments.DepthFacts.{after, at_end, closes_from, end-is, has_top_level, has_top_level-is, inside-is, is_at_least_0}
 pub use Rattle.sql_parts.proofs.fragments.DepthFacts.{is_at_least_1, is_balanced, is_balanced-is, is_even, is_operand, is_operand-is, is_zero, placed}
 pub use Rattle.sql_parts.proofs.fragments.DepthFacts.{placed-is, placed_from, stays_inside}
-pub use Rattle.sql_parts.proofs.fragments.MisfitLemmas.{balanced_whole, met}
+pub use Rattle.sql_parts.proofs.fragments.ViolationLemmas.{balanced_whole, met}
 pub use Rattle.sql_parts.proofs.fragments.StringTextFacts.{any-blank, closed-alike, ignores, somewhere}
 pub use Rattle.sql_parts.proofs.templates.BoundSeamLemmas.{texts-apart, unmarked-front}
 pub use Rattle.sql_parts.proofs.tokens.JoinFacts.{begins-append, clean-behind, enclosed-tokens}
@@ -35,7 +35,7 @@ pub use Rattle.sql_parts.specs.NumberedTexts.{is_taken, with_values}
 pub use Rattle.sql_parts.specs.Operands.{ServesAsOperand, is_fragment}
 pub use Rattle.sql_parts.specs.Quoting.{doubled, escaped, quoted}
 pub use Rattle.sql_parts.specs.StringTexts.{IgnoresStrings, blank, blank_token, length_in_tokens, outline, semicolon_count, tokens_but}
-pub use Rattle.sql_parts.specs.Templates.{Nums, Value, bound, listed}
+pub use Rattle.sql_parts.specs.Templates.{Nums, Replacement, bound, listed}
 pub use Rattle.sql_parts.specs.Text.{join_with, texts}
 pub use Rattle.sql_parts.specs.TokenReader.{token_reader}
 pub use Rattle.sql_parts.specs.Tokens.{Name, Open, Str, Symbol, Token, Word, begins_with, clean, closed, ends_with, has_semicolon, is_edge, is_empty, is_open}

@@ -7,7 +7,7 @@ pub mod PassLemmas
 pub mod PreservationLemmas
 pub mod PropertyLemmas
 pub mod TextTestLemmas
-pub mod UnfitLemmas
+pub mod InvalidTextLemmas
 -- Each name of these files, for one line of imports.
 unfoldable pub use ClauseFacts.*
 unfoldable pub use FitLemmas.*
@@ -18,5 +18,5 @@ unfoldable pub use PassLemmas.*
 unfoldable pub use PreservationLemmas.*
 unfoldable pub use PropertyLemmas.*
 unfoldable pub use TextTestLemmas.*
-unfoldable pub use UnfitLemmas.*
+unfoldable pub use InvalidTextLemmas.*
 pub use Rattle.sql_builder.proofs.fragments.FitLemmas.{balanced_fragments}

@@ -1,5 +1,5 @@
 -- Statements whose values are beside them.
-use Rattle.std.specs.Prelude.{◌≡◌, ℕ, suc, List, [], ◌∷◌, ◌++◌, length}
+use Rattle.std.specs.Prelude.{◌≡◌, suc, List, [], ◌∷◌, ◌++◌, length}
 use Rattle.sql_parts.specs.Parameters.{placeholders_behind}
 use Rattle.sql_parts.specs.declared.parameter.Placeholder.{Placeholder}
 use Rattle.sql_parts.specs.declared.parameter.Style.{Style}

@@ -4,7 +4,7 @@ use Rattle.std.specs.Prelude.{◌≡◌, ◌==◌, ℕ, Bool, IfOk, IsTrue, List
 use Rattle.std.specs.List.{list_all}
 use Rattle.sql_parts.specs.Literal.{LiteralValue}
 use Rattle.sql_parts.specs.NumberedTexts.{with_values}
-use Rattle.sql_parts.specs.Templates.{Nums, Value, bound}
+use Rattle.sql_parts.specs.Templates.{Nums, Replacement, bound}
 use Rattle.sql_builder.specs.Calls.{CallText, FinishText, StartText, SubqueryAs}
 use Rattle.sql_builder.specs.Calls.{SelectFrom, SelectValues, InsertInto, UpdateTable, DeleteFrom}
 use Rattle.sql_builder.specs.Calls.{AndTable, Join, On, OnEq, Fields, SetFields, Field, SetField, Count, CountAs, SetTo, SetStr, Values, Select, Returning}
@@ -18,7 +18,7 @@ use Rattle.sql_builder.specs.Pieces.{Piece, Pieces, Fixed, piece_text, pieces_te
 use Rattle.sql_builder.specs.Statement.{pieces, statement, text_at}
 use Rattle.sql_builder.specs.StatementLaws.{made_by}
 
-module _ (count : ℕ) (literals : Value → LiteralValue) where
+module _ (count : ℕ) (literals : Replacement → LiteralValue) where
   -- a piece with the literals of its numbers: the builder's own words have none
   abbrev pub piece_with_values : Piece → List ℕ
   piece_with_values (Fixed words) = words
@@ -35,44 +35,44 @@ module _ (count : ℕ) (literals : Value → LiteralValue) where
 
 -- what is bound to a statement is bound to each of its pieces
 abbrev pub StatementsBindByPieces : Type 0
-StatementsBindByPieces = (count : ℕ) (literals : Value → LiteralValue) (start : StartText) (calls : List CallText) (finish : FinishText)
+StatementsBindByPieces = (count : ℕ) (literals : Replacement → LiteralValue) (start : StartText) (calls : List CallText) (finish : FinishText)
     → IfOk (pieces start calls finish) (λ printed. bound (pieces_text printed) (Nums count) literals ≡ Some (pieces_with_values count literals printed))
 
 -- what is bound to the text of a builder is bound to each of its clauses
 abbrev pub StatementsBindByClauses : Type 0
-StatementsBindByClauses = (count : ℕ) (literals : Value → LiteralValue) (finish : FinishText) (r : Clauses (List ℕ))
+StatementsBindByClauses = (count : ℕ) (literals : Replacement → LiteralValue) (finish : FinishText) (r : Clauses (List ℕ))
     → bound (text_at finish r) (Nums count) literals
     ≡ Some (text_at (finish_with_values count literals finish) (map_clauses (with_values count literals) r))
 
 -- what is bound to a condition is bound to each of its pieces
 abbrev pub ConditionsBindByPieces : Type 0
-ConditionsBindByPieces = (count : ℕ) (literals : Value → LiteralValue) (condition : ConditionText)
+ConditionsBindByPieces = (count : ℕ) (literals : Replacement → LiteralValue) (condition : ConditionText)
     → bound (condition_bytes condition) (Nums count) literals ≡ Some (pieces_with_values count literals (condition_pieces condition))
 
 -- what is bound to conditions that are joined is bound to each of them,
 abbrev pub CombinedBindByParts : Type 0
-CombinedBindByParts = (count : ℕ) (literals : Value → LiteralValue) (conjunction : Bool) (conditions : List (List ℕ))
+CombinedBindByParts = (count : ℕ) (literals : Replacement → LiteralValue) (conjunction : Bool) (conditions : List (List ℕ))
     → bound (combined_text conjunction conditions) (Nums count) literals ≡ Some (combined_text conjunction (map (with_values count literals) conditions))
 
 -- what is bound to the NOT of a condition, to that condition,
 abbrev pub NegationsBindByPart : Type 0
-NegationsBindByPart = (count : ℕ) (literals : Value → LiteralValue) (condition : List ℕ)
+NegationsBindByPart = (count : ℕ) (literals : Replacement → LiteralValue) (condition : List ℕ)
     → bound (negation_text condition) (Nums count) literals ≡ Some (negation_text (with_values count literals condition))
 
 -- what is bound to EXISTS of a query, to that query,
 abbrev pub ExistsBindsByQuery : Type 0
-ExistsBindsByQuery = (count : ℕ) (literals : Value → LiteralValue) (negated : Bool) (query : List ℕ)
+ExistsBindsByQuery = (count : ℕ) (literals : Replacement → LiteralValue) (negated : Bool) (query : List ℕ)
     → bound (exists_text negated query) (Nums count) literals ≡ Some (exists_text negated (with_values count literals query))
 
 -- and what is bound to a field that is like a mask, to the field and to the mask
 abbrev pub MasksBindByParts : Type 0
-MasksBindByParts = (count : ℕ) (literals : Value → LiteralValue) (negated : Bool) (field mask : List ℕ)
+MasksBindByParts = (count : ℕ) (literals : Replacement → LiteralValue) (negated : Bool) (field mask : List ℕ)
     → bound (like_text negated field mask) (Nums count) literals
     ≡ Some (like_text negated (with_values count literals field) (with_values count literals mask))
 
 -- ---- calls
 
-module _ (count : ℕ) (literals : Value → LiteralValue) where
+module _ (count : ℕ) (literals : Replacement → LiteralValue) where
   -- a condition, each fragment with the literals of its numbers
   abbrev pub condition_with_values : ConditionText → ConditionText
   condition_with_values (Raw condition) = Raw (with_values count literals condition)
@@ -129,14 +129,14 @@ has_no_dollar text = list_all (λ byte. not (byte == code "$")) text
 
 -- Where the texts that a condition quotes have no `$`, what is bound to it is bound to each of its fragments.
 abbrev pub ConditionsBindByFragments : Type 0
-ConditionsBindByFragments = (count : ℕ) (literals : Value → LiteralValue) (condition : ConditionText)
+ConditionsBindByFragments = (count : ℕ) (literals : Replacement → LiteralValue) (condition : ConditionText)
     → IsTrue (list_all has_no_dollar (condition_quoted_texts condition))
     → bound (condition_bytes condition) (Nums count) literals ≡ Some (condition_bytes (condition_with_values count literals condition))
 
 -- Where the texts that calls quote have no `$`, what is bound to their statement is bound to each fragment of the calls: it is what the
 -- builder of the start and calls prints, each fragment with the literals of its numbers.
 abbrev pub StatementsBindByCalls : Type 0
-StatementsBindByCalls = (count : ℕ) (literals : Value → LiteralValue) (start : StartText) (calls : List CallText) (finish : FinishText)
+StatementsBindByCalls = (count : ℕ) (literals : Replacement → LiteralValue) (start : StartText) (calls : List CallText) (finish : FinishText)
     → IsTrue (list_all (λ call. list_all has_no_dollar (call_quoted_texts call)) calls)
     → IfOk (statement start calls finish) (λ text. bound text (Nums count) literals
     ≡ Some (text_at (finish_with_values count literals finish)

@@ -2,7 +2,7 @@
 use Rattle.std.specs.Prelude.{◌≡◌, Result}
 use Rattle.std.specs.Borrow.{Fml, MutBor}
 use Rattle.sql_parts.specs.Loans as loan
-use Rattle.sql_parts.specs.declared.loan.Held.{Held}
+use Rattle.sql_parts.specs.declared.loan.Loan.{Loan}
 use Rattle.sql_builder.specs.Builder.{ClauseTexts}
 use Rattle.sql_builder.specs.contracts.builder.SqlBuilder.{the_row}
 
@@ -14,6 +14,6 @@ IsSameLoan given back = back.ghost_name ≡ given.ghost_name
 abbrev pub IsUnchangedIfErr : {E : Type 0} → MutBor ClauseTexts → Result (MutBor ClauseTexts) E → Fml
 IsUnchangedIfErr builder result = loan.IsUnchangedIfErr the_row builder result
 
--- where the call fails, the builder that was to be held is as it was
-abbrev pub IsUnchangedIfHeldErr : {E : Type 0} → MutBor ClauseTexts → Result (Held ClauseTexts) E → Fml
-IsUnchangedIfHeldErr builder result = loan.IsUnchangedIfHeldErr the_row builder result
+-- where the call fails, the builder that was to be lent is as it was
+abbrev pub IsUnchangedIfLoanErr : {E : Type 0} → MutBor ClauseTexts → Result (Loan ClauseTexts) E → Fml
+IsUnchangedIfLoanErr builder result = loan.IsUnchangedIfLoanErr the_row builder result

@@ -12,7 +12,7 @@ pub mod FitCalls
 pub mod RawFragments
 pub mod RawTexts
 pub mod TextTests
-pub mod Unfits
+pub mod InvalidTexts
 pub mod Inserts
 pub mod Interference
 pub mod BuilderLaws
@@ -47,7 +47,7 @@ unfoldable pub use FitCalls.*
 unfoldable pub use RawFragments.*
 unfoldable pub use RawTexts.*
 unfoldable pub use TextTests.*
-unfoldable pub use Unfits.*
+unfoldable pub use InvalidTexts.*
 unfoldable pub use Inserts.*
 unfoldable pub use Interference.*
 unfoldable pub use BuilderLaws.*

@@ -11,8 +11,8 @@ use Rattle.sql_builder.specs.Meaning.{AddsCondition}
 use Rattle.sql_builder.specs.Shape.{AddsText}
 use Rattle.sql_builder.specs.declared.condition.Family.{Family}
 use Rattle.sql_builder.specs.Pieces.{fixed_piece, quoted_piece, raw_piece}
-use Rattle.sql_builder.specs.declared.where_calls.Sense.{Sense}
-use Rattle.sql_builder.specs.declared.where_calls.Sense.TheVariants.{Plain, Negated}
+use Rattle.sql_builder.specs.declared.where_calls.Polarity.{Polarity}
+use Rattle.sql_builder.specs.declared.where_calls.Polarity.TheVariants.{Plain, Negated}
 use Rattle.sql_builder.specs.declared.steps.BinaryClause.{BinaryClause}
 use Rattle.sql_builder.specs.declared.steps.BinaryClause.TheVariants as binary
 
@@ -38,10 +38,10 @@ Applies (Ok done) old new change = new ≡ change old
 Applies (Err error) old new change = IsMemory error × (new ≡ old)
 
 -- `AddsCondition` as a word that does not unfold by itself, so that the condition stays one term in proofs
-unfoldable pub AddsConditionOpaque : Family → ConditionText → ClauseTexts → ClauseTexts → Type 0
-AddsConditionOpaque family condition old new = AddsCondition family condition old new
+unfoldable pub StepAddsCondition : Family → ConditionText → ClauseTexts → ClauseTexts → Type 0
+StepAddsCondition family condition old new = AddsCondition family condition old new
 
 -- whether a condition is the NOT form
-abbrev pub is_negated : Sense → Bool
+abbrev pub is_negated : Polarity → Bool
 is_negated Plain = false
 is_negated Negated = true

@@ -121,7 +121,8 @@ type FurtherClauses = (
 impl SqlBuilder {
     ghost use Rattle.sql_builder.specs.Builder.{group_texts};
 
-    fn new(alloc: Global, kind: Kind, table: String, fields: TextList) -> SqlBuilder
+    #[inline(always)]
+    pub(crate) fn new(alloc: Global, kind: Kind, table: String, fields: TextList) -> SqlBuilder
         ensures { result ≡ new_clauses kind (string_bytes table) fields }
     {
         SqlBuilder {

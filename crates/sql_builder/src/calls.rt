@@ -1,5 +1,5 @@
 //! Lists of calls, as values, and the statement that a list makes.
-ghost use Rattle.std.specs.Prelude.{◌≡◌, [], ◌⊎◌, ◌≤◌, ◌+◌, ◌-◌, ◌^◌, ◌++◌, length, map, min, IfErr, IfOk, IfSome, IsNone, IsOk, IsTrue, Ok, OnErr, OnOk, string_bytes, string_capacity, string_len};
+ghost use Rattle.std.specs.Prelude.{◌≡◌, [], ◌⊎◌, ◌≤◌, ◌+◌, ◌-◌, ◌^◌, ◌++◌, length, map, min, IfErr, IfOk, IfSome, IsNone, IsOk, IsTrue, List, Ok, OnErr, OnOk, string_bytes, string_capacity, string_len, ℕ};
 ghost use Rattle.sql_parts.specs.Error.{FailsOnlyByMemory, IsMemory};
 ghost use Rattle.sql_builder.specs.{started, IsCallError, with_call, SelectValues, kind_of, call_view, finish_view, of_list, start_on, start_view};
 ghost use Rattle.sql_builder.specs.{HasBalancedFragments, HasFitFragments, HasTruthOf, condition_groups, is_nested, is_unenclosed, prints_where};
@@ -9,7 +9,7 @@ ghost use Rattle.sql_parts.specs.Tokens.{closed, tokens};
 
 use crate::builder::SqlBuilder;
 pub use crate::checks::{
-    CheckedError, Place, Unfit, check, check_confined, run_checked, run_confined,
+    CheckedError, InvalidText, Place, check, check_confined, run_checked, run_confined,
 };
 use crate::clauses::Kind;
 use crate::concat::replace;
@@ -159,6 +159,31 @@ pub fn begin(alloc: Global, start: &Start) -> Result<SqlBuilder, SqlBuilderError
     }
 }
 
+impl TableStart {
+    #[inline(always)]
+    fn kind(self) -> Kind
+        ensures { (table : List ℕ) → result ≡ kind_of (start_on self table) }
+    {
+        match self {
+            TableStart::SelectFrom => Kind::SelectFrom,
+            TableStart::InsertInto => Kind::InsertInto,
+            TableStart::UpdateTable => Kind::UpdateTable,
+            TableStart::DeleteFrom => Kind::DeleteFrom,
+        }
+    }
+}
+
+/// Returns the builder of a statement on this table. Never fails. Inlined, so that `sql_typed`
+/// makes the builder in its box. For the crates here alone.
+/// `begin_on(alloc, TableStart::SelectFrom, String::from_str(alloc, "t")?).sql()?` gives
+/// `SELECT * FROM t;`
+#[inline(always)]
+pub fn begin_on(alloc: Global, start: TableStart, table: String) -> SqlBuilder
+    ensures started { result ≡ started (start_on start (string_bytes table)) }
+{
+    SqlBuilder::new(alloc, start.kind(), table, TextList::new(alloc))
+}
+
 /// Turns a builder into that of another start, and keeps its buffers. Fails only if memory runs
 /// out, and then leaves the builder unchanged.
 /// ```
@@ -198,12 +223,7 @@ pub fn restart_on(
     ensures unchanged { OnErr result (builder.new ≡ builder.old) }
     ensures memory { FailsOnlyByMemory result }
 {
-    let kind = match start {
-        TableStart::SelectFrom => Kind::SelectFrom,
-        TableStart::InsertInto => Kind::InsertInto,
-        TableStart::UpdateTable => Kind::UpdateTable,
-        TableStart::DeleteFrom => Kind::DeleteFrom,
-    };
+    let kind = start.kind();
     replace(&mut builder.table, table)?;
     builder.fields.clear();
     builder.clear(kind);

@@ -25,7 +25,7 @@ impl SqlBuilder {
         ensures changed { IsChangedTo self.entry (with_table (S.text table) self.old) result }
         ensures memory { FailsOnlyByMemory result }
     {
-        release(self.hold_unary(UnaryClause::AndTable, table))
+        release(self.step_unary(UnaryClause::AndTable, table))
     }
 
     /// Adds a join with this table, with the operator in force. It is NATURAL if a `natural` waits
@@ -38,7 +38,7 @@ impl SqlBuilder {
         ensures changed { IsChangedTo self.entry (with_join (S.text table) self.old) result }
         ensures memory { FailsOnlyByMemory result }
     {
-        release(self.hold_unary(UnaryClause::Join, table))
+        release(self.step_unary(UnaryClause::Join, table))
     }
 
     /// Adds a constraint to the last join. Without a join it does nothing and never fails.
@@ -50,7 +50,7 @@ impl SqlBuilder {
         ensures changed { IsChangedTo self.entry (with_on (S.text constraint) self.old) result }
         ensures memory { IfErr result (IsConstraintError self.old) }
     {
-        release(self.hold_unary(UnaryClause::On, constraint))
+        release(self.step_unary(UnaryClause::On, constraint))
     }
 
     /// Adds the constraint `left = right` to the last join. Without a join it does nothing and
@@ -69,7 +69,7 @@ impl SqlBuilder {
             (equation fixed_piece (raw_piece (S.text left)) (raw_piece (T.text right)))) result }
         ensures memory { IfErr result (IsConstraintError self.old) }
     {
-        release(self.hold_binary(BinaryClause::OnEq, left, right))
+        release(self.step_binary(BinaryClause::OnEq, left, right))
     }
 
     /// Appends fields. Fails only if memory runs out, and then leaves the builder unchanged.
@@ -81,7 +81,7 @@ impl SqlBuilder {
             (with_fields (map S.text fields.now) self.old) result }
         ensures memory { FailsOnlyByMemory result }
     {
-        release(self.hold_variadic(VariadicClause::Fields, fields))
+        release(self.step_variadic(VariadicClause::Fields, fields))
     }
 
     /// Puts these fields in the place of all others. Fails only if memory runs out, and then leaves
@@ -94,7 +94,7 @@ impl SqlBuilder {
             (with_fields_set (map S.text fields.now) self.old) result }
         ensures memory { FailsOnlyByMemory result }
     {
-        release(self.hold_variadic(VariadicClause::SetFields, fields))
+        release(self.step_variadic(VariadicClause::SetFields, fields))
     }
 
     /// Appends a field. Fails only if memory runs out, and then leaves the builder unchanged.
@@ -105,7 +105,7 @@ impl SqlBuilder {
             (with_fields (S.text field ∷ []) self.old) result }
         ensures memory { FailsOnlyByMemory result }
     {
-        release(self.hold_unary(UnaryClause::Field, field))
+        release(self.step_unary(UnaryClause::Field, field))
     }
 
     /// Puts this field in the place of all others. Fails only if memory runs out, and then leaves
@@ -118,7 +118,7 @@ impl SqlBuilder {
             (with_fields_set (S.text field ∷ []) self.old) result }
         ensures memory { FailsOnlyByMemory result }
     {
-        release(self.hold_unary(UnaryClause::SetField, field))
+        release(self.step_unary(UnaryClause::SetField, field))
     }
 
     /// Appends the field `COUNT(field)`. Fails only if memory runs out, and then leaves the builder
@@ -130,7 +130,7 @@ impl SqlBuilder {
             (with_fields (count byte_units (S.text field) ∷ []) self.old) result }
         ensures memory { FailsOnlyByMemory result }
     {
-        release(self.hold_unary(UnaryClause::Count, field))
+        release(self.step_unary(UnaryClause::Count, field))
     }
 
     /// Appends the field `COUNT(field) AS name`. Fails only if memory runs out, and then leaves the
@@ -149,7 +149,7 @@ impl SqlBuilder {
             (count_as fixed_piece (raw_piece (S.text field)) (raw_piece (T.text name)))) result }
         ensures memory { FailsOnlyByMemory result }
     {
-        release(self.hold_binary(BinaryClause::CountAs, field, name))
+        release(self.step_binary(BinaryClause::CountAs, field, name))
     }
 
     /// Adds `field = value` to what UPDATE sets. Fails only if memory runs out, and then leaves the
@@ -167,7 +167,7 @@ impl SqlBuilder {
             (equation fixed_piece (raw_piece (S.text field)) (raw_piece (T.text value)))) result }
         ensures memory { FailsOnlyByMemory result }
     {
-        release(self.hold_binary(BinaryClause::SetTo, field, value))
+        release(self.step_binary(BinaryClause::SetTo, field, value))
     }
 
     /// Adds `field = 'value'` to what UPDATE sets, with the value between single quotes as `quote`
@@ -186,7 +186,7 @@ impl SqlBuilder {
             result }
         ensures memory { FailsOnlyByMemory result }
     {
-        release(self.hold_binary(BinaryClause::SetStr, field, value))
+        release(self.step_binary(BinaryClause::SetStr, field, value))
     }
 
     /// Adds a row to an INSERT, with the values in brackets, and drops its query. Fails only if
@@ -199,7 +199,7 @@ impl SqlBuilder {
             (with_row (map S.text values.now) self.old) result }
         ensures memory { FailsOnlyByMemory result }
     {
-        release(self.hold_variadic(VariadicClause::Values, values))
+        release(self.step_variadic(VariadicClause::Values, values))
     }
 
     /// Sets the query of an INSERT, and drops all rows. Fails only if memory runs out, and then
@@ -211,7 +211,7 @@ impl SqlBuilder {
         ensures changed { IsChangedTo self.entry (with_query (S.text query) self.old) result }
         ensures memory { FailsOnlyByMemory result }
     {
-        release(self.hold_unary(UnaryClause::Select, query))
+        release(self.step_unary(UnaryClause::Select, query))
     }
 
     /// Sets what RETURNING returns, in an INSERT, an UPDATE and a DELETE. The last call of
@@ -225,7 +225,7 @@ impl SqlBuilder {
             (with_returning (S.text fields) self.old) result }
         ensures memory { FailsOnlyByMemory result }
     {
-        release(self.hold_unary(UnaryClause::Returning, fields))
+        release(self.step_unary(UnaryClause::Returning, fields))
     }
 
     /// Sets RETURNING id, in an INSERT, an UPDATE and a DELETE. The last call of `returning` or
@@ -237,7 +237,7 @@ impl SqlBuilder {
         ensures changed { IsChangedTo self.entry (with_returning (codes "id") self.old) result }
         ensures memory { FailsOnlyByMemory result }
     {
-        release(self.hold_returning_id())
+        release(self.step_returning_id())
     }
 
     /// Appends a field to GROUP BY. Fails only if memory runs out, and then leaves the builder
@@ -250,7 +250,7 @@ impl SqlBuilder {
             (with_group_field (S.text field) self.old) result }
         ensures memory { FailsOnlyByMemory result }
     {
-        release(self.hold_unary(UnaryClause::GroupBy, field))
+        release(self.step_unary(UnaryClause::GroupBy, field))
     }
 
     /// Sets the condition of HAVING, which follows GROUP BY. The last call counts. Fails only if
@@ -264,7 +264,7 @@ impl SqlBuilder {
             (with_having (S.text condition) self.old) result }
         ensures memory { FailsOnlyByMemory result }
     {
-        release(self.hold_unary(UnaryClause::Having, condition))
+        release(self.step_unary(UnaryClause::Having, condition))
     }
 
     /// Appends UNION and the query. Fails only if memory runs out, and then leaves the builder
@@ -277,7 +277,7 @@ impl SqlBuilder {
             (with_union false (S.text query) self.old) result }
         ensures memory { FailsOnlyByMemory result }
     {
-        release(self.hold_unary(UnaryClause::Union, query))
+        release(self.step_unary(UnaryClause::Union, query))
     }
 
     /// Appends UNION ALL and the query. Fails only if memory runs out, and then leaves the builder
@@ -290,7 +290,7 @@ impl SqlBuilder {
             (with_union true (S.text query) self.old) result }
         ensures memory { FailsOnlyByMemory result }
     {
-        release(self.hold_unary(UnaryClause::UnionAll, query))
+        release(self.step_unary(UnaryClause::UnionAll, query))
     }
 
     /// Appends a field to ORDER BY, with DESC if it is descending. ORDER BY is left out beside a
@@ -307,7 +307,7 @@ impl SqlBuilder {
             (with_order descending (S.text field) self.old) result }
         ensures memory { FailsOnlyByMemory result }
     {
-        release(self.hold_order(field, descending))
+        release(self.step_order(field, descending))
     }
 
     /// Appends a field to ORDER BY. ORDER BY is left out beside a union. Fails only if memory runs
@@ -320,7 +320,7 @@ impl SqlBuilder {
             (with_order false (S.text field) self.old) result }
         ensures memory { FailsOnlyByMemory result }
     {
-        release(self.hold_unary(UnaryClause::OrderAsc, field))
+        release(self.step_unary(UnaryClause::OrderAsc, field))
     }
 
     /// Appends a field with DESC to ORDER BY. ORDER BY is left out beside a union. Fails only if
@@ -333,7 +333,7 @@ impl SqlBuilder {
             (with_order true (S.text field) self.old) result }
         ensures memory { FailsOnlyByMemory result }
     {
-        release(self.hold_unary(UnaryClause::OrderDesc, field))
+        release(self.step_unary(UnaryClause::OrderDesc, field))
     }
 
     /// Sets the text of a query's LIMIT. The last call counts. Fails only if memory runs out, and
@@ -344,7 +344,7 @@ impl SqlBuilder {
         ensures changed { IsChangedTo self.entry (with_limit (S.text limit) self.old) result }
         ensures memory { FailsOnlyByMemory result }
     {
-        release(self.hold_unary(UnaryClause::Limit, limit))
+        release(self.step_unary(UnaryClause::Limit, limit))
     }
 
     /// Sets the text of a query's OFFSET. The last call counts. Fails only if memory runs out, and
@@ -356,7 +356,7 @@ impl SqlBuilder {
         ensures changed { IsChangedTo self.entry (with_offset (S.text offset) self.old) result }
         ensures memory { FailsOnlyByMemory result }
     {
-        release(self.hold_unary(UnaryClause::Offset, offset))
+        release(self.step_unary(UnaryClause::Offset, offset))
     }
 }
 

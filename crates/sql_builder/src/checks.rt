@@ -1,19 +1,19 @@
 //! Tests of the raw texts of a list of calls, and lists that are tested before they are run.
 ghost use Rattle.std.specs.Prelude.{◌≡◌, ◌<◌, [], ◌∷◌, is_ok, map, string_bytes, Err, IfErr, IfOk, IsTrue, Ok};
 ghost use Rattle.sql_parts.specs.Fragments.{balanced};
-ghost use Rattle.sql_parts.specs.Misfits.{misfit};
+ghost use Rattle.sql_parts.specs.Violations.{violation};
 ghost use Rattle.sql_parts.specs.Text.{texts};
 ghost use Rattle.sql_parts.specs.Tokens.{closed, tokens};
-ghost use Rattle.sql_parts.specs.declared.misfits.Demand.TheVariants as demand;
+ghost use Rattle.sql_parts.specs.declared.violations.Requirement.TheVariants as requirement;
 ghost use Rattle.sql_builder.specs.declared.checks.CheckedError.TheVariants as error;
 ghost use Rattle.sql_builder.specs.{Sql, call_raw_texts, call_view, field_text, finish_raw_texts, finish_view, kind_of, of_list, start_raw_texts, start_view};
 ghost use Rattle.sql_builder.specs.{condition_raw_texts, condition_view, HasTruthOf, condition_groups, is_nested, is_unenclosed, prints_where, encloses_fields};
 ghost use Rattle.sql_builder.specs.{has_fit_texts, is_fit, Bare, Enclosed, clause_list, read, EndsInOneSemicolon, shape, statement, makes_table, texts_pass};
-ghost use Rattle.sql_builder.specs.{IsCheckedError, calls_test, checked_message, list_test, raw_test, texts_test, unless_misfit};
+ghost use Rattle.sql_builder.specs.{IsCheckedError, calls_test, checked_message, list_test, raw_test, texts_test, unless_violation};
 
 use crate::calls::{Call, Condition, Finish, Start, run};
 use sql_parts::SqlBuilderError;
-use sql_parts::lex::{Demand, Misfit, misfit};
+use sql_parts::lex::{Requirement, Violation, violation};
 use std::alloc::Global;
 use std::error::Error;
 use std::fmt;
@@ -31,20 +31,20 @@ pub enum Place {
 
 /// The first text of a list of calls that doesn't fit in its place.
 #[derive(Clone, Copy, Debug, Drop)]
-pub struct Unfit {
+pub struct InvalidText {
     /// Where it is.
     pub place: Place,
     /// Its index, from 0, among the texts there that are printed unchanged.
     pub text: usize,
     /// Why it doesn't fit.
-    pub misfit: Misfit,
+    pub violation: Violation,
 }
 
 /// The reason why a list of calls that is tested has no statement.
 #[derive(Debug, Drop)]
 pub enum CheckedError {
     /// A text doesn't fit in its place.
-    Unfit(Unfit),
+    InvalidText(InvalidText),
     /// `run` failed.
     Failed(SqlBuilderError),
 }
@@ -57,7 +57,7 @@ impl CheckedError {
         ensures text { result.now ≡ checked_message self.now }
     {
         match self {
-            CheckedError::Unfit(unfit) => unfit.misfit.message(),
+            CheckedError::InvalidText(invalid) => invalid.violation.message(),
             CheckedError::Failed(error) => error.message(),
         }
     }
@@ -65,7 +65,7 @@ impl CheckedError {
 
 impl fmt::Display for CheckedError {
     ghost use Rattle.std.specs.Prelude.{Some};
-    ghost use Rattle.sql_builder.specs.Unfits.{checked_message};
+    ghost use Rattle.sql_builder.specs.InvalidTexts.{checked_message};
 
     ghost output = { λ e. Some (checked_message e) };
 
@@ -78,14 +78,14 @@ impl fmt::Display for CheckedError {
 
 impl Error for CheckedError {}
 
-impl From<Unfit> for CheckedError {
+impl From<InvalidText> for CheckedError {
     ghost use Rattle.std.specs.Prelude.{◌≡◌};
     ghost use Rattle.sql_builder.specs.declared.checks.CheckedError.TheVariants as error;
 
-    ghost from_gives = { λ unfit made. made ≡ error.Unfit unfit };
+    ghost from_gives = { λ invalid made. made ≡ error.InvalidText invalid };
 
-    fn from(unfit: Unfit) -> CheckedError {
-        CheckedError::Unfit(unfit)
+    fn from(invalid: InvalidText) -> CheckedError {
+        CheckedError::InvalidText(invalid)
     }
 }
 
@@ -100,44 +100,44 @@ impl From<SqlBuilderError> for CheckedError {
     }
 }
 
-/// What is asked of the texts at a place.
+/// What the texts at a place have to meet.
 #[derive(Clone, Copy)]
-struct Asked {
+struct Requirements {
     place: Place,
-    /// What is asked of a text that is printed bare.
-    bare: Demand,
+    /// What a text that is printed bare has to meet.
+    bare: Requirement,
     /// Whether fields are printed between brackets.
     encloses: bool,
 }
 
-impl Asked {
+impl Requirements {
     // Tests a text that has this index at its place.
-    fn test(self, index: usize, text: &str, demand: Demand) -> Result<(), Unfit>
-        ensures { result ≡ unless_misfit self.place index (misfit demand text.now) }
+    fn test(self, index: usize, text: &str, requirement: Requirement) -> Result<(), InvalidText>
+        ensures { result ≡ unless_violation self.place index (violation requirement text.now) }
     {
-        match misfit(text, demand) {
+        match violation(text, requirement) {
             None => Ok(()),
-            Some(misfit) => Err(Unfit {
+            Some(violation) => Err(InvalidText {
                 place: self.place,
                 text: index,
-                misfit,
+                violation,
             }),
         }
     }
 
     // A field, or a value between brackets.
-    fn test_field(self, index: usize, text: &str, encloses: bool) -> Result<(), Unfit>
+    fn test_field(self, index: usize, text: &str, encloses: bool) -> Result<(), InvalidText>
         ensures { result ≡ raw_test self.bare self.place index (field_text encloses text.now) }
     {
         if encloses {
-            self.test(index, text, Demand::Balanced)
+            self.test(index, text, Requirement::Balanced)
         } else {
             self.test(index, text, self.bare)
         }
     }
 
     // Texts of which the first has this index.
-    fn test_list(self, first: usize, items: &[String], encloses: bool) -> Result<(), Unfit>
+    fn test_list(self, first: usize, items: &[String], encloses: bool) -> Result<(), InvalidText>
         requires { first < 2 }
         ensures { result ≡ texts_test self.bare self.place first
             (map (field_text encloses) (texts items.now)) }
@@ -152,37 +152,37 @@ impl Asked {
         Ok(())
     }
 
-    #[tactic(auto, using(crate::proofs::fragments::UnfitLemmas::alone))]
-    fn test_bare(self, text: &str) -> Result<(), Unfit>
+    #[tactic(auto, using(crate::proofs::fragments::InvalidTextLemmas::alone))]
+    fn test_bare(self, text: &str) -> Result<(), InvalidText>
         ensures { result ≡ texts_test self.bare self.place 0 (Bare text.now ∷ []) }
     {
         self.test(0, text, self.bare)
     }
 
-    #[tactic(auto, using(crate::proofs::fragments::UnfitLemmas::alone))]
-    fn test_enclosed(self, text: &str) -> Result<(), Unfit>
+    #[tactic(auto, using(crate::proofs::fragments::InvalidTextLemmas::alone))]
+    fn test_enclosed(self, text: &str) -> Result<(), InvalidText>
         ensures { result ≡ texts_test self.bare self.place 0 (Enclosed text.now ∷ []) }
     {
-        self.test(0, text, Demand::Balanced)
+        self.test(0, text, Requirement::Balanced)
     }
 
-    #[tactic(auto, using(crate::proofs::fragments::UnfitLemmas::alone))]
-    fn test_two(self, one: &str, other: &str) -> Result<(), Unfit>
+    #[tactic(auto, using(crate::proofs::fragments::InvalidTextLemmas::alone))]
+    fn test_two(self, one: &str, other: &str) -> Result<(), InvalidText>
         ensures { result ≡ texts_test self.bare self.place 0 (Bare one.now ∷ Bare other.now ∷ []) }
     {
         self.test(0, one, self.bare)?;
         self.test(1, other, self.bare)
     }
 
-    #[tactic(auto, using(crate::proofs::fragments::UnfitLemmas::alone))]
-    fn test_field_alone(self, text: &str) -> Result<(), Unfit>
+    #[tactic(auto, using(crate::proofs::fragments::InvalidTextLemmas::alone))]
+    fn test_field_alone(self, text: &str) -> Result<(), InvalidText>
         ensures { result ≡ texts_test self.bare self.place 0
             (field_text self.encloses text.now ∷ []) }
     {
         self.test_field(0, text, self.encloses)
     }
 
-    fn test_condition(self, condition: &Condition) -> Result<(), Unfit>
+    fn test_condition(self, condition: &Condition) -> Result<(), InvalidText>
         ensures { result ≡ texts_test self.bare self.place 0
             (condition_raw_texts (condition_view condition.now)) }
     {
@@ -199,7 +199,7 @@ impl Asked {
             }
             Condition::InQuery(_, field, query) => {
                 self.test(0, field, self.bare)?;
-                self.test(1, query, Demand::Balanced)
+                self.test(1, query, Requirement::Balanced)
             }
             Condition::Between(_, field, least, greatest) => {
                 self.test(0, field, self.bare)?;
@@ -209,7 +209,7 @@ impl Asked {
         }
     }
 
-    fn test_call(self, call: &Call) -> Result<(), Unfit>
+    fn test_call(self, call: &Call) -> Result<(), InvalidText>
         ensures { result ≡ texts_test self.bare self.place 0
             (call_raw_texts self.encloses (call_view call.now)) }
     {
@@ -246,14 +246,14 @@ impl Asked {
             Call::Values(values) => self.test_list(0, values, true),
             Call::OnEq(one, other) | Call::SetTo(one, other) => self.test_two(one, other),
             Call::CountAs(field, name) => {
-                self.test(0, field, Demand::Balanced)?;
+                self.test(0, field, Requirement::Balanced)?;
                 self.test_field(1, name, self.encloses)
             }
             Call::Cond(_, condition) => self.test_condition(condition),
         }
     }
 
-    fn test_start(self, start: &Start) -> Result<(), Unfit>
+    fn test_start(self, start: &Start) -> Result<(), InvalidText>
         ensures { result ≡ texts_test self.bare self.place 0
             (start_raw_texts (start_view start.now)) }
     {
@@ -266,7 +266,7 @@ impl Asked {
         }
     }
 
-    fn test_finish(self, finish: &Finish) -> Result<(), Unfit>
+    fn test_finish(self, finish: &Finish) -> Result<(), InvalidText>
         ensures { result ≡ texts_test self.bare self.place 0
             (finish_raw_texts (finish_view finish.now)) }
     {
@@ -284,18 +284,18 @@ fn encloses_fields(start: &Start, finish: &Finish) -> bool
     matches!((start, finish), (Start::InsertInto(_), Finish::Sql))
 }
 
-fn test_calls(bare: Demand, encloses: bool, calls: &[Call]) -> Result<(), Unfit>
+fn test_calls(bare: Requirement, encloses: bool, calls: &[Call]) -> Result<(), InvalidText>
     ensures { result ≡ calls_test bare 0 encloses (map call_view calls.now) }
 {
     let mut index = 0;
     let mut rest = calls;
     while let [call, further @ ..] = rest {
-        let asked = Asked {
+        let requirements = Requirements {
             place: Place::Call(index),
             bare,
             encloses,
         };
-        asked.test_call(call)?;
+        requirements.test_call(call)?;
         index += 1;
         rest = further;
     }
@@ -303,18 +303,23 @@ fn test_calls(bare: Demand, encloses: bool, calls: &[Call]) -> Result<(), Unfit>
 }
 
 // The texts of a list, where this is asked of those that are printed bare.
-fn test_texts(bare: Demand, start: &Start, calls: &[Call], finish: &Finish) -> Result<(), Unfit>
+fn test_texts(
+    bare: Requirement,
+    start: &Start,
+    calls: &[Call],
+    finish: &Finish,
+) -> Result<(), InvalidText>
     ensures { result ≡ of_list (list_test bare) start.now calls.now finish.now }
 {
     let encloses = encloses_fields(start, finish);
-    let begin = Asked {
+    let begin = Requirements {
         place: Place::Start,
         bare,
         encloses,
     };
     begin.test_start(start)?;
     test_calls(bare, encloses, calls)?;
-    let end = Asked {
+    let end = Requirements {
         place: Place::Finish,
         bare,
         encloses,
@@ -330,26 +335,26 @@ fn test_texts(bare: Demand, start: &Start, calls: &[Call], finish: &Finish) -> R
 /// Fails with the first text that doesn't fit, such as a query of `select` that begins with SELECT.
 /// Takes no memory, and reads a text that fits once.
 /// `check(&Start::DeleteFrom(String::from_str(alloc, "t; u")?), &[], &Finish::Sql)` fails with
-/// `Unfit { place: Start, text: 0, misfit: Semicolon }`
-#[tactic(auto, using(crate::proofs::fragments::UnfitLemmas::list_is_fit))]
-pub fn check(start: &Start, calls: &[Call], finish: &Finish) -> Result<(), Unfit>
+/// `InvalidText { place: Start, text: 0, violation: Semicolon }`
+#[tactic(auto, using(crate::proofs::fragments::InvalidTextLemmas::list_is_fit))]
+pub fn check(start: &Start, calls: &[Call], finish: &Finish) -> Result<(), InvalidText>
     ensures fit { is_ok result ≡ of_list has_fit_texts start.now calls.now finish.now }
-    ensures tests { result ≡ of_list (list_test demand.Fragment) start.now calls.now finish.now }
+    ensures tests { result ≡ of_list (list_test requirement.Fragment) start.now calls.now finish.now }
 {
-    test_texts(Demand::Fragment, start, calls, finish)
+    test_texts(Requirement::Fragment, start, calls, finish)
 }
 
 /// Tests whether each text that the statement of a list prints unchanged is balanced. Its quotes
 /// and comments are then closed, it has no `;`, and its brackets match by count. Fails with the
 /// first text that isn't balanced. Takes no memory, and reads a text that is balanced once.
 /// `check_confined(&Start::DeleteFrom(String::from_str(alloc, "t)")?), &[], &Finish::Sql)` fails with
-/// `Unfit { place: Start, text: 0, misfit: Brackets }`
-#[tactic(auto, using(crate::proofs::fragments::UnfitLemmas::list_is_balanced))]
-pub fn check_confined(start: &Start, calls: &[Call], finish: &Finish) -> Result<(), Unfit>
+/// `InvalidText { place: Start, text: 0, violation: Brackets }`
+#[tactic(auto, using(crate::proofs::fragments::InvalidTextLemmas::list_is_balanced))]
+pub fn check_confined(start: &Start, calls: &[Call], finish: &Finish) -> Result<(), InvalidText>
     ensures balanced { is_ok result ≡ of_list (texts_pass balanced) start.now calls.now finish.now }
-    ensures tests { result ≡ of_list (list_test demand.Balanced) start.now calls.now finish.now }
+    ensures tests { result ≡ of_list (list_test requirement.Balanced) start.now calls.now finish.now }
 {
-    test_texts(Demand::Balanced, start, calls, finish)
+    test_texts(Requirement::Balanced, start, calls, finish)
 }
 
 /// Tests a list by `check`, and then runs it, without a premise. What it prints is the statement of
@@ -370,10 +375,10 @@ pub fn run_checked(
         of_list statement start.now calls.now finish.now ≡ Ok (string_bytes s)) }
     ensures fit { IfOk result (λ s. IsTrue (of_list has_fit_texts start.now calls.now finish.now)) }
     ensures error { IfErr result
-        (IsCheckedError (of_list (list_test demand.Fragment) start.now calls.now finish.now)
+        (IsCheckedError (of_list (list_test requirement.Fragment) start.now calls.now finish.now)
         (of_list statement start.now calls.now finish.now)) }
-    ensures refused { IfErr (of_list (list_test demand.Fragment) start.now calls.now finish.now)
-        (λ unfit. result ≡ Err (error.Unfit unfit)) }
+    ensures refused { IfErr (of_list (list_test requirement.Fragment) start.now calls.now finish.now)
+        (λ invalid. result ≡ Err (error.InvalidText invalid)) }
     ensures shape { IfOk result (λ s.
         of_list shape start.now calls.now finish.now ≡ Ok (tokens (string_bytes s))) }
     ensures closed { IfOk result (λ s. IsTrue (closed (string_bytes s))) }
@@ -414,10 +419,10 @@ pub fn run_confined(
     ensures balanced { IfOk result (λ s.
         IsTrue (of_list (texts_pass balanced) start.now calls.now finish.now)) }
     ensures error { IfErr result
-        (IsCheckedError (of_list (list_test demand.Balanced) start.now calls.now finish.now)
+        (IsCheckedError (of_list (list_test requirement.Balanced) start.now calls.now finish.now)
         (of_list statement start.now calls.now finish.now)) }
-    ensures refused { IfErr (of_list (list_test demand.Balanced) start.now calls.now finish.now)
-        (λ unfit. result ≡ Err (error.Unfit unfit)) }
+    ensures refused { IfErr (of_list (list_test requirement.Balanced) start.now calls.now finish.now)
+        (λ invalid. result ≡ Err (error.InvalidText invalid)) }
     ensures shape { IfOk result (λ s.
         of_list shape start.now calls.now finish.now ≡ Ok (tokens (string_bytes s))) }
     ensures closed { IfOk result (λ s. IsTrue (closed (string_bytes s))) }

@@ -1,14 +1,18 @@
 //! Conditions, and their texts.
 ghost use Rattle.std.specs.Prelude.{◌≡◌, ◌++◌, codes, if◌then◌else◌, map, string_bytes, IfOk};
 ghost use Rattle.sql_parts.specs.Error.{FailsOnlyByMemory};
+ghost use Rattle.sql_builder.specs.Concat.{HasRoom, Writes};
 ghost use Rattle.sql_builder.specs.Condition.{Between, Compare, InList, InQuery, InQuoted, IsNotNull, IsNull, Like, borrowed_view, condition_bytes, condition_view, has_trailing, has_leading, not_text, relation_text};
 
-use crate::concat::{Part, concat};
+use crate::concat::{Part, concat, push_text};
 use crate::phrases::{push_items, push_quoted_items};
 use crate::text_list::FIRST_ROOM;
 use sql_parts::text::{Items, Texts};
 use sql_parts::{SqlBuilderError, ToText, escaped};
 use std::alloc::{AllocError, Global};
+
+/// The most bytes that LIKE takes beside its field and its mask.
+const LIKE_ROOM: usize = 14;
 
 /// The family that a condition's call belongs to.
 #[derive(Clone, Copy)]
@@ -161,6 +165,7 @@ impl Condition {
 impl<'a, T: Texts<'a>> BorrowedCondition<'a, T> {
     /// The condition's text. It is a part of its caller, where the condition need not be made first.
     #[inline(always)]
+    #[tactic(auto, using(crate::proofs::conditions::QuotedMaskFacts::quoted_mask))]
     pub(crate) fn text(self, alloc: Global) -> Result<String, SqlBuilderError>
         ensures made { IfOk result (λ s. string_bytes s
             ≡ condition_bytes (borrowed_view T.left self.entry)) }
@@ -172,7 +177,8 @@ impl<'a, T: Texts<'a>> BorrowedCondition<'a, T> {
                 compare(alloc, relation, field, value)
             }
             BorrowedCondition::Like(negated, percent, field, mask) => {
-                like(alloc, negated, percent, field, mask)
+                let mask = escaped(alloc, mask)?;
+                Ok(like_in_form(alloc, negated, percent, field, mask.as_str())?)
             }
             BorrowedCondition::IsNull(field) => is_null(alloc, field),
             BorrowedCondition::IsNotNull(field) => is_not_null(alloc, field),
@@ -293,6 +299,49 @@ fn like_escaped<'a>(
     )
 }
 
+// Appends LIKE and what precedes the mask. Each text is a constant, so that no call copies it.
+#[inline(always)]
+fn push_like_words(out: &mut String, negated: bool, percent: Percent)
+    requires room { HasRoom out.old ((not_text negated ++ codes " LIKE ")
+        ++ (if has_leading percent then codes "'%" else codes "'")) }
+    ensures { Writes out.old out.new ((not_text negated ++ codes " LIKE ")
+        ++ (if has_leading percent then codes "'%" else codes "'")) }
+{
+    match (negated, percent.has_leading()) {
+        (false, false) => push_text(out, " LIKE '"),
+        (false, true) => push_text(out, " LIKE '%"),
+        (true, false) => push_text(out, " NOT LIKE '"),
+        (true, true) => push_text(out, " NOT LIKE '%"),
+    }
+}
+
+// Prints what `like_escaped` does, where the form isn't a constant. As a part of its caller it took
+// more instructions.
+#[inline(never)]
+fn like_in_form<'a>(
+    alloc: Global,
+    negated: bool,
+    percent: Percent,
+    field: &'a str,
+    mask: &'a str,
+) -> Result<String, AllocError>
+    ensures { IfOk result (λ s. string_bytes s ≡ field.now
+        ++ (((not_text negated ++ codes " LIKE ") ++ (if has_leading percent then codes "'%" else codes "'"))
+        ++ (mask.now ++ (if has_trailing percent then codes "%'" else codes "'")))) }
+{
+    let room = field.len().saturating_add(mask.len());
+    let mut text = String::with_capacity(alloc, room.saturating_add(LIKE_ROOM))?;
+    push_text(&mut text, field);
+    push_like_words(&mut text, negated, percent);
+    push_text(&mut text, mask);
+    if percent.has_trailing() {
+        push_text(&mut text, "%'");
+    } else {
+        push_text(&mut text, "'");
+    }
+    Ok(text)
+}
+
 // A field and the words in front of a list, with room for the list.
 fn field_in(alloc: Global, negated: bool, field: &str) -> Result<String, AllocError>
     ensures { IfOk result (λ s. string_bytes s ≡ field.now ++ (not_text negated ++ codes " IN (")) }
@@ -300,7 +349,12 @@ fn field_in(alloc: Global, negated: bool, field: &str) -> Result<String, AllocEr
     let room = field.len().saturating_add(FIRST_ROOM);
     let mut text = String::with_capacity(alloc, room)?;
     text.push_str(field)?;
-    text.push_str(in_words(negated))?;
+    // Each text is a constant, so that no call copies it.
+    if negated {
+        text.push_str(" NOT IN (")?;
+    } else {
+        text.push_str(" IN (")?;
+    }
     Ok(text)
 }
 

@@ -254,7 +254,7 @@ pub fn texts_pass_call_by_call()
 /// only in these have the same first text that doesn't fit, or none. Does nothing when it runs.
 /// Never fails.
 /// `check(&Start::DeleteFrom(String::from_str(alloc, "t")?), &[], &Finish::Sql)` gives `()`
-#[tactic(auto, using(crate::proofs::fragments::UnfitLemmas::list_is_fit, crate::proofs::fragments::UnfitLemmas::list_is_balanced, crate::proofs::fragments::UnfitLemmas::quoted_texts_decide_none))]
+#[tactic(auto, using(crate::proofs::fragments::InvalidTextLemmas::list_is_fit, crate::proofs::fragments::InvalidTextLemmas::list_is_balanced, crate::proofs::fragments::InvalidTextLemmas::quoted_texts_decide_none))]
 pub fn tests_pass_fit_texts()
     ensures fit { TestsPassFitTexts }
     ensures balanced { TestsPassBalancedTexts }

@@ -1,6 +1,6 @@
 //! Prints a builder's clauses as a statement or a query. The first pass counts the bytes, so that
 //! room for them is asked for in one allocation. The second pass prints to a text, and can't fail.
-ghost use Rattle.std.specs.Prelude.{◌≡◌, [], ◌∷◌, ◌++◌, IfOk, IfSome, IsNone, IsOk, OnErr, OnOk, length, map, string_bytes, string_capacity};
+ghost use Rattle.std.specs.Prelude.{◌≡◌, ◌∷◌, ◌++◌, IfOk, IfSome, IsNone, map, string_bytes};
 ghost use Rattle.std.specs.List.{list_any};
 ghost use Rattle.sql_parts.specs.Error.{FailsOnlyByMemory};
 ghost use Rattle.sql_builder.specs.{condition_in_group, group_texts, Query, Sql, Subquery, SubqueryAs, finish_view, Fits, Prints, byte_units, fields_or_star};

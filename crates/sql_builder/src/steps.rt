@@ -12,7 +12,7 @@ use crate::concat::{Part, append};
 use crate::condition::{BorrowedCondition, Family};
 use crate::ghost_list::GhostList;
 use crate::text_list::TextList;
-use sql_parts::loan::Held;
+use sql_parts::loan::Loan;
 use sql_parts::text::{Items, Texts};
 use sql_parts::{SqlBuilderError, ToText, escaped, split_at_quote};
 use std::alloc::Global;
@@ -101,6 +101,9 @@ pub enum VariadicClause {
     /// A call of `values` with a row.
     Values,
 }
+
+/// How many conditions have room at first, so that lists of them grow less often.
+const SOME_CONDITIONS: usize = 16;
 
 impl SqlBuilder {
     ghost use Rattle.sql_builder.specs.Builder.{IsConstraintError, with_fields, with_fields_set, with_group_field, with_having, with_join, with_limit, with_offset, with_on, with_query, with_set, with_table, with_union};
@@ -278,10 +281,13 @@ impl SqlBuilder {
         ensures { Applies result self.old self.new
             (with_condition_bytes family (string_bytes condition)) }
     {
-        self.conditions.push(GroupedCondition {
+        if self.conditions.len() == self.conditions.capacity() {
+            self.conditions.reserve(SOME_CONDITIONS)?;
+        }
+        self.conditions.push_reserved(GroupedCondition {
             opens_group: matches!(family, Family::And),
             text: condition,
-        })?;
+        });
         Ok(())
     }
 }
@@ -549,74 +555,74 @@ impl SqlBuilder {
 
 impl SqlBuilder {
     ghost use Rattle.std.specs.Borrow.{sem};
-    ghost use Rattle.sql_builder.specs.BuilderLoans.{IsUnchangedIfHeldErr};
-    ghost use Rattle.sql_parts.specs.Loans.{IsHeldChangedSoThat, IsHeldChangedTo};
+    ghost use Rattle.sql_builder.specs.BuilderLoans.{IsUnchangedIfLoanErr};
+    ghost use Rattle.sql_parts.specs.Loans.{IsLoanChangedSoThat, IsLoanChangedTo};
 
-    pub(crate) fn hold_unary<S: ToText>(
+    pub(crate) fn step_unary<S: ToText>(
         &mut self,
         clause: UnaryClause,
         text: S,
-    ) -> Result<Held<'_, SqlBuilder>, SqlBuilderError>
-        ensures* unchanged { sem 𝓛 (IsUnchangedIfHeldErr self.entry result) }
-        ensures changed { IsHeldChangedTo self.entry
+    ) -> Result<Loan<'_, SqlBuilder>, SqlBuilderError>
+        ensures* unchanged { sem 𝓛 (IsUnchangedIfLoanErr self.entry result) }
+        ensures changed { IsLoanChangedTo self.entry
             (with_unary clause (S.text text) self.old) result }
         ensures memory { IfErr result (IsUnaryError clause self.old) }
     {
         self.push_unary(clause, text)?;
-        Ok(Held(self))
+        Ok(Loan(self))
     }
 
-    pub(crate) fn hold_returning_id(&mut self) -> Result<Held<'_, SqlBuilder>, SqlBuilderError>
-        ensures* unchanged { sem 𝓛 (IsUnchangedIfHeldErr self.entry result) }
-        ensures changed { IsHeldChangedTo self.entry (with_returning (codes "id") self.old) result }
+    pub(crate) fn step_returning_id(&mut self) -> Result<Loan<'_, SqlBuilder>, SqlBuilderError>
+        ensures* unchanged { sem 𝓛 (IsUnchangedIfLoanErr self.entry result) }
+        ensures changed { IsLoanChangedTo self.entry (with_returning (codes "id") self.old) result }
         ensures memory { FailsOnlyByMemory result }
     {
         self.put_returning("id")?;
-        Ok(Held(self))
+        Ok(Loan(self))
     }
 
     #[tactic(auto, using(crate::proofs::pieces::ClauseShapeLemmas::adds_binary))]
-    pub(crate) fn hold_binary<S: ToText, T: ToText>(
+    pub(crate) fn step_binary<S: ToText, T: ToText>(
         &mut self,
         clause: BinaryClause,
         first: S,
         second: T,
-    ) -> Result<Held<'_, SqlBuilder>, SqlBuilderError>
-        ensures* unchanged { sem 𝓛 (IsUnchangedIfHeldErr self.entry result) }
-        ensures changed { IsHeldChangedSoThat self.entry
+    ) -> Result<Loan<'_, SqlBuilder>, SqlBuilderError>
+        ensures* unchanged { sem 𝓛 (IsUnchangedIfLoanErr self.entry result) }
+        ensures changed { IsLoanChangedSoThat self.entry
             (AddsBinary clause (S.text first) (T.text second) self.old) result }
         ensures memory { IfErr result (IsBinaryError clause self.old) }
     {
         self.push_binary(clause, first, second)?;
-        Ok(Held(self))
+        Ok(Loan(self))
     }
 
-    pub(crate) fn hold_variadic<S: ToText>(
+    pub(crate) fn step_variadic<S: ToText>(
         &mut self,
         clause: VariadicClause,
         items: &[S],
-    ) -> Result<Held<'_, SqlBuilder>, SqlBuilderError>
-        ensures* unchanged { sem 𝓛 (IsUnchangedIfHeldErr self.entry result) }
-        ensures changed { IsHeldChangedTo self.entry
+    ) -> Result<Loan<'_, SqlBuilder>, SqlBuilderError>
+        ensures* unchanged { sem 𝓛 (IsUnchangedIfLoanErr self.entry result) }
+        ensures changed { IsLoanChangedTo self.entry
             (with_variadic clause (map S.text items.now) self.old) result }
         ensures memory { FailsOnlyByMemory result }
     {
         make_variadic(self, clause, Items { items })?;
-        Ok(Held(self))
+        Ok(Loan(self))
     }
 
-    pub(crate) fn hold_order<S: ToText>(
+    pub(crate) fn step_order<S: ToText>(
         &mut self,
         field: S,
         descending: bool,
-    ) -> Result<Held<'_, SqlBuilder>, SqlBuilderError>
-        ensures* unchanged { sem 𝓛 (IsUnchangedIfHeldErr self.entry result) }
-        ensures changed { IsHeldChangedTo self.entry
+    ) -> Result<Loan<'_, SqlBuilder>, SqlBuilderError>
+        ensures* unchanged { sem 𝓛 (IsUnchangedIfLoanErr self.entry result) }
+        ensures changed { IsLoanChangedTo self.entry
             (with_order descending (S.text field) self.old) result }
         ensures memory { FailsOnlyByMemory result }
     {
         let field = field.as_text(self.alloc)?;
         make_order(self, field.as_str(), descending)?;
-        Ok(Held(self))
+        Ok(Loan(self))
     }
 }

@@ -6,21 +6,21 @@ ghost use Rattle.std.specs.Prelude.{◌≡◌};
 ghost use Rattle.sql_builder.specs.Steps.{is_negated};
 
 mod comparisons;
+mod condition_steps;
 mod like;
 mod membership;
-mod steps;
 
 /// Whether a call adds the NOT form of its condition.
 #[derive(Clone, Copy)]
-pub(crate) enum Sense {
+pub(crate) enum Polarity {
     Plain,
     Negated,
 }
 
-impl Sense {
+impl Polarity {
     fn is_negated(self) -> bool
         ensures { result ≡ is_negated self }
     {
-        matches!(self, Sense::Negated)
+        matches!(self, Polarity::Negated)
     }
 }

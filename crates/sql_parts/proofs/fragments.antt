@@ -2,7 +2,7 @@ pub mod BetweenLemmas
 pub mod DepthCountLemmas
 pub mod DepthFacts
 pub mod KeywordLemmas
-pub mod MisfitLemmas
+pub mod ViolationLemmas
 pub mod OpenRangeLemmas
 pub mod OperandFacts
 pub mod PlaceholderFacts
@@ -13,11 +13,11 @@ unfoldable pub use BetweenLemmas.*
 unfoldable pub use DepthCountLemmas.*
 unfoldable pub use DepthFacts.*
 unfoldable pub use KeywordLemmas.*
-unfoldable pub use MisfitLemmas.*
+unfoldable pub use ViolationLemmas.*
 unfoldable pub use OpenRangeLemmas.*
 unfoldable pub use OperandFacts.*
 unfoldable pub use PlaceholderFacts.*
 unfoldable pub use SideLemmas.*
 unfoldable pub use StringTextFacts.*
 pub use Rattle.sql_parts.proofs.fragments.DepthCountLemmas.{has_top_level-is, is_at_least_0, is_zero}
-pub use Rattle.sql_parts.proofs.fragments.MisfitLemmas.{serves}
+pub use Rattle.sql_parts.proofs.fragments.ViolationLemmas.{serves}

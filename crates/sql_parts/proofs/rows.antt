@@ -4,7 +4,7 @@ pub mod FragmentRows
 pub mod HoleRows
 pub mod LikeRows
 pub mod LiteralRows
-pub mod MisfitRows
+pub mod ViolationRows
 pub mod NameRows
 pub mod OperandRows
 pub mod ParameterRows
@@ -20,7 +20,7 @@ unfoldable pub use FragmentRows.*
 unfoldable pub use HoleRows.*
 unfoldable pub use LikeRows.*
 unfoldable pub use LiteralRows.*
-unfoldable pub use MisfitRows.*
+unfoldable pub use ViolationRows.*
 unfoldable pub use NameRows.*
 unfoldable pub use OperandRows.*
 unfoldable pub use ParameterRows.*

@@ -5,7 +5,7 @@ use Rattle.sql_parts.specs.Quoting.{closing, doubled, opening}
 use Rattle.sql_parts.specs.Literal.{LiteralValue, literal_text, words}
 use Rattle.sql_parts.specs.Readers.{Part, Constant, Doubled, Reader, DifferInDoubledTexts, IsInside, IsInsideAtEach, OpensLiteral, after, between_parts}
 use Rattle.sql_parts.specs.Readers.{has_plain_text, inner_states, marks, outer_states, parts_bytes, states}
-use Rattle.sql_parts.specs.Templates.{Marks, Resolved, Value, bound, resolve}
+use Rattle.sql_parts.specs.Templates.{Marks, Resolved, Replacement, bound, resolve}
 use Rattle.sql_parts.specs.TextLaws.{DifferInTexts}
 use Rattle.sql_parts.specs.declared.delimiters.Quotes.TheVariants.{Single}
 use Rattle.sql_parts.specs.declared.delimiters.Quotes.{Quotes}
@@ -57,21 +57,21 @@ literal_parts (words text) = between_parts Single text
 literal_parts literal = Constant (literal_text literal) ∷ []
 
 -- the parts of a template with these literals in it
-abbrev pub resolved_parts : (Value → LiteralValue) → Resolved → List Part
+abbrev pub resolved_parts : (Replacement → LiteralValue) → Resolved → List Part
 resolved_parts literals resolved =
     Constant resolved.0 ∷ flat_map (λ part. literal_parts (literals part.0) ++ Constant part.1 ∷ []) resolved.1
 
 -- the parts of a bound text; none where the template can't be bound
-abbrev pub bound_parts : List ℕ → Marks → (Value → LiteralValue) → List Part
+abbrev pub bound_parts : List ℕ → Marks → (Replacement → LiteralValue) → List Part
 bound_parts template placeholders literals = unwrap_or (option_map (resolved_parts literals) (resolve template placeholders)) []
 
 -- Literals that differ only in texts, of plain bytes, where a reader is inside of a string at each of these in the one bound text: it is
 -- so in the other, and goes through the same states outside of these texts, or neither can be bound.
 abbrev pub ReadersIgnoreBoundTexts : Type 0
-ReadersIgnoreBoundTexts = (next : Reader) (plain : ℕ → Bool) (state : ℕ) (template : List ℕ) (placeholders : Marks) (one other : Value → LiteralValue)
+ReadersIgnoreBoundTexts = (next : Reader) (plain : ℕ → Bool) (state : ℕ) (template : List ℕ) (placeholders : Marks) (one other : Replacement → LiteralValue)
     → DifferInTexts one other → IsTrue (list_all (has_plain_text plain) (bound_parts template placeholders one))
     → IsTrue (list_all (has_plain_text plain) (bound_parts template placeholders other))
     → IsInsideAtEach next plain state (bound_parts template placeholders one)
-    → let outside : (Value → LiteralValue) → Option (List ℕ) =
+    → let outside : (Replacement → LiteralValue) → Option (List ℕ) =
     λ literals. option_map (outer_states next state (marks (bound_parts template placeholders literals))) (bound template placeholders literals) in
     IsInsideAtEach next plain state (bound_parts template placeholders other) × (outside one ≡ outside other)

@@ -4,7 +4,7 @@ use Rattle.std.specs.Prelude.{unwrap_or}
 use Rattle.std.specs.List.{count_by}
 use Rattle.sql_parts.specs.TextLaws.{DifferInTexts}
 use Rattle.sql_parts.specs.Literal.{LiteralValue, words}
-use Rattle.sql_parts.specs.Templates.{Marks, Resolved, Value, bound, listed, looked_up, resolve, apart, literal_tokens}
+use Rattle.sql_parts.specs.Templates.{Marks, Resolved, Replacement, bound, listed, looked_up, resolve, apart, literal_tokens}
 use Rattle.sql_parts.specs.Tokens.{Token, Str, is_semicolon, tokens}
 
 -- a string token with no text in it, and any other token as it is
@@ -64,12 +64,12 @@ literal_places (words text) = true ∷ []
 literal_places literal = nowhere (literal_tokens literal)
 
 -- for each token of a template with these literals in it, whether it is a text that is bound
-abbrev pub resolved_places : (Value → LiteralValue) → Resolved → List Bool
+abbrev pub resolved_places : (Replacement → LiteralValue) → Resolved → List Bool
 resolved_places literals resolved =
     nowhere (tokens resolved.0) ++ flat_map (λ part. literal_places (literals part.0) ++ nowhere (tokens part.1)) resolved.1
 
 -- for each token of a bound text, whether it is a text that is bound; nothing where the template can't be bound
-abbrev pub bound_places : List ℕ → Marks → (Value → LiteralValue) → List Bool
+abbrev pub bound_places : List ℕ → Marks → (Replacement → LiteralValue) → List Bool
 bound_places template marks literals = unwrap_or (option_map (resolved_places literals) (resolve template marks)) []
 
 -- the tokens of a text, blanked at some places
@@ -78,24 +78,24 @@ tokens_but places text = blank_at places (tokens text)
 
 -- texts that are bound in place of other texts are at the same places among the tokens
 abbrev pub BoundTextsKeepTheirPlaces : Type 0
-BoundTextsKeepTheirPlaces = (template : List ℕ) (marks : Marks) (one other : Value → LiteralValue) → DifferInTexts one other
+BoundTextsKeepTheirPlaces = (template : List ℕ) (marks : Marks) (one other : Replacement → LiteralValue) → DifferInTexts one other
     → bound_places template marks one ≡ bound_places template marks other
 
 -- where the values of a template stand apart, texts that are bound in place of other texts leave all other tokens as they are
 abbrev pub BoundTextsDoNotInterfere : Type 0
-BoundTextsDoNotInterfere = (template : List ℕ) (marks : Marks) (one other : Value → LiteralValue)
+BoundTextsDoNotInterfere = (template : List ℕ) (marks : Marks) (one other : Replacement → LiteralValue)
     → IsTrue (apart template marks) → DifferInTexts one other
     → let places = bound_places template marks one in
     option_map (tokens_but places) (bound template marks one) ≡ option_map (tokens_but places) (bound template marks other)
 
 -- at each of the places is a string token
 abbrev pub BoundTextsAreStrings : Type 0
-BoundTextsAreStrings = (template : List ℕ) (marks : Marks) (literals : Value → LiteralValue) → IsTrue (apart template marks)
+BoundTextsAreStrings = (template : List ℕ) (marks : Marks) (literals : Replacement → LiteralValue) → IsTrue (apart template marks)
     → IfSome (bound template marks literals) (λ text. IsTrue (are_strings (bound_places template marks literals) (tokens text)))
 
 -- the answer is the same then
 abbrev pub IgnoresBoundTexts : {X : Type 0} → (List ℕ → X) → Type 0
-IgnoresBoundTexts answer = (template : List ℕ) (marks : Marks) (one other : Value → LiteralValue)
+IgnoresBoundTexts answer = (template : List ℕ) (marks : Marks) (one other : Replacement → LiteralValue)
     → IsTrue (apart template marks) → DifferInTexts one other
     → option_map answer (bound template marks one) ≡ option_map answer (bound template marks other)
 

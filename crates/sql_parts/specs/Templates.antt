@@ -20,14 +20,14 @@ pub data Marks : Type 0 where
   Names : Marks
 
 -- What a placeholder is replaced by: an argument, counted from 0, or what a name is bound to.
-pub data Value : Type 0 where
-  Argument : ℕ → Value
-  Named : List ℕ → Value
+pub data Replacement : Type 0 where
+  Argument : ℕ → Replacement
+  Named : List ℕ → Replacement
 
 -- What is at a place: a text, perhaps another than is read there, or a value.
-pub data Place : Type 0 where
-  Writes : List ℕ → Place
-  Holds : Value → Place
+pub data Content : Type 0 where
+  Writes : List ℕ → Content
+  Holds : Replacement → Content
 
 -- the text that every placeholder and every escape begins with
 abbrev pub prefix : Marks → List ℕ
@@ -40,7 +40,7 @@ prefix Names = codes ":"
 
 -- `$` and the digits behind it: number 0 is one `$` where another `$` follows at once, and else nothing,
 -- and so is a number past the list.
-abbrev pub numbered : ℕ → List ℕ → Place × ℕ
+abbrev pub numbered : ℕ → List ℕ → Content × ℕ
 numbered count behind =
     let digits = prefix_len is_ascii_digit behind in
     let number = digits_value 10 (take digits behind) in
@@ -48,19 +48,19 @@ numbered count behind =
     else (if nat_le number count then (Holds (Argument (number - 1)), digits) else (Writes [], digits))
 
 -- `:` and the name up to the next `:`. Without one it is text, and two at once are one `:`.
-abbrev pub named : List ℕ → Place × ℕ
+abbrev pub named : List ℕ → Content × ℕ
 named behind =
     let end = position_or_len (λ byte. byte == code ":") behind in
     if end == length behind then (Writes (codes ":"), 0)
     else (if end == 0 then (Writes (codes ":"), 1) else (Holds (Named (take end behind)), end + 1))
 
 -- `$` and a number: no placeholder where one more digit follows, and then it is text.
-abbrev pub whole_number : ℕ → List ℕ → Place × ℕ
+abbrev pub whole_number : ℕ → List ℕ → Content × ℕ
 whole_number number behind =
     if prefix_len is_ascii_digit behind == 0 then (Holds (Argument 0), 0) else (Writes (prefix (Num number)), 0)
 
 -- What is read at a prefix, and how many bytes of the text behind it belong to it, where `seen` placeholders precede it.
-abbrev pub place_behind : Marks → ℕ → List ℕ → Place × ℕ
+abbrev pub place_behind : Marks → ℕ → List ℕ → Content × ℕ
 place_behind First seen behind = if seen == 0 then (Holds (Argument 0), 0) else (Writes (codes "?"), 0)
 place_behind (Cycle count) seen behind = (Holds (Argument (seen % count)), 0)
 place_behind (Num number) seen behind = whole_number number behind
@@ -69,7 +69,7 @@ place_behind (Name name) seen behind = (Holds (Argument 0), 0)
 place_behind Names seen behind = named behind
 
 -- What is read at a byte, and how many of the bytes behind it belong to it: where no prefix begins it is text.
-abbrev pub place_at : Marks → ℕ → ℕ → List ℕ → Place × ℕ
+abbrev pub place_at : Marks → ℕ → ℕ → List ℕ → Content × ℕ
 place_at marks seen byte behind =
     let more = length (prefix marks) - 1 in
     let found = place_behind marks seen (drop more behind) in
@@ -77,15 +77,15 @@ place_at marks seen byte behind =
 
 -- The first segment of a template, and each value with the segment behind it.
 abbrev pub Resolved : Type 0
-Resolved = List ℕ × List (Value × List ℕ)
+Resolved = List ℕ × List (Replacement × List ℕ)
 
 -- what is at a place, and then the rest: a text is part of the segment behind it
-abbrev pub followed_by : Place → Resolved → Resolved
+abbrev pub followed_by : Content → Resolved → Resolved
 followed_by (Writes text) rest = (text ++ rest.0, rest.1)
 followed_by (Holds value) rest = ([], (value, rest.0) ∷ rest.1)
 
 -- how many placeholders precede what is behind a place
-abbrev pub counted : Place → ℕ → ℕ
+abbrev pub counted : Content → ℕ → ℕ
 counted (Writes text) seen = seen
 counted (Holds value) seen = suc seen
 
@@ -107,24 +107,24 @@ abbrev pub resolve : List ℕ → Marks → Option Resolved
 resolve template marks = supplied marks (resolved_from marks 0 0 template)
 
 -- the segments with the literals of the values between them
-abbrev pub written : (Value → LiteralValue) → Resolved → List ℕ
+abbrev pub written : (Replacement → LiteralValue) → Resolved → List ℕ
 written literals resolved = resolved.0 ++ flat_map (λ part. literal_text (literals part.0) ++ part.1) resolved.1
 
 -- The template with a literal in place of each placeholder.
-abbrev pub bound : List ℕ → Marks → (Value → LiteralValue) → Option (List ℕ)
+abbrev pub bound : List ℕ → Marks → (Replacement → LiteralValue) → Option (List ℕ)
 bound template marks literals = option_map (written literals) (resolve template marks)
 
 -- one literal for every value
-abbrev pub alone : LiteralValue → Value → LiteralValue
+abbrev pub alone : LiteralValue → Replacement → LiteralValue
 alone literal value = literal
 
 -- the literals of the arguments
-abbrev pub listed : List LiteralValue → Value → LiteralValue
+abbrev pub listed : List LiteralValue → Replacement → LiteralValue
 listed literals (Argument at) = unwrap_or (slice_get literals at) null
 listed literals (Named name) = null
 
 -- the literals of the names, and null for a name that has none
-abbrev pub looked_up : (List ℕ → Option LiteralValue) → Value → LiteralValue
+abbrev pub looked_up : (List ℕ → Option LiteralValue) → Replacement → LiteralValue
 looked_up literals (Argument at) = null
 looked_up literals (Named name) = unwrap_or (literals name) null
 
@@ -159,7 +159,7 @@ literal_tokens (whole (negsuc n)) = Symbol (code "-") ∷ Word (decimal_text (su
 literal_tokens (words text) = Str text ∷ []
 
 -- the tokens of the segments, with those of the literals between them
-abbrev pub bound_tokens : (Value → LiteralValue) → Resolved → List Token
+abbrev pub bound_tokens : (Replacement → LiteralValue) → Resolved → List Token
 bound_tokens literals resolved = tokens resolved.0 ++ flat_map (λ part. literal_tokens (literals part.0) ++ tokens part.1) resolved.1
 
 -- there is a resolved template: no `?` lacks an argument
@@ -167,7 +167,7 @@ abbrev pub IsSupplied : List ℕ → Marks → Type 0
 IsSupplied template marks = resolve template marks ≡ Some (resolved_from marks 0 0 template)
 
 -- Where the values of a template stand apart, a text has the tokens of the template with these literals in it.
-abbrev pub HasBoundTokens : List ℕ → Marks → (Value → LiteralValue) → List ℕ → Type 0
+abbrev pub HasBoundTokens : List ℕ → Marks → (Replacement → LiteralValue) → List ℕ → Type 0
 HasBoundTokens template marks literals text =
     IsTrue (apart template marks) → Some (tokens text) ≡ option_map (bound_tokens literals) (resolve template marks)
 

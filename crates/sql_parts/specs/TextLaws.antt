@@ -8,7 +8,7 @@ use Rattle.sql_parts.specs.Backslash.{has_backslash, literal}
 use Rattle.sql_parts.specs.Like.{escape_character, like_escaped, matches}
 use Rattle.sql_parts.specs.Literal.{LiteralValue, words}
 use Rattle.sql_parts.specs.Quoting.{doubled}
-use Rattle.sql_parts.specs.Templates.{Marks, Value, bound}
+use Rattle.sql_parts.specs.Templates.{Marks, Replacement, bound}
 use Rattle.sql_parts.specs.Tokens.{begins_with, inside, tokens}
 use Rattle.sql_parts.specs.declared.like.LikeEscape.{LikeEscape}
 
@@ -28,11 +28,11 @@ IsInjective written = (one other : List ℕ) → written one ≡ written other �
 
 -- binding a text in which each such byte is doubled gives the text, whatever is bound
 abbrev pub UndoesDoubling : ℕ → Marks → Type 0
-UndoesDoubling byte marks = (text : List ℕ) (literals : Value → LiteralValue) → bound (doubled byte text) marks literals ≡ Some text
+UndoesDoubling byte marks = (text : List ℕ) (literals : Replacement → LiteralValue) → bound (doubled byte text) marks literals ≡ Some text
 
 -- binding a text without such a byte gives the text, whatever is bound
 abbrev pub LeavesTextWithout : ℕ → Marks → Type 0
-LeavesTextWithout byte marks = (text : List ℕ) (literals : Value → LiteralValue) → All (λ other. other ≢ byte) text → bound text marks literals ≡ Some text
+LeavesTextWithout byte marks = (text : List ℕ) (literals : Replacement → LiteralValue) → All (λ other. other ≢ byte) text → bound text marks literals ≡ Some text
 
 -- how many tokens a text has, where there is one
 abbrev pub token_count : Option (List ℕ) → Option ℕ
@@ -44,8 +44,8 @@ DifferInText (words one) (words other) = Unit {0}
 DifferInText one other = one ≡ other
 
 -- the same of the literals of each value
-abbrev pub DifferInTexts : (Value → LiteralValue) → (Value → LiteralValue) → Type 0
-DifferInTexts one other = (value : Value) → DifferInText (one value) (other value)
+abbrev pub DifferInTexts : (Replacement → LiteralValue) → (Replacement → LiteralValue) → Type 0
+DifferInTexts one other = (value : Replacement) → DifferInText (one value) (other value)
 
 -- Where a backslash escapes, the literal that is written of a text without one ends at its last byte and stands for the text, whatever
 -- follows it but a quote.

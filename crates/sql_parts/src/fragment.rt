@@ -1,10 +1,10 @@
 //! Texts whose types say that they fit where a statement takes a fragment or an operand.
 ghost use Rattle.std.specs.Prelude.{◌≡◌, is_ok, string_bytes, IfErr, IfOk, IsTrue, Some};
-ghost use Rattle.sql_parts.specs.{misfit, ServesAsOperand, is_fragment, is_typed_fragment, is_typed_operand};
-ghost use Rattle.sql_parts.specs.declared.misfits.Demand.TheVariants as demand;
+ghost use Rattle.sql_parts.specs.{violation, ServesAsOperand, is_fragment, is_typed_fragment, is_typed_operand};
+ghost use Rattle.sql_parts.specs.declared.violations.Requirement.TheVariants as requirement;
 
 use crate::error::SqlBuilderError;
-use crate::lex::{Demand, Misfit, misfit};
+use crate::lex::{Requirement, Violation, violation};
 use crate::text::ToText;
 use std::alloc::Global;
 use std::borrow::CowStr;
@@ -45,7 +45,7 @@ pub struct OwnedOperand {
 impl<'a> Fragment<'a> {
     /// Returns the fragment of this text. The text has to fit, and must have no top-level word that
     /// begins a clause in some databases, such as INTO. Only a proof tests this: `rt try` doesn't.
-    /// `lex::misfit` says why a text doesn't fit. Never fails.
+    /// `lex::violation` says why a text doesn't fit. Never fails.
     /// `Fragment::of("books AS b").text` gives `books AS b`
     pub fn of(text: &'a str) -> Fragment<'a>
         requires fits { IsTrue (is_typed_fragment text.now) }
@@ -65,17 +65,17 @@ impl<'a> Fragment<'a> {
     }
 
     /// Returns a text of the program's own as a fragment, with the test of `of`. Fails with the
-    /// `Misfit` that the test finds. Takes no memory, and reads a text that fits once. Never give
-    /// it untrusted text: what fits may still name another table or be a query.
+    /// `Violation` that the test finds. Takes no memory, and reads a text that fits once. Never
+    /// give it untrusted text: what fits may still name another table or be a query.
     /// `Fragment::of_trusted("a UNION SELECT b")` fails with `ClauseWord`
     /// `Fragment::of_trusted("books FOR SHARE")` fails with `DialectWord`
-    pub fn of_trusted(text: &'a str) -> Result<Fragment<'a>, Misfit>
+    pub fn of_trusted(text: &'a str) -> Result<Fragment<'a>, Violation>
         ensures fits { is_ok result ≡ is_typed_fragment text.entry.now }
         ensures text { IfOk result (λ fragment. fragment.text ≡ text.entry) }
-        ensures misfit { IfErr result (λ reason.
-            misfit demand.TypedFragment text.entry.now ≡ Some reason) }
+        ensures violation { IfErr result (λ reason.
+            violation requirement.TypedFragment text.entry.now ≡ Some reason) }
     {
-        match misfit(text, Demand::TypedFragment) {
+        match violation(text, Requirement::TypedFragment) {
             None => Ok(Fragment { text }),
             Some(reason) => Err(reason),
         }
@@ -85,7 +85,7 @@ impl<'a> Fragment<'a> {
 impl<'a> Operand<'a> {
     /// Returns the operand of this text. The text has to fit, and must have no top-level word that
     /// begins a clause in some databases, such as INTO. Only a proof tests this: `rt try` doesn't.
-    /// `lex::misfit` says why a text doesn't fit. Never fails.
+    /// `lex::violation` says why a text doesn't fit. Never fails.
     /// `Operand::of("price").text` gives `price`
     pub fn of(text: &'a str) -> Operand<'a>
         requires fits { IsTrue (is_typed_operand text.now) }
@@ -95,17 +95,17 @@ impl<'a> Operand<'a> {
     }
 
     /// Returns a text of the program's own as an operand, with the test of `of`. Fails with the
-    /// `Misfit` that the test finds. Takes no memory, and reads a text that fits once. Never give
-    /// it untrusted text: what fits may still name another column or be a query.
+    /// `Violation` that the test finds. Takes no memory, and reads a text that fits once. Never
+    /// give it untrusted text: what fits may still name another column or be a query.
     /// `Operand::of_trusted("a OR 1=1")` fails with `Joined`
     /// `Operand::of_trusted("a INTO b")` fails with `DialectWord`
-    pub fn of_trusted(text: &'a str) -> Result<Operand<'a>, Misfit>
+    pub fn of_trusted(text: &'a str) -> Result<Operand<'a>, Violation>
         ensures fits { is_ok result ≡ is_typed_operand text.entry.now }
         ensures text { IfOk result (λ operand. operand.text ≡ text.entry) }
-        ensures misfit { IfErr result (λ reason.
-            misfit demand.TypedOperand text.entry.now ≡ Some reason) }
+        ensures violation { IfErr result (λ reason.
+            violation requirement.TypedOperand text.entry.now ≡ Some reason) }
     {
-        match misfit(text, Demand::TypedOperand) {
+        match violation(text, Requirement::TypedOperand) {
             None => Ok(Operand { text }),
             Some(reason) => Err(reason),
         }

@@ -10,7 +10,7 @@ ghost use Rattle.sql_parts.specs.{LeadsAsNoText, PartsAreAtPlaces, ReadersIgnore
 ghost use Rattle.sql_parts.specs.{escaped, quoted, LiteralValue, literal_text, words, safe_text, NamesAreOperands, ServesAsOperand, has_operand_parts};
 ghost use Rattle.sql_parts.specs.Name.{Name};
 ghost use Rattle.sql_parts.specs.{is_operand_alias, NumbersAreBound, PlaceholdersAreBound, TextsBindApart, placeholder_text, prefix, bool_text, decimal_text};
-ghost use Rattle.sql_parts.specs.{number_text, Cycle, First, Names, Nums, Value, bound, apart, literal_tokens, HasNoBackslash, OpensEveryLiteral};
+ghost use Rattle.sql_parts.specs.{number_text, Cycle, First, Names, Nums, Replacement, bound, apart, literal_tokens, HasNoBackslash, OpensEveryLiteral};
 ghost use Rattle.sql_parts.specs.{OpensWithoutBackslashes, ReadsClosed, Symbol, Word, clean, closed, is_open, is_semicolon, tokens};
 ghost use Rattle.sql_parts.specs.declared.delimiters.Quotes.TheVariants.{Back, Double, Single, Square};
 ghost use Rattle.sql_parts.specs.Templates.{Marks};
@@ -94,7 +94,7 @@ pub fn bound_texts_do_not_interfere()
 /// the template stand apart. Does nothing when it runs. Never fails.
 /// `"a = ?".bind(alloc, &"b; c")?` gives `a = 'b; c'`
 pub fn bound_texts_keep_the_count()
-    ensures count { (template : List ℕ) (marks : Marks) (one other : Value → LiteralValue)
+    ensures count { (template : List ℕ) (marks : Marks) (one other : Replacement → LiteralValue)
         → IsTrue (apart template marks) → DifferInTexts one other
         → token_count (bound template marks one) ≡ token_count (bound template marks other) }
 {}

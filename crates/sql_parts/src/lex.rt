@@ -1,20 +1,20 @@
 //! Tests of fragments, which read a text as the tokens of SQL.
 ghost use Rattle.std.specs.Prelude.{◌≡◌, ◌&&◌, IfErr, IfOk, codes, if◌then◌else◌, is_none, not, true};
 ghost use Rattle.sql_parts.specs.{has_backslash, FailsOnlyByMemory, IsMemoryForNesting, balanced, dangling, has_clause_word, encloses_clauses, has_dialect_word};
-ghost use Rattle.sql_parts.specs.{has_top_level, is_balanced, is_clause_word, is_dialect_word, is_word, operand, meets, misfit, marks_of, HasRole, is_barred};
+ghost use Rattle.sql_parts.specs.{has_top_level, is_balanced, is_clause_word, is_dialect_word, is_word, operand, meets, violation, marks_of, HasRole, is_barred};
 ghost use Rattle.sql_parts.specs.{resolved_from, apart, segment_apart, segments_apart, begins_with, ends_with, has_semicolon, is_empty, is_separator};
 ghost use Rattle.sql_parts.specs.Tokens as tokens;
 
 use crate::dangling::{OpenRanges, Sides};
 use crate::depth::Depth;
 use crate::error::SqlBuilderError;
-pub use crate::misfits::{Demand, Misfit};
-use crate::placeholders::{Marks, Place, first_place, prefix};
+use crate::placeholders::{Content, Marks, first_place, prefix};
 use crate::roles::{Role, first_role, starts_clause};
 use crate::search::{Front, find_byte};
 use crate::substitution::lacks_arguments;
 pub use crate::tokenizer::is_closed;
 use crate::tokenizer::{Token, first_token};
+pub use crate::violations::{Requirement, Violation};
 use std::alloc::Global;
 
 /// Returns whether a `;` is among the tokens of the text. Never fails.
@@ -166,18 +166,19 @@ fn encloses_clauses(text: &str) -> bool
     level == 0
 }
 
-// Whether the text meets the demand.
-fn meets(text: &str, demand: Demand) -> bool
-    ensures { result ≡ meets demand text.now }
+// Whether the text meets the requirement.
+fn meets(text: &str, requirement: Requirement) -> bool
+    ensures { result ≡ meets requirement text.now }
 {
-    match demand {
-        Demand::Balanced => is_balanced(text),
-        Demand::Fragment => is_balanced_as(text, true, false, false),
-        Demand::Operand => is_balanced_as(text, true, false, true),
-        Demand::TypedFragment => {
+    match requirement {
+        Requirement::Balanced => is_balanced(text),
+        Requirement::Fragment => is_balanced_as(text, true, false, false),
+        Requirement::Operand => is_balanced_as(text, true, false, true),
+        Requirement::TypedFragment => {
             is_balanced_as(text, true, true, false) && encloses_clauses(text)
         }
-        Demand::TypedOperand => is_balanced_as(text, true, true, true) && encloses_clauses(text),
+        Requirement::TypedOperand => is_balanced_as(text, true, true, true)
+            && encloses_clauses(text),
     }
 }
 
@@ -187,52 +188,54 @@ fn is_blank(text: &str) -> bool
     first_token(text).is_none()
 }
 
-// Why the text doesn't meet the demand, in as many readings as there are reasons.
+// Why the text doesn't meet the requirement, in as many readings as there are reasons.
 #[cold]
-#[tactic(auto, unfolding(crate::specs::Misfits::misfit))]
-fn reason(text: &str, demand: Demand) -> Option<Misfit>
-    ensures { result ≡ misfit demand text.now }
+#[tactic(auto, unfolding(crate::specs::Violations::violation))]
+fn reason(text: &str, requirement: Requirement) -> Option<Violation>
+    ensures { result ≡ violation requirement text.now }
 {
     if is_blank(text) {
-        return Some(Misfit::Blank);
+        return Some(Violation::Blank);
     }
     if !is_closed(text) {
-        return Some(Misfit::Open);
+        return Some(Violation::Open);
     }
     if has_semicolon(text) {
-        return Some(Misfit::Semicolon);
+        return Some(Violation::Semicolon);
     }
     if !is_balanced(text) {
-        return Some(Misfit::Brackets);
+        return Some(Violation::Brackets);
     }
-    match demand {
-        Demand::Balanced => None,
-        _ if has_clause_word(text) => Some(Misfit::ClauseWord),
-        Demand::TypedFragment | Demand::TypedOperand if has_dialect_word(text) => {
-            Some(Misfit::DialectWord)
+    match requirement {
+        Requirement::Balanced => None,
+        _ if has_clause_word(text) => Some(Violation::ClauseWord),
+        Requirement::TypedFragment | Requirement::TypedOperand if has_dialect_word(text) => {
+            Some(Violation::DialectWord)
         }
-        Demand::Operand | Demand::TypedOperand if !is_operand(text) => Some(Misfit::Joined),
-        Demand::TypedFragment | Demand::TypedOperand if !encloses_clauses(text) => {
-            Some(Misfit::CaseWord)
+        Requirement::Operand | Requirement::TypedOperand if !is_operand(text) => Some(
+            Violation::Joined,
+        ),
+        Requirement::TypedFragment | Requirement::TypedOperand if !encloses_clauses(text) => {
+            Some(Violation::CaseWord)
         }
         _ => None,
     }
 }
 
-/// Returns why the text doesn't meet the demand, if it doesn't. Never fails. Takes no memory. Reads
-/// a text that fits once, or twice if the demand is of a type.
-/// `misfit("a UNION SELECT b", Demand::Fragment)` gives `Some(ClauseWord)`
-/// `misfit("a OR 1=1", Demand::Operand)` gives `Some(Joined)`
-/// `misfit("a INTO b", Demand::TypedOperand)` gives `Some(DialectWord)`
-/// `misfit("@case UNION SELECT @end", Demand::TypedFragment)` gives `Some(CaseWord)`
-pub fn misfit(text: &str, demand: Demand) -> Option<Misfit>
-    ensures reason { result ≡ misfit demand text.now }
-    ensures fits { is_none result ≡ meets demand text.now }
+/// Returns why the text doesn't meet the requirement, if it doesn't. Never fails. Takes no memory.
+/// Reads a text that fits once, or twice if the requirement is of a type.
+/// `violation("a UNION SELECT b", Requirement::Fragment)` gives `Some(ClauseWord)`
+/// `violation("a OR 1=1", Requirement::Operand)` gives `Some(Joined)`
+/// `violation("a INTO b", Requirement::TypedOperand)` gives `Some(DialectWord)`
+/// `violation("@case UNION SELECT @end", Requirement::TypedFragment)` gives `Some(CaseWord)`
+pub fn violation(text: &str, requirement: Requirement) -> Option<Violation>
+    ensures reason { result ≡ violation requirement text.now }
+    ensures fits { is_none result ≡ meets requirement text.now }
 {
-    if meets(text, demand) {
+    if meets(text, requirement) {
         None
     } else {
-        reason(text, demand)
+        reason(text, requirement)
     }
 }
 
@@ -307,10 +310,10 @@ fn segments_apart(alloc: Global, template: &str, marks: Marks<'_>) -> Result<boo
     let mut seen = 0;
     while let Some(found) = first_place(marks, prefix, front, seen, rest) {
         segment.push_str(found.segment)?;
-        match found.place {
-            Place::Prefix => segment.push_str(prefix)?,
-            Place::Writes(text) => segment.push_str(text)?,
-            Place::Holds(_) => {
+        match found.content {
+            Content::Prefix => segment.push_str(prefix)?,
+            Content::Writes(text) => segment.push_str(text)?,
+            Content::Holds(_) => {
                 if !segment_apart(seen == 0, false, segment.as_str()) {
                     return Ok(false);
                 }

@@ -20,7 +20,6 @@ pub mod lex;
 mod like;
 pub mod loan;
 mod marks;
-mod misfits;
 pub mod name;
 pub mod parameter;
 mod placeholders;
@@ -31,6 +30,7 @@ mod search;
 mod substitution;
 pub mod text;
 mod tokenizer;
+mod violations;
 
 pub use arg::{Literal, SqlArg, Value};
 pub use bind::{Bind, BindNames, Marks};

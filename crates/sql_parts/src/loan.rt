@@ -8,16 +8,16 @@ use crate::error::SqlBuilderError;
 /// failed call leaves the value unchanged is proved only if the borrow comes in a struct. For the
 /// crates here alone.
 #[derive(Drop)]
-pub struct Held<'a, T>(pub &'a mut T);
+pub struct Loan<'a, T>(pub &'a mut T);
 
-/// Returns the borrow that a step holds. Fails with the step's error. For the crates here alone.
-/// `release(Ok(Held(&mut 1)))?` gives `1`
-pub fn release<T>(held: Result<Held<'_, T>, SqlBuilderError>) -> Result<&mut T, SqlBuilderError>
-    ensures { result ≡ result_map_both (λ held. held.0) (λ error. error) held.entry }
+/// Returns the borrow that a step lends. Fails with the step's error. For the crates here alone.
+/// `release(Ok(Loan(&mut 1)))?` gives `1`
+pub fn release<T>(loan: Result<Loan<'_, T>, SqlBuilderError>) -> Result<&mut T, SqlBuilderError>
+    ensures { result ≡ result_map_both (λ loan. loan.0) (λ error. error) loan.entry }
 {
-    match held {
-        Ok(held) => {
-            let Held(borrowed) = held;
+    match loan {
+        Ok(loan) => {
+            let Loan(borrowed) = loan;
             Ok(borrowed)
         }
         Err(error) => Err(error),

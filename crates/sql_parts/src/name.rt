@@ -6,7 +6,7 @@ ghost use Rattle.sql_parts.specs.{safe_form, safe_text, safe_tokens, str_token, 
 ghost use Rattle.sql_parts.specs.{brquoted, dquoted, quoted, join_with, optional_texts, texts, closed, tokens};
 
 use crate::error::SqlBuilderError;
-use crate::loan::{Held, release};
+use crate::loan::{Loan, release};
 use crate::quoting::push_enclosed;
 use crate::text::{OwnedOperand, Quotes, ToText, copies, copy};
 use std::alloc::{AllocError, Global};
@@ -102,8 +102,8 @@ pub(crate) enum Change {
 
 impl SqlName {
     ghost use Rattle.std.specs.Borrow.{sem};
-    ghost use Rattle.sql_parts.specs.NameLoans.{IsUnchangedIfErr, IsUnchangedIfHeldErr};
-    ghost use Rattle.sql_parts.specs.Loans.{IsChangedTo, IsHeldChangedTo};
+    ghost use Rattle.sql_parts.specs.NameLoans.{IsUnchangedIfErr, IsUnchangedIfLoanErr};
+    ghost use Rattle.sql_parts.specs.Loans.{IsChangedTo, IsLoanChangedTo};
 
     /// Returns a name of one part, without an alias. Fails only if memory runs out.
     /// `SqlName::new(alloc, "a")?.safe()?` gives `a`
@@ -135,9 +135,9 @@ impl SqlName {
         &mut self,
         change: Change,
         text: S,
-    ) -> Result<Held<'_, SqlName>, SqlBuilderError>
-        ensures* unchanged { sem 𝓛 (IsUnchangedIfHeldErr self.entry result) }
-        ensures changed { IsHeldChangedTo self.entry (with_change change (S.text text) self.old) result }
+    ) -> Result<Loan<'_, SqlName>, SqlBuilderError>
+        ensures* unchanged { sem 𝓛 (IsUnchangedIfLoanErr self.entry result) }
+        ensures changed { IsLoanChangedTo self.entry (with_change change (S.text text) self.old) result }
         ensures memory { FailsOnlyByMemory result }
     {
         let text = text.to_text(self.alloc)?;
@@ -145,7 +145,7 @@ impl SqlName {
             Change::Part => self.push_part(text)?,
             Change::Alias => self.alias = Some(text),
         }
-        Ok(Held(self))
+        Ok(Loan(self))
     }
 
     /// Adds a part behind the others. Fails only if memory runs out, and then leaves the name

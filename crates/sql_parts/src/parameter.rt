@@ -1,5 +1,5 @@
 //! Values beside a statement: its text has a placeholder for each of them, and no byte of theirs.
-ghost use Rattle.std.specs.Prelude.{◌≡◌, ◌<◌, ◌++◌, suc, [], ◌∷◌, length, string_bytes, vec_capacity, vec_len, IfOk, IsOk, OnErr, OnOk};
+ghost use Rattle.std.specs.Prelude.{◌≡◌, ◌<◌, ◌++◌, suc, [], ◌∷◌, length, vec_capacity, vec_len, IfOk, IsOk, OnErr, OnOk};
 ghost use Rattle.sql_parts.specs.{FailsOnlyByMemory, placeholder_text, placeholders_behind, prefix};
 
 use crate::decimal::{prefixed_text, push_prefixed};

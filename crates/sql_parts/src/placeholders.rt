@@ -4,7 +4,7 @@ ghost use Rattle.std.specs.Char.{is_ascii_digit};
 ghost use Rattle.std.specs.Cow.{cow_str_bytes};
 ghost use Rattle.std.specs.List.{prefix_len};
 ghost use Rattle.std.specs.Str.Parse.{digits_value};
-ghost use Rattle.sql_parts.specs.{FailsOnlyByMemory, IsNumber, RepresentsPlace, marks_of, place_of, front_of, Writes, counted, named, numbered, place_behind};
+ghost use Rattle.sql_parts.specs.{FailsOnlyByMemory, IsNumber, RepresentsContent, marks_of, content_of, front_of, Writes, counted, named, numbered, place_behind};
 ghost use Rattle.sql_parts.specs.{resolved_from};
 ghost use Rattle.sql_parts.specs.Templates as templates;
 ghost use Rattle.sql_parts.specs.Templates.{followed_by, prefix};
@@ -35,7 +35,7 @@ pub enum Marks<'a> {
 
 /// What a placeholder is replaced by.
 #[derive(Clone, Copy)]
-pub(crate) enum Value<'t> {
+pub(crate) enum Replacement<'t> {
     /// The argument with this number, from 0.
     Argument(usize),
     /// What this name is bound to.
@@ -44,20 +44,20 @@ pub(crate) enum Value<'t> {
 
 /// What is at a place.
 #[derive(Clone, Copy)]
-pub(crate) enum Place<'t> {
+pub(crate) enum Content<'t> {
     /// The prefix itself, as text.
     Prefix,
     /// A text, perhaps another than is read there.
     Writes(&'t str),
     /// A placeholder.
-    Holds(Value<'t>),
+    Holds(Replacement<'t>),
 }
 
 /// The text before a place, what is there, and the text behind it.
 #[derive(Clone, Copy)]
 pub(crate) struct Found<'t> {
     pub(crate) segment: &'t str,
-    pub(crate) place: Place<'t>,
+    pub(crate) content: Content<'t>,
     pub(crate) rest: &'t str,
 }
 
@@ -121,31 +121,34 @@ pub(crate) fn number(text: &str) -> (Option<usize>, &str)
 }
 
 // What is read at a `$`, where there are so many arguments.
-fn numbered(count: usize, behind: &str) -> (Place<'_>, &str)
-    ensures { RepresentsPlace (codes "$") behind.now result (numbered count behind.now) }
+fn numbered(count: usize, behind: &str) -> (Content<'_>, &str)
+    ensures { RepresentsContent (codes "$") behind.now result (numbered count behind.now) }
 {
     let (number, rest) = number(behind);
     match number {
         Some(0) => match rest.strip_prefix("$") {
-            Some(rest) => (Place::Writes("$"), rest),
-            None => (Place::Writes(""), rest),
+            Some(rest) => (Content::Writes("$"), rest),
+            None => (Content::Writes(""), rest),
         },
-        Some(number) if number <= count => (Place::Holds(Value::Argument(number - 1)), rest),
-        _ => (Place::Writes(""), rest),
+        Some(number) if number <= count => (
+            Content::Holds(Replacement::Argument(number - 1)),
+            rest,
+        ),
+        _ => (Content::Writes(""), rest),
     }
 }
 
 // What is read at a `:`.
-fn named(behind: &str) -> (Place<'_>, &str)
-    ensures { RepresentsPlace (codes ":") behind.now result (named behind.now) }
+fn named(behind: &str) -> (Content<'_>, &str)
+    ensures { RepresentsContent (codes ":") behind.now result (named behind.now) }
 {
     match behind.split_once(':') {
-        None => (Place::Writes(":"), behind),
+        None => (Content::Writes(":"), behind),
         Some((name, rest)) => {
             if name.is_empty() {
-                (Place::Writes(":"), rest)
+                (Content::Writes(":"), rest)
             } else {
-                (Place::Holds(Value::Named(name)), rest)
+                (Content::Holds(Replacement::Named(name)), rest)
             }
         }
     }
@@ -162,20 +165,20 @@ pub(crate) fn begins_with_digit(text: &str) -> bool
 
 // What is read at a prefix, and the text behind it.
 #[inline(always)]
-fn place_behind<'t>(marks: Marks<'_>, seen: usize, behind: &'t str) -> (Place<'t>, &'t str)
+fn place_behind<'t>(marks: Marks<'_>, seen: usize, behind: &'t str) -> (Content<'t>, &'t str)
     requires first { marks_of marks ≡ templates.First → seen ≡ 0 }
-    ensures { RepresentsPlace (prefix (marks_of marks.entry)) behind.now result
+    ensures { RepresentsContent (prefix (marks_of marks.entry)) behind.now result
         (place_behind (marks_of marks.entry) seen behind.now) }
 {
     match marks {
-        Marks::Num(_) if begins_with_digit(behind) => (Place::Prefix, behind),
+        Marks::Num(_) if begins_with_digit(behind) => (Content::Prefix, behind),
         Marks::First | Marks::Num(_) | Marks::Name(_) => {
-            (Place::Holds(Value::Argument(0)), behind)
+            (Content::Holds(Replacement::Argument(0)), behind)
         }
         Marks::Cycle(count) => {
             // No count is 0 here, since callers then refuse a `?`: the definition is total.
             let argument = seen.checked_rem(count).unwrap_or(seen);
-            (Place::Holds(Value::Argument(argument)), behind)
+            (Content::Holds(Replacement::Argument(argument)), behind)
         }
         Marks::Nums(count) => numbered(count, behind),
         Marks::Names => named(behind),
@@ -195,10 +198,10 @@ pub(crate) fn first_place<'t>(
     requires front { front ≡ front_of prefix.now }
     ensures found { MatchOption result
         (resolved_from (marks_of marks.entry) seen 0 text.now ≡ (text.now, []))
-        (λ f. let place = place_of (templates.prefix (marks_of marks.entry)) f.place in
+        (λ f. let content = content_of (templates.prefix (marks_of marks.entry)) f.content in
         resolved_from (marks_of marks.entry) seen 0 text.now
-        ≡ followed_by (Writes f.segment.now) (followed_by place
-        (resolved_from (marks_of marks.entry) (counted place seen) 0 f.rest.now))) }
+        ≡ followed_by (Writes f.segment.now) (followed_by content
+        (resolved_from (marks_of marks.entry) (counted content seen) 0 f.rest.now))) }
     ensures shorter { IfSome result (λ f. length f.rest.now < length text.now) }
 {
     match marks {
@@ -206,10 +209,10 @@ pub(crate) fn first_place<'t>(
         Marks::First if seen > 0 => None,
         _ => {
             let (segment, behind) = split_at_first(text, prefix, front)?;
-            let (place, rest) = place_behind(marks, seen, behind);
+            let (content, rest) = place_behind(marks, seen, behind);
             Some(Found {
                 segment,
-                place,
+                content,
                 rest,
             })
         }

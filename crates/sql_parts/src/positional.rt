@@ -1,5 +1,5 @@
 //! Values by their order in a statement's text, for databases whose placeholders have no numbers.
-ghost use Rattle.std.specs.Prelude.{◌≡◌, ◌++◌, IfErr, IfOk, IfSome, MatchResult, None, Some, flat_map, is_none, length, map, string_bytes};
+ghost use Rattle.std.specs.Prelude.{◌≡◌, IfErr, IfOk, IfSome, MatchResult, None, Some, length, map, string_bytes};
 ghost use Rattle.sql_parts.specs.{IsMark, error_of, first_error, marks, positional_text};
 ghost use Rattle.sql_parts.specs.Positional as positional;
 ghost use Rattle.sql_parts.specs.Positional.{IsMemory, message_text, value_of};

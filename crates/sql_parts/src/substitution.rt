@@ -7,7 +7,7 @@ ghost use Rattle.sql_parts.specs.Templates as templates;
 use crate::arg::SqlArg;
 use crate::bind_names::{BindNames, push_found};
 use crate::error::SqlBuilderError;
-use crate::placeholders::{Marks, Place, Value, first_place, prefix};
+use crate::placeholders::{Content, Marks, Replacement, first_place, prefix};
 use crate::search::Front;
 use std::alloc::{AllocError, Global};
 use std::collections::BTreeMap;
@@ -15,7 +15,7 @@ use std::collections::BTreeMap;
 /// The literals of the values of a template.
 pub(crate) trait Literals: Drop {
     /// The literal of each value.
-    ghost literals: { Self → templates.Value → LiteralValue };
+    ghost literals: { Self → templates.Replacement → LiteralValue };
 
     /// That a text which is stored of a literal is its text.
     ghost is_kept: { Self → Type 0 } = { λ _. ⊤ };
@@ -24,7 +24,7 @@ pub(crate) trait Literals: Drop {
     fn push_literal(
         &self,
         alloc: Global,
-        value: &Value<'_>,
+        value: &Replacement<'_>,
         out: &mut String,
     ) -> Result<(), SqlBuilderError>
         requires kept { is_kept self.now }
@@ -45,7 +45,7 @@ impl<A: SqlArg> Literals for Alone<A> {
     fn push_literal(
         &self,
         alloc: Global,
-        _value: &Value<'_>,
+        _value: &Replacement<'_>,
         out: &mut String,
     ) -> Result<(), SqlBuilderError> {
         self.arg.push_sql_arg(alloc, out)
@@ -81,7 +81,7 @@ impl<A: SqlArg> Literals for Repeated<A> {
     fn push_literal(
         &self,
         _alloc: Global,
-        _value: &Value<'_>,
+        _value: &Replacement<'_>,
         out: &mut String,
     ) -> Result<(), SqlBuilderError> {
         Ok(out.push_str(self.text.as_str())?)
@@ -94,13 +94,13 @@ impl Literals for &[Box<dyn SqlArg>] {
     fn push_literal(
         &self,
         alloc: Global,
-        value: &Value<'_>,
+        value: &Replacement<'_>,
         out: &mut String,
     ) -> Result<(), SqlBuilderError> {
         match value {
-            Value::Argument(at) => push_found(alloc, self.get(*at), out),
+            Replacement::Argument(at) => push_found(alloc, self.get(*at), out),
             // `binds` and `bind_nums` look for no names: the definition is total.
-            Value::Named(_) => Ok(out.push_str("NULL")?),
+            Replacement::Named(_) => Ok(out.push_str("NULL")?),
         }
     }
 }
@@ -121,13 +121,13 @@ impl<N: BindNames + Drop> Literals for LookedUp<'_, N> {
     fn push_literal(
         &self,
         alloc: Global,
-        value: &Value<'_>,
+        value: &Replacement<'_>,
         out: &mut String,
     ) -> Result<(), SqlBuilderError> {
         match value {
             // `bind_names` looks for no numbers: the definition is total.
-            Value::Argument(_) => Ok(out.push_str("NULL")?),
-            Value::Named(name) => self.names.push_named(alloc, &self.places, name, out),
+            Replacement::Argument(_) => Ok(out.push_str("NULL")?),
+            Replacement::Named(name) => self.names.push_named(alloc, &self.places, name, out),
         }
     }
 }
@@ -205,16 +205,16 @@ fn push_bound<L: Literals>(
     let mut rest = template;
     let mut seen = 0;
     while let Some(found) = first_place(marks, prefix, front, seen, rest) {
-        match found.place {
-            Place::Prefix => {
+        match found.content {
+            Content::Prefix => {
                 push_segment(out, found.segment)?;
                 out.push_str(prefix)?;
             }
-            Place::Writes(text) => {
+            Content::Writes(text) => {
                 push_segment(out, found.segment)?;
                 out.push_str(text)?;
             }
-            Place::Holds(value) => {
+            Content::Holds(value) => {
                 push_segment(out, found.segment)?;
                 literals.push_literal(alloc, &value, out)?;
                 seen += 1;

@@ -1,8 +1,10 @@
 -- What a statement has after one more call, and how a call fails where another does.
 use Rattle.sql_typed.proofs.Imports.{MatchResult, IsOk, ◌≡◌, ◌∙◌, ◌++◌, ap, refl, sym, subst, Bool, true, false, List, [], ◌∷◌, Option, None, Some, list_any, Err, IfSome, IsErrAnd, IsNone, Ok, Result, ◌&&◌, ◌||◌, not, FailsOnlyByMemory}
-use Rattle.sql_typed.proofs.Imports.{SqlBuilderError, ClauseTexts, with_call, CallText, FinishText, is_join, call_fits, error_at, made_by, FailsBy, changes_rows, has_early_constraint, is_constraint, is_filter, is_order, is_returning}
+use Rattle.sql_typed.proofs.Imports.{SqlBuilderError, ClauseTexts, with_call, CallText, FinishText, is_join, kind_of, call_fits, error_at, made_by, FailsBy, changes_rows, has_early_constraint, is_constraint, is_filter, is_order, is_returning}
 use Rattle.sql_typed.proofs.Imports.{is_union, IsFitBy, Made, adding, marks_of, noted, FailsWith, Builder, clauses-push, all-more}
+use Rattle.sql_typed.proofs.TruthLemmas.{Prints, printed_more}
 use Rattle.sql_typed.specs.Faults.{IsMemory}
+use Rattle.sql_builder.specs.declared.clauses.Kind.{Kind}
 use Rattle.sql_typed.specs.declared.error.Error.{Error}
 use Rattle.sql_typed.specs.declared.marks.Marks.{Marks}
 
@@ -49,16 +51,19 @@ marks_more made c = λ i. record {
   has_returning = any_more is_returning c made.calls i;
 }
 
--- what holds of a statement holds with one more call
-pub held_more : (made now : Made) (c : CallText) (old new : ClauseTexts) (marks : Marks) → now ≡ adding c made → new ≡ with_call c old
-    → IsFitBy made old × (marks ≡ marks_of made) → call_fits c ≡ true → IsFitBy now new × (noted c marks ≡ marks_of now)
-held_more made now c old new marks is called held fits = (
+-- what holds of a statement of a kind holds with one more call
+pub held_more : (kind : Kind) (made now : Made) (c : CallText) (old new : ClauseTexts) (marks : Marks) → now ≡ adding c made → new ≡ with_call c old
+    → IsFitBy made old × (marks ≡ marks_of made) × (kind_of made.start ≡ kind) → call_fits c ≡ true → Prints kind c
+    → IsFitBy now new × (noted c marks ≡ marks_of now) × (kind_of now.start ≡ kind)
+held_more kind made now c old new marks is called held fits prints = (
   subst (λ (m : Made). IsFitBy m new) (sym is) (record {
     is_made = called ∙ ap (with_call c) held.0.is_made ∙ sym (clauses-push made.start made.calls c);
     start_fits = held.0.start_fits;
     calls_fit = all-more made.calls c held.0.calls_fit fits;
+    prints_conditions = printed_more made c (subst (λ k. Prints k c) (sym held.2) prints) held.0.prints_conditions;
   }),
   ap (noted c) held.1 ∙ marks_more made c ∙ ap marks_of (sym is),
+  ap (λ (m : Made). kind_of m.start) is ∙ held.2,
 )
 
 -- ---- how a call fails, where it has no fault

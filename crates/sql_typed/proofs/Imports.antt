@@ -10,8 +10,8 @@ pub use Rattle.sql_builder.proofs.statements.StatementLawLemmas.{builders_print_
 pub use Rattle.sql_builder.proofs.tokens.BalancedFacts.{balanced_closed, even_text, is_balanced-append, is_even-append, is_even-brackets, is_operand-brackets, no_clause-brackets}
 pub use Rattle.sql_builder.proofs.truth.CombinedLemmas.{all_combined, any_combined, condition_fragment, condition_is_atom, fits_as, operands_balanced, combined_fragment, exists_fragment, constant_is_atom, not_exists_truth}
 pub use Rattle.sql_builder.proofs.truth.CombinedLemmas.{negation_fragment, like_fragment, like_is_atom}
-pub use Rattle.sql_builder.specs.Builder.{ClauseTexts, with_call}
-pub use Rattle.sql_builder.specs.Calls.{CallText, FinishText, is_join, finish_raw_texts, nullary_call, Sql, StartText, kind_of, Select, clauses, Query, SubqueryAs, Subquery, Field, GroupBy, Limit, Offset, OrderAsc, OrderDesc, SelectFrom}
+pub use Rattle.sql_builder.specs.Builder.{ClauseTexts, started, with_call}
+pub use Rattle.sql_builder.specs.Calls.{CallText, FinishText, is_join, finish_raw_texts, nullary_call, Sql, StartText, kind_of, Select, clauses, Query, SubqueryAs, Subquery, Field, GroupBy, Limit, Offset, OrderAsc, OrderDesc, SelectFrom, SelectValues, QueryValues, condition_in}
 pub use Rattle.sql_builder.specs.Calls.{Union, UnionAll, Cond, DeleteFrom, InsertInto, Join, On, OnEq, Returning, ReturningId, UpdateTable, start_on, Values, finish_view}
 pub use Rattle.sql_builder.specs.Combined.{IsCombined, combined_text, like_text, exists_text, constant_text, negation_text}
 pub use Rattle.sql_builder.specs.Condition.{ConditionText, Raw, Compare, Like, IsNull, IsNotNull, InList, InQuoted, InQuery, Between, condition_bytes, condition_raw_texts, has_operands, not_text}
@@ -25,7 +25,7 @@ pub use Rattle.sql_builder.specs.StatementLaws.{made_by}
 pub use Rattle.sql_builder.specs.Truths.{IsAtom, and_all, or_all, truth}
 pub use Rattle.sql_builder.specs.declared.condition.Percent.TheVariants.{Any, Left, Right}
 pub use Rattle.sql_parts.proofs.fragments.DepthFacts.{has_top_level-is, is_balanced, is_balanced-is, is_even, is_operand, is_operand-is}
-pub use Rattle.sql_parts.proofs.fragments.MisfitLemmas.{serves, balanced_whole}
+pub use Rattle.sql_parts.proofs.fragments.ViolationLemmas.{serves, balanced_whole}
 pub use Rattle.sql_parts.proofs.templates.HoleFacts.{filled-tokens, LacksHole, bracketed, filled-fragment, filled-hole, filled-serves, in_hole-serves, filled-keeps, filled-none, uncut, filled-closed}
 pub use Rattle.sql_parts.proofs.tokens.JoinFacts.{enclosed-tokens, clean-before, clean-behind}
 pub use Rattle.sql_parts.proofs.tokens.TokenFacts.{seam, between-tokens}
@@ -46,7 +46,7 @@ pub use Rattle.sql_typed.specs.Fits.{IsFitBy, Made, adding, meaning_all_rows, be
 pub use Rattle.sql_typed.specs.Marks.{marks_of, noted}
 pub use Rattle.sql_typed.specs.Printed.{FailsWith, IsPrinted, PrintsBehind}
 pub use Rattle.sql_typed.specs.Results.{Continues}
-pub use Rattle.sql_typed.specs.Steps.{step_call}
+pub use Rattle.sql_typed.specs.AddedCalls.{added_call}
 pub use Rattle.sql_typed.specs.Unions.{united_text}
 pub use Rattle.sql_typed.specs.Whole.{FrontsFollowTheirStatements, HasWholeFront, asking, conflict_text, is_whole, may_follow, may_join, inserted_text, lock_text, named_text, set_text}
 pub use Rattle.sql_typed.specs.declared.error.Error.TheVariants.{Builder, NoCondition, NoJoin, OrderBesideUnion, ReturningFirst}
@@ -55,4 +55,4 @@ pub use Rattle.std.proofs.lemmas.Grind.{flat_map-append, common_steps}
 pub use Rattle.std.proofs.lemmas.List.{append_cancel_right, map-append}
 pub use Rattle.std.proofs.lemmas.List.Folds.{list_all-append}
 pub use Rattle.std.specs.List.{list_all, list_any, AllByRecursion, starts_with}
-pub use Rattle.std.specs.Prelude.{MatchResult, Err, IfSome, IsErrAnd, IsNone, ◌||◌, nat_eq, IfErr, IsTrue, OnOk, IsOk, flat_map}
+pub use Rattle.std.specs.Prelude.{MatchResult, Err, IfSome, IsErrAnd, IsNone, ◌||◌, nat_eq, IfErr, IsTrue, OnOk, IsOk, flat_map, filter_map}

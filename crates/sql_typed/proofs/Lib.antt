@@ -3,6 +3,7 @@ pub mod FilledLemmas
 pub mod FilledStatementLemmas
 pub mod FitLemmas
 pub mod InterferenceLemmas
+pub mod TruthLemmas
 pub mod FaultLemmas
 pub mod PrintLemmas
 pub mod ConditionLemmas

@@ -1,8 +1,8 @@
 -- What a statement prints whose texts all fit.
 use Rattle.sql_typed.proofs.Imports.{◌≡◌, ◌++◌, ◌∙◌, ◌⊎◌, inl, inr, ap, sym, refl, ℕ, Option, None, Some, List, Ok, IfOk, Result, subst, true, list_all, IfErr, IsTrue, OnOk, Err}
-use Rattle.sql_typed.proofs.Imports.{◌+◌, IsMemory, is_fragment, marks, outer_states, outline, closed, tokens, SqlBuilderError, ClauseTexts, CallText, FinishText, Sql, StartText, finish_raw_texts, kind_of}
-use Rattle.sql_typed.proofs.Imports.{has_fit_texts, is_fit, EndsInOneSemicolon, shape, error_at, statement, text_at, unless_error, made_by, balanced_fragments, fit_conditions, fit_fragments, fit_texts_balanced, fit_texts_are_closed}
-use Rattle.sql_typed.proofs.Imports.{builders_print_statements, statements_are_closed, statements_have_truth, statements_keep_tokens, statements_nest, statements_read_back, IsFitBy, Made, FailsWith, IsPrinted, PrintsBehind}
+use Rattle.sql_typed.proofs.Imports.{IsMemory, is_fragment, marks, outer_states, outline, closed, tokens, SqlBuilderError, ClauseTexts, CallText, FinishText, Sql, StartText, finish_raw_texts}
+use Rattle.sql_typed.proofs.Imports.{has_fit_texts, is_fit, EndsInOneSemicolon, shape, error_at, statement, text_at, unless_error, made_by, balanced_fragments, fit_fragments, fit_texts_balanced, fit_texts_are_closed}
+use Rattle.sql_typed.proofs.Imports.{builders_print_statements, statements_are_closed, statements_keep_tokens, statements_nest, statements_read_back, IsFitBy, Made, FailsWith, IsPrinted, PrintsBehind}
 use Rattle.std.specs.Result.{result_map_both}
 use Rattle.sql_builder.specs.Meaning.{HasTruthOf, condition_groups, is_nested}
 use Rattle.sql_builder.specs.Reading.{clause_list, read}
@@ -10,9 +10,9 @@ use Rattle.sql_builder.specs.StatementReaders.{parts_at}
 use Rattle.sql_builder.proofs.interference.OutlineLemmas.{fragments-apart}
 use Rattle.sql_builder.proofs.interference.StatementReaderLemmas.{fragments-alike}
 use Rattle.sql_builder.proofs.reading.SubqueryLemmas.{subqueries_nest}
-use Rattle.sql_builder.proofs.fragments.UnfitLemmas.{ends_in_semicolon}
-use Rattle.sql_builder.proofs.reading.ReadBackLemmas.{where_unenclosed}
+use Rattle.sql_builder.proofs.fragments.InvalidTextLemmas.{ends_in_semicolon}
 use Rattle.sql_typed.proofs.FitLemmas.{texts_fit}
+use Rattle.sql_typed.proofs.TruthLemmas.{has_its_truth}
 
 -- clauses that are borrowed are those of the statement
 pub borrowed : {made given : Made} {r lent : ClauseTexts} → made ≡ given → lent ≡ r → IsFitBy made r → IsFitBy given lent
@@ -59,11 +59,8 @@ module _ {made : Made} {r : ClauseTexts} (finish : FinishText) (fit : IsFitBy ma
     reads_back = λ bare.
         held (λ t. clause_list made.start made.calls finish ≡ Ok (read (tokens t))) is
         (statements_read_back made.start made.calls finish bare (fit_fragments made.start made.calls finish bare texts));
-    has_truth = λ prints.
-        held (λ t. HasTruthOf (condition_groups made.calls) t) is
-        (statements_have_truth made.start made.calls finish prints
-        (fit_fragments made.start made.calls finish (where_unenclosed finish (kind_of made.start) prints) texts)
-        (fit_conditions made.start made.calls finish texts));
+    has_truth = λ shows.
+        held (λ t. HasTruthOf (condition_groups made.calls) t) is (has_its_truth made.calls made.start finish shows fit.prints_conditions texts);
     nests = held (λ t. IsTrue (is_nested finish t)) is (statements_nest made.start made.calls finish (balanced_fragments made.start made.calls finish texts));
     nests_as_table = λ table.
         held (λ t. IsTrue (is_fragment t)) is (subqueries_nest made.start made.calls finish table (balanced_fragments made.start made.calls finish texts));

@@ -4,7 +4,7 @@ use Rattle.std.specs.List.{ends_with, list_any}
 use Rattle.std.specs.Str.{bytes_eq}
 use Rattle.sql_parts.specs.Error as builder
 use Rattle.sql_parts.specs.Fragments.{operand}
-use Rattle.sql_parts.specs.Misfits.{misfit_text}
+use Rattle.sql_parts.specs.Violations.{violation_text}
 use Rattle.sql_parts.specs.declared.error.SqlBuilderError.{SqlBuilderError}
 use Rattle.sql_builder.specs.Calls as call
 use Rattle.sql_builder.specs.Calls.{CallText, FinishText, StartText, is_join, returning_in}
@@ -15,12 +15,12 @@ use Rattle.sql_builder.specs.StatementLaws.{made_by}
 use Rattle.sql_typed.specs.Filled as template
 use Rattle.sql_typed.specs.Fits.{Made}
 use Rattle.sql_typed.specs.declared.error.Error.{Error}
-use Rattle.sql_typed.specs.declared.error.Error.TheVariants.{Builder, Misfit, Template, NoCondition, NoJoin, OrderBesideUnion, ReturningFirst}
+use Rattle.sql_typed.specs.declared.error.Error.TheVariants.{Builder, Violation, Template, NoCondition, NoJoin, OrderBesideUnion, ReturningFirst}
 
 -- the message of an error
 abbrev pub message_text : Error → List ℕ
 message_text (Builder error) = builder.message_text error
-message_text (Misfit misfit) = misfit_text misfit
+message_text (Violation violation) = violation_text violation
 message_text (Template error) = template.message_text error
 message_text NoCondition = codes "No condition: say all_rows where every row is meant"
 message_text NoJoin = codes "A constraint before the first join"

@@ -3,29 +3,29 @@ use Rattle.std.specs.Prelude.{◌≡◌, ℕ, ◌==◌, ◌&&◌, ◌++◌, Bool
 use Rattle.std.specs.List.{list_all}
 use Rattle.sql_parts.specs.Error as builder
 use Rattle.sql_parts.specs.Holes.{cut, filled, hole_count, holes_apart}
-use Rattle.sql_parts.specs.Misfits.{meets, misfit_text}
+use Rattle.sql_parts.specs.Violations.{meets, violation_text}
 use Rattle.sql_parts.specs.Readers.{Part, Constant, Reader, IsInsideAtEach, emptied, has_plain_text, marks, outer_states, parts_bytes}
 use Rattle.sql_parts.specs.StringTexts.{outline}
 use Rattle.sql_parts.specs.Tokens.{closed}
-use Rattle.sql_parts.specs.declared.misfits.Demand.{Demand}
-use Rattle.sql_parts.specs.declared.misfits.Misfit as misfits
+use Rattle.sql_parts.specs.declared.violations.Requirement.{Requirement}
+use Rattle.sql_parts.specs.declared.violations.Violation as violations
 use Rattle.sql_typed.specs.declared.template.TemplateError.{TemplateError}
-use Rattle.sql_typed.specs.declared.template.TemplateError.TheVariants.{HolesTouch, OperandCount, Misfit, Builder}
+use Rattle.sql_typed.specs.declared.template.TemplateError.TheVariants.{HolesTouch, OperandCount, Violation, Builder}
 
 -- it meets what is asked, and has a hole for each of so many operands
-abbrev pub takes : Demand → List ℕ → ℕ → Bool
-takes demand template count = meets demand template && hole_count template == count
+abbrev pub takes : Requirement → List ℕ → ℕ → Bool
+takes requirement template count = meets requirement template && hole_count template == count
 
 -- why it doesn't fit, where it doesn't, and else that the counts differ
-abbrev pub fault : Option misfits.Misfit → TemplateError
+abbrev pub fault : Option violations.Violation → TemplateError
 fault None = OperandCount
-fault (Some reason) = Misfit reason
+fault (Some reason) = Violation reason
 
 -- the message of an error
 abbrev pub message_text : TemplateError → List ℕ
 message_text HolesTouch = codes "A ? is in a literal, a name or a comment, or has no separator beside it"
 message_text OperandCount = codes "Not one operand for each ?"
-message_text (Misfit reason) = misfit_text reason
+message_text (Violation reason) = violation_text reason
 message_text (Builder error) = builder.message_text error
 
 -- the segments behind holes, with operands of these parts in them

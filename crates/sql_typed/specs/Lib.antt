@@ -1,3 +1,4 @@
+pub mod AddedCalls
 pub mod Conditions
 pub mod Counts
 pub mod Faults
@@ -6,6 +7,5 @@ pub mod Fits
 pub mod Marks
 pub mod Printed
 pub mod Results
-pub mod Steps
 pub mod Unions
 pub mod Whole

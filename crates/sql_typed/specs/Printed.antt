@@ -1,5 +1,5 @@
 -- What a text is that a finish prints of a statement whose texts all fit.
-use Rattle.std.specs.Prelude.{◌≡◌, ◌++◌, ℕ, Bool, IsTrue, List, Option, None, Some, Result, Ok, Err, map}
+use Rattle.std.specs.Prelude.{◌≡◌, ◌++◌, ℕ, Bool, true, false, IsTrue, List, Option, None, Some, Result, Ok, Err, map}
 use Rattle.std.specs.List.{list_all}
 use Rattle.sql_parts.specs.Error.{FailsOnlyByMemory}
 use Rattle.sql_parts.specs.Operands.{is_fragment}
@@ -7,10 +7,10 @@ use Rattle.sql_parts.specs.Readers.{Part, Reader, IsInsideAtEach, emptied, has_p
 use Rattle.sql_parts.specs.StringTexts.{outline}
 use Rattle.sql_parts.specs.Tokens.{closed, tokens}
 use Rattle.sql_parts.specs.declared.error.SqlBuilderError.{SqlBuilderError}
-use Rattle.sql_builder.specs.Calls.{FinishText, Sql, kind_of}
+use Rattle.sql_builder.specs.Calls.{FinishText, Query, Sql}
 use Rattle.sql_builder.specs.Clauses.{Clauses, map_clauses}
 use Rattle.sql_builder.specs.Interference.{answer_of, outlines}
-use Rattle.sql_builder.specs.Meaning.{HasTruthOf, condition_groups, is_nested, is_unenclosed, prints_where}
+use Rattle.sql_builder.specs.Meaning.{HasTruthOf, condition_groups, is_nested, is_unenclosed}
 use Rattle.sql_builder.specs.Reading.{clause_list, read}
 use Rattle.sql_builder.specs.Shape.{EndsInOneSemicolon, shape}
 use Rattle.sql_builder.specs.Statement.{statement}
@@ -32,6 +32,12 @@ ReadersIgnoreTexts made finish text = (next : Reader) (plain : ℕ → Bool) (st
     → IsInsideAtEach next plain state (parts_at finish one) → IsInsideAtEach next plain state (parts_at finish other)
     × (outer_states next state (marks (parts_at finish one)) text ≡ outer_states next state (marks (parts_at finish other)) (text_of_parts finish other))
 
+-- the finishes whose WHERE is at the top level of what they print
+abbrev pub shows_where : FinishText → Bool
+shows_where Sql = true
+shows_where Query = true
+shows_where _ = false
+
 -- What is known of a text that is printed, whatever texts it was made of.
 pub record IsPrinted (made : Made) (finish : FinishText) (text : List ℕ) : Type 0 where
   -- it is the statement of the calls
@@ -45,7 +51,7 @@ pub record IsPrinted (made : Made) (finish : FinishText) (text : List ℕ) : Typ
   -- it parses back as the clauses of the calls
   pub reads_back : IsTrue (is_unenclosed finish) → clause_list made.start made.calls finish ≡ Ok (read (tokens text))
   -- its WHERE is the AND of the groups, each the OR of its conditions
-  pub has_truth : IsTrue (prints_where finish (kind_of made.start)) → HasTruthOf (condition_groups made.calls) text
+  pub has_truth : IsTrue (shows_where finish) → HasTruthOf (condition_groups made.calls) text
   -- a query is balanced, and an operand between brackets
   pub nests : IsTrue (is_nested finish text)
   -- a query between brackets, or one with a name, is a table

@@ -1,12 +1,12 @@
 //! The calls of INSERT, UPDATE and DELETE. Each call fails only if memory runs out.
-ghost use Rattle.std.specs.Prelude.{◌≡◌, ◌++◌, [], ◌∷◌, map, string_bytes};
+ghost use Rattle.std.specs.Prelude.{map};
 ghost use Rattle.sql_builder.specs.Calls.{DeleteFrom, Field, InsertInto, SetStr, SetTo, UpdateTable, Values};
 ghost use Rattle.sql_typed.specs.Fits.{adding, beginning};
 ghost use Rattle.sql_typed.specs.Results.{Gives};
 
 use crate::Result;
 use crate::operand_text::{FragmentText, OperandText};
-use crate::statement::{DeleteKind, InsertKind, Statement, Step, UpdateKind};
+use crate::statement::{AddedCall, DeleteKind, InsertKind, Statement, UpdateKind};
 use crate::texts::Row;
 use sql_builder::calls::{BinaryClause, TableStart, UnaryClause};
 use sql_parts::Value;
@@ -45,7 +45,7 @@ impl Statement<InsertKind> {
     pub fn row(self, row: Row) -> Result<Insert>
         ensures made { Gives result (adding (Values row.values) self) }
     {
-        self.add(Step::Row(row.values))
+        self.add(AddedCall::Row(row.values))
     }
 
     /// Adds a row, whose values are of one type, such as `Literal`. Fails only if memory runs out.
@@ -82,7 +82,7 @@ impl Statement<UpdateKind> {
         ensures made { Gives result (adding (SetStr (F.text field) value.entry.0.now) self) }
     {
         let field = field.as_text(self.alloc)?;
-        self.add(Step::Binary(BinaryClause::SetStr, field.as_str(), value.0))
+        self.add(AddedCall::Binary(BinaryClause::SetStr, field.as_str(), value.0))
     }
 }
 

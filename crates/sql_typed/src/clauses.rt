@@ -20,7 +20,7 @@ use crate::printed::{
     Complete, Conflict, DoNothing, DoUpdate, DuplicateKey, Lock, Named, Printed, Rows, Selected,
     Sets, Wait, Whole, With,
 };
-use crate::statement::{InsertKind, Returns, Statement};
+use crate::statement::{Begins, InsertKind, Returns, Statement};
 use crate::texts::Query;
 use sql_builder::SqlBuilder;
 use sql_builder::calls::{Finish, TextList, UnaryClause, make_unary, print};
@@ -260,7 +260,7 @@ impl Printed<Named> {
     }
 }
 
-impl<K> Statement<K> {
+impl<K: Begins> Statement<K> {
     /// Returns the statement without its `;`, for clauses that follow it. Fails as `sql` does.
     /// `Select::from(alloc, Fragment::of("t"))?.printed()?.text` gives `SELECT * FROM t`
     pub fn printed(&self) -> Result<Printed<Whole>, Error>

@@ -4,7 +4,7 @@ ghost use Rattle.sql_typed.specs.Faults.{message_text};
 
 use crate::template::TemplateError;
 use sql_parts::SqlBuilderError;
-use sql_parts::lex::Misfit;
+use sql_parts::lex::Violation;
 use std::alloc::{AllocError, AllocFailed};
 use std::{error, fmt};
 
@@ -15,7 +15,7 @@ pub enum Error {
     /// A call of the builder failed, or memory ran out.
     Builder(SqlBuilderError),
     /// A text is no fragment or no operand, for this reason.
-    Misfit(Misfit),
+    Violation(Violation),
     /// A text is no template, or a template isn't what it is to be, for this reason.
     Template(TemplateError),
     /// An UPDATE or a DELETE has neither a condition nor `all_rows`.
@@ -36,7 +36,7 @@ impl Error {
     {
         match self {
             Error::Builder(error) => error.message(),
-            Error::Misfit(misfit) => misfit.message(),
+            Error::Violation(violation) => violation.message(),
             Error::Template(error) => error.message(),
             Error::NoCondition => "No condition: say all_rows where every row is meant",
             Error::NoJoin => "A constraint before the first join",
@@ -96,14 +96,14 @@ impl<T: Drop> From<AllocFailed<T>> for Error {
     }
 }
 
-impl From<Misfit> for Error {
+impl From<Violation> for Error {
     ghost use Rattle.std.specs.Prelude.{◌≡◌};
     ghost use Rattle.sql_typed.specs.declared.error.Error.TheVariants as errors;
 
-    ghost from_gives = { λ misfit error. error ≡ errors.Misfit misfit };
+    ghost from_gives = { λ violation error. error ≡ errors.Violation violation };
 
-    fn from(misfit: Misfit) -> Error {
-        Error::Misfit(misfit)
+    fn from(violation: Violation) -> Error {
+        Error::Violation(violation)
     }
 }
 

@@ -6,10 +6,10 @@ ghost use Rattle.sql_builder.specs.Calls.{start_on, unary_call};
 ghost use Rattle.sql_typed.specs.Faults.{selects_every_row};
 ghost use Rattle.sql_typed.specs.Fits.{beginning};
 ghost use Rattle.sql_typed.specs.Marks.{fault, marks_of, noted};
-ghost use Rattle.sql_typed.specs.Steps.{step_call};
+ghost use Rattle.sql_typed.specs.AddedCalls.{added_call};
 
 use crate::error::Error;
-use crate::statement::Step;
+use crate::statement::AddedCall;
 use sql_builder::calls::{BinaryClause, NullaryClause, TableStart, UnaryClause};
 use sql_parts::lex::is_operand;
 
@@ -67,17 +67,17 @@ impl Marks {
     // With one more call.
     #[tactic(auto, using(crate::proofs::Imports::or_comm))]
     #[inline(always)]
-    pub(crate) fn with(mut self, step: &Step<'_>) -> Marks
-        ensures { result ≡ noted (step_call step.now) self }
+    pub(crate) fn with(mut self, added: &AddedCall<'_>) -> Marks
+        ensures { result ≡ noted (added_call added.now) self }
     {
-        match step {
-            Step::Unary(clause, _) => return self.with_unary(*clause),
-            Step::Binary(BinaryClause::OnEq, _, _) => return self.with_constraint(),
-            Step::Condition(_, condition) => {
+        match added {
+            AddedCall::Unary(clause, _) => return self.with_unary(*clause),
+            AddedCall::Binary(BinaryClause::OnEq, _, _) => return self.with_constraint(),
+            AddedCall::Condition(_, condition) => {
                 self.has_filter = self.has_filter || !selects_every_row(condition.as_str());
             }
-            Step::Nullary(NullaryClause::ReturningId) => self.has_returning = true,
-            Step::Binary(_, _, _) | Step::Nullary(_) | Step::Row(_) => {}
+            AddedCall::Nullary(NullaryClause::ReturningId) => self.has_returning = true,
+            AddedCall::Binary(_, _, _) | AddedCall::Nullary(_) | AddedCall::Row(_) => {}
         }
         self
     }

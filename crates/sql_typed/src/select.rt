@@ -8,14 +8,14 @@ ghost use Rattle.sql_typed.specs.Fits.{adding, beginning};
 ghost use Rattle.sql_typed.specs.Faults.{FailsAs};
 ghost use Rattle.sql_typed.specs.Printed.{IsPrinted};
 ghost use Rattle.sql_typed.specs.Results.{Gives};
-ghost use Rattle.sql_typed.specs.Steps.{operator_call};
+ghost use Rattle.sql_typed.specs.AddedCalls.{operator_call};
 ghost use Rattle.sql_typed.specs.Unions.{united_text};
 
 use crate::Result;
 use crate::condition::Condition;
 use crate::error::Error;
 use crate::operand_text::{CountText, FragmentText, OperandText};
-use crate::statement::{SelectKind, Statement, Step};
+use crate::statement::{AddedCall, SelectKind, Statement};
 use crate::texts::{Query, TableQuery};
 use sql_builder::calls::{
     BinaryClause, Finish, NullaryClause, TableStart, UnaryClause, needs_brackets,
@@ -221,7 +221,7 @@ impl Statement<SelectKind> {
             (Union (united_text query.now.needs_brackets (string_bytes query.now.text))) self) }
     {
         let query = query.united(self.alloc)?;
-        self.add(Step::Unary(UnaryClause::Union, query.as_str()))
+        self.add(AddedCall::Unary(UnaryClause::Union, query.as_str()))
     }
 
     /// Adds UNION ALL and a query, which is a table there if `union` makes it one. Fails only if
@@ -234,7 +234,7 @@ impl Statement<SelectKind> {
             (UnionAll (united_text query.now.needs_brackets (string_bytes query.now.text))) self) }
     {
         let query = query.united(self.alloc)?;
-        self.add(Step::Unary(UnaryClause::UnionAll, query.as_str()))
+        self.add(AddedCall::Unary(UnaryClause::UnionAll, query.as_str()))
     }
 
     /// Returns the query, as a type that says that it is balanced. Fails as `sql` does.

@@ -1,5 +1,5 @@
 //! A statement by value.
-ghost use Rattle.std.specs.Prelude.{◌≡◌, ◌+◌, ◌≤◌, [], IfErr, IfOk, IsNone, IsOk, length, string_capacity, string_len, IsTrue, List, MatchResult, None, Ok, Some, map, OnErr, OnOk, ℕ, string_bytes};
+ghost use Rattle.std.specs.Prelude.{◌≡◌, ◌+◌, ◌≤◌, [], IfErr, IfOk, IsNone, IsOk, length, string_capacity, string_len, IsTrue, List, MatchResult, None, Ok, Some, map, OnErr, OnOk, ℕ, refl, string_bytes};
 ghost use Rattle.std.specs.List.{list_all};
 ghost use Rattle.sql_parts.specs.Error.{FailsOnlyByMemory};
 ghost use Rattle.sql_parts.specs.Fragments.{balanced};
@@ -16,12 +16,14 @@ ghost use Rattle.sql_builder.specs.Reading.{clause_list, read};
 ghost use Rattle.sql_builder.specs.Shape.{EndsInOneSemicolon, shape};
 ghost use Rattle.sql_builder.specs.Statement.{error_at, statement, text_at};
 ghost use Rattle.sql_builder.specs.StatementLaws.{made_by};
+ghost use Rattle.sql_builder.specs.declared.clauses.Kind.{Kind};
+ghost use Rattle.sql_builder.specs.declared.clauses.Kind.TheVariants.{DeleteFrom, InsertInto, SelectFrom, UpdateTable};
 ghost use Rattle.sql_builder.specs.declared.condition.Family.TheVariants.{And, Or};
 ghost use Rattle.sql_typed.specs.Faults.{FailsAs, fault_of};
 ghost use Rattle.sql_typed.specs.Fits.{IsFitBy, Made, adding, beginning, meaning_all_rows};
 ghost use Rattle.sql_typed.specs.Printed.{DifferInStrings, IsPrinted, PrintsBehind, ReadersIgnoreTexts};
 ghost use Rattle.sql_typed.specs.Results.{Gives};
-ghost use Rattle.sql_typed.specs.Steps.{IsStepError, step_call};
+ghost use Rattle.sql_typed.specs.AddedCalls.{IsAddedError, prints_added, added_call};
 
 use crate::Result;
 use crate::condition::Condition;
@@ -31,11 +33,12 @@ use crate::operand_text::{FragmentText, OperandText};
 use sql_builder::SqlBuilder;
 use sql_builder::calls::{
     BinaryClause, Family, Finish, GhostList, NullaryClause, TableStart, TextList, UnaryClause,
-    VariadicClause, add_condition, add_row, make_binary, make_nullary, make_unary, make_variadic,
-    print, print_to,
+    VariadicClause, add_condition, add_row, begin_on, make_binary, make_nullary, make_unary,
+    make_variadic, print, print_to,
 };
+use sql_parts::SqlBuilderError;
 use sql_parts::text::{Items, ToText};
-use std::alloc::Global;
+use std::alloc::{AllocError, Global};
 use std::marker::{Model, PhantomData};
 
 /// The kind of a SELECT.
@@ -54,17 +57,46 @@ pub struct UpdateKind {}
 #[derive(Drop)]
 pub struct DeleteKind {}
 
+/// The kinds of statements. Each statement is begun as its type says.
+pub trait Begins {
+    ghost kind: { Kind };
+}
+
+impl Begins for SelectKind {
+    ghost kind = { SelectFrom };
+}
+
+impl Begins for InsertKind {
+    ghost kind = { InsertInto };
+}
+
+impl Begins for UpdateKind {
+    ghost kind = { UpdateTable };
+}
+
+impl Begins for DeleteKind {
+    ghost kind = { DeleteFrom };
+}
+
 /// The kinds of statements that have a WHERE.
-pub trait Filters {}
+pub trait Filters: Begins {
+    ghost has_where: { IsTrue (prints_where Sql Self.kind) };
+}
 
-impl Filters for SelectKind {}
+impl Filters for SelectKind {
+    ghost has_where = { refl };
+}
 
-impl Filters for UpdateKind {}
+impl Filters for UpdateKind {
+    ghost has_where = { refl };
+}
 
-impl Filters for DeleteKind {}
+impl Filters for DeleteKind {
+    ghost has_where = { refl };
+}
 
 /// The kinds of statements that change the rows of a table.
-pub trait Changes {}
+pub trait Changes: Begins {}
 
 impl Changes for UpdateKind {}
 
@@ -95,7 +127,7 @@ impl Model for MadeOf {
 
 /// A statement on a table. Contracts see its start and the calls that were made after it.
 #[derive(Drop)]
-pub struct Statement<K> {
+pub struct Statement<K: Begins> {
     pub(crate) alloc: Global,
     // in a box, since a call moves its statement
     pub(crate) builder: Box<SqlBuilder>,
@@ -105,8 +137,9 @@ pub struct Statement<K> {
     pub(crate) kind: PhantomData<K>,
 }
 
-impl<K> Model for Statement<K> {
+impl<K: Begins> Model for Statement<K> {
     ghost use Rattle.std.specs.Prelude.{◌≡◌};
+    ghost use Rattle.sql_builder.specs.Calls.{kind_of};
     ghost use Rattle.sql_typed.specs.Fits.{IsFitBy, Made, made_in};
     ghost use Rattle.sql_typed.specs.Marks.{marks_of};
 
@@ -114,12 +147,14 @@ impl<K> Model for Statement<K> {
 
     ghost view = { λ s. made_in s.made.items };
 
-    ghost invariant = { λ s. IsFitBy (made_in s.made.items) s.builder.value × (s.marks ≡ marks_of (made_in s.made.items)) };
+    ghost invariant = { λ s. IsFitBy (made_in s.made.items) s.builder.value
+        × (s.marks ≡ marks_of (made_in s.made.items))
+        × (kind_of (made_in s.made.items).start ≡ K.kind) };
 }
 
-/// A call of a statement.
+/// A call that is added to a statement.
 #[derive(Drop)]
-pub(crate) enum Step<'a> {
+pub(crate) enum AddedCall<'a> {
     Unary(UnaryClause, &'a str),
     Binary(BinaryClause, &'a str, &'a str),
     Condition(Family, String),
@@ -128,39 +163,39 @@ pub(crate) enum Step<'a> {
 }
 
 #[inline(always)]
-fn make_step(builder: &mut SqlBuilder, step: Step<'_>) -> Result<()>
-    ensures made { OnOk result (builder.new ≡ with_call (step_call step.entry) builder.old) }
+fn make_call(builder: &mut SqlBuilder, added: AddedCall<'_>) -> Result<()>
+    ensures made { OnOk result (builder.new ≡ with_call (added_call added.entry) builder.old) }
     ensures memory { FailsOnlyByMemory result }
-    ensures error { IfErr result (IsStepError step.entry) }
+    ensures error { IfErr result (IsAddedError added.entry) }
 {
-    match step {
-        Step::Unary(clause, text) => make_unary(builder, clause, text),
-        Step::Binary(clause, first, second) => make_binary(builder, clause, first, second),
-        Step::Condition(family, condition) => add_condition(builder, family, condition),
-        Step::Nullary(clause) => make_nullary(builder, clause),
-        Step::Row(values) => add_row(builder, &values),
+    match added {
+        AddedCall::Unary(clause, text) => make_unary(builder, clause, text),
+        AddedCall::Binary(clause, first, second) => make_binary(builder, clause, first, second),
+        AddedCall::Condition(family, condition) => add_condition(builder, family, condition),
+        AddedCall::Nullary(clause) => make_nullary(builder, clause),
+        AddedCall::Row(values) => add_row(builder, &values),
     }
 }
 
-impl<K> Statement<K> {
+impl<K: Begins> Statement<K> {
     #[inline(always)]
     pub(crate) fn begin<T: FragmentText>(
         alloc: Global,
         start: TableStart,
         table: T,
     ) -> Result<Statement<K>>
+        requires { kind_of (start_on start (T.text table)) ≡ K.kind }
         ensures made { Gives result (beginning (start_on start (T.text table))) }
     {
         let made = GhostList::of(&(&start, &table));
-        let builder = match start {
-            TableStart::SelectFrom => SqlBuilder::select_from(alloc, table)?,
-            TableStart::InsertInto => SqlBuilder::insert_into(alloc, table)?,
-            TableStart::UpdateTable => SqlBuilder::update_table(alloc, table)?,
-            TableStart::DeleteFrom => SqlBuilder::delete_from(alloc, table)?,
+        let builder = begin_on(alloc, start, table.to_text(alloc)?);
+        // A `?` would copy the builder that an error holds.
+        let Ok(builder) = Box::new(alloc, builder) else {
+            return Err(SqlBuilderError::Memory(AllocError));
         };
         Ok(Statement {
             alloc,
-            builder: Box::new(alloc, builder)?,
+            builder,
             marks: Marks::of(start),
             made,
             kind: PhantomData,
@@ -169,15 +204,16 @@ impl<K> Statement<K> {
 
     // One more call, whose texts fit.
     #[inline(always)]
-    pub(crate) fn add(mut self, step: Step<'_>) -> Result<Statement<K>>
-        requires fits { IsTrue (call_fits (step_call step)) }
-        ensures made { Gives result (adding (step_call step.entry) self) }
-        ensures error { IfErr result (IsStepError step.entry) }
+    pub(crate) fn add(mut self, added: AddedCall<'_>) -> Result<Statement<K>>
+        requires fits { IsTrue (call_fits (added_call added)) }
+        requires prints { IsTrue (prints_added K.kind added) }
+        ensures made { Gives result (adding (added_call added.entry) self) }
+        ensures error { IfErr result (IsAddedError added.entry) }
     {
-        let call: GhostList<MadeOf> = GhostList::of(&step);
+        let call: GhostList<MadeOf> = GhostList::of(&added);
         let made = GhostList::of(&(&self.made, &call));
-        let marks = self.marks.with(&step);
-        make_step(&mut self.builder, step)?;
+        let marks = self.marks.with(&added);
+        make_call(&mut self.builder, added)?;
         self.marks = marks;
         self.made = made;
         Ok(self)
@@ -204,7 +240,7 @@ impl<K> Statement<K> {
         ensures made { Gives result (adding (unary_call clause (F.text text)) self) }
     {
         let text = text.as_text(self.alloc)?;
-        self.add(Step::Unary(clause, text.as_str()))
+        self.add(AddedCall::Unary(clause, text.as_str()))
     }
 
     #[inline(always)]
@@ -216,7 +252,7 @@ impl<K> Statement<K> {
         ensures made { Gives result (adding (unary_call clause (T.text text)) self) }
     {
         let text = text.as_text(self.alloc)?;
-        self.add(Step::Unary(clause, text.as_str()))
+        self.add(AddedCall::Unary(clause, text.as_str()))
     }
 
     #[inline(always)]
@@ -231,7 +267,7 @@ impl<K> Statement<K> {
     {
         let first = first.as_text(self.alloc)?;
         let second = second.as_text(self.alloc)?;
-        self.add(Step::Binary(clause, first.as_str(), second.as_str()))
+        self.add(AddedCall::Binary(clause, first.as_str(), second.as_str()))
     }
 
     // A call without texts.
@@ -240,7 +276,7 @@ impl<K> Statement<K> {
         ensures made { Gives result (adding (nullary_call clause) self) }
         ensures error { IfErr result (IsNullaryError clause) }
     {
-        self.add(Step::Nullary(clause))
+        self.add(AddedCall::Nullary(clause))
     }
 
     // Why it isn't printed, whatever the builder says.
@@ -309,8 +345,7 @@ impl<K> Statement<K> {
         ensures semicolon { IfOk result (λ s. EndsInOneSemicolon (tokens (string_bytes s))) }
         ensures clauses { IfOk result (λ s. clause_list self.now.start self.now.calls Sql
             ≡ Ok (read (tokens (string_bytes s)))) }
-        ensures truth { IsTrue (prints_where Sql (kind_of self.now.start)) → IfOk result (λ s.
-            HasTruthOf (condition_groups self.now.calls) (string_bytes s)) }
+        ensures truth { IfOk result (λ s. HasTruthOf (condition_groups self.now.calls) (string_bytes s)) }
         ensures no_interference { (other : Made) → DifferInStrings Sql self.now other
             → IfOk result (λ s.
             answer_of outline other.start other.calls Sql ≡ Ok (outline (string_bytes s))) }
@@ -351,7 +386,7 @@ impl<K: Filters> Statement<K> {
         ensures made { (text : List ℕ) → string_bytes condition.text ≡ text
             → Gives result (adding (Cond And (Raw text)) self) }
     {
-        self.add(Step::Condition(Family::And, condition.text))
+        self.add(AddedCall::Condition(Family::And, condition.text))
     }
 
     /// Adds a condition that joins the last group by OR, or opens one if there is none. Fails only
@@ -362,7 +397,7 @@ impl<K: Filters> Statement<K> {
         ensures made { (text : List ℕ) → string_bytes condition.text ≡ text
             → Gives result (adding (Cond Or (Raw text)) self) }
     {
-        self.add(Step::Condition(Family::Or, condition.text))
+        self.add(AddedCall::Condition(Family::Or, condition.text))
     }
 }
 
@@ -379,7 +414,7 @@ impl<K: Changes> Statement<K> {
     }
 }
 
-impl<K: Returns> Statement<K> {
+impl<K: Begins + Returns> Statement<K> {
     /// Sets what RETURNING returns. The last call counts. Fails only if memory runs out.
     /// `Delete::from(alloc, Fragment::of("t"))?.all_rows().returning(Operand::of("id"))?.sql()?` gives `DELETE FROM t RETURNING id;`
     pub fn returning<F: OperandText>(self, field: F) -> Result<Statement<K>>

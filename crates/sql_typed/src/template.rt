@@ -3,7 +3,7 @@ ghost use Rattle.std.specs.Prelude.{◌≡◌, ◌+◌, ◌++◌, [], ◌∷◌,
 ghost use Rattle.std.specs.List.{list_all};
 ghost use Rattle.sql_parts.specs.Error.{FailsOnlyByMemory};
 ghost use Rattle.sql_parts.specs.Holes.{filled, hole_count, holes_apart, in_hole};
-ghost use Rattle.sql_parts.specs.Misfits.{misfit};
+ghost use Rattle.sql_parts.specs.Violations.{violation};
 ghost use Rattle.sql_parts.specs.Operands.{is_bare_operand, is_typed_fragment, is_typed_operand};
 ghost use Rattle.sql_parts.specs.Text.{texts};
 ghost use Rattle.sql_parts.specs.Tokens.{closed, tokens};
@@ -20,7 +20,7 @@ use crate::operand_text::OperandText;
 use crate::texts::Condition;
 use sql_parts::SqlBuilderError;
 use sql_parts::holes::{hole_count, holes_apart, is_unit};
-use sql_parts::lex::{Demand, Misfit, misfit};
+use sql_parts::lex::{Requirement, Violation, violation};
 use sql_parts::text::OwnedOperand;
 use std::alloc::Global;
 use std::error::Error;
@@ -34,7 +34,7 @@ pub enum TemplateError {
     /// There is not one operand for each `?`.
     OperandCount,
     /// Its text is no condition or no operand, whatever is in its holes, for this reason.
-    Misfit(Misfit),
+    Violation(Violation),
     /// Another call failed.
     Builder(SqlBuilderError),
 }
@@ -50,7 +50,7 @@ impl TemplateError {
                 "A ? is in a literal, a name or a comment, or has no separator beside it"
             }
             TemplateError::OperandCount => "Not one operand for each ?",
-            TemplateError::Misfit(reason) => reason.message(),
+            TemplateError::Violation(reason) => reason.message(),
             TemplateError::Builder(error) => error.message(),
         }
     }
@@ -185,19 +185,19 @@ impl<'a> Template<'a> {
     }
 
     /// Tests what the calls below require, if the text or the operands aren't known before the
-    /// program runs. Fails with the `Misfit` if the text doesn't meet the demand, and else with
+    /// program runs. Fails with the `Violation` if the text doesn't meet the requirement, and else with
     /// `OperandCount`. Takes no memory.
-    /// `Template::of("a OR ?").check(Demand::TypedOperand, &Operands::new(alloc))` fails with `Misfit(Joined)`
+    /// `Template::of("a OR ?").check(Requirement::TypedOperand, &Operands::new(alloc))` fails with `Violation(Joined)`
     pub fn check(
         self,
-        demand: Demand,
+        requirement: Requirement,
         operands: &Operands,
     ) -> std::result::Result<(), TemplateError>
-        ensures takes { is_ok result ≡ takes demand self.entry.text.now (length operands.now.written.items) }
-        ensures error { IfErr result (λ error. error ≡ fault (misfit demand self.entry.text.now)) }
+        ensures takes { is_ok result ≡ takes requirement self.entry.text.now (length operands.now.written.items) }
+        ensures error { IfErr result (λ error. error ≡ fault (violation requirement self.entry.text.now)) }
     {
-        if let Some(reason) = misfit(self.text, demand) {
-            return Err(TemplateError::Misfit(reason));
+        if let Some(reason) = violation(self.text, requirement) {
+            return Err(TemplateError::Violation(reason));
         }
         if hole_count(self.text) != operands.written.len() {
             return Err(TemplateError::OperandCount);

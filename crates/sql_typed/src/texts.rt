@@ -1,11 +1,10 @@
 //! Texts of their own, whose types say where they fit.
-ghost use Rattle.std.specs.Prelude.{◌≡◌, ◌++◌, [], ◌∷◌, IfOk, IsTrue, List, map, string_bytes};
+ghost use Rattle.std.specs.Prelude.{◌≡◌, ◌++◌, [], ◌∷◌, IfOk, IsTrue, string_bytes};
 ghost use Rattle.std.specs.Cow.{cow_str_bytes};
 ghost use Rattle.std.specs.List.{list_all};
 ghost use Rattle.sql_parts.specs.Error.{FailsOnlyByMemory};
 ghost use Rattle.sql_parts.specs.Fragments.{balanced};
 ghost use Rattle.sql_parts.specs.Operands.{is_fragment};
-ghost use Rattle.sql_parts.specs.Text.{texts};
 ghost use Rattle.sql_typed.specs.Unions.{united_text};
 
 use crate::Result;

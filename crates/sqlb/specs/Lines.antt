@@ -4,11 +4,11 @@ use Rattle.std.specs.List.{slice_split}
 use Rattle.std.specs.Str.{is_utf8}
 use Rattle.sql_builder.specs.Calls as call
 use Rattle.sql_builder.specs.Calls.{CallText, FinishText, StartText, binary_call, nullary_call, start_on, unary_call, variadic_call}
-use Rattle.sqlb.specs.Names.{condition_of, meaning_of}
+use Rattle.sqlb.specs.Names.{condition_of, call_named}
 use Rattle.sqlb.specs.declared.fault.Reason.{Reason}
 use Rattle.sqlb.specs.declared.fault.Reason.TheVariants.{NotUtf8, UnknownCall, WrongArguments}
-use Rattle.sqlb.specs.declared.names.Meaning.{Meaning}
-use Rattle.sqlb.specs.declared.names.Meaning.TheVariants as means
+use Rattle.sqlb.specs.declared.names.NamedCall.{NamedCall}
+use Rattle.sqlb.specs.declared.names.NamedCall.TheVariants as named
 use Rattle.sqlb.specs.declared.names.Printing.{Printing}
 use Rattle.sqlb.specs.declared.names.Printing.TheVariants as printing
 
@@ -51,28 +51,28 @@ flag_in text =
     else if bytes_eq text (codes "false") then Some false else None
 
 -- what a name says of its arguments, if they fit
-abbrev pub command : Meaning → List (List ℕ) → Option CommandText
-command (means.Nullary clause) [] = Some (Calls (nullary_call clause))
-command (means.Prints print) [] = Some (Finishes (finish_of print))
-command (means.Start start) (table ∷ []) = Some (Starts (start_on start table))
-command means.SelectValues values = Some (Starts (call.SelectValues values))
-command (means.Unary clause) (text ∷ []) = Some (Calls (unary_call clause text))
-command (means.Binary clause) (first ∷ second ∷ []) = Some (Calls (binary_call clause first second))
-command means.OrderBy (field ∷ flag ∷ []) = option_map (λ descending. Calls (call.OrderBy field descending)) (flag_in flag)
-command (means.Variadic clause) texts = Some (Calls (variadic_call clause texts))
-command (means.Where family ending) arguments = option_map (λ made. Calls (call.Cond family made)) (condition_of ending arguments)
-command means.SubqueryAs (name ∷ []) = Some (Finishes (call.SubqueryAs name))
+abbrev pub command : NamedCall → List (List ℕ) → Option CommandText
+command (named.Nullary clause) [] = Some (Calls (nullary_call clause))
+command (named.Prints print) [] = Some (Finishes (finish_of print))
+command (named.Start start) (table ∷ []) = Some (Starts (start_on start table))
+command named.SelectValues values = Some (Starts (call.SelectValues values))
+command (named.Unary clause) (text ∷ []) = Some (Calls (unary_call clause text))
+command (named.Binary clause) (first ∷ second ∷ []) = Some (Calls (binary_call clause first second))
+command named.OrderBy (field ∷ flag ∷ []) = option_map (λ descending. Calls (call.OrderBy field descending)) (flag_in flag)
+command (named.Variadic clause) texts = Some (Calls (variadic_call clause texts))
+command (named.Where family kind) arguments = option_map (λ made. Calls (call.Cond family made)) (condition_of kind arguments)
+command named.SubqueryAs (name ∷ []) = Some (Finishes (call.SubqueryAs name))
 command _ _ = None
 
 -- the checks of a line by itself, in their order: its name is known, and its arguments fit
-abbrev pub command_with : Option Meaning → List (List ℕ) → CommandResult
+abbrev pub command_with : Option NamedCall → List (List ℕ) → CommandResult
 command_with None arguments = Err UnknownCall
-command_with (Some meaning) arguments = ok_or (command meaning arguments) WrongArguments
+command_with (Some call) arguments = ok_or (command call arguments) WrongArguments
 
 -- what a name and its arguments say
 abbrev pub command_in_parts : List (List ℕ) → CommandResult
 command_in_parts [] = Err UnknownCall
-command_in_parts (name ∷ arguments) = command_with (meaning_of name) arguments
+command_in_parts (name ∷ arguments) = command_with (call_named name) arguments
 
 -- what a text says
 abbrev pub command_in : List ℕ → CommandResult

@@ -62,5 +62,5 @@ Runs (Err (Rejected reason)) old new text command = (given_answer old command �
 Runs (Err Memory) old new text command = IsOk (given_answer old command) × (new ≡ old)
 
 -- A start or a call is run, whatever is printed.
-abbrev pub Does : Result Bool LineError → Option ClauseTexts → Option ClauseTexts → CommandText → Type 0
-Does result old new command = (text : List ℕ) → Runs result old new text (Ok command)
+abbrev pub RunsCommand : Result Bool LineError → Option ClauseTexts → Option ClauseTexts → CommandText → Type 0
+RunsCommand result old new command = (text : List ℕ) → Runs result old new text (Ok command)

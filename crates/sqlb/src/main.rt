@@ -4,7 +4,6 @@
 mod arguments;
 mod fault;
 mod input;
-mod lines;
 mod names;
 mod output;
 mod run;

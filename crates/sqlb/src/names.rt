@@ -1,7 +1,7 @@
 //! The names that a line may begin with, and the conditions that some of them add.
-ghost use Rattle.std.specs.Prelude.{◌≡◌, OnOk, ok_or};
+ghost use Rattle.std.specs.Prelude.{◌≡◌, MatchOption, None, OnOk, Some, ok_or};
 ghost use Rattle.sql_builder.specs.Condition.{borrowed_view};
-ghost use Rattle.sqlb.specs.{IsTaken, comparisons, condition_of, ending_of, likes, memberships, condition_call, ends, found_in, lists, meaning_of, nullaries};
+ghost use Rattle.sqlb.specs.{IsTaken, comparisons, condition_of, condition_kind, likes, memberships, condition_call, ends, found_in, lists, call_named, nullaries, split_family};
 ghost use Rattle.sqlb.specs.{tables, Checks};
 ghost use Rattle.sqlb.specs.declared.fault.Reason.TheVariants.{WrongArguments};
 
@@ -12,9 +12,9 @@ use sql_builder::calls::{
     UnaryClause, VariadicClause,
 };
 
-/// The meaning of a name, by how many arguments it takes.
+/// What a name calls, by how many arguments it takes.
 #[derive(Clone, Copy)]
-pub(crate) enum Meaning {
+pub(crate) enum NamedCall {
     /// A call without arguments.
     Nullary(NullaryClause),
     /// A finish without arguments, which prints the statement.
@@ -31,8 +31,8 @@ pub(crate) enum Meaning {
     OrderBy,
     /// A call with any number of arguments.
     Variadic(VariadicClause),
-    /// A condition of this family. Its ending says how many arguments it takes.
-    Where(Family, Ending),
+    /// A condition of this family. Its kind says how many arguments it takes.
+    Where(Family, ConditionKind),
     /// A finish with a name, which prints a subquery.
     SubqueryAs,
 }
@@ -48,7 +48,7 @@ pub(crate) enum Printing {
 
 /// A condition without its texts. A truth value says whether it is the NOT form.
 #[derive(Clone, Copy)]
-pub(crate) enum Ending {
+pub(crate) enum ConditionKind {
     Raw,
     IsNull,
     IsNotNull,
@@ -60,69 +60,69 @@ pub(crate) enum Ending {
     Between(bool),
 }
 
-impl Ending {
-    /// Returns what follows `and_where` or `or_where`, if it is known. Endings are compared
+impl ConditionKind {
+    /// Returns the kind of condition that this ending names, if it is known. Endings are compared
     /// exactly.
-    #[tactic(auto, unfolding(crate::specs::Names::ending_of))]
-    fn of(ending: &str) -> Option<Ending>
-        ensures ending { result ≡ ending_of ending.now }
+    #[tactic(auto, unfolding(crate::specs::Names::condition_kind))]
+    fn of(ending: &str) -> Option<ConditionKind>
+        ensures kind { result ≡ condition_kind ending.now }
     {
-        Ending::comparison(ending)
-            .or_else(|| Ending::like(ending))
-            .or_else(|| Ending::membership(ending))
+        ConditionKind::comparison(ending)
+            .or_else(|| ConditionKind::like(ending))
+            .or_else(|| ConditionKind::membership(ending))
     }
 
     // The endings of a condition by itself, of NULL, and of comparisons.
     #[tactic(auto, unfolding(crate::specs::Names::comparisons))]
-    fn comparison(ending: &str) -> Option<Ending>
+    fn comparison(ending: &str) -> Option<ConditionKind>
         ensures { result ≡ found_in comparisons ending.now }
     {
         Some(match ending {
-            "" => Ending::Raw,
-            "_is_null" => Ending::IsNull,
-            "_is_not_null" => Ending::IsNotNull,
-            "_eq" => Ending::Compare(Relation::Eq),
-            "_ne" => Ending::Compare(Relation::Ne),
-            "_gt" => Ending::Compare(Relation::Gt),
-            "_ge" => Ending::Compare(Relation::Ge),
-            "_lt" => Ending::Compare(Relation::Lt),
-            "_le" => Ending::Compare(Relation::Le),
+            "" => ConditionKind::Raw,
+            "_is_null" => ConditionKind::IsNull,
+            "_is_not_null" => ConditionKind::IsNotNull,
+            "_eq" => ConditionKind::Compare(Relation::Eq),
+            "_ne" => ConditionKind::Compare(Relation::Ne),
+            "_gt" => ConditionKind::Compare(Relation::Gt),
+            "_ge" => ConditionKind::Compare(Relation::Ge),
+            "_lt" => ConditionKind::Compare(Relation::Lt),
+            "_le" => ConditionKind::Compare(Relation::Le),
             _ => return None,
         })
     }
 
     // The endings of LIKE.
     #[tactic(auto, unfolding(crate::specs::Names::likes))]
-    fn like(ending: &str) -> Option<Ending>
+    fn like(ending: &str) -> Option<ConditionKind>
         ensures { result ≡ found_in likes ending.now }
     {
         Some(match ending {
-            "_like" => Ending::Like(false, Percent::Plain),
-            "_like_right" => Ending::Like(false, Percent::Right),
-            "_like_left" => Ending::Like(false, Percent::Left),
-            "_like_any" => Ending::Like(false, Percent::Any),
-            "_not_like" => Ending::Like(true, Percent::Plain),
-            "_not_like_right" => Ending::Like(true, Percent::Right),
-            "_not_like_left" => Ending::Like(true, Percent::Left),
-            "_not_like_any" => Ending::Like(true, Percent::Any),
+            "_like" => ConditionKind::Like(false, Percent::Plain),
+            "_like_right" => ConditionKind::Like(false, Percent::Right),
+            "_like_left" => ConditionKind::Like(false, Percent::Left),
+            "_like_any" => ConditionKind::Like(false, Percent::Any),
+            "_not_like" => ConditionKind::Like(true, Percent::Plain),
+            "_not_like_right" => ConditionKind::Like(true, Percent::Right),
+            "_not_like_left" => ConditionKind::Like(true, Percent::Left),
+            "_not_like_any" => ConditionKind::Like(true, Percent::Any),
             _ => return None,
         })
     }
 
     // The endings of IN and BETWEEN.
     #[tactic(auto, unfolding(crate::specs::Names::memberships))]
-    fn membership(ending: &str) -> Option<Ending>
+    fn membership(ending: &str) -> Option<ConditionKind>
         ensures { result ≡ found_in memberships ending.now }
     {
         Some(match ending {
-            "_in" => Ending::InList(false),
-            "_in_quoted" => Ending::InQuoted(false),
-            "_in_query" => Ending::InQuery(false),
-            "_between" => Ending::Between(false),
-            "_not_in" => Ending::InList(true),
-            "_not_in_quoted" => Ending::InQuoted(true),
-            "_not_in_query" => Ending::InQuery(true),
-            "_not_between" => Ending::Between(true),
+            "_in" => ConditionKind::InList(false),
+            "_in_quoted" => ConditionKind::InQuoted(false),
+            "_in_query" => ConditionKind::InQuery(false),
+            "_between" => ConditionKind::Between(false),
+            "_not_in" => ConditionKind::InList(true),
+            "_not_in_quoted" => ConditionKind::InQuoted(true),
+            "_not_in_query" => ConditionKind::InQuery(true),
+            "_not_between" => ConditionKind::Between(true),
             _ => return None,
         })
     }
@@ -139,30 +139,30 @@ impl Ending {
         ensures taken { OnOk result (IsTaken arguments.old arguments.new) }
     {
         match self {
-            Ending::Raw => Ok(BorrowedCondition::Raw(arguments.one()?)),
-            Ending::IsNull => Ok(BorrowedCondition::IsNull(arguments.one()?)),
-            Ending::IsNotNull => Ok(BorrowedCondition::IsNotNull(arguments.one()?)),
-            Ending::Compare(relation) => {
+            ConditionKind::Raw => Ok(BorrowedCondition::Raw(arguments.one()?)),
+            ConditionKind::IsNull => Ok(BorrowedCondition::IsNull(arguments.one()?)),
+            ConditionKind::IsNotNull => Ok(BorrowedCondition::IsNotNull(arguments.one()?)),
+            ConditionKind::Compare(relation) => {
                 let (field, value) = arguments.two()?;
                 Ok(BorrowedCondition::Compare(relation, field, value))
             }
-            Ending::Like(negated, percent) => {
+            ConditionKind::Like(negated, percent) => {
                 let (field, mask) = arguments.two()?;
                 Ok(BorrowedCondition::Like(negated, percent, field, mask))
             }
-            Ending::InList(negated) => {
+            ConditionKind::InList(negated) => {
                 let field = arguments.first()?;
                 Ok(BorrowedCondition::InList(negated, field, arguments.others()))
             }
-            Ending::InQuoted(negated) => {
+            ConditionKind::InQuoted(negated) => {
                 let field = arguments.first()?;
                 Ok(BorrowedCondition::InQuoted(negated, field, arguments.others()))
             }
-            Ending::InQuery(negated) => {
+            ConditionKind::InQuery(negated) => {
                 let (field, query) = arguments.two()?;
                 Ok(BorrowedCondition::InQuery(negated, field, query))
             }
-            Ending::Between(negated) => {
+            ConditionKind::Between(negated) => {
                 let (field, least, greatest) = arguments.three()?;
                 Ok(BorrowedCondition::Between(negated, field, least, greatest))
             }
@@ -170,106 +170,118 @@ impl Ending {
     }
 }
 
-// A condition of this family, where the name is the prefix and an ending.
+// The family whose prefix a name begins with, and what follows that.
 #[inline(always)]
-fn condition_call(family: Family, prefix: &str, name: &str) -> Option<Meaning>
-    ensures { result ≡ condition_call family prefix.now name.now }
+fn split_family(name: &str) -> Option<(Family, &str)>
+    ensures { MatchOption result (split_family name.now ≡ None)
+        (λ parts. split_family name.now ≡ Some (parts.0, parts.1.now)) }
 {
-    let ending = name.strip_prefix(prefix)?;
-    Some(Meaning::Where(family, Ending::of(ending)?))
+    if let Some(ending) = name.strip_prefix("and_where") {
+        return Some((Family::And, ending));
+    }
+    let ending = name.strip_prefix("or_where")?;
+    Some((Family::Or, ending))
+}
+
+// A condition's call. Its ending is sought in one place, which is a part of the loop over lines.
+#[inline(always)]
+fn condition_call(name: &str) -> Option<NamedCall>
+    ensures { result ≡ condition_call name.now }
+{
+    let (family, ending) = split_family(name)?;
+    Some(NamedCall::Where(family, ConditionKind::of(ending)?))
 }
 
 // The names are in four tables, since a long `match` over texts proves slowly. Those that take no argument.
 #[tactic(auto, unfolding(crate::specs::Names::nullaries))]
-fn nullary_call(name: &str) -> Option<Meaning>
+fn nullary_call(name: &str) -> Option<NamedCall>
     ensures { result ≡ found_in nullaries name.now }
 {
     Some(match name {
-        "natural" => Meaning::Nullary(NullaryClause::Natural),
-        "left" => Meaning::Nullary(NullaryClause::Left),
-        "left_outer" => Meaning::Nullary(NullaryClause::LeftOuter),
-        "right" => Meaning::Nullary(NullaryClause::Right),
-        "right_outer" => Meaning::Nullary(NullaryClause::RightOuter),
-        "inner" => Meaning::Nullary(NullaryClause::Inner),
-        "cross" => Meaning::Nullary(NullaryClause::Cross),
-        "distinct" => Meaning::Nullary(NullaryClause::Distinct),
-        "returning_id" => Meaning::Nullary(NullaryClause::ReturningId),
-        "sql" => Meaning::Prints(Printing::Sql),
-        "query" => Meaning::Prints(Printing::Query),
-        "query_values" => Meaning::Prints(Printing::QueryValues),
-        "subquery" => Meaning::Prints(Printing::Subquery),
+        "natural" => NamedCall::Nullary(NullaryClause::Natural),
+        "left" => NamedCall::Nullary(NullaryClause::Left),
+        "left_outer" => NamedCall::Nullary(NullaryClause::LeftOuter),
+        "right" => NamedCall::Nullary(NullaryClause::Right),
+        "right_outer" => NamedCall::Nullary(NullaryClause::RightOuter),
+        "inner" => NamedCall::Nullary(NullaryClause::Inner),
+        "cross" => NamedCall::Nullary(NullaryClause::Cross),
+        "distinct" => NamedCall::Nullary(NullaryClause::Distinct),
+        "returning_id" => NamedCall::Nullary(NullaryClause::ReturningId),
+        "sql" => NamedCall::Prints(Printing::Sql),
+        "query" => NamedCall::Prints(Printing::Query),
+        "query_values" => NamedCall::Prints(Printing::QueryValues),
+        "subquery" => NamedCall::Prints(Printing::Subquery),
         _ => return None,
     })
 }
 
 // The names that open a statement, and those of tables and joins.
 #[tactic(auto, unfolding(crate::specs::Names::tables))]
-fn table_call(name: &str) -> Option<Meaning>
+fn table_call(name: &str) -> Option<NamedCall>
     ensures { result ≡ found_in tables name.now }
 {
     Some(match name {
-        "on" => Meaning::Unary(UnaryClause::On),
-        "join" => Meaning::Unary(UnaryClause::Join),
-        "on_eq" => Meaning::Binary(BinaryClause::OnEq),
-        "and_table" => Meaning::Unary(UnaryClause::AndTable),
-        "select_from" => Meaning::Start(TableStart::SelectFrom),
-        "insert_into" => Meaning::Start(TableStart::InsertInto),
-        "delete_from" => Meaning::Start(TableStart::DeleteFrom),
-        "update_table" => Meaning::Start(TableStart::UpdateTable),
-        "select_values" => Meaning::SelectValues,
+        "on" => NamedCall::Unary(UnaryClause::On),
+        "join" => NamedCall::Unary(UnaryClause::Join),
+        "on_eq" => NamedCall::Binary(BinaryClause::OnEq),
+        "and_table" => NamedCall::Unary(UnaryClause::AndTable),
+        "select_from" => NamedCall::Start(TableStart::SelectFrom),
+        "insert_into" => NamedCall::Start(TableStart::InsertInto),
+        "delete_from" => NamedCall::Start(TableStart::DeleteFrom),
+        "update_table" => NamedCall::Start(TableStart::UpdateTable),
+        "select_values" => NamedCall::SelectValues,
         _ => return None,
     })
 }
 
 // The names of what is selected, set, inserted and returned: fields, values and rows.
 #[tactic(auto, unfolding(crate::specs::Names::lists))]
-fn list_call(name: &str) -> Option<Meaning>
+fn list_call(name: &str) -> Option<NamedCall>
     ensures { result ≡ found_in lists name.now }
 {
     Some(match name {
-        "set" => Meaning::Binary(BinaryClause::SetTo),
-        "field" => Meaning::Unary(UnaryClause::Field),
-        "count" => Meaning::Unary(UnaryClause::Count),
-        "fields" => Meaning::Variadic(VariadicClause::Fields),
-        "values" => Meaning::Variadic(VariadicClause::Values),
-        "select" => Meaning::Unary(UnaryClause::Select),
-        "set_str" => Meaning::Binary(BinaryClause::SetStr),
-        "count_as" => Meaning::Binary(BinaryClause::CountAs),
-        "set_field" => Meaning::Unary(UnaryClause::SetField),
-        "returning" => Meaning::Unary(UnaryClause::Returning),
-        "set_fields" => Meaning::Variadic(VariadicClause::SetFields),
+        "set" => NamedCall::Binary(BinaryClause::SetTo),
+        "field" => NamedCall::Unary(UnaryClause::Field),
+        "count" => NamedCall::Unary(UnaryClause::Count),
+        "fields" => NamedCall::Variadic(VariadicClause::Fields),
+        "values" => NamedCall::Variadic(VariadicClause::Values),
+        "select" => NamedCall::Unary(UnaryClause::Select),
+        "set_str" => NamedCall::Binary(BinaryClause::SetStr),
+        "count_as" => NamedCall::Binary(BinaryClause::CountAs),
+        "set_field" => NamedCall::Unary(UnaryClause::SetField),
+        "returning" => NamedCall::Unary(UnaryClause::Returning),
+        "set_fields" => NamedCall::Variadic(VariadicClause::SetFields),
         _ => return None,
     })
 }
 
 // The names of groups, order, limits, unions and subqueries.
 #[tactic(auto, unfolding(crate::specs::Names::ends))]
-fn end_call(name: &str) -> Option<Meaning>
+fn end_call(name: &str) -> Option<NamedCall>
     ensures { result ≡ found_in ends name.now }
 {
     Some(match name {
-        "limit" => Meaning::Unary(UnaryClause::Limit),
-        "union" => Meaning::Unary(UnaryClause::Union),
-        "having" => Meaning::Unary(UnaryClause::Having),
-        "offset" => Meaning::Unary(UnaryClause::Offset),
-        "group_by" => Meaning::Unary(UnaryClause::GroupBy),
-        "order_by" => Meaning::OrderBy,
-        "order_asc" => Meaning::Unary(UnaryClause::OrderAsc),
-        "union_all" => Meaning::Unary(UnaryClause::UnionAll),
-        "order_desc" => Meaning::Unary(UnaryClause::OrderDesc),
-        "subquery_as" => Meaning::SubqueryAs,
+        "limit" => NamedCall::Unary(UnaryClause::Limit),
+        "union" => NamedCall::Unary(UnaryClause::Union),
+        "having" => NamedCall::Unary(UnaryClause::Having),
+        "offset" => NamedCall::Unary(UnaryClause::Offset),
+        "group_by" => NamedCall::Unary(UnaryClause::GroupBy),
+        "order_by" => NamedCall::OrderBy,
+        "order_asc" => NamedCall::Unary(UnaryClause::OrderAsc),
+        "union_all" => NamedCall::Unary(UnaryClause::UnionAll),
+        "order_desc" => NamedCall::Unary(UnaryClause::OrderDesc),
+        "subquery_as" => NamedCall::SubqueryAs,
         _ => return None,
     })
 }
 
-impl Meaning {
+impl NamedCall {
     /// Returns what the name means, if it is known. Names are compared exactly.
-    #[tactic(auto, unfolding(crate::specs::Names::meaning_of))]
-    pub(crate) fn of(name: &str) -> Option<Meaning>
-        ensures meaning { result ≡ meaning_of name.now }
+    #[tactic(auto, unfolding(crate::specs::Names::call_named))]
+    pub(crate) fn of(name: &str) -> Option<NamedCall>
+        ensures call { result ≡ call_named name.now }
     {
-        condition_call(Family::And, "and_where", name)
-            .or_else(|| condition_call(Family::Or, "or_where", name))
+        condition_call(name)
             .or_else(|| nullary_call(name))
             .or_else(|| table_call(name))
             .or_else(|| list_call(name))

@@ -1,5 +1,5 @@
 //! Scans of sixteen bytes at a time.
-ghost use Rattle.std.specs.Prelude.{◌≡◌, ◌+◌, ◌≤◌, drop, length, position, take};
+ghost use Rattle.std.specs.Prelude.{◌≡◌, ◌+◌, ◌<◌, ◌≤◌, MatchOption, drop, length, position, take};
 ghost use Rattle.std.specs.List.{position_or_len};
 ghost use Rattle.sqlb.specs.Arguments.{is_or_feed};
 
@@ -7,20 +7,23 @@ use std::simd::prelude::*;
 
 const LANES: usize = 16;
 
-// How many of the next sixteen bytes come before the first that is this one or a line feed.
+// How many of the next sixteen bytes precede the first that is this one or a line feed, if there is
+// one.
 #[inline(always)]
-fn run_in_block(text: &[u8], at: usize, first: u8) -> usize
+fn find_in_block(text: &[u8], at: usize, first: u8) -> Option<usize>
     requires { at + LANES ≤ length text.now }
-    ensures { result ≡ position_or_len (is_or_feed first) (take LANES (drop at text.now)) }
+    ensures { MatchOption result
+        (position_or_len (is_or_feed first) (take LANES (drop at text.now)) ≡ LANES)
+        (λ run. (run < LANES)
+        × (position_or_len (is_or_feed first) (take LANES (drop at text.now)) ≡ run)) }
 {
     let block = u8x16::from_slice(&text[at..]);
     let ends = block.simd_eq(u8x16::splat(first)) | block.simd_eq(u8x16::splat(b'\n'));
     let ends = ends.to_bitmask();
     if ends == 0 {
-        LANES
-    } else {
-        ends.trailing_zeros() as usize
+        return None;
     }
+    Some(ends.trailing_zeros() as usize)
 }
 
 fn find_end(text: &[u8], first: u8) -> Option<usize>
@@ -50,8 +53,7 @@ pub(crate) fn end_at(text: &[u8], from: usize, first: u8) -> usize
 {
     let mut at = from;
     while text.len() - at >= LANES {
-        let run = run_in_block(text, at, first);
-        if run < LANES {
+        if let Some(run) = find_in_block(text, at, first) {
             return at + run;
         }
         at += LANES;

@@ -11,9 +11,9 @@ use Rattle.sql_builder.specs.declared.condition.Relation.TheVariants as relation
 use Rattle.sql_builder.specs.contracts.condition.Percent as percent_enum
 use Rattle.sql_builder.proofs.condition.Percent.TheLaws as percent_laws
 use Rattle.sql_builder.specs.declared.condition.Percent.TheVariants as percent_case
-use Rattle.sql_builder.specs.contracts.where_calls.Sense as sense_enum
-use Rattle.sql_builder.proofs.where_calls.Sense.TheLaws as sense_laws
-use Rattle.sql_builder.specs.declared.where_calls.Sense.TheVariants as sense_case
+use Rattle.sql_builder.specs.contracts.where_calls.Polarity as polarity_enum
+use Rattle.sql_builder.proofs.where_calls.Polarity.TheLaws as polarity_laws
+use Rattle.sql_builder.specs.declared.where_calls.Polarity.TheVariants as polarity_case
 use Rattle.sql_builder.specs.contracts.steps.UnaryClause as unary_enum
 use Rattle.sql_builder.proofs.steps.UnaryClause.TheLaws as unary_laws
 use Rattle.sql_builder.specs.contracts.steps.BinaryClause as binary_enum
@@ -66,14 +66,14 @@ percent-left = percent percent_case.Left 2 tt tt tt refl
 abbrev pub percent-any : Variant percent_enum.the_type
 percent-any = percent percent_case.Any 3 tt tt tt refl
 
-abbrev pub sense : Variants sense_enum.the_type sense_laws.the_laws
-sense = variant sense_enum.the_type sense_laws.the_laws
+abbrev pub polarity : Variants polarity_enum.the_type polarity_laws.the_laws
+polarity = variant polarity_enum.the_type polarity_laws.the_laws
 
-abbrev pub sense-plain : Variant sense_enum.the_type
-sense-plain = sense sense_case.Plain 0 tt tt tt refl
+abbrev pub polarity-plain : Variant polarity_enum.the_type
+polarity-plain = polarity polarity_case.Plain 0 tt tt tt refl
 
-abbrev pub sense-negated : Variant sense_enum.the_type
-sense-negated = sense sense_case.Negated 1 tt tt tt refl
+abbrev pub polarity-negated : Variant polarity_enum.the_type
+polarity-negated = polarity polarity_case.Negated 1 tt tt tt refl
 
 abbrev pub unary_clause : Variants unary_enum.the_type unary_laws.the_laws
 unary_clause = variant unary_enum.the_type unary_laws.the_laws

@@ -16,7 +16,7 @@ use Rattle.sql_builder.proofs.tokens.{is_even-append, at_end-append, has_clause}
 use Rattle.sql_builder.proofs.lists.{map-all, tested-all}
 use Rattle.sql_builder.proofs.fragments.ClauseFacts.{PartsAre}
 use Rattle.sql_builder.proofs.fragments.PreservationLemmas.{clauses-preserved}
-use Rattle.sql_builder.proofs.reading.{are_fit-is, are_fit_from, even-ends, or_so, Split, bare_query-split, bare_values-split, sql-split, PreservedByReading}
+use Rattle.sql_builder.proofs.reading.{are_fit-is, are_fit_at, even-ends, or_so, Split, bare_query-split, bare_values-split, sql-split, PreservedByReading}
 use Rattle.sql_builder.proofs.reading.{laid-layout, plain-split, AllOpen, Neutral, Opens, section_pieces, sections-front, until-after, ending-semicolon, layout}
 use Rattle.sql_builder.proofs.reading.ClauseWordLemmas as own_words
 use Rattle.sql_builder.proofs.fragments.PassLemmas.{printed-passes, calls-enclosed, weaker-texts}
@@ -24,17 +24,17 @@ use Rattle.sql_builder.proofs.pieces.{inside-layout, insert-laid, statement-laid
 use Rattle.sql_builder.specs.declared.clauses.Kind.TheVariants as kind
 use Rattle.sql_builder.proofs.fragments.NeutralLemmas.{InsideParts, clauses-inside}
 
-fit-both : (l : ℤ) (x y : Pieces) → are_fit_from l x ≡ true → are_fit_from (at_end l (own x)) y ≡ true → are_fit_from l (x ++ y) ≡ true
+fit-both : (l : ℤ) (x y : Pieces) → are_fit_at l x ≡ true → are_fit_at (at_end l (own x)) y ≡ true → are_fit_at l (x ++ y) ≡ true
 fit-both l [] y one other = other
 fit-both l (piece ∷ x) y one other =
-    let both = and_parts (own_words.is_fit l piece) (are_fit_from (at_end l (own_tokens piece)) x) one in
+    let both = and_parts (own_words.is_fit_at l piece) (are_fit_at (at_end l (own_tokens piece)) x) one in
     and_from _ _ both.0 (fit-both (at_end l (own_tokens piece)) x y both.1
-    (subst (λ k. are_fit_from k y ≡ true) (at_end-append l (own_tokens piece) (own x)) other))
+    (subst (λ k. are_fit_at k y ≡ true) (at_end-append l (own_tokens piece) (own x)) other))
 
 -- fit from each depth that `at` gives
 pub record FitAt (at : ℕ → ℕ) (ps : Pieces) : Type 0 where
   pub neutral : Neutral ps
-  pub fits : (n : ℕ) → are_fit_from (pos (at n)) ps ≡ true
+  pub fits : (n : ℕ) → are_fit_at (pos (at n)) ps ≡ true
 
 -- fit anywhere, and fit between brackets
 abbrev pub Fit : Pieces → Type 0
@@ -48,7 +48,7 @@ fit-joins at =
     by_append (record { neutral = neutral-none; fits = λ n. refl })
     (λ x y one other. record {
       neutral = neutral-append x y one.neutral other.neutral;
-      fits = λ n. fit-both (pos (at n)) x y (one.fits n) (subst (λ l. are_fit_from l y ≡ true) (sym (even-ends (at n) (own x) one.neutral.even)) (other.fits n));
+      fits = λ n. fit-both (pos (at n)) x y (one.fits n) (subst (λ l. are_fit_at l y ≡ true) (sym (even-ends (at n) (own x) one.neutral.even)) (other.fits n));
     })
     (λ words neutral. record { neutral = neutral; fits = λ n. refl })
 
@@ -58,12 +58,12 @@ balanced_tokens text h = sym (is_balanced-is (tokens text)) ∙ h
 without_clause_tokens : (text : List ℕ) → not (has_clause_word text) ≡ true → not (has_clause (tokens text)) ≡ true
 without_clause_tokens text h = (λ i. not (sym (has_top_level-is is_clause_word (tokens text)) i)) ∙ h
 
-bare-at : (n : ℕ) (text : List ℕ) → is_fit (Bare text) ≡ true → own_words.is_fit (pos n) (printed.Raw text) ≡ true
+bare-at : (n : ℕ) (text : List ℕ) → is_fit (Bare text) ≡ true → own_words.is_fit_at (pos n) (printed.Raw text) ≡ true
 bare-at n text h =
     let both = and_parts (balanced text) (not (has_clause_word text)) h in
     and_from _ _ (balanced_tokens text both.0) (or_so (not (is_zero (pos n))) _ (without_clause_tokens text both.1))
 
-inner-at : (n : ℕ) (text : List ℕ) → balanced text ≡ true → own_words.is_fit (pos (suc n)) (printed.Raw text) ≡ true
+inner-at : (n : ℕ) (text : List ℕ) → balanced text ≡ true → own_words.is_fit_at (pos (suc n)) (printed.Raw text) ≡ true
 inner-at n text h = and_from _ _ (balanced_tokens text h) refl
 
 inner-text : (text : List ℕ) → balanced text ≡ true → Inner (raw_piece text)
@@ -143,13 +143,13 @@ fields-fit fields all = target (comma_list fixed_piece fields) (listed (fit-join
 section-ends : (s : Section Piece) → Opens Fit s → at_end (pos 0) (own (section_pieces s)) ≡ pos 0
 section-ends s opens = even-ends 0 (own (section_pieces s)) (is_even-append (tokens s.opening) (own s.body) opens.front.even opens.neutral.even)
 
-sections-fit : (sections : List (Section Piece)) → AllOpen Fit sections → are_fit_from (pos 0) (concat_sections fixed_piece sections) ≡ true
+sections-fit : (sections : List (Section Piece)) → AllOpen Fit sections → are_fit_at (pos 0) (concat_sections fixed_piece sections) ≡ true
 sections-fit [] all = refl
 sections-fit (s ∷ sections) all =
     let rest = concat_sections fixed_piece sections in
     fit-both (pos 0) (section_pieces s) rest
-    (subst (λ l. are_fit_from l s.body ≡ true) (sym (even-ends 0 (tokens s.opening) all.0.front.even)) (all.0.body.fits 0))
-    (subst (λ l. are_fit_from l rest ≡ true) (sym (section-ends s all.0)) (sections-fit sections all.1))
+    (subst (λ l. are_fit_at l s.body ≡ true) (sym (even-ends 0 (tokens s.opening) all.0.front.even)) (all.0.body.fits 0))
+    (subst (λ l. are_fit_at l rest ≡ true) (sym (section-ends s all.0)) (sections-fit sections all.1))
 
 split-fits : {printed : Pieces} {bodies : List (List Token)} → Split Fit printed bodies → has_fit_fragments printed ≡ true
 split-fits split =

@@ -4,7 +4,7 @@ use Rattle.sql_builder.proofs.Imports.{SqlBuilderError, quoted, Clauses, Pieces,
 use Rattle.sql_builder.specs.{ClauseTexts, with_binary, with_condition, with_condition_bytes, with_fields, with_on, with_set, byte_units, sql, StartText}
 use Rattle.sql_builder.specs.{CallText, FinishText, clauses, ConditionText, condition_bytes, condition_pieces, count_as, equation, map_clauses}
 use Rattle.sql_builder.specs.{EndsInOneSemicolon, AddsText, KeepsTokens, as_fragments, has_closed_fragments, has_no_semicolons, layout_at, pieces, error_at}
-use Rattle.sql_builder.specs.{unless_error, fixed_piece, pieces_text, quoted_piece, raw_piece, AddsCondition, IsAtomIfOperands, AddsBinary, AddsConditionOpaque}
+use Rattle.sql_builder.specs.{unless_error, fixed_piece, pieces_text, quoted_piece, raw_piece, AddsCondition, IsAtomIfOperands, AddsBinary, StepAddsCondition}
 use Rattle.sql_builder.specs.{IsAtom}
 use Rattle.sql_builder.specs.Calls as call
 use Rattle.sql_builder.proofs.reading.ClauseWordLemmas.{fragments_closed}
@@ -77,10 +77,10 @@ adds_condition family condition old new is = (
   text_atom condition,
 )
 
-pub adds_condition_opaque : (family : Family) (condition : ConditionText) (old new : ClauseTexts) → new ≡ with_condition family condition old
-    → AddsConditionOpaque family condition old new
-unfolding AddsConditionOpaque
-adds_condition_opaque family condition old new is = adds_condition family condition old new is
+pub step_adds_condition : (family : Family) (condition : ConditionText) (old new : ClauseTexts) → new ≡ with_condition family condition old
+    → StepAddsCondition family condition old new
+unfolding StepAddsCondition
+step_adds_condition family condition old new is = adds_condition family condition old new is
 
 -- the `;` of what a builder prints
 pub builder_semicolon : (r : Clauses (List ℕ)) → IsTrue (has_closed_fragments (sql fixed_piece (as_fragments r)))

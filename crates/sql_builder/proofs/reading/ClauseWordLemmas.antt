@@ -14,15 +14,15 @@ pub own-append : (x y : Pieces) → own (x ++ y) ≡ own x ++ own y
 own-append x y = flat_map-append own_tokens x y
 
 -- a fragment is fit, where the depth of the builder's own words before it is this one
-abbrev pub is_fit : ℤ → Piece → Bool
-is_fit l (Raw text) = is_balanced (tokens text) && (not (is_zero l) || not (has_clause (tokens text)))
-is_fit l _ = true
+abbrev pub is_fit_at : ℤ → Piece → Bool
+is_fit_at l (Raw text) = is_balanced (tokens text) && (not (is_zero l) || not (has_clause (tokens text)))
+is_fit_at l _ = true
 
-abbrev pub are_fit_from : ℤ → Pieces → Bool
-are_fit_from l [] = true
-are_fit_from l (piece ∷ pieces) = is_fit l piece && are_fit_from (at_end l (own_tokens piece)) pieces
+abbrev pub are_fit_at : ℤ → Pieces → Bool
+are_fit_at l [] = true
+are_fit_at l (piece ∷ pieces) = is_fit_at l piece && are_fit_at (at_end l (own_tokens piece)) pieces
 
-fit-piece : (before : Pieces) (piece : Piece) → is_fit_after before piece ≡ is_fit (at_end (pos 0) (own before)) piece
+fit-piece : (before : Pieces) (piece : Piece) → is_fit_after before piece ≡ is_fit_at (at_end (pos 0) (own before)) piece
 fit-piece before (Fixed text) = refl
 fit-piece before (Quoted text) = refl
 fit-piece before (Raw text) = λ i. is_balanced-is (tokens text) i && (not (end-is (own before) i) || not (has_top_level-is is_clause_word (tokens text) i))
@@ -32,14 +32,14 @@ depth-after before piece =
     ap (at_end (pos 0)) (own-append before (piece ∷ []) ∙ ap (λ ts. own before ++ ts) (append-nil (own_tokens piece)))
     ∙ at_end-append (pos 0) (own before) (own_tokens piece)
 
-fit-after : (before pieces : Pieces) → are_fit_after before pieces ≡ are_fit_from (at_end (pos 0) (own before)) pieces
+fit-after : (before pieces : Pieces) → are_fit_after before pieces ≡ are_fit_at (at_end (pos 0) (own before)) pieces
 fit-after before [] = refl
 fit-after before (piece ∷ pieces) =
-    let rest = fit-after (before ++ piece ∷ []) pieces ∙ ap (λ l. are_fit_from l pieces) (depth-after before piece) in
+    let rest = fit-after (before ++ piece ∷ []) pieces ∙ ap (λ l. are_fit_at l pieces) (depth-after before piece) in
     λ i. fit-piece before piece i && rest i
 
 -- brackets counted behind all pieces before, and along the pieces
-pub are_fit-is : (pieces : Pieces) → are_fit pieces ≡ are_fit_from (pos 0) pieces
+pub are_fit-is : (pieces : Pieces) → are_fit pieces ≡ are_fit_at (pos 0) pieces
 are_fit-is pieces = fit-after [] pieces
 
 -- the depth stays at least 0, and each clause word is at depth 0
@@ -139,7 +139,7 @@ pub even-stays : (n : ℕ) (a : List Token) → is_even a ≡ true → stays_fro
 even-stays n a even = stays-up n a (stays-closes (pos 0) a (and_parts (list_all is_whole a) _ even).1)
 
 -- where fragments are fit and the builder's clause words are at depth 0, the top-level clause keywords are the builder's
-pub fit-flags : (l : ℤ) (ps : Pieces) → is_at_least_0 l ≡ true → are_fit_from l ps ≡ true → laid_from l (own ps) ≡ true
+pub fit-flags : (l : ℤ) (ps : Pieces) → is_at_least_0 l ≡ true → are_fit_at l ps ≡ true → laid_from l (own ps) ≡ true
     → flags (placed_from l (pieces_tokens ps)) ≡ flags (flat_map own_placed ps)
 fit-flags l [] h fit laid = refl
 fit-flags l (Fixed text ∷ ps) h fit laid =
@@ -155,7 +155,7 @@ fit-flags l (Quoted text ∷ ps) h fit laid =
     λ i. first i ∷ rest i
 fit-flags (pos n) (Raw text ∷ ps) h fit laid =
     let a = tokens text in
-    let both = and_parts (is_fit (pos n) (Raw text)) (are_fit_from (pos n) ps) fit in
+    let both = and_parts (is_fit_at (pos n) (Raw text)) (are_fit_at (pos n) ps) fit in
     let here = and_parts (is_balanced a) _ both.0 in
     let even = balanced_even a here.0 in
     ap flags (placed_from-append (pos n) a (pieces_tokens ps)) ∙ map-append flag (placed_from (pos n) a) (placed_from (at_end (pos n) a) (pieces_tokens ps))
@@ -166,12 +166,12 @@ fit-flags (pos n) (Raw text ∷ ps) h fit laid =
 fit-flags (negsuc n) (Raw text ∷ ps) h fit laid = absurd (false≢true h)
 
 -- ---- depth alone: each fragment is balanced
-pub fit-balanced : (l : ℤ) (ps : Pieces) → are_fit_from l ps ≡ true → list_all is_balanced_piece ps ≡ true
+pub fit-balanced : (l : ℤ) (ps : Pieces) → are_fit_at l ps ≡ true → list_all is_balanced_piece ps ≡ true
 fit-balanced l [] fit = refl
 fit-balanced l (Fixed text ∷ ps) fit = fit-balanced (at_end l (tokens text)) ps fit
 fit-balanced l (Quoted text ∷ ps) fit = fit-balanced l ps fit
 fit-balanced l (Raw text ∷ ps) fit =
-    let both = and_parts (is_fit l (Raw text)) (are_fit_from l ps) fit in
+    let both = and_parts (is_fit_at l (Raw text)) (are_fit_at l ps) fit in
     and_from _ _ (is_balanced-is (tokens text) ∙ (and_parts (is_balanced (tokens text)) _ both.0).0) (fit-balanced l ps both.1)
 
 pub shape-depths : (l : ℤ) (ps : Pieces) → is_at_least_0 l ≡ true → list_all is_balanced_piece ps ≡ true → stays_from l (own ps) ≡ true

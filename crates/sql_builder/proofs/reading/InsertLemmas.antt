@@ -22,7 +22,7 @@ use Rattle.sql_builder.proofs.reading.LayoutLemmas.{query-opens, neutral-layout}
 use Rattle.sql_builder.proofs.reading.SectionLemmas.{Neutral, Front, any_union, before-append, neutral-front, front-append, lead_on, opening_clauses, joined}
 use Rattle.sql_builder.proofs.reading.SectionLemmas.{own-top_level, parts-joined, section-clauses, starts-lead, union-flags, with_last, sections-front}
 use Rattle.sql_builder.proofs.reading.SectionLemmas.{until-after, union-flag, with_last-nil}
-use Rattle.sql_builder.proofs.reading.ClauseWordLemmas.{are_fit-is, are_fit_from, fit-balanced, fit-flags, fragments_closed, flags, same-parts, shape-even}
+use Rattle.sql_builder.proofs.reading.ClauseWordLemmas.{are_fit-is, are_fit_at, fit-balanced, fit-flags, fragments_closed, flags, same-parts, shape-even}
 use Rattle.sql_builder.proofs.statements.{of_pieces}
 
 -- ---- tokens that have no top-level UNION
@@ -83,7 +83,7 @@ read-cut ts us is =
     ∙ ap (λ ms. (parts_at is_clause_word (before_top_level is_union ms)).rest) (placed-is us)
 
 -- pieces whose own words are laid as those of a statement
-pieces-one : (ps : Pieces) → Front (own ps) → are_fit_from (pos 0) ps ≡ true → One (pieces_tokens ps)
+pieces-one : (ps : Pieces) → Front (own ps) → are_fit_at (pos 0) ps ≡ true → One (pieces_tokens ps)
 pieces-one ps front fits = record {
   even = shape-even ps (fit-balanced (pos 0) ps fits) front.even;
   no_union = union-flags (placed (pieces_tokens ps)) ∙ ap any_union (fit-flags (pos 0) ps refl fits front.laid) ∙ sym (union-flags (flat_map own_placed ps))
@@ -100,8 +100,8 @@ module _ (words : List ℕ) (body : Pieces) (front : Front (tokens words)) (star
   is-front : Front (own here)
   is-front = front-append (tokens words) (own body) front (neutral-front body neutral)
 
-  fits : are_fit_from (pos 0) here ≡ true
-  fits = subst (λ l. are_fit_from l body ≡ true) (sym (at_end-closes (pos 0) (tokens words) (even_closes (tokens words) front.even)))
+  fits : are_fit_at (pos 0) here ≡ true
+  fits = subst (λ l. are_fit_at l body ≡ true) (sym (at_end-closes (pos 0) (tokens words) (even_closes (tokens words) front.even)))
       (sym (are_fit-is body) ∙ fit)
 
   same : flags (placed (pieces_tokens here)) ≡ flags (flat_map own_placed here)
@@ -286,7 +286,7 @@ module _ (r : Clauses Pieces) (neutral : NeutralParts r) (none : r.unions ≡ []
   query-front = sections-front Neutral (query_sections fixed_piece r) (query-opens r neutral none)
 
   -- no piece begins a union
-  query-fits : are_fit_from (pos 0) (query fixed_piece r) ≡ true
+  query-fits : are_fit_at (pos 0) (query fixed_piece r) ≡ true
   query-fits =
       let ps = query fixed_piece r in
       let until-none : until begins_union ps ≡ ps = ap (until begins_union) (sym (append-nil ps)) ∙ until-after ps [] query-front.no_union ∙ append-nil ps in

@@ -12,7 +12,7 @@ use Rattle.sql_builder.proofs.tokens.{even_closes, is_even-append, at_end-closes
 use Rattle.sql_builder.proofs.tokens.{none-inner, parts-none}
 use Rattle.sql_builder.proofs.truth.ConnectiveLemmas.{placed-then}
 use Rattle.sql_builder.proofs.reading.ClauseWordLemmas.{fit-balanced, fit-flags, laid-both, laid-plain, laid_from, Flagged, flags, own-append, same-parts}
-use Rattle.sql_builder.proofs.reading.ClauseWordLemmas.{shape-even, are_fit_from, is_fit, are_fit-is, fragments_closed}
+use Rattle.sql_builder.proofs.reading.ClauseWordLemmas.{shape-even, are_fit_at, is_fit_at, are_fit-is, fragments_closed}
 use Rattle.sql_builder.proofs.pieces.ShapeLemmas.{Follows, Inside, text-append}
 use Rattle.sql_parts.specs.Fragments as fragments
 use Rattle.sql_builder.proofs.lists.{none-weaker}
@@ -107,10 +107,10 @@ none-ends (t ∷ ts) whole none =
     let both = or_parts (is_union t) (list_any is_union ts) none in
     or_from _ _ (or_from _ _ both.0 (not-true _ (and_parts (not (is_open t)) (not (is_semicolon t)) here.0).1)) (none-ends ts here.1 both.1)
 
-fit-left : (l : ℤ) (a b : Pieces) → are_fit_from l (a ++ b) ≡ true → are_fit_from l a ≡ true
+fit-left : (l : ℤ) (a b : Pieces) → are_fit_at l (a ++ b) ≡ true → are_fit_at l a ≡ true
 fit-left l [] b fit = refl
 fit-left l (p ∷ a) b fit =
-    let both = and_parts (is_fit l p) (are_fit_from (at_end l (own_tokens p)) (a ++ b)) fit in
+    let both = and_parts (is_fit_at l p) (are_fit_at (at_end l (own_tokens p)) (a ++ b)) fit in
     and_from _ _ both.0 (fit-left (at_end l (own_tokens p)) a b both.1)
 
 pub until-after : (a b : Pieces) → list_any is_union (own a) ≡ false → until begins_union (a ++ b) ≡ a ++ until begins_union b
@@ -127,7 +127,7 @@ pub record Ending (rest : Pieces) : Type 0 where
   pub cut : (a : List Token) → list_all is_whole a ≡ true → (r : List Token) × (without_semicolon (a ++ tokens (pieces_text rest)) ≡ a ++ r)
       × (before_top_level is_union (placed r) ≡ [])
   pub ends : before_top_level ends_clauses (flat_map own_placed rest) ≡ []
-  pub until_fits : (l : ℤ) → are_fit_from l (until begins_union rest) ≡ true
+  pub until_fits : (l : ℤ) → are_fit_at l (until begins_union rest) ≡ true
 
 pub ending-none : Ending []
 ending-none = record {
@@ -175,12 +175,12 @@ module _ (front rest : Pieces) (is : Front (own front)) (ending : Ending rest) w
       (own-top_level ends_clauses front ∙ none-ends (own front) whole is.no_union)
       ∙ ap (λ ms. flat_map own_placed front ++ ms) ending.ends ∙ append-nil (flat_map own_placed front))
 
-  fit-front : has_fit_fragments (front ++ rest) ≡ true → are_fit_from (pos 0) front ≡ true
+  fit-front : has_fit_fragments (front ++ rest) ≡ true → are_fit_at (pos 0) front ≡ true
   fit-front fit =
       fit-left (pos 0) front (until begins_union rest)
-      (ap (are_fit_from (pos 0)) (sym (until-after front rest is.no_union)) ∙ sym (are_fit-is (until begins_union (front ++ rest))) ∙ fit)
+      (ap (are_fit_at (pos 0)) (sym (until-after front rest is.no_union)) ∙ sym (are_fit-is (until begins_union (front ++ rest))) ∙ fit)
 
-  read-front : are_fit_from (pos 0) front ≡ true → read (pieces_tokens front ++ tokens (pieces_text rest)) ≡ clauses_in front
+  read-front : are_fit_at (pos 0) front ≡ true → read (pieces_tokens front ++ tokens (pieces_text rest)) ≡ clauses_in front
   unfolding read
   read-front fit =
       let same = fit-flags (pos 0) front refl fit is.laid in

@@ -1,5 +1,5 @@
 -- Worked rows of values that are bound to a statement, or beside it: what the definitions give, by computing.
-use Rattle.sql_builder.proofs.Imports.{◌≡◌, List, [], ◌∷◌, ◌++◌, Ok, Some, codes, map, pos, refl, true, LiteralValue, whole, words, with_values, Nums, Value}
+use Rattle.sql_builder.proofs.Imports.{◌≡◌, List, [], ◌∷◌, ◌++◌, Ok, Some, codes, map, pos, refl, true, LiteralValue, whole, words, with_values, Nums, Replacement}
 use Rattle.sql_builder.proofs.Imports.{bound, listed, And, Eq}
 use Rattle.sql_parts.specs.declared.parameter.Style.TheVariants.{Question, Dollar}
 use Rattle.sql_builder.specs.{placeholders, call_with_values, pieces_with_values, start_with_values, CallText, Cond, GroupBy, Having, SelectFrom, Sql}
@@ -14,7 +14,7 @@ placeholders-other = refl
 placeholders-of_texts : placeholders Question (codes "ab") ≡ placeholders Question (codes "it's" ∷ [] ∷ [])
 placeholders-of_texts = refl
 
-abbrev values : Value → LiteralValue
+abbrev values : Replacement → LiteralValue
 values = listed (words (codes "it's") ∷ whole (pos 7) ∷ [])
 
 with_values-two : with_values 2 values (codes "a = $1 AND b = $2") ≡ codes "a = 'it''s' AND b = 7"

@@ -84,11 +84,11 @@ unfolding read
 broken-clauses = refl
 
 -- a table with a clause word is not fit, nor is such a text behind RETURNING
-table-unfit : has_fit_target (clauses (call.InsertInto (codes "t WHERE b")) (of chosen)) ≡ false
-table-unfit = refl
+table-invalid : has_fit_target (clauses (call.InsertInto (codes "t WHERE b")) (of chosen)) ≡ false
+table-invalid = refl
 
-returned-unfit : has_fit_target (clauses (call.InsertInto (codes "t")) (call.Select chosen ∷ call.Returning (codes "id FROM t") ∷ [])) ≡ false
-returned-unfit = refl
+returned-invalid : has_fit_target (clauses (call.InsertInto (codes "t")) (call.Select chosen ∷ call.Returning (codes "id FROM t") ∷ [])) ≡ false
+returned-invalid = refl
 
 -- ---- what `query` prints
 
@@ -106,8 +106,8 @@ joined-asked = refl
 hidden-printed : statement (call.SelectFrom (codes "t UNION SELECT a FROM b")) [] call.Query ≡ Ok joined
 hidden-printed = refl
 
-hidden-unfit : has_fit_fragments (query fixed_piece (clauses (call.SelectFrom (codes "t UNION SELECT a FROM b")) [])) ≡ false
-hidden-unfit = refl
+hidden-invalid : has_fit_fragments (query fixed_piece (clauses (call.SelectFrom (codes "t UNION SELECT a FROM b")) [])) ≡ false
+hidden-invalid = refl
 
 -- ---- texts
 

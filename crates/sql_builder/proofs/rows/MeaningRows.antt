@@ -132,8 +132,8 @@ in_query-fit : has_fit_fragments (sql fixed_piece
     (clauses (call.DeleteFrom (codes "t")) (call.Cond And (InQuery true (codes "a") (codes "SELECT b FROM c")) ∷ []))) ≡ true
 in_query-fit = refl
 
-table-unfit : has_fit_fragments (sql fixed_piece (clauses (call.DeleteFrom (codes "t WHERE b")) [])) ≡ false
-table-unfit = refl
+table-invalid : has_fit_fragments (sql fixed_piece (clauses (call.DeleteFrom (codes "t WHERE b")) [])) ≡ false
+table-invalid = refl
 
 -- in the brackets round a group a clause word is no top-level one, and the clauses parse back; the truth of WHERE asks for more
 abbrev queried : Pieces
@@ -142,8 +142,8 @@ queried = sql fixed_piece (clauses (call.DeleteFrom (codes "t")) (call.Cond And 
 group-fit : has_fit_fragments queried ≡ true
 group-fit = refl
 
-group-unfit : has_fit_conditions (call.Cond And (Raw (codes "x FROM y")) ∷ call.Cond And (Raw (codes "p")) ∷ []) ≡ false
-group-unfit = refl
+group-invalid : has_fit_conditions (call.Cond And (Raw (codes "x FROM y")) ∷ call.Cond And (Raw (codes "p")) ∷ []) ≡ false
+group-invalid = refl
 
 -- a field of an INSERT may hold clause words, where `sql` prints it; the same field of a query may not
 abbrev inserted : List CallText
@@ -152,8 +152,8 @@ inserted = call.Field (codes "a FROM b") ∷ call.Values (codes "1" ∷ []) ∷ 
 insert-fit : has_fit_texts (call.InsertInto (codes "t")) inserted call.Sql ≡ true
 insert-fit = refl
 
-query-unfit : has_fit_texts (call.InsertInto (codes "t")) inserted call.Query ≡ false
-query-unfit = refl
+query-invalid : has_fit_texts (call.InsertInto (codes "t")) inserted call.Query ≡ false
+query-invalid = refl
 
 -- ---- queries between brackets, as tables
 
@@ -174,8 +174,8 @@ bare-fit = refl
 table-fit : has_fit_texts (SelectFrom (codes "(SELECT * FROM t) AS s")) [] Sql ≡ true
 table-fit = refl
 
-bare_query-unfit : has_fit_texts (SelectFrom (codes "SELECT * FROM t")) [] Sql ≡ false
-bare_query-unfit = refl
+bare_query-invalid : has_fit_texts (SelectFrom (codes "SELECT * FROM t")) [] Sql ≡ false
+bare_query-invalid = refl
 
 query-makes : makes_table Query ≡ false
 query-makes = refl
@@ -190,12 +190,12 @@ filtered-makes = refl
 filtered-balanced : balanced (codes "(SELECT * FROM t) AS s WHERE a") ≡ true
 filtered-balanced = refl
 
-filtered-unfit : is_fit (Bare (codes "(SELECT * FROM t) AS s WHERE a")) ≡ false
-filtered-unfit = refl
+filtered-invalid : is_fit (Bare (codes "(SELECT * FROM t) AS s WHERE a")) ≡ false
+filtered-invalid = refl
 
 -- a fragment that isn't balanced lets a clause word out
 broken : statement (SelectFrom (codes "t) WHERE (a")) [] Subquery ≡ Ok (codes "(SELECT * FROM t) WHERE (a)")
 broken = refl
 
-broken-unfit : is_fit (Bare (codes "(SELECT * FROM t) WHERE (a)")) ≡ false
-broken-unfit = refl
+broken-invalid : is_fit (Bare (codes "(SELECT * FROM t) WHERE (a)")) ≡ false
+broken-invalid = refl

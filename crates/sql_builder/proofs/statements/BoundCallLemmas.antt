@@ -1,7 +1,7 @@
 -- What is bound to the statement of a start and calls, or to conditions that are combined, is bound to each of their fragments.
 use Rattle.sql_builder.proofs.Imports.{◌≡◌, ℕ, Bool, true, false, not, List, [], ◌∷◌, ◌++◌, Option, Some, None, Ok, Err, Result, map, codes, refl, sym, ap, ◌∙◌}
 use Rattle.sql_builder.proofs.Imports.{inl, inr, append_assoc, append-nil, ◌==◌, IfOk, flat_map, list_all, and_from, and_parts, cases_Bool, map-append}
-use Rattle.sql_builder.proofs.Imports.{LiteralValue, with_values, doubled, quoted, Nums, Value, bound, join_with, begins_with, is_edge, SqlBuilderError}
+use Rattle.sql_builder.proofs.Imports.{LiteralValue, with_values, doubled, quoted, Nums, Replacement, bound, join_with, begins_with, is_edge, SqlBuilderError}
 use Rattle.sql_builder.proofs.Imports.{texts-apart, unmarked-front, Raw, Family, And, Or, Relation, Eq, Ne, Gt, Ge, Lt, Le}
 use Rattle.sql_builder.specs.{ConditionsBindByFragments, StatementsBindByCalls, call_with_values, condition_with_values, finish_with_values, start_with_values}
 use Rattle.sql_builder.specs.{ClauseTexts, extend_last, join_last, started, with_call, CallText, StartText, map_clauses, combined_text, exists_text}
@@ -25,7 +25,7 @@ lacks-doubled (byte ∷ text) lacks =
       | inr isnt ↦ rw isnt (and_from _ _ both.0 (lacks-doubled text both.1))
     ]
 
-module _ (values : ℕ) (literals : Value → LiteralValue) where
+module _ (values : ℕ) (literals : Replacement → LiteralValue) where
   abbrev bind : List ℕ → List ℕ
   bind text = with_values values literals text
 

@@ -1,7 +1,7 @@
 -- What is bound to a statement is bound to each of its pieces: the builder's own words have no `$`, and begin with none and no digit.
 use Rattle.sql_builder.proofs.Imports.{◌≡◌, ℕ, Bool, true, false, not, List, [], ◌∷◌, ◌++◌, Option, Some, None, codes, refl, sym, ap, ◌∙◌, inl, inr}
 use Rattle.sql_builder.proofs.Imports.{append_assoc, append-nil, ◌==◌, IfOk, list_all, list_any, and_parts, cases_Bool, eqb-true, false≢true, not-true}
-use Rattle.sql_builder.proofs.Imports.{flat_map-append, LiteralValue, is_taken, with_values, quoted, Nums, Value, bound, begins_with, is_edge, SqlBuilderError}
+use Rattle.sql_builder.proofs.Imports.{flat_map-append, LiteralValue, is_taken, with_values, quoted, Nums, Replacement, bound, begins_with, is_edge, SqlBuilderError}
 use Rattle.sql_builder.proofs.Imports.{texts-apart, unmarked-front, Clauses, Pieces}
 use Rattle.sql_builder.specs.{StatementsBindByClauses, StatementsBindByPieces, finish_with_values, piece_with_values, pieces_with_values, CallText, FinishText}
 use Rattle.sql_builder.specs.{StartText, Sql, Query, QueryValues, Subquery, SubqueryAs, clauses, map_clauses, ConditionText, condition_bytes, condition_pieces}
@@ -29,7 +29,7 @@ pub edge-untaken : (words text : List ℕ) → begins_with is_edge words ≡ tru
 edge-untaken [] text begins = absurd (false≢true begins)
 edge-untaken (byte ∷ words) text begins = one-untaken (codes " \t\n\r(),;=<>.") refl byte begins
 
-module _ (count : ℕ) (literals : Value → LiteralValue) where
+module _ (count : ℕ) (literals : Replacement → LiteralValue) where
   abbrev bound_text : List ℕ → List ℕ
   bound_text text = with_values count literals text
 

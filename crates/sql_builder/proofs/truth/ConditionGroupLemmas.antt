@@ -9,7 +9,7 @@ use Rattle.sql_builder.specs.Pieces as text
 use Rattle.sql_builder.proofs.fragments.NeutralLemmas.{condition-neutral}
 use Rattle.sql_builder.proofs.fragments.PropertyLemmas.{neutral-raw}
 use Rattle.sql_builder.proofs.reading.SectionLemmas.{Neutral, neutral-front, own-top_level}
-use Rattle.sql_builder.proofs.reading.ClauseWordLemmas.{Flagged, fit-balanced, fit-flags, flags, shape-even, are_fit_from, is_fit, are_fit-is}
+use Rattle.sql_builder.proofs.reading.ClauseWordLemmas.{Flagged, fit-balanced, fit-flags, flags, shape-even, are_fit_at, is_fit_at, are_fit-is}
 use Rattle.sql_builder.proofs.pieces.{pieces_tokens-append, pieces_tokens-brackets, where_bodies, where_body}
 use Rattle.sql_builder.proofs.truth.WhereLemmas.{truth_where}
 use Rattle.sql_builder.specs.WhereTokens as where_tokens
@@ -24,7 +24,7 @@ any-flags [] = refl
 any-flags (m ∷ ms) = ap (λ (b : Bool). at_top_level is_clause_word m || b) (any-flags ms)
 
 -- fit pieces without a clause word of the builder's have no top-level clause keyword
-no_clause-tokens : (ps : Pieces) → Neutral ps → are_fit_from (pos 0) ps ≡ true → has_clause (pieces_tokens ps) ≡ false
+no_clause-tokens : (ps : Pieces) → Neutral ps → are_fit_at (pos 0) ps ≡ true → has_clause (pieces_tokens ps) ≡ false
 no_clause-tokens ps neutral fit =
     any-flags (placed (pieces_tokens ps))
     ∙ ap (list_any (λ (m : Flagged). m.0)) (fit-flags (pos 0) ps refl fit (neutral-front ps neutral).laid)
@@ -40,7 +40,7 @@ fit-condition : (first : List ℕ) (ps : Pieces) → Neutral (text.Raw first ∷
 fit-condition first ps neutral are =
     let all = text.Raw first ∷ ps in
     let fit = sym (are_fit-is all) ∙ are in
-    let here = and_parts (is_balanced (tokens first)) _ (and_parts (is_fit (pos 0) (text.Raw first)) (are_fit_from (pos 0) ps) fit).0 in
+    let here = and_parts (is_balanced (tokens first)) _ (and_parts (is_fit_at (pos 0) (text.Raw first)) (are_fit_at (pos 0) ps) fit).0 in
     and_from _ _ (and_from _ _ (some-append (tokens first) (pieces_tokens ps) here.0) (shape-even all (fit-balanced (pos 0) all fit) neutral.even))
     (not_from_false _ (no_clause-tokens all neutral fit))
 

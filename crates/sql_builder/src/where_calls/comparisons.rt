@@ -25,7 +25,7 @@ impl SqlBuilder {
             (AddsCondition And (Raw (S.text condition)) self.old) result }
         ensures memory { FailsOnlyByMemory result }
     {
-        release(self.hold_raw(Family::And, condition))
+        release(self.step_raw(Family::And, condition))
     }
 
     /// Adds `field IS NULL`, in a group of its own. Fails only if memory runs out, and then leaves
@@ -38,7 +38,7 @@ impl SqlBuilder {
             (AddsCondition And (IsNull (S.text field)) self.old) result }
         ensures memory { FailsOnlyByMemory result }
     {
-        release(self.hold_is_null(Family::And, field))
+        release(self.step_is_null(Family::And, field))
     }
 
     /// Adds `field IS NOT NULL`, in a group of its own. Fails only if memory runs out, and then
@@ -54,7 +54,7 @@ impl SqlBuilder {
             (AddsCondition And (IsNotNull (S.text field)) self.old) result }
         ensures memory { FailsOnlyByMemory result }
     {
-        release(self.hold_is_not_null(Family::And, field))
+        release(self.step_is_not_null(Family::And, field))
     }
 
     /// Adds `field = value`, in a group of its own. Fails only if memory runs out, and then leaves
@@ -71,7 +71,7 @@ impl SqlBuilder {
             (AddsCondition And (Compare Eq (S.text field) (T.text value)) self.old) result }
         ensures memory { FailsOnlyByMemory result }
     {
-        release(self.hold_compare(Family::And, Relation::Eq, field, value))
+        release(self.step_compare(Family::And, Relation::Eq, field, value))
     }
 
     /// Adds `field <> value`, in a group of its own. Fails only if memory runs out, and then leaves
@@ -88,7 +88,7 @@ impl SqlBuilder {
             (AddsCondition And (Compare Ne (S.text field) (T.text value)) self.old) result }
         ensures memory { FailsOnlyByMemory result }
     {
-        release(self.hold_compare(Family::And, Relation::Ne, field, value))
+        release(self.step_compare(Family::And, Relation::Ne, field, value))
     }
 
     /// Adds `field > value`, in a group of its own. Fails only if memory runs out, and then leaves
@@ -105,7 +105,7 @@ impl SqlBuilder {
             (AddsCondition And (Compare Gt (S.text field) (T.text value)) self.old) result }
         ensures memory { FailsOnlyByMemory result }
     {
-        release(self.hold_compare(Family::And, Relation::Gt, field, value))
+        release(self.step_compare(Family::And, Relation::Gt, field, value))
     }
 
     /// Adds `field >= value`, in a group of its own. Fails only if memory runs out, and then leaves
@@ -122,7 +122,7 @@ impl SqlBuilder {
             (AddsCondition And (Compare Ge (S.text field) (T.text value)) self.old) result }
         ensures memory { FailsOnlyByMemory result }
     {
-        release(self.hold_compare(Family::And, Relation::Ge, field, value))
+        release(self.step_compare(Family::And, Relation::Ge, field, value))
     }
 
     /// Adds `field < value`, in a group of its own. Fails only if memory runs out, and then leaves
@@ -139,7 +139,7 @@ impl SqlBuilder {
             (AddsCondition And (Compare Lt (S.text field) (T.text value)) self.old) result }
         ensures memory { FailsOnlyByMemory result }
     {
-        release(self.hold_compare(Family::And, Relation::Lt, field, value))
+        release(self.step_compare(Family::And, Relation::Lt, field, value))
     }
 
     /// Adds `field <= value`, in a group of its own. Fails only if memory runs out, and then leaves
@@ -156,7 +156,7 @@ impl SqlBuilder {
             (AddsCondition And (Compare Le (S.text field) (T.text value)) self.old) result }
         ensures memory { FailsOnlyByMemory result }
     {
-        release(self.hold_compare(Family::And, Relation::Le, field, value))
+        release(self.step_compare(Family::And, Relation::Le, field, value))
     }
 
     /// Adds the condition unchanged. It joins the last group by OR, or opens one if there is none.
@@ -169,7 +169,7 @@ impl SqlBuilder {
             (AddsCondition Or (Raw (S.text condition)) self.old) result }
         ensures memory { FailsOnlyByMemory result }
     {
-        release(self.hold_raw(Family::Or, condition))
+        release(self.step_raw(Family::Or, condition))
     }
 
     /// Adds `field IS NULL`. It joins the last group by OR, or opens one if there is none. Fails
@@ -182,7 +182,7 @@ impl SqlBuilder {
             (AddsCondition Or (IsNull (S.text field)) self.old) result }
         ensures memory { FailsOnlyByMemory result }
     {
-        release(self.hold_is_null(Family::Or, field))
+        release(self.step_is_null(Family::Or, field))
     }
 
     /// Adds `field IS NOT NULL`. It joins the last group by OR, or opens one if there is none.
@@ -198,7 +198,7 @@ impl SqlBuilder {
             (AddsCondition Or (IsNotNull (S.text field)) self.old) result }
         ensures memory { FailsOnlyByMemory result }
     {
-        release(self.hold_is_not_null(Family::Or, field))
+        release(self.step_is_not_null(Family::Or, field))
     }
 
     /// Adds `field = value`. It joins the last group by OR, or opens one if there is none. Fails
@@ -215,7 +215,7 @@ impl SqlBuilder {
             (AddsCondition Or (Compare Eq (S.text field) (T.text value)) self.old) result }
         ensures memory { FailsOnlyByMemory result }
     {
-        release(self.hold_compare(Family::Or, Relation::Eq, field, value))
+        release(self.step_compare(Family::Or, Relation::Eq, field, value))
     }
 
     /// Adds `field <> value`. It joins the last group by OR, or opens one if there is none. Fails
@@ -232,7 +232,7 @@ impl SqlBuilder {
             (AddsCondition Or (Compare Ne (S.text field) (T.text value)) self.old) result }
         ensures memory { FailsOnlyByMemory result }
     {
-        release(self.hold_compare(Family::Or, Relation::Ne, field, value))
+        release(self.step_compare(Family::Or, Relation::Ne, field, value))
     }
 
     /// Adds `field > value`. It joins the last group by OR, or opens one if there is none. Fails
@@ -249,7 +249,7 @@ impl SqlBuilder {
             (AddsCondition Or (Compare Gt (S.text field) (T.text value)) self.old) result }
         ensures memory { FailsOnlyByMemory result }
     {
-        release(self.hold_compare(Family::Or, Relation::Gt, field, value))
+        release(self.step_compare(Family::Or, Relation::Gt, field, value))
     }
 
     /// Adds `field >= value`. It joins the last group by OR, or opens one if there is none. Fails
@@ -266,7 +266,7 @@ impl SqlBuilder {
             (AddsCondition Or (Compare Ge (S.text field) (T.text value)) self.old) result }
         ensures memory { FailsOnlyByMemory result }
     {
-        release(self.hold_compare(Family::Or, Relation::Ge, field, value))
+        release(self.step_compare(Family::Or, Relation::Ge, field, value))
     }
 
     /// Adds `field < value`. It joins the last group by OR, or opens one if there is none. Fails
@@ -283,7 +283,7 @@ impl SqlBuilder {
             (AddsCondition Or (Compare Lt (S.text field) (T.text value)) self.old) result }
         ensures memory { FailsOnlyByMemory result }
     {
-        release(self.hold_compare(Family::Or, Relation::Lt, field, value))
+        release(self.step_compare(Family::Or, Relation::Lt, field, value))
     }
 
     /// Adds `field <= value`. It joins the last group by OR, or opens one if there is none. Fails
@@ -300,6 +300,6 @@ impl SqlBuilder {
             (AddsCondition Or (Compare Le (S.text field) (T.text value)) self.old) result }
         ensures memory { FailsOnlyByMemory result }
     {
-        release(self.hold_compare(Family::Or, Relation::Le, field, value))
+        release(self.step_compare(Family::Or, Relation::Le, field, value))
     }
 }

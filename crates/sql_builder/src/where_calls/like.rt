@@ -30,7 +30,7 @@ impl SqlBuilder {
             (AddsCondition And (Like false Plain (S.text field) (T.text mask)) self.old) result }
         ensures memory { FailsOnlyByMemory result }
     {
-        release(self.hold_like(Family::And, Percent::Plain, field, mask))
+        release(self.step_like(Family::And, Percent::Plain, field, mask))
     }
 
     /// Adds `field LIKE '%mask'`, with `'%mask'` as `quote` writes it, in a group of its own. Fails
@@ -47,7 +47,7 @@ impl SqlBuilder {
             (AddsCondition And (Like false Right (S.text field) (T.text mask)) self.old) result }
         ensures memory { FailsOnlyByMemory result }
     {
-        release(self.hold_like(Family::And, Percent::Right, field, mask))
+        release(self.step_like(Family::And, Percent::Right, field, mask))
     }
 
     /// Adds `field LIKE 'mask%'`, with `'mask%'` as `quote` writes it, in a group of its own. Fails
@@ -64,7 +64,7 @@ impl SqlBuilder {
             (AddsCondition And (Like false Left (S.text field) (T.text mask)) self.old) result }
         ensures memory { FailsOnlyByMemory result }
     {
-        release(self.hold_like(Family::And, Percent::Left, field, mask))
+        release(self.step_like(Family::And, Percent::Left, field, mask))
     }
 
     /// Adds `field LIKE '%mask%'`, with `'%mask%'` as `quote` writes it, in a group of its own.
@@ -81,7 +81,7 @@ impl SqlBuilder {
             (AddsCondition And (Like false Any (S.text field) (T.text mask)) self.old) result }
         ensures memory { FailsOnlyByMemory result }
     {
-        release(self.hold_like(Family::And, Percent::Any, field, mask))
+        release(self.step_like(Family::And, Percent::Any, field, mask))
     }
 
     /// Adds `field NOT LIKE 'mask'`, with `'mask'` as `quote` writes it, in a group of its own.
@@ -98,7 +98,7 @@ impl SqlBuilder {
             (AddsCondition And (Like true Plain (S.text field) (T.text mask)) self.old) result }
         ensures memory { FailsOnlyByMemory result }
     {
-        release(self.hold_not_like(Family::And, Percent::Plain, field, mask))
+        release(self.step_not_like(Family::And, Percent::Plain, field, mask))
     }
 
     /// Adds `field NOT LIKE '%mask'`, with `'%mask'` as `quote` writes it, in a group of its own.
@@ -115,7 +115,7 @@ impl SqlBuilder {
             (AddsCondition And (Like true Right (S.text field) (T.text mask)) self.old) result }
         ensures memory { FailsOnlyByMemory result }
     {
-        release(self.hold_not_like(Family::And, Percent::Right, field, mask))
+        release(self.step_not_like(Family::And, Percent::Right, field, mask))
     }
 
     /// Adds `field NOT LIKE 'mask%'`, with `'mask%'` as `quote` writes it, in a group of its own.
@@ -132,7 +132,7 @@ impl SqlBuilder {
             (AddsCondition And (Like true Left (S.text field) (T.text mask)) self.old) result }
         ensures memory { FailsOnlyByMemory result }
     {
-        release(self.hold_not_like(Family::And, Percent::Left, field, mask))
+        release(self.step_not_like(Family::And, Percent::Left, field, mask))
     }
 
     /// Adds `field NOT LIKE '%mask%'`, with `'%mask%'` as `quote` writes it, in a group of its own.
@@ -149,7 +149,7 @@ impl SqlBuilder {
             (AddsCondition And (Like true Any (S.text field) (T.text mask)) self.old) result }
         ensures memory { FailsOnlyByMemory result }
     {
-        release(self.hold_not_like(Family::And, Percent::Any, field, mask))
+        release(self.step_not_like(Family::And, Percent::Any, field, mask))
     }
 
     /// Adds `field LIKE 'mask'`, with `'mask'` as `quote` writes it. It joins the last group by OR,
@@ -167,7 +167,7 @@ impl SqlBuilder {
             (AddsCondition Or (Like false Plain (S.text field) (T.text mask)) self.old) result }
         ensures memory { FailsOnlyByMemory result }
     {
-        release(self.hold_like(Family::Or, Percent::Plain, field, mask))
+        release(self.step_like(Family::Or, Percent::Plain, field, mask))
     }
 
     /// Adds `field LIKE '%mask'`, with `'%mask'` as `quote` writes it. It joins the last group by
@@ -185,7 +185,7 @@ impl SqlBuilder {
             (AddsCondition Or (Like false Right (S.text field) (T.text mask)) self.old) result }
         ensures memory { FailsOnlyByMemory result }
     {
-        release(self.hold_like(Family::Or, Percent::Right, field, mask))
+        release(self.step_like(Family::Or, Percent::Right, field, mask))
     }
 
     /// Adds `field LIKE 'mask%'`, with `'mask%'` as `quote` writes it. It joins the last group by
@@ -203,7 +203,7 @@ impl SqlBuilder {
             (AddsCondition Or (Like false Left (S.text field) (T.text mask)) self.old) result }
         ensures memory { FailsOnlyByMemory result }
     {
-        release(self.hold_like(Family::Or, Percent::Left, field, mask))
+        release(self.step_like(Family::Or, Percent::Left, field, mask))
     }
 
     /// Adds `field LIKE '%mask%'`, with `'%mask%'` as `quote` writes it. It joins the last group by
@@ -221,7 +221,7 @@ impl SqlBuilder {
             (AddsCondition Or (Like false Any (S.text field) (T.text mask)) self.old) result }
         ensures memory { FailsOnlyByMemory result }
     {
-        release(self.hold_like(Family::Or, Percent::Any, field, mask))
+        release(self.step_like(Family::Or, Percent::Any, field, mask))
     }
 
     /// Adds `field NOT LIKE 'mask'`, with `'mask'` as `quote` writes it. It joins the last group by
@@ -239,7 +239,7 @@ impl SqlBuilder {
             (AddsCondition Or (Like true Plain (S.text field) (T.text mask)) self.old) result }
         ensures memory { FailsOnlyByMemory result }
     {
-        release(self.hold_not_like(Family::Or, Percent::Plain, field, mask))
+        release(self.step_not_like(Family::Or, Percent::Plain, field, mask))
     }
 
     /// Adds `field NOT LIKE '%mask'`, with `'%mask'` as `quote` writes it. It joins the last group
@@ -257,7 +257,7 @@ impl SqlBuilder {
             (AddsCondition Or (Like true Right (S.text field) (T.text mask)) self.old) result }
         ensures memory { FailsOnlyByMemory result }
     {
-        release(self.hold_not_like(Family::Or, Percent::Right, field, mask))
+        release(self.step_not_like(Family::Or, Percent::Right, field, mask))
     }
 
     /// Adds `field NOT LIKE 'mask%'`, with `'mask%'` as `quote` writes it. It joins the last group
@@ -275,7 +275,7 @@ impl SqlBuilder {
             (AddsCondition Or (Like true Left (S.text field) (T.text mask)) self.old) result }
         ensures memory { FailsOnlyByMemory result }
     {
-        release(self.hold_not_like(Family::Or, Percent::Left, field, mask))
+        release(self.step_not_like(Family::Or, Percent::Left, field, mask))
     }
 
     /// Adds `field NOT LIKE '%mask%'`, with `'%mask%'` as `quote` writes it. It joins the last
@@ -293,6 +293,6 @@ impl SqlBuilder {
             (AddsCondition Or (Like true Any (S.text field) (T.text mask)) self.old) result }
         ensures memory { FailsOnlyByMemory result }
     {
-        release(self.hold_not_like(Family::Or, Percent::Any, field, mask))
+        release(self.step_not_like(Family::Or, Percent::Any, field, mask))
     }
 }

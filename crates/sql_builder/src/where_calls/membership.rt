@@ -4,7 +4,7 @@ ghost use Rattle.sql_parts.specs.Error.{FailsOnlyByMemory};
 
 use crate::builder::SqlBuilder;
 use crate::condition::Family;
-use crate::where_calls::Sense;
+use crate::where_calls::Polarity;
 use sql_parts::loan::release;
 use sql_parts::{SqlBuilderError, ToText};
 
@@ -31,7 +31,7 @@ impl SqlBuilder {
             (InList false (S.text field) (map T.text values.now)) self.old) result }
         ensures memory { FailsOnlyByMemory result }
     {
-        release(self.hold_in_list(Family::And, Sense::Plain, field, values))
+        release(self.step_in_list(Family::And, Polarity::Plain, field, values))
     }
 
     /// Adds `field IN (..)` of these values, each as `quote` writes it, in a group of its own.
@@ -49,7 +49,7 @@ impl SqlBuilder {
             (InQuoted false (S.text field) (map T.text values.now)) self.old) result }
         ensures memory { FailsOnlyByMemory result }
     {
-        release(self.hold_in_quoted(Family::And, Sense::Plain, field, values))
+        release(self.step_in_quoted(Family::And, Polarity::Plain, field, values))
     }
 
     /// Adds `field IN (query)`, in a group of its own. Fails only if memory runs out, and then
@@ -66,7 +66,7 @@ impl SqlBuilder {
             (AddsCondition And (InQuery false (S.text field) (T.text query)) self.old) result }
         ensures memory { FailsOnlyByMemory result }
     {
-        release(self.hold_in_query(Family::And, Sense::Plain, field, query))
+        release(self.step_in_query(Family::And, Polarity::Plain, field, query))
     }
 
     /// Adds `field BETWEEN least AND greatest`, in a group of its own. Fails only if memory runs
@@ -85,7 +85,7 @@ impl SqlBuilder {
             (Between false (S.text field) (T.text least) (U.text greatest)) self.old) result }
         ensures memory { FailsOnlyByMemory result }
     {
-        release(self.hold_between(Family::And, Sense::Plain, field, least, greatest))
+        release(self.step_between(Family::And, Polarity::Plain, field, least, greatest))
     }
 
     /// Adds `field NOT IN (..)` of these values, in a group of its own. Fails only if memory runs
@@ -103,7 +103,7 @@ impl SqlBuilder {
             (InList true (S.text field) (map T.text values.now)) self.old) result }
         ensures memory { FailsOnlyByMemory result }
     {
-        release(self.hold_in_list(Family::And, Sense::Negated, field, values))
+        release(self.step_in_list(Family::And, Polarity::Negated, field, values))
     }
 
     /// Adds `field NOT IN (..)` of these values, each as `quote` writes it, in a group of its own.
@@ -121,7 +121,7 @@ impl SqlBuilder {
             (InQuoted true (S.text field) (map T.text values.now)) self.old) result }
         ensures memory { FailsOnlyByMemory result }
     {
-        release(self.hold_in_quoted(Family::And, Sense::Negated, field, values))
+        release(self.step_in_quoted(Family::And, Polarity::Negated, field, values))
     }
 
     /// Adds `field NOT IN (query)`, in a group of its own. Fails only if memory runs out, and then
@@ -138,7 +138,7 @@ impl SqlBuilder {
             (AddsCondition And (InQuery true (S.text field) (T.text query)) self.old) result }
         ensures memory { FailsOnlyByMemory result }
     {
-        release(self.hold_in_query(Family::And, Sense::Negated, field, query))
+        release(self.step_in_query(Family::And, Polarity::Negated, field, query))
     }
 
     /// Adds `field NOT BETWEEN least AND greatest`, in a group of its own. Fails only if memory
@@ -157,7 +157,7 @@ impl SqlBuilder {
             (Between true (S.text field) (T.text least) (U.text greatest)) self.old) result }
         ensures memory { FailsOnlyByMemory result }
     {
-        release(self.hold_between(Family::And, Sense::Negated, field, least, greatest))
+        release(self.step_between(Family::And, Polarity::Negated, field, least, greatest))
     }
 
     /// Adds `field IN (..)` of these values. It joins the last group by OR, or opens one if there
@@ -175,7 +175,7 @@ impl SqlBuilder {
             (InList false (S.text field) (map T.text values.now)) self.old) result }
         ensures memory { FailsOnlyByMemory result }
     {
-        release(self.hold_in_list(Family::Or, Sense::Plain, field, values))
+        release(self.step_in_list(Family::Or, Polarity::Plain, field, values))
     }
 
     /// Adds `field IN (..)` of these values, each as `quote` writes it. It joins the last group by
@@ -194,7 +194,7 @@ impl SqlBuilder {
             (InQuoted false (S.text field) (map T.text values.now)) self.old) result }
         ensures memory { FailsOnlyByMemory result }
     {
-        release(self.hold_in_quoted(Family::Or, Sense::Plain, field, values))
+        release(self.step_in_quoted(Family::Or, Polarity::Plain, field, values))
     }
 
     /// Adds `field IN (query)`. It joins the last group by OR, or opens one if there is none. Fails
@@ -211,7 +211,7 @@ impl SqlBuilder {
             (AddsCondition Or (InQuery false (S.text field) (T.text query)) self.old) result }
         ensures memory { FailsOnlyByMemory result }
     {
-        release(self.hold_in_query(Family::Or, Sense::Plain, field, query))
+        release(self.step_in_query(Family::Or, Polarity::Plain, field, query))
     }
 
     /// Adds `field BETWEEN least AND greatest`. It joins the last group by OR, or opens one if
@@ -230,7 +230,7 @@ impl SqlBuilder {
             (Between false (S.text field) (T.text least) (U.text greatest)) self.old) result }
         ensures memory { FailsOnlyByMemory result }
     {
-        release(self.hold_between(Family::Or, Sense::Plain, field, least, greatest))
+        release(self.step_between(Family::Or, Polarity::Plain, field, least, greatest))
     }
 
     /// Adds `field NOT IN (..)` of these values. It joins the last group by OR, or opens one if
@@ -248,7 +248,7 @@ impl SqlBuilder {
             (InList true (S.text field) (map T.text values.now)) self.old) result }
         ensures memory { FailsOnlyByMemory result }
     {
-        release(self.hold_in_list(Family::Or, Sense::Negated, field, values))
+        release(self.step_in_list(Family::Or, Polarity::Negated, field, values))
     }
 
     /// Adds `field NOT IN (..)` of these values, each as `quote` writes it. It joins the last group
@@ -267,7 +267,7 @@ impl SqlBuilder {
             (InQuoted true (S.text field) (map T.text values.now)) self.old) result }
         ensures memory { FailsOnlyByMemory result }
     {
-        release(self.hold_in_quoted(Family::Or, Sense::Negated, field, values))
+        release(self.step_in_quoted(Family::Or, Polarity::Negated, field, values))
     }
 
     /// Adds `field NOT IN (query)`. It joins the last group by OR, or opens one if there is none.
@@ -284,7 +284,7 @@ impl SqlBuilder {
             (AddsCondition Or (InQuery true (S.text field) (T.text query)) self.old) result }
         ensures memory { FailsOnlyByMemory result }
     {
-        release(self.hold_in_query(Family::Or, Sense::Negated, field, query))
+        release(self.step_in_query(Family::Or, Polarity::Negated, field, query))
     }
 
     /// Adds `field NOT BETWEEN least AND greatest`. It joins the last group by OR, or opens one if
@@ -303,6 +303,6 @@ impl SqlBuilder {
             (Between true (S.text field) (T.text least) (U.text greatest)) self.old) result }
         ensures memory { FailsOnlyByMemory result }
     {
-        release(self.hold_between(Family::Or, Sense::Negated, field, least, greatest))
+        release(self.step_between(Family::Or, Polarity::Negated, field, least, greatest))
     }
 }

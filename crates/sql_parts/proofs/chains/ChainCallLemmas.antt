@@ -1,11 +1,11 @@
--- A chain call whose body is `release(self.hold_x(constants, arguments))`: the constants are variants without fields, and each argument is moved or copied.
+-- A chain call whose body is `release(self.step_x(constants, arguments))`: the constants are variants without fields, and each argument is moved or copied.
 -- The proof of such a call is one use of these. `change` is what the call does.
 use Rattle.sql_parts.proofs.chains.Prelude.{lit, join, split, fsplit, use1, ◌⊛◌, ◌≡◌, ℕ, List, [], ◌∷◌, refl, sym, subst, proved_at, leaves, Val, vptr, raw, ‵}
 use Rattle.sql_parts.proofs.chains.Prelude.{tables, ◌$◌, ◌∵◌, !, qed, move, fjoin, nothing, use0, enter, addr, stop, no_more, and_then, returns, alloc_all}
 use Rattle.sql_parts.proofs.chains.Prelude.{pass_all, free_all, look_at, get, through, sets, of_opd, lands_as, plain, calls_at, triple_of, Stays, stay_dropped}
 use Rattle.sql_parts.proofs.chains.Prelude.{Goes-spent_ref, walk_of, framed, SProp, ent, sem, Item, Seq, Step, step, Go, prop, WpFn, no, by, Ura, Logic}
 use Rattle.sql_parts.proofs.chains.Prelude.{RattleType, MutBor, id⊢, regoal, allocs, params', runs, at_ret}
-use Rattle.sql_parts.proofs.chains.LoanLemmas.{Effect, BorrowedType, in_a_local, release_triple, Good, Kept, Bare, kept_lawful, bare_lawful, fits, held_says}
+use Rattle.sql_parts.proofs.chains.LoanLemmas.{Effect, BorrowedType, in_a_local, release_triple, Good, Kept, Bare, kept_lawful, bare_lawful, fits, loan_says}
 use Rattle.sql_parts.proofs.chains.LoanLemmas.{says, returned, releases, Argument, Constant, also, keeps, put, puts, after, owned}
 use Rattle.sql_parts.proofs.Imports.{suc, w8, fsep, emp, Lfts, Outlives, toks, Running, Model, Closed, Ises, Are, layout, Denots, Valss, owns, MutRef}
 use Rattle.sql_parts.proofs.Imports.{Bool, true, false, Signature, Slot, mut_ref, type_at, types_at, Triple, AllGo, has_of, fits_of}
@@ -18,7 +18,7 @@ use denote.Triple.End.{Kepts, Fins}
 use denote.Triple.Spec.{Meets}
 use Rattle.std.specs.contracts.result.Result as RS
 use Rattle.sql_parts.specs.contracts.error.SqlBuilderError.{the_row as E}
-use Rattle.sql_parts.specs.contracts.loan.Held as held
+use Rattle.sql_parts.specs.contracts.loan.Loan as loan
 
 -- nothing is had of an argument at exit
 abbrev pub dropped : {m : ℕ} (ss : List (Slot m)) (ks : Kepts ss) → Stays ss ks
@@ -41,7 +41,7 @@ module _ (L : BorrowedType) {M : Type 1} {𝓤 : Ura M} (𝓛 : Logic 𝓤) (�
   abbrev D₀ : Type 0
   D₀ = L.row.Denot
 
-  -- the locals that each call has: the result, the borrow, what `hold_x` returned, and the borrow again
+  -- the locals that each call has: the result, the borrow, what `step_x` returned, and the borrow again
   abbrev pub l0 : Local
   l0 = local (layout (RS.the_row (MutRef (named 0) [] L.row) E)) value_local
 
@@ -49,7 +49,7 @@ module _ (L : BorrowedType) {M : Type 1} {𝓤 : Ura M} (𝓛 : Logic 𝓤) (�
   l1 = local (ty_ref (named 0) mut (pointee L.row.written)) value_local
 
   abbrev pub kept : Local
-  kept = local (layout (RS.the_row (held.the_row in_a_local L.row) E)) value_local
+  kept = local (layout (RS.the_row (loan.the_row in_a_local L.row) E)) value_local
 
   abbrev pub borrowed : Local
   borrowed = local (ty_ref erased mut (pointee L.row.written)) value_local
@@ -70,7 +70,7 @@ module _ (L : BorrowedType) {M : Type 1} {𝓤 : Ura M} (𝓛 : Logic 𝓤) (�
     T = record { signature = signature ss (λ κs. Bare 𝓛 L κs.0); kept = (no, ks) }
 
     abbrev pub e : Clauses 𝓤 D
-    e κs a = record { ghost = Unit {0}; requires = λ _. asks κs a; ensures = λ _ r _. held_says 𝓛 L a.0 (change κs a) r }
+    e κs a = record { ghost = Unit {0}; requires = λ _. asks κs a; ensures = λ _ r _. loan_says 𝓛 L a.0 (change κs a) r }
 
     abbrev pub c : Clauses 𝓤 T
     c κs a = record { ghost = Unit {0}; requires = λ _. asks κs a; ensures = λ _ r _. says 𝓛 L a.0 (change κs a) r }
@@ -78,8 +78,8 @@ module _ (L : BorrowedType) {M : Type 1} {𝓤 : Ura M} (𝓛 : Logic 𝓤) (�
     abbrev pub hs : Stays T.signature.params T.kept
     hs = (stay_dropped self no, dropped ss ks)
 
-    abbrev pub Held : Callee → Type 1
-    Held k = Meets 𝓛 D.signature (𝓡.run (𝓡.env k)) (closing 𝓛 D e)
+    abbrev pub MeetsAsCallee : Callee → Type 1
+    MeetsAsCallee k = Meets 𝓛 D.signature (𝓡.run (𝓡.env k)) (closing 𝓛 D e)
 
     abbrev pub Release : Callee → Type 1
     Release k = Triple 𝓤 (𝓡.run (𝓡.env k)) (release_triple 𝓛 L)
@@ -268,7 +268,7 @@ module _ (L : BorrowedType) {M : Type 1} {𝓤 : Ura M} (𝓛 : Logic 𝓤) (�
       pub closed : Coded
 
     abbrev pub StepMeets : Type 1
-    StepMeets = Held (also 𝓛 Cs (slots As)) (keeps 𝓛 Cs (slots As) (kepts As)) K.asked K.change K.step
+    StepMeets = MeetsAsCallee (also 𝓛 Cs (slots As)) (keeps 𝓛 Cs (slots As) (kepts As)) K.asked K.change K.step
 
     abbrev pub Releases : Type 1
     Releases = Release (slots As) (kepts As) asks does K.release

@@ -1,4 +1,4 @@
--- What the proofs of the calls that return a borrow share. Such a call is `release(self.hold_x(..))`.
+-- What the proofs of the calls that return a borrow share. Such a call is `release(self.step_x(..))`.
 use Rattle.sql_parts.proofs.chains.Prelude.{qed, by, use0, fjoin, ◌∵◌, !, plain, no, yes, Goes-dropped, stay_dropped, ◌≡◌, ℕ, List, [], ◌∷◌, refl, sym, subst}
 use Rattle.sql_parts.proofs.chains.Prelude.{MutBor, id⊢, named, Val, fact, ‵, raw, ◌⊛◌, some, later, ◌$◌, move, drop, use1, use2, split, join, await, pick}
 use Rattle.sql_parts.proofs.chains.Prelude.{shows, MutRef, nothing, heard, peeks, a_type, calls_at, lasts, triple_of, Ura, Logic, sem, Item, Seq, Goal, Soaks}
@@ -27,13 +27,13 @@ use denote.Triple.Entry.{alive, Res}
 use Rattle.std.specs.contracts.result.Result as RS
 use Rattle.std.specs.Result.{result_map_both}
 use base.Fraction.{full_share}
-use Rattle.sql_parts.specs.{IsChangedSoThat, IsHeldChangedSoThat, IsUnchangedIfErr, IsUnchangedIfHeldErr}
+use Rattle.sql_parts.specs.{IsChangedSoThat, IsLoanChangedSoThat, IsUnchangedIfErr, IsUnchangedIfLoanErr}
 use Rattle.sql_parts.specs.declared.error.SqlBuilderError.{SqlBuilderError}
 use Rattle.sql_parts.specs.contracts.error.SqlBuilderError.{the_row as E}
 use Rattle.sql_parts.proofs.error.SqlBuilderError.TheLaws as error_laws
-use Rattle.sql_parts.specs.declared.loan.Held.{Held}
-use Rattle.sql_parts.specs.contracts.loan.Held as held
-use Rattle.sql_parts.proofs.loan.Held.TheLaws as held_laws
+use Rattle.sql_parts.specs.declared.loan.Loan.{Loan}
+use Rattle.sql_parts.specs.contracts.loan.Loan as loan
+use Rattle.sql_parts.proofs.loan.Loan.TheLaws as loan_laws
 use Rattle.sql_parts.specs.contracts.loan.release.Key as release_code
 
 abbrev pub Good : Ty → Val → Type 0
@@ -83,44 +83,44 @@ module _ {M : Type 1} {𝓤 : Ura M} (𝓛 : Logic 𝓤) where
 
   module _ (L : BorrowedType) where
     abbrev pub Kept : Lft → RattleType
-    Kept κ = RS.the_row (held.the_row (at κ) L.row) E
+    Kept κ = RS.the_row (loan.the_row (at κ) L.row) E
 
     abbrev pub Bare : Lft → RattleType
     Bare κ = RS.the_row (MutRef (named 0) κ L.row) E
 
     pub kept_lawful : (κ : Lft) → Lawful 𝓛 (Kept κ)
-    kept_lawful κ = result_Lawful _ _ ((held_laws.the_row_laws (at κ) L.row L.laws).lawful 𝓛) ((error_laws.the_row_laws).lawful 𝓛)
+    kept_lawful κ = result_Lawful _ _ ((loan_laws.the_row_laws (at κ) L.row L.laws).lawful 𝓛) ((error_laws.the_row_laws).lawful 𝓛)
 
     pub bare_lawful : (κ : Lft) → Lawful 𝓛 (Bare κ)
     bare_lawful κ = result_Lawful _ _ (mut_Lawful 𝓛 (named 0) κ L.row) ((error_laws.the_row_laws).lawful 𝓛)
 
     -- a result with a loan in it goes into a local
-    pub fits : (κ : Lft) (v : Val) → Typed (Kept κ).mir (v ∷ []) → Good (layout (RS.the_row (held.the_row in_a_local L.row) E)) v
+    pub fits : (κ : Lft) (v : Val) → Typed (Kept κ).mir (v ∷ []) → Good (layout (RS.the_row (loan.the_row in_a_local L.row) E)) v
     fits κ v t = t.0
 
     abbrev pub Holds : Type 0
-    Holds = Result (Held L.row.Denot) SqlBuilderError
+    Holds = Result (Loan L.row.Denot) SqlBuilderError
 
     abbrev pub Lends : Type 0
     Lends = Result (MutBor L.row.Denot) SqlBuilderError
 
     abbrev pub released : Holds → Lends
-    released r = result_map_both (λ held. held.0) (λ error. error) r
+    released r = result_map_both (λ loan. loan.0) (λ error. error) r
 
-    -- the clauses of `hold_x`, and those of `x`
+    -- the clauses of `step_x`, and those of `x`
     module _ (s : MutBor L.row.Denot) (x : Effect L.row.Denot) where
-      abbrev pub held_says : Holds → SProp 𝓤
-      held_says r = sep 𝓤 (sem 𝓛 (IsUnchangedIfHeldErr L.row s r)) (sep 𝓤 (fact 𝓤 (IsHeldChangedSoThat s x.leaves r)) (fact 𝓤 (IfErr r x.fails)))
+      abbrev pub loan_says : Holds → SProp 𝓤
+      loan_says r = sep 𝓤 (sem 𝓛 (IsUnchangedIfLoanErr L.row s r)) (sep 𝓤 (fact 𝓤 (IsLoanChangedSoThat s x.leaves r)) (fact 𝓤 (IfErr r x.fails)))
 
       abbrev pub says : Lends → SProp 𝓤
       says r = sep 𝓤 (sem 𝓛 (IsUnchangedIfErr L.row s r)) (sep 𝓤 (fact 𝓤 (IsChangedSoThat s x.leaves r)) (fact 𝓤 (IfErr r x.fails)))
 
-      passes : (r : Holds) → ent 𝓤 (held_says r) (says (released r))
+      passes : (r : Holds) → ent 𝓤 (loan_says r) (says (released r))
       passes (Ok h) = id⊢ 𝓤 _
       passes (Err e) = id⊢ 𝓤 _
 
-      pub passed : (r : Holds) (t : Lends) → t ≡ released r → ent 𝓤 (held_says r) (says t)
-      passed r t e = subst (λ (u : Lends). ent 𝓤 (held_says r) (says u)) (sym e) (passes r)
+      pub passed : (r : Holds) (t : Lends) → t ≡ released r → ent 𝓤 (loan_says r) (says t)
+      passed r t e = subst (λ (u : Lends). ent 𝓤 (loan_says r) (says u)) (sym e) (passes r)
 
     -- what `release` says, at the loan's lifetime and at that of the loans in what is borrowed
     abbrev pub release_ended : Ended
@@ -168,10 +168,10 @@ module _ (L : BorrowedType) {M : Type 1} {𝓤 : Ura M} {𝓛 : Logic 𝓤} {K :
   pub releases : K → FmC 𝓤 𝓛.H 𝓛.laws C → {rest : Body}
       → Triple 𝓤 (C f) (release_triple 𝓛 L)
       → (n : ℕ) (κs : Lfts (suc n)) (qs : Shares (suc n)) (s : MutBor L.row.Denot) (x : Effect L.row.Denot) (r : Holds 𝓛 L) (v : Val)
-      → Opds K 𝓛 (raw ((release_triple 𝓛 L).pre (release_call 𝓛 L κs.0 qs.0 r v)) ∷ raw (toks 𝓛 n κs.1 qs.1) ∷ raw (held_says 𝓛 L s x r) ∷ Γ) En xs (v ∷ [])
+      → Opds K 𝓛 (raw ((release_triple 𝓛 L).pre (release_call 𝓛 L κs.0 qs.0 r v)) ∷ raw (toks 𝓛 n κs.1 qs.1) ∷ raw (loan_says 𝓛 L s x r) ∷ Γ) En xs (v ∷ [])
       → ((u : Val) (t : Lends 𝓛 L) → Is (Bare 𝓛 L κs.0) t (u ∷ [])
       → Seq K 𝓛 (‵ ((Bare 𝓛 L κs.0).own_val t (u ∷ [])) ∷ raw (says 𝓛 L s x t) ∷ raw (toks 𝓛 (suc n) κs qs) ∷ Γ) (lands C Λ En dest u rest q))
-      → Seq K 𝓛 (‵ ((Kept 𝓛 L κs.0).own_val r (v ∷ [])) ∷ raw (held_says 𝓛 L s x r) ∷ raw (toks 𝓛 (suc n) κs qs) ∷ Γ)
+      → Seq K 𝓛 (‵ ((Kept 𝓛 L κs.0).own_val r (v ∷ [])) ∷ raw (loan_says 𝓛 L s x r) ∷ raw (toks 𝓛 (suc n) κs qs) ∷ Γ)
       (runs C Λ En (seq (call f xs dest) rest) q)
   releases t fm met n κs qs s x r v os k =
       let O = release_triple 𝓛 L in

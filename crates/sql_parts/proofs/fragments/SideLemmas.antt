@@ -61,9 +61,9 @@ pub sides-are : (ts : List Token) → (has_left_sides ts && has_right_sides ts) 
 sides-are ts = (λ i. left-is ts i && right-is ts i) ∙ sides true false ts
 
 -- a token that doesn't fit
-pub misfit : (begins wants : Bool) (token : Token) (ts : List Token) → (not (begins && needs_left token) && not (wants && is_closing token)) ≡ false
+pub violation : (begins wants : Bool) (token : Token) (ts : List Token) → (not (begins && needs_left token) && not (wants && is_closing token)) ≡ false
     → has_sides_from begins wants (token ∷ ts) ≡ false
-misfit begins wants token ts is = sym (and_assoc (not (begins && needs_left token)) (not (wants && is_closing token)) _)
+violation begins wants token ts is = sym (and_assoc (not (begins && needs_left token)) (not (wants && is_closing token)) _)
     ∙ ap (λ b. b && has_sides_from (is_opening token) (needs_right token) ts) is
 
 -- and one that does

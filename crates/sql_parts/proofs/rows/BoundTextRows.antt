@@ -1,10 +1,10 @@
 -- Worked rows of texts that are bound in place of others, and of what has to hold for them not to interfere.
 use Rattle.sql_parts.proofs.Imports.{code, ◌≡◌, ℕ, List, [], ◌∷◌, codes, true, false, Some, option_map, refl, pos, negsuc}
-use Rattle.sql_parts.specs.{bound_places, length_in_tokens, semicolon_count, tokens_but, LiteralValue, null, whole, words, Cycle, First, Value, alone, bound}
+use Rattle.sql_parts.specs.{bound_places, length_in_tokens, semicolon_count, tokens_but, LiteralValue, null, whole, words, Cycle, First, Replacement, alone, bound}
 use Rattle.sql_parts.specs.{listed, apart, Word, Str, Symbol}
 
 -- a text and a number
-abbrev with_text : List ℕ → Value → LiteralValue
+abbrev with_text : List ℕ → Replacement → LiteralValue
 with_text text = listed (words text ∷ whole (pos 1) ∷ [])
 
 places : bound_places (codes "a = ? AND b > ?") (Cycle 2) (with_text (codes "x")) ≡ false ∷ false ∷ true ∷ false ∷ false ∷ false ∷ false ∷ []

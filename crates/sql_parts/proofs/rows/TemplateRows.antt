@@ -1,19 +1,19 @@
 -- Worked rows of templates: what the definitions give, by computing.
 use Rattle.sql_parts.proofs.Imports.{◌≡◌, ℕ, List, [], ◌∷◌, codes, true, Option, Some, None, refl, reverse, option_map, pos, find, bytes_eq}
-use Rattle.sql_parts.specs.{LiteralValue, truth, whole, words, First, Cycle, Num, Nums, Names, Argument, Value, alone, listed, looked_up, bound, resolve}
+use Rattle.sql_parts.specs.{LiteralValue, truth, whole, words, First, Cycle, Num, Nums, Names, Argument, Replacement, alone, listed, looked_up, bound, resolve}
 use Rattle.sql_parts.specs.Templates.{Name}
 
 abbrev number : ℕ → LiteralValue
 number n = whole (pos n)
 
-abbrev ten : Value → LiteralValue
+abbrev ten : Replacement → LiteralValue
 ten = listed (number 10 ∷ [])
 
 -- the literal of the last pair with the name
 abbrev in_pairs : List (List ℕ × LiteralValue) → List ℕ → Option LiteralValue
 in_pairs pairs name = option_map (λ pair. pair.1) (find (λ pair. bytes_eq name pair.0) (reverse pairs))
 
-abbrev x_and_y : Value → LiteralValue
+abbrev x_and_y : Replacement → LiteralValue
 x_and_y = looked_up (in_pairs ((codes "x", number 1) ∷ (codes "y", number 2) ∷ []))
 
 cycle_texts : bound (codes "? = ?") (Cycle 2) (listed (words (codes "a?b") ∷ number 1 ∷ [])) ≡ Some (codes "'a?b' = 1")

@@ -3,7 +3,7 @@ use Rattle.sql_parts.proofs.Imports.{◌≡◌, ℕ, Bool, true, false, not, ◌
 use Rattle.sql_parts.proofs.Imports.{inl, inr, append_assoc, append-nil, ◌&&◌, ◌==◌, codes, flat_map, AllByRecursion, list_any, and_parts, false≢true}
 use Rattle.sql_parts.proofs.Imports.{not_from_false, or_cases, or_from, or_left, or_right, list_any-append, Marks}
 use Rattle.sql_parts.specs.{HasBoundTokens, IsClosedIfApart, IsSupplied, apart, bound_tokens, segment_apart, segments_apart, LiteralValue, literal_text}
-use Rattle.sql_parts.specs.{Resolved, Value, bound, resolve, resolved_from, written, resolved_apart, Token, begins_with, clean, closed, ends_with, is_edge}
+use Rattle.sql_parts.specs.{Resolved, Replacement, bound, resolve, resolved_from, written, resolved_apart, Token, begins_with, clean, closed, ends_with, is_edge}
 use Rattle.sql_parts.specs.{is_empty, is_open, is_separator, tokens}
 use Rattle.sql_parts.proofs.tokens.{closed-shut, seam, literal-closed, literal-is}
 
@@ -113,12 +113,12 @@ module _ {V : Type 0} (text : V → List ℕ) where
 
 -- ---- literals
 
-literals-closed : (literals : Value → LiteralValue) (parts : List (Value × List ℕ))
-    → AllByRecursion (λ (part : Value × List ℕ). closed (literal_text (literals part.0)) ≡ true) parts
+literals-closed : (literals : Replacement → LiteralValue) (parts : List (Replacement × List ℕ))
+    → AllByRecursion (λ (part : Replacement × List ℕ). closed (literal_text (literals part.0)) ≡ true) parts
 literals-closed literals [] = tt
 literals-closed literals (part ∷ parts) = (literal-closed (literals part.0), literals-closed literals parts)
 
-resolved-tokens : (literals : Value → LiteralValue) (resolved : Option Resolved) → resolved_apart resolved ≡ true
+resolved-tokens : (literals : Replacement → LiteralValue) (resolved : Option Resolved) → resolved_apart resolved ≡ true
     → option_map tokens (option_map (written literals) resolved) ≡ option_map (bound_tokens literals) resolved
 resolved-tokens literals None is = refl
 resolved-tokens literals (Some resolved) is =
@@ -126,11 +126,11 @@ resolved-tokens literals (Some resolved) is =
     ∙ (λ i. tokens resolved.0 ++ flat_map (λ part. literal-is (literals part.0) i ++ tokens part.1) resolved.1))
 
 -- the tokens of a bound text
-pub bound-is : (template : List ℕ) (marks : Marks) (literals : Value → LiteralValue) → apart template marks ≡ true
+pub bound-is : (template : List ℕ) (marks : Marks) (literals : Replacement → LiteralValue) → apart template marks ≡ true
     → option_map tokens (bound template marks literals) ≡ option_map (bound_tokens literals) (resolve template marks)
 bound-is template marks literals is = resolved-tokens literals (resolve template marks) is
 
-resolved-closed : (literals : Value → LiteralValue) (text : List ℕ) (resolved : Option Resolved) → resolved_apart resolved ≡ true
+resolved-closed : (literals : Replacement → LiteralValue) (text : List ℕ) (resolved : Option Resolved) → resolved_apart resolved ≡ true
     → option_map (written literals) resolved ≡ Some text → closed text ≡ true
 resolved-closed literals text None is written_is = absurd (false≢true is)
 resolved-closed literals text (Some resolved) is written_is =
@@ -139,22 +139,22 @@ resolved-closed literals text (Some resolved) is written_is =
     (segments-shut (λ value. literal_text (literals value)) true resolved.0 resolved.1 (literals-closed literals resolved.1) is)
 
 -- a bound text is closed
-pub bound-closed : (template text : List ℕ) (marks : Marks) (literals : Value → LiteralValue) → apart template marks ≡ true
+pub bound-closed : (template text : List ℕ) (marks : Marks) (literals : Replacement → LiteralValue) → apart template marks ≡ true
     → bound template marks literals ≡ Some text → closed text ≡ true
 bound-closed template text marks literals is bound_is = resolved-closed literals text (resolve template marks) is bound_is
 
 -- what is known of a text that is a resolved template with literals in it
-is-bound : (template text : List ℕ) (marks : Marks) (literals : Value → LiteralValue) → text ≡ written literals (resolved_from marks 0 0 template)
+is-bound : (template text : List ℕ) (marks : Marks) (literals : Replacement → LiteralValue) → text ≡ written literals (resolved_from marks 0 0 template)
     → IsSupplied template marks
     → bound template marks literals ≡ Some text
 is-bound template text marks literals is supplied = ap (option_map (written literals)) supplied ∙ ap Some (sym is)
 
-pub has_bound_tokens : (template text : List ℕ) (marks : Marks) (literals : Value → LiteralValue) → text ≡ written literals (resolved_from marks 0 0 template)
+pub has_bound_tokens : (template text : List ℕ) (marks : Marks) (literals : Replacement → LiteralValue) → text ≡ written literals (resolved_from marks 0 0 template)
     → IsSupplied template marks → HasBoundTokens template marks literals text
 has_bound_tokens template text marks literals is supplied = λ is_apart. ap (option_map tokens) (sym (is-bound template text marks literals is supplied))
     ∙ bound-is template marks literals is_apart
 
-pub is_closed_if_apart : (template text : List ℕ) (marks : Marks) (literals : Value → LiteralValue) → text ≡ written literals (resolved_from marks 0 0 template)
+pub is_closed_if_apart : (template text : List ℕ) (marks : Marks) (literals : Replacement → LiteralValue) → text ≡ written literals (resolved_from marks 0 0 template)
     → IsSupplied template marks → IsClosedIfApart template marks text
 is_closed_if_apart template text marks literals is supplied =
     λ is_apart. bound-closed template text marks literals is_apart (is-bound template text marks literals is supplied)

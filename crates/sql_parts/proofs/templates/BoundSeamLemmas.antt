@@ -5,7 +5,7 @@ use Rattle.sql_parts.proofs.Imports.{digit_value, is_ascii_digit, list_all, pref
 use Rattle.sql_parts.proofs.Imports.{false≢true, le-leb, not-true, or_parts, nat_tests, drop-length, take-length, all_below_base_digits_of, digits_value_is}
 use Rattle.sql_parts.proofs.Imports.{number_digits_of, AllBelowBase, digits_of, number_from_digits, Dollar, followed_by}
 use Rattle.std.proofs.lemmas.List.{take-append-le, drop-append-le}
-use Rattle.sql_parts.specs.{LiteralValue, literal_text, is_taken, with_values, placeholder_text, decimal_text, Argument, Nums, Place, Resolved, Value, Writes}
+use Rattle.sql_parts.specs.{LiteralValue, literal_text, is_taken, with_values, placeholder_text, decimal_text, Argument, Nums, Content, Resolved, Replacement, Writes}
 use Rattle.sql_parts.specs.{Holds, counted, numbered, resolved_from, written, begins_with}
 use Rattle.sql_parts.proofs.tokens.{decimal-glyphs, glyphs}
 use Rattle.sql_parts.proofs.templates.UnchangedTextFacts.{lacks-byte}
@@ -66,16 +66,16 @@ numbered-within count text =
 
 -- ---- a text, and what `bind_nums` makes of it without its first bytes
 
-module _ (count : ℕ) (literals : Value → LiteralValue) where
+module _ (count : ℕ) (literals : Replacement → LiteralValue) where
   abbrev bound_from : ℕ → ℕ → List ℕ → List ℕ
   bound_from seen skipped text = written literals (resolved_from (Nums count) seen skipped text)
 
   -- what is at a place
-  abbrev place_bytes : Place → List ℕ
+  abbrev place_bytes : Content → List ℕ
   place_bytes (Writes text) = text
   place_bytes (Holds value) = literal_text (literals value)
 
-  placed : (place : Place) (rest : Resolved) → written literals (followed_by place rest) ≡ place_bytes place ++ written literals rest
+  placed : (place : Content) (rest : Resolved) → written literals (followed_by place rest) ≡ place_bytes place ++ written literals rest
   placed (Writes text) rest = append_assoc text rest.0 (flat_map (λ part. literal_text (literals part.0) ++ part.1) rest.1)
   placed (Holds value) rest =
       append_assoc (literal_text (literals value)) rest.0 (flat_map (λ part. literal_text (literals part.0) ++ part.1) rest.1)
@@ -121,7 +121,7 @@ module _ (count : ℕ) (literals : Value → LiteralValue) where
             let found = numbered count one in
             ap (λ b. bound_from seen 0 (b ∷ (one ++ other))) (eqb-true byte 36 is)
             ∙ dollar-step seen (one ++ other)
-            ∙ ap (λ (f : Place × ℕ). place_bytes f.0 ++ bound_from (counted f.0 seen) f.1 (one ++ other)) (numbered-seam count one other clear)
+            ∙ ap (λ (f : Content × ℕ). place_bytes f.0 ++ bound_from (counted f.0 seen) f.1 (one ++ other)) (numbered-seam count one other clear)
             ∙ ap (λ rest. place_bytes found.0 ++ rest) (bound-seam (counted found.0 seen) found.1 one other (numbered-within count one) clear)
             ∙ sym (append_assoc (place_bytes found.0) (bound_from (counted found.0 seen) found.1 one) (bound_from 0 0 other))
             ∙ ap (λ front. front ++ bound_from 0 0 other) (sym (dollar-step seen one))
@@ -180,13 +180,13 @@ number-read count n text digits is within =
     let before : suc n - 1 ≡ n = omega arith in
     rw (digits, value, ne_eqb (suc n) 0 (λ e. omega (arith, e)), le-leb (suc n) count within) (ap (λ m. (Holds (Argument m), length text)) before)
 
-pub placeholder-bound : (count n : ℕ) (literals : Value → LiteralValue) → suc n ≤ count
+pub placeholder-bound : (count n : ℕ) (literals : Replacement → LiteralValue) → suc n ≤ count
     → with_values count literals (placeholder_text Dollar (suc n)) ≡ literal_text (literals (Argument n))
 placeholder-bound count n literals within =
     let text = decimal_text (suc n) in
     let is = digits-number n in
     dollar-step count literals 0 text
-    ∙ ap (λ (f : Place × ℕ). place_bytes count literals f.0 ++ written literals (resolved_from (Nums count) (counted f.0 0) f.1 text)) (number-read count n text is.0 is.1 within)
+    ∙ ap (λ (f : Content × ℕ). place_bytes count literals f.0 ++ written literals (resolved_from (Nums count) (counted f.0 0) f.1 text)) (number-read count n text is.0 is.1 within)
     ∙ ap (λ rest. literal_text (literals (Argument n)) ++ written literals rest)
     (resolved_from-drop (Nums count) 1 (length text) text ∙ ap (resolved_from (Nums count) 1 0) (drop-length text))
     ∙ append-nil (literal_text (literals (Argument n)))

@@ -4,7 +4,7 @@ use Rattle.sql_parts.proofs.Imports.{IfSome, IsTrue, flat_map, unwrap_or, Marks}
 use Rattle.std.specs.Prelude.{slice_get}
 use Rattle.sql_parts.specs.{ArgumentsDifferInTexts, BoundTextsAreStrings, BoundTextsDoNotInterfere, BoundTextsKeepTheirPlaces, IgnoresBoundTexts}
 use Rattle.sql_parts.specs.{IgnoresStrings, NamesDifferInTexts, are_strings, blank_at, blank_literal, bound_places, literal_places, nowhere, resolved_places}
-use Rattle.sql_parts.specs.{tokens_but, DifferInText, DifferInTexts, LiteralValue, null, truth, whole, words, Argument, Named, Resolved, Value, bound, resolve}
+use Rattle.sql_parts.specs.{tokens_but, DifferInText, DifferInTexts, LiteralValue, null, truth, whole, words, Argument, Named, Resolved, Replacement, bound, resolve}
 use Rattle.sql_parts.specs.{apart, bound_tokens, literal_tokens, Token, tokens}
 use Rattle.sql_parts.proofs.fragments.{nowhere-first, somewhere, strings-first}
 use Rattle.sql_parts.proofs.templates.ApartFacts.{bound-is}
@@ -55,26 +55,26 @@ tokens-blank (words text) places more = refl
 -- ---- templates
 
 abbrev Parts : Type 0
-Parts = List (Value × List ℕ)
+Parts = List (Replacement × List ℕ)
 
-abbrev pub blanked : (Value → LiteralValue) → Value → LiteralValue
+abbrev pub blanked : (Replacement → LiteralValue) → Replacement → LiteralValue
 blanked literals value = blank_literal (literals value)
 
-pub same_blanks : (one other : Value → LiteralValue) → DifferInTexts one other → blanked one ≡ blanked other
+pub same_blanks : (one other : Replacement → LiteralValue) → DifferInTexts one other → blanked one ≡ blanked other
 same_blanks one other differ = λ i value. blank_is (one value) (other value) (differ value) i
 
-resolved_places-blank : (literals : Value → LiteralValue) (resolved : Resolved)
+resolved_places-blank : (literals : Replacement → LiteralValue) (resolved : Resolved)
     → resolved_places (blanked literals) resolved ≡ resolved_places literals resolved
 resolved_places-blank literals resolved =
-    λ i. nowhere (tokens resolved.0) ++ flat_map (λ (part : Value × List ℕ). places-blank (literals part.0) i ++ nowhere (tokens part.1)) resolved.1
+    λ i. nowhere (tokens resolved.0) ++ flat_map (λ (part : Replacement × List ℕ). places-blank (literals part.0) i ++ nowhere (tokens part.1)) resolved.1
 
-abbrev part_places : (Value → LiteralValue) → Parts → List Bool
-part_places literals parts = flat_map (λ (part : Value × List ℕ). literal_places (literals part.0) ++ nowhere (tokens part.1)) parts
+abbrev part_places : (Replacement → LiteralValue) → Parts → List Bool
+part_places literals parts = flat_map (λ (part : Replacement × List ℕ). literal_places (literals part.0) ++ nowhere (tokens part.1)) parts
 
-abbrev part_tokens : (Value → LiteralValue) → Parts → List Token
-part_tokens literals parts = flat_map (λ (part : Value × List ℕ). literal_tokens (literals part.0) ++ tokens part.1) parts
+abbrev part_tokens : (Replacement → LiteralValue) → Parts → List Token
+part_tokens literals parts = flat_map (λ (part : Replacement × List ℕ). literal_tokens (literals part.0) ++ tokens part.1) parts
 
-parts-blank : (literals : Value → LiteralValue) (parts : Parts)
+parts-blank : (literals : Replacement → LiteralValue) (parts : Parts)
     → blank_at (part_places literals parts) (part_tokens literals parts) ≡ part_tokens (blanked literals) parts
 parts-blank literals [] = refl
 parts-blank literals (part ∷ parts) =
@@ -87,22 +87,22 @@ parts-blank literals (part ∷ parts) =
     (nowhere-first segment (part_places literals parts) (part_tokens literals parts) ∙ ap (λ more. segment ++ more) (parts-blank literals parts))
     ∙ sym (append_assoc (literal_tokens (blank_literal literal)) segment (part_tokens (blanked literals) parts))
 
-resolved-blank : (literals : Value → LiteralValue) (resolved : Resolved)
+resolved-blank : (literals : Replacement → LiteralValue) (resolved : Resolved)
     → blank_at (resolved_places literals resolved) (bound_tokens literals resolved) ≡ bound_tokens (blanked literals) resolved
 resolved-blank literals resolved =
     nowhere-first (tokens resolved.0) (part_places literals resolved.1) (part_tokens literals resolved.1)
     ∙ ap (λ more. tokens resolved.0 ++ more) (parts-blank literals resolved.1)
 
-abbrev places_in : (Value → LiteralValue) → Option Resolved → List Bool
+abbrev places_in : (Replacement → LiteralValue) → Option Resolved → List Bool
 places_in literals resolved = unwrap_or (option_map (resolved_places literals) resolved) []
 
-places-kept : (one other : Value → LiteralValue) → DifferInTexts one other → (resolved : Option Resolved) → places_in one resolved ≡ places_in other resolved
+places-kept : (one other : Replacement → LiteralValue) → DifferInTexts one other → (resolved : Option Resolved) → places_in one resolved ≡ places_in other resolved
 places-kept one other differ None = refl
 places-kept one other differ (Some resolved) =
     sym (resolved_places-blank one resolved) ∙ ap (λ literals. resolved_places literals resolved) (same_blanks one other differ)
     ∙ resolved_places-blank other resolved
 
-found-blank : (literals : Value → LiteralValue) (resolved : Option Resolved)
+found-blank : (literals : Replacement → LiteralValue) (resolved : Option Resolved)
     → option_map (blank_at (places_in literals resolved)) (option_map (bound_tokens literals) resolved) ≡ option_map (bound_tokens (blanked literals)) resolved
 found-blank literals None = refl
 found-blank literals (Some resolved) = ap Some (resolved-blank literals resolved)
@@ -113,7 +113,7 @@ maps : {X Y Z : Type 0} (g : Y → Z) (f : X → Y) (o : Option X) → option_ma
 maps g f None = refl
 maps g f (Some x) = refl
 
-bound-blank : (template : List ℕ) (marks : Marks) (literals : Value → LiteralValue) → apart template marks ≡ true
+bound-blank : (template : List ℕ) (marks : Marks) (literals : Replacement → LiteralValue) → apart template marks ≡ true
     → option_map (tokens_but (bound_places template marks literals)) (bound template marks literals)
     ≡ option_map (bound_tokens (blanked literals)) (resolve template marks)
 bound-blank template marks literals is =
@@ -141,7 +141,7 @@ literal-strings (truth value) places more = refl
 literal-strings (whole number) places more = strings-first (literal_tokens (whole number)) places more
 literal-strings (words text) places more = refl
 
-part-strings : (literals : Value → LiteralValue) (parts : Parts) → are_strings (part_places literals parts) (part_tokens literals parts) ≡ true
+part-strings : (literals : Replacement → LiteralValue) (parts : Parts) → are_strings (part_places literals parts) (part_tokens literals parts) ≡ true
 part-strings literals [] = refl
 part-strings literals (part ∷ parts) =
     let literal = literals part.0 in
@@ -152,7 +152,7 @@ part-strings literals (part ∷ parts) =
     ∙ strings-first segment (part_places literals parts) (part_tokens literals parts)
     ∙ part-strings literals parts
 
-found-strings : (literals : Value → LiteralValue) (text : Option (List ℕ)) (resolved : Option Resolved)
+found-strings : (literals : Replacement → LiteralValue) (text : Option (List ℕ)) (resolved : Option Resolved)
     → option_map tokens text ≡ option_map (bound_tokens literals) resolved
     → IfSome text (λ bytes. IsTrue (are_strings (places_in literals resolved) (tokens bytes)))
 found-strings literals None resolved same = tt

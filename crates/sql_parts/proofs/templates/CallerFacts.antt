@@ -4,20 +4,20 @@ use Rattle.sql_parts.proofs.Imports.{append_assoc, append-nil, length, map, subs
 use Rattle.std.specs.declared.dyn_box.DynBox.{DynBox}
 use base.Stored.{Coded, Gv}
 use denote.Param.Object.{Made}
-use Rattle.sql_parts.specs.{LiteralValue, literal_text, Cycle, Resolved, Value, bound, listed, resolve, written}
+use Rattle.sql_parts.specs.{LiteralValue, literal_text, Cycle, Resolved, Replacement, bound, listed, resolve, written}
 
 -- the segments with the literals of the values between them, without an empty text at the end
-abbrev pub in_turn : (Value → LiteralValue) → List ℕ → List (Value × List ℕ) → List ℕ
+abbrev pub in_turn : (Replacement → LiteralValue) → List ℕ → List (Replacement × List ℕ) → List ℕ
 in_turn literals segment [] = segment
 in_turn literals segment ((value, []) ∷ []) = segment ++ literal_text (literals value)
 in_turn literals segment ((value, next) ∷ parts) = segment ++ (literal_text (literals value) ++ in_turn literals next parts)
 
 -- a text is what is written of a template, where that is resolved
-abbrev pub IsWritten : (Value → LiteralValue) → Option Resolved → List ℕ → Type 0
+abbrev pub IsWritten : (Replacement → LiteralValue) → Option Resolved → List ℕ → Type 0
 IsWritten literals None text = ⊥
 IsWritten literals (Some resolved) text = text ≡ in_turn literals resolved.0 resolved.1
 
-written-in_turn : (literals : Value → LiteralValue) (segment : List ℕ) (parts : List (Value × List ℕ))
+written-in_turn : (literals : Replacement → LiteralValue) (segment : List ℕ) (parts : List (Replacement × List ℕ))
     → written literals (segment, parts) ≡ in_turn literals segment parts
 written-in_turn literals segment [] = append-nil segment
 written-in_turn literals segment ((value, []) ∷ []) =
@@ -31,7 +31,7 @@ written-in_turn literals segment ((value, byte ∷ next) ∷ (other ∷ parts)) 
     ∙ ap (λ t. literal_text (literals value) ++ t) (written-in_turn literals (byte ∷ next) (other ∷ parts)))
 
 -- what a binding call gives, segment by segment
-pub bound_in_turn : {Z E : Type 0} (result : Result (String Z) E) (template : List ℕ) (marks : Marks) (literals : Value → LiteralValue)
+pub bound_in_turn : {Z E : Type 0} (result : Result (String Z) E) (template : List ℕ) (marks : Marks) (literals : Replacement → LiteralValue)
     → IfOk result (λ s. Some (string_bytes s) ≡ bound template marks literals)
     → IfOk result (λ s. IsWritten literals (resolve template marks) (string_bytes s))
 bound_in_turn (Err e) template marks literals says = tt

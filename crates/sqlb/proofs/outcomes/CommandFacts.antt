@@ -2,7 +2,7 @@
 use Rattle.sqlb.proofs.Imports.{◌≡◌, ℕ, Bool, true, false, List, refl, [], ◌∷◌, subst, Err, Option, None, Some, Ok, IfErr, ok_or, is_utf8, IsUtf8-from_is_utf8}
 use Rattle.sqlb.proofs.Imports.{is_utf8-from_IsUtf8, NotUtf8, WrongArguments, NoGroupBy, NoSetFields, NoValues, ClauseTexts, Reason}
 use Rattle.std.specs.Prelude.{IsUtf8, IfSome}
-use Rattle.sqlb.specs.{command_of, command_in, CommandText, Starts, Calls, Finishes, CommandResult, command, command_in_parts, command_with, meaning_of, Answer}
+use Rattle.sqlb.specs.{command_of, command_in, CommandText, Starts, Calls, Finishes, CommandResult, command, command_in_parts, command_with, call_named, Answer}
 use Rattle.sqlb.specs.{finish_answer, given_answer, HoldsNoMemory}
 use Rattle.sql_builder.specs.Error.{IsMemory}
 use Rattle.sql_builder.specs.SqlBuilderError.{SqlBuilderError}
@@ -12,7 +12,7 @@ use Rattle.sql_builder.specs.Layout.{query_error, error_of, empty_error, no_grou
 use Rattle.sql_builder.specs.Statement.{error_at, text_at, unless_error}
 use Rattle.sql_builder.specs.declared.clauses.Kind.{Kind}
 use Rattle.sql_builder.specs.declared.clauses.Kind.TheVariants.{SelectFrom, SelectValues, InsertInto, UpdateTable, DeleteFrom}
-use Rattle.sqlb.specs.declared.names.Meaning.{Meaning}
+use Rattle.sqlb.specs.declared.names.NamedCall.{NamedCall}
 
 pub command_of-text : (line : List ℕ) → IsUtf8 line → command_of line ≡ command_in line
 unfolding command_of
@@ -30,13 +30,13 @@ by_command : (o : Option CommandText) → IfErr (ok_or o WrongArguments) HoldsNo
 by_command None = tt
 by_command (Some c) = tt
 
-by_meaning : (o : Option Meaning) (arguments : List (List ℕ)) → IfErr (command_with o arguments) HoldsNoMemory
-by_meaning None arguments = tt
-by_meaning (Some meaning) arguments = by_command (command meaning arguments)
+by_call : (o : Option NamedCall) (arguments : List (List ℕ)) → IfErr (command_with o arguments) HoldsNoMemory
+by_call None arguments = tt
+by_call (Some call) arguments = by_command (command call arguments)
 
 by_parts : (parts : List (List ℕ)) → IfErr (command_in_parts parts) HoldsNoMemory
 by_parts [] = tt
-by_parts (name ∷ arguments) = by_meaning (meaning_of name) arguments
+by_parts (name ∷ arguments) = by_call (call_named name) arguments
 
 -- why a finish fails is never out of memory
 

@@ -3,7 +3,7 @@ use Rattle.sqlb.proofs.Imports.{◌≡◌, ℕ, List, [], ◌∷◌, Some, None,
 use Rattle.sqlb.proofs.Imports.{ap₂, arith, lit<, decimal_digit, IsUtf8-from_ascii, IsAscii-nil, IsAscii-cons, until, NoTableName, Output, At, Memory, Read}
 use Rattle.sqlb.proofs.Imports.{Write, Reason, UnknownCall, NoEnd, NotUtf8, Builder}
 use Rattle.std.proofs.lemmas.Bool.Decides.{nat_tests}
-use Rattle.sqlb.specs.{fault_text, lines, command_of, command_in, comparisons, ending_of, ends, likes, lists, meaning_of, memberships, nullaries, tables}
+use Rattle.sqlb.specs.{fault_text, lines, command_of, command_in, comparisons, condition_kind, ends, likes, lists, call_named, memberships, nullaries, tables}
 use Rattle.sqlb.specs.{accepted_answers, answers, open_statement, output, output_of, status_of}
 use Rattle.sqlb.proofs.outcomes.CommandFacts.{command_of-text}
 
@@ -62,7 +62,7 @@ rows = (
     []
 
 outputs : map (λ row. output row.0) rows ≡ map (λ row. row.1) rows
-unfolding open_statement nullaries meaning_of tables lists ends ending_of comparisons likes memberships
+unfolding open_statement nullaries call_named tables lists ends condition_kind comparisons likes memberships
 outputs = outputs-computed rows refl
 
 not_utf8 : output_of (Err NotUtf8 ∷ []) ≡ stops [] 1 NotUtf8
@@ -82,11 +82,11 @@ accepted input ascii = ap (λ commands. until is_err (answers commands)) (comman
 
 -- memory may run out in the first line or the second, and not in the third, which fails a check
 accepted-unknown : accepted_answers (codes "select_from\tt\nsql\nfrobnicate\n") ≡ Ok None ∷ Ok (Some (codes "SELECT * FROM t;")) ∷ []
-unfolding open_statement nullaries meaning_of tables lists ends ending_of comparisons likes memberships
+unfolding open_statement nullaries call_named tables lists ends condition_kind comparisons likes memberships
 accepted-unknown = accepted _ refl
 
 accepted-first_fails : accepted_answers (codes "sql\n") ≡ []
-unfolding open_statement nullaries meaning_of tables lists ends ending_of comparisons likes memberships
+unfolding open_statement nullaries call_named tables lists ends condition_kind comparisons likes memberships
 accepted-first_fails = accepted _ refl
 
 -- the exit status without a fault, of a line's, and of those that name no line

@@ -1,6 +1,6 @@
 use Rattle.sql_builder.proofs.Imports.{IfOk, List, map, Result, subst, sym, ℕ, tokens, SqlBuilderError}
 use Rattle.sql_builder.specs.{call_view, finish_view, start_view, EndsInOneSemicolon}
-use Rattle.sql_builder.proofs.fragments.UnfitLemmas.{balanced_fragments}
+use Rattle.sql_builder.proofs.fragments.InvalidTextLemmas.{balanced_fragments}
 use Rattle.sql_builder.proofs.fragments.{closed_fragments, ends_in_semicolon}
 use Rattle.sql_builder.proofs.checks.run_confined.Goals as goal
 

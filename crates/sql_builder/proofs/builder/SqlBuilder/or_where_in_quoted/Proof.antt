@@ -3,5 +3,5 @@ use Rattle.sql_builder.proofs.builder.SqlBuilder.or_where_in_quoted as its
 
 pub or_where_in_quoted_spec : {M : Type 1} → its.Statement.statement M
 or_where_in_quoted_spec 𝓤 𝓛 𝓜 𝓡 w S T LS LT s d t e d' e' ms mt md me =
-    by.in_quoted 𝓤 𝓛 𝓜 𝓡 S T LS LT s d t e d' e' ms mt md me by.family-or by.sense-plain (its.Code.calls-sql_builder::builder::SqlBuilder::hold_in_quoted 𝓡.env w)
+    by.in_quoted 𝓤 𝓛 𝓜 𝓡 S T LS LT s d t e d' e' ms mt md me by.family-or by.polarity-plain (its.Code.calls-sql_builder::builder::SqlBuilder::step_in_quoted 𝓡.env w)
     (record { code = (by.refl, by.refl); closed = its.Code.unfolded 𝓤 𝓛.H 𝓜 𝓡 w (S, (T, tt)) d e d' e' }) (its.Code.calls-sql_parts::loan::release 𝓡.env w)

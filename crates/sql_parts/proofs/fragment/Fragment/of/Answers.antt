@@ -1,4 +1,4 @@
-use Rattle.sql_parts.proofs.fragments.MisfitLemmas.{fragment_of_typed}
+use Rattle.sql_parts.proofs.fragments.ViolationLemmas.{fragment_of_typed}
 use Rattle.sql_parts.proofs.fragment.Fragment.of.Goals as goal
 
 pub of_built-requires : goal.of_built-requires

@@ -1,4 +1,4 @@
-use Rattle.sql_parts.proofs.fragments.MisfitLemmas.{typed_serves}
+use Rattle.sql_parts.proofs.fragments.ViolationLemmas.{typed_serves}
 use Rattle.sql_parts.proofs.fragment.Operand.of.Goals as goal
 
 pub invariant_of-result : goal.invariant_of-result

@@ -1,9 +1,9 @@
-use Rattle.sql_typed.proofs.Imports.{[], ◌∷◌, ◌++◌, SelectFrom, Made, adding, beginning, made_in, step_call}
+use Rattle.sql_typed.proofs.Imports.{[], ◌∷◌, ◌++◌, SelectFrom, Made, adding, beginning, made_in, added_call}
 use Rattle.sql_typed.proofs.statement.Statement.add.Given as goal
 
 -- the call alone, and then behind those before it
 abbrev pub ghost-of : goal.ghost-of
-ghost-of g a = adding (step_call a.from.now) (beginning (SelectFrom [])) ∷ []
+ghost-of g a = adding (added_call a.from.now) (beginning (SelectFrom [])) ∷ []
 
 abbrev pub ghost-of-2 : goal.ghost-of-2
 ghost-of-2 g a =

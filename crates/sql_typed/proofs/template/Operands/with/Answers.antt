@@ -1,4 +1,4 @@
-use Rattle.sql_typed.proofs.Imports.{◌∙◌, ap, string_bytes, in_hole, texts}
+use Rattle.sql_typed.proofs.Imports.{◌∙◌, ap, in_hole, texts}
 use Rattle.sql_typed.proofs.FilledLemmas.{all_more, one_more}
 use Rattle.sql_typed.proofs.template.Operands.with.Goals as goal
 

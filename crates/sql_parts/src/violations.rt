@@ -1,13 +1,13 @@
 //! The reasons why a text doesn't fit where a statement takes it.
 ghost use Rattle.std.specs.Prelude.{◌≡◌};
-ghost use Rattle.sql_parts.specs.Misfits.{misfit_text};
+ghost use Rattle.sql_parts.specs.Violations.{violation_text};
 
 use std::error::Error;
 use std::fmt;
 
-/// What is asked of a text.
+/// What a text has to meet.
 #[derive(Clone, Copy)]
-pub enum Demand {
+pub enum Requirement {
     /// That it is balanced, as a query behind UNION is.
     Balanced,
     /// That it is balanced, and has no top-level clause keyword, as a table is.
@@ -23,9 +23,9 @@ pub enum Demand {
 }
 
 /// The reason why a text doesn't fit. It is the first of these that holds and counts for the
-/// demand.
+/// requirement.
 #[derive(Clone, Copy, Debug, Drop)]
-pub enum Misfit {
+pub enum Violation {
     /// It has no token.
     Blank,
     /// A quote or a comment has no end.
@@ -49,36 +49,36 @@ pub enum Misfit {
     CaseWord,
 }
 
-impl Misfit {
+impl Violation {
     /// Returns the reason as a message, which Display prints too. Never fails.
-    /// `Misfit::Brackets.message()` gives `Brackets don't match`
+    /// `Violation::Brackets.message()` gives `Brackets don't match`
     pub fn message(&self) -> &'static str
-        ensures text { result.now ≡ misfit_text self.now }
+        ensures text { result.now ≡ violation_text self.now }
     {
         match self {
-            Misfit::Blank => "No token",
-            Misfit::Open => "A quote or a comment has no end",
-            Misfit::Semicolon => "A semicolon",
-            Misfit::Brackets => "Brackets don't match",
-            Misfit::ClauseWord => "A top-level clause keyword",
-            Misfit::DialectWord => "A top-level word that begins a clause in some databases",
-            Misfit::Joined => "A top-level OR, AND or BETWEEN, or a leading NOT",
-            Misfit::CaseWord => "A clause keyword or an open bracket between CASE and END",
+            Violation::Blank => "No token",
+            Violation::Open => "A quote or a comment has no end",
+            Violation::Semicolon => "A semicolon",
+            Violation::Brackets => "Brackets don't match",
+            Violation::ClauseWord => "A top-level clause keyword",
+            Violation::DialectWord => "A top-level word that begins a clause in some databases",
+            Violation::Joined => "A top-level OR, AND or BETWEEN, or a leading NOT",
+            Violation::CaseWord => "A clause keyword or an open bracket between CASE and END",
         }
     }
 }
 
-impl fmt::Display for Misfit {
+impl fmt::Display for Violation {
     ghost use Rattle.std.specs.Prelude.{Some};
-    ghost use Rattle.sql_parts.specs.Misfits.{misfit_text};
+    ghost use Rattle.sql_parts.specs.Violations.{violation_text};
 
-    ghost output = { λ misfit. Some (misfit_text misfit) };
+    ghost output = { λ violation. Some (violation_text violation) };
 
-    ghost styled_output = { λ misfit _. Some (misfit_text misfit) };
+    ghost styled_output = { λ violation _. Some (violation_text violation) };
 
     fn fmt<W: fmt::Write>(&self, f: &mut fmt::Formatter<W>) -> fmt::Result {
         f.write_str(self.message())
     }
 }
 
-impl Error for Misfit {}
+impl Error for Violation {}

@@ -1,7 +1,7 @@
 use Rattle.sql_builder.proofs.Imports.{◌≡◌, refl, string_bytes, true, ap, ◌∙◌}
 use Rattle.sql_builder.specs.{with_condition, with_condition_bytes, Like, condition_bytes}
-use Rattle.sql_builder.proofs.pieces.{adds_condition_opaque}
-use Rattle.sql_builder.proofs.builder.SqlBuilder.hold_not_like.Goals as goal
+use Rattle.sql_builder.proofs.pieces.{step_adds_condition}
+use Rattle.sql_builder.proofs.builder.SqlBuilder.step_not_like.Goals as goal
 
 pub returns : goal.returns
 returns g c =
@@ -11,5 +11,5 @@ returns g c =
     let added : c.push_condition.new.self ≡ with_condition c.args.family condition c.args.self.now =
     c.in_ok-push_condition.ensures ∙ ap (λ bytes. with_condition_bytes c.args.family bytes c.args.self.now) text in (
       (refl, (λ w. refl), tt),
-      record { unchanged = tt; changed = (refl, adds_condition_opaque c.args.family condition c.args.self.now c.push_condition.new.self added); memory = tt },
+      record { unchanged = tt; changed = (refl, step_adds_condition c.args.family condition c.args.self.now c.push_condition.new.self added); memory = tt },
     )

@@ -1,6 +1,6 @@
 use Rattle.sql_builder.proofs.Imports.{◌≡◌, ◌+◌, ◌≤◌, length, map, texts}
 use Rattle.sql_builder.specs.{field_text, texts_test}
-use Rattle.sql_builder.proofs.checks.Asked.test_list.Given as goal
+use Rattle.sql_builder.proofs.checks.Requirements.test_list.Given as goal
 
 abbrev pub invariant-loop-rest : goal.invariant-loop-rest
 invariant-loop-rest l = record {

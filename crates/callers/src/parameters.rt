@@ -8,7 +8,7 @@ ghost use Rattle.sql_builder.specs.Statement.{statement};
 ghost use Rattle.sql_builder.specs.Tokens.{closed, tokens};
 ghost use Rattle.sql_typed.specs.Faults.{FailsAs};
 ghost use Rattle.sql_typed.specs.Results.{Gives};
-ghost use Rattle.callers.specs.Asked.{asked, count, from_price, like_mask, list_values, number_values, of_ids, of_title, text_values, to_price, with_values};
+ghost use Rattle.callers.specs.Parameters.{asked, count, from_price, like_mask, list_values, number_values, of_ids, of_title, text_values, to_price, with_values};
 
 use sql_builder::text::{Fragment, Operand};
 use sql_parts::Parameters;

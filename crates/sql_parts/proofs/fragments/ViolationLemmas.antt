@@ -3,12 +3,12 @@ use Rattle.sql_parts.proofs.Imports.{◌≡◌, refl, sym, ◌∙◌, ap, ℕ, �
 use Rattle.sql_parts.proofs.Imports.{is_none, if◌then◌else◌, list_all, list_any, and_parts, and-true, not-not, or-false}
 use Rattle.std.specs.Prelude.{find}
 use Rattle.sql_parts.specs.{balanced, brackets_match, encloses_clauses, has_clause_word, has_dialect_word, has_top_level, is_balanced, is_clause_word}
-use Rattle.sql_parts.specs.{is_dialect_word, is_joining, is_whole, is_word, lowers, operand, raises, weight, holds_of, meets, misfit, reasons, ServesAsOperand}
+use Rattle.sql_parts.specs.{is_dialect_word, is_joining, is_whole, is_word, lowers, operand, raises, weight, holds_of, meets, violation, reasons, ServesAsOperand}
 use Rattle.sql_parts.specs.{has_no_clause, is_bare_operand, is_fragment, is_typed_fragment, is_typed_operand, Token, begins_with, closed, has_semicolon}
 use Rattle.sql_parts.specs.{is_empty, is_open, is_semicolon, tokens}
-use Rattle.sql_parts.specs.declared.misfits.Demand.{Demand}
-use Rattle.sql_parts.specs.declared.misfits.Demand.TheVariants as demand
-use Rattle.sql_parts.specs.declared.misfits.Misfit.{Misfit}
+use Rattle.sql_parts.specs.declared.violations.Requirement.{Requirement}
+use Rattle.sql_parts.specs.declared.violations.Requirement.TheVariants as requirement
+use Rattle.sql_parts.specs.declared.violations.Violation.{Violation}
 use Rattle.sql_parts.proofs.fragments.DepthCountLemmas.{has_top_level-is, top_level_from}
 
 -- each token is whole where none is open and none is a `;`
@@ -115,9 +115,9 @@ unbroken empty shut semicolon match whole is more =
         → not (empty || (not shut || (semicolon || (not match || more)))) ≡ ((not empty && (shut && not semicolon) && match) && not more)
     shuffled empty shut semicolon match more = grind arith
 
-pub met : (asked : Demand) (text : List ℕ) → is_none (misfit asked text) ≡ meets asked text
-unfolding misfit
-met asked text = none_found (holds_of text) (reasons asked) ∙ by_demand asked
+pub met : (asked : Requirement) (text : List ℕ) → is_none (violation asked text) ≡ meets asked text
+unfolding violation
+met asked text = none_found (holds_of text) (reasons asked) ∙ by_requirement asked
   where
     spread : (more : Bool) → not (is_empty (tokens text) || (not (closed text) || (has_semicolon text || (not (brackets_match (tokens text)) || more))))
         ≡ (balanced text && not more)
@@ -135,18 +135,18 @@ met asked text = none_found (holds_of text) (reasons asked) ∙ by_demand asked
         ≡ (((balance && not joins && not first) && not word) && (not dialect && kept))
     regroup_typed balance word dialect joins first kept = grind arith
 
-    by_demand : (asked : Demand) → not (list_any (holds_of text) (reasons asked)) ≡ meets asked text
-    by_demand demand.Balanced = spread false ∙ and-true (balanced text)
-    by_demand demand.Fragment = spread (has_clause_word text || false) ∙ ap (λ b. balanced text && not b) (or-false (has_clause_word text))
-    by_demand demand.Operand =
+    by_requirement : (asked : Requirement) → not (list_any (holds_of text) (reasons asked)) ≡ meets asked text
+    by_requirement requirement.Balanced = spread false ∙ and-true (balanced text)
+    by_requirement requirement.Fragment = spread (has_clause_word text || false) ∙ ap (λ b. balanced text && not b) (or-false (has_clause_word text))
+    by_requirement requirement.Operand =
         let joins = has_top_level is_joining (tokens text) in
         let first = begins_with (is_word (codes "NOT")) (tokens text) in
         spread (has_clause_word text || ((joins || first) || false)) ∙ regroup (balanced text) (has_clause_word text) joins first
-    by_demand demand.TypedFragment =
+    by_requirement requirement.TypedFragment =
         let kept = encloses_clauses 0 (tokens text) in
         spread (has_clause_word text || (has_dialect_word text || (not kept || false)))
         ∙ split (balanced text) (has_clause_word text) (has_dialect_word text) kept
-    by_demand demand.TypedOperand =
+    by_requirement requirement.TypedOperand =
         let joins = has_top_level is_joining (tokens text) in
         let first = begins_with (is_word (codes "NOT")) (tokens text) in
         let kept = encloses_clauses 0 (tokens text) in
@@ -163,11 +163,11 @@ unmatched text some shut plain fails = left (is_empty (tokens text)) (closed tex
         → empty ≡ false → shut ≡ true → semicolon ≡ false → (not empty && whole && match) ≡ false → match ≡ false
     left empty shut semicolon match whole is some is_shut plain fails = grind arith
 
--- a text that meets what is asked of it has no misfit
-pub no_misfit : (asked : Demand) (text : List ℕ) → meets asked text ≡ true → misfit asked text ≡ None
-no_misfit asked text is = none_is (misfit asked text) (met asked text ∙ is)
+-- a text that meets what is asked of it has no violation
+pub no_violation : (asked : Requirement) (text : List ℕ) → meets asked text ≡ true → violation asked text ≡ None
+no_violation asked text is = none_is (violation asked text) (met asked text ∙ is)
   where
-    none_is : (given : Option Misfit) → is_none given ≡ true → given ≡ None
+    none_is : (given : Option Violation) → is_none given ≡ true → given ≡ None
     none_is None none = refl
     none_is (Some first) none = cc
 

@@ -1,5 +1,5 @@
 -- What a search form asks for, with placeholders for its values.
-use Rattle.std.specs.Prelude.{ℕ, suc, ◌+◌, List, [], ◌∷◌, ◌++◌, Option, None, Some, codes, false, length, map}
+use Rattle.std.specs.Prelude.{ℕ, suc, ◌+◌, List, [], ◌∷◌, ◌++◌, Option, None, Some, codes, false, map}
 use Rattle.std.specs.Borrow.{Bor}
 use Rattle.sql_parts.specs.Parameters.{placeholder_text, placeholders_behind}
 use Rattle.sql_parts.specs.declared.parameter.Style.{Style}
@@ -10,9 +10,9 @@ use Rattle.sql_builder.specs.declared.condition.Relation.TheVariants.{Eq, Ge, Le
 use Rattle.sql_typed.specs.Conditions.{list_text}
 use Rattle.sql_typed.specs.Fits.{Made, adding, beginning}
 use Rattle.callers.specs.Forms.{where_also}
-use Rattle.callers.specs.declared.asked.Given.{Given}
-use Rattle.callers.specs.declared.asked.Given.TheVariants.{Text, Number}
-use Rattle.callers.specs.declared.asked.Wanted.{Wanted}
+use Rattle.callers.specs.declared.parameters.Given.{Given}
+use Rattle.callers.specs.declared.parameters.Given.TheVariants.{Text, Number}
+use Rattle.callers.specs.declared.parameters.Wanted.{Wanted}
 
 -- each filter, if it is given: its placeholder has the number behind n
 abbrev pub of_title : {X : Type 0} → Style → ℕ → Option X → Made → Made
