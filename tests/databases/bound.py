@@ -1,10 +1,8 @@
-"""Statements with hostile texts as values beside them, and what comes of them on a database and by the kit's `sqlite`."""
+"""Statements with hostile texts as values beside them, what comes of them on a database and by the kit's `sqlite`, and conditions."""
 
 import collections
-import os
-import sys
+import operator
 
-sys.path.append(os.path.realpath(f"{__file__}/../../lib"))
 from connections import Refused, row
 from hostile import CHARACTERS, PIECES, all_of, attacks
 
@@ -15,6 +13,30 @@ ZEROS = [*all_of("\0'a", 3), "\0'; DROP TABLE one; --", "a\0\\'", "%\0_"]
 TEXTS = tuple(dict.fromkeys([*attacks(), *all_of(CHARACTERS, 2), *PIECES, *LONG, *ZEROS]))
 # The rows of the table `one`.
 EMPTY = [(b"1", None), (b"2", None), (b"3", None)]
+# Conditions on a text, with those that fit. They are also on another text in place of a column.
+COMPARED = {
+    **{it.__name__: it for it in (operator.eq, operator.ne, operator.gt, operator.ge, operator.lt, operator.le)},
+    "in_values": lambda it, text: it in (text, "b"),
+    "not_in_values": lambda it, text: it not in (text, "b"),
+    "between": lambda it, text: text <= it <= "b",
+    "between, the other": lambda it, text: "'" <= it <= text,
+    "not_between": lambda it, text: not text <= it <= "b",
+    "not_between, the other": lambda it, text: not "'" <= it <= text,
+    **dict.fromkeys(("eq_or_null", "all", "any", "not ne", "in_query"), operator.eq),
+    "not_in_query": operator.ne,
+}
+OF_TEXT = ", of the text"
+
+
+def but(fits):
+    """What fits if this doesn't."""
+    return lambda it, text: not fits(it, text)
+
+
+def masks(*names):
+    """Conditions by masks of these names, which find what contains a text, and what begins and ends with it, each with its NOT."""
+    found = zip(names, (str.__contains__, str.startswith, str.endswith))
+    return {name: how for plain, fits in found for name, how in ((plain, fits), (f"not_{plain}", but(fits)))}
 
 
 def kept(text, number):
@@ -37,17 +59,19 @@ def rows_of(rows):
 
 
 class Bound:
-    """A statement with a text as a value, in each style of placeholders. Another class says what it `finds` and leaves in the table `one`,
-    and whether it changes that."""
+    """A statement with a text as a value, in each style of placeholders, and what the kit found and left of it. Another class says what it
+    `finds` and leaves in the table `one`, and whether it changes that."""
 
-    text, changes = "", False
+    changes = False
 
-    def __init__(self, question, dollar, positional, values, ordered):
-        self.styles = {"?1": (question, values), "$1": (dollar, values), "?": (positional, ordered)}
-        self.question, self.dollar, self.positional, self.values, self.ordered = question, dollar, positional, values, ordered
+    def __init__(self, name, text, question, dollar, positional, values, ordered, *kit):
+        self.name, self.text, self.kit = name, text, kit
+        self.question, self.dollar, self.positional = question, dollar, positional
+        self.values, self.ordered = values_of(values), values_of(ordered)
 
     def run(self, db, *how):
-        return db.run_with(*self.styles[db.placeholder], *how)
+        styles = {"?1": (self.question, self.values), "$1": (self.dollar, self.values), "?": (self.positional, self.ordered)}
+        return db.run_with(*styles[db.placeholder], *how)
 
     def otherwise(self, db, found, texts):
         """What came of it where it didn't find what is meant."""

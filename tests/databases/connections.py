@@ -4,8 +4,8 @@ Each test measures what is installed, by servers of its own, and prints what is 
 psycopg and pglast are packages. Its program NAME.rt.txt is proved over the stored proofs, and built, in a temporary folder. The status is 0
 where all was as the test says, and some was measured.
 
-PostgreSQL is reached by psycopg's `pq`, which sends each byte as it is given. Python's sqlite3 doesn't run several statements of a text,
-and no module of MariaDB prepares statements as they are, so the libraries of both are called here."""
+PostgreSQL is reached by psycopg's `pq`, which sends each byte as it is given. Python's sqlite3 runs one statement without a zero byte, whose
+parameters all have values. No module of MariaDB prepares statements as they are. So the C libraries of both are called here."""
 
 import contextlib
 import ctypes
@@ -13,10 +13,8 @@ import ctypes.util
 import os
 import sqlite3
 import subprocess
-import sys
 import tempfile
 
-sys.path.append(os.path.realpath(f"{__file__}/../../lib"))
 from blocks import code_spans, tables
 from servers import Broken, Skipped, maria_server, postgres_server, program
 
@@ -165,6 +163,8 @@ class Postgres(Database):
     settings, standard = ("on", "off"), "on"
 
     def __init__(self, variables):
+        if not pq:
+            raise Skipped("there is no Python module psycopg")
         self.folder, self.variables = variables["PGHOST"], variables
         self.db = pq.PGconn.connect(f"host={self.folder} user={variables['PGUSER']} dbname=postgres client_encoding=UTF8".encode())
         self.run("SET client_min_messages = error")
@@ -336,39 +336,20 @@ class Maria(Database):
         self.lib.mysql_close(self.db)
 
 
-@contextlib.contextmanager
-def sqlite():
-    with tempfile.TemporaryDirectory(prefix="databases-") as folder, contextlib.closing(Sqlite(folder)) as db:
-        yield db
+# What each is opened on: a folder, or a server of its own.
+PLACES = {Sqlite: tempfile.TemporaryDirectory, Postgres: postgres_server, Maria: maria_server}
 
 
-@contextlib.contextmanager
-def postgres():
-    if not pq:
-        raise Skipped("there is no Python module psycopg")
-    with postgres_server() as variables, contextlib.closing(Postgres(variables)) as db:
-        yield db
-
-
-@contextlib.contextmanager
-def maria():
-    with maria_server() as folder, contextlib.closing(Maria(folder)) as db:
-        yield db
-
-
-OPENED = {"SQLite": sqlite, "PostgreSQL": postgres, "MariaDB": maria}
-
-
-def each(tally, measure, products=tuple(OPENED)):
+def each(tally, measure, kinds=tuple(PLACES)):
     """Has each database measured. Prints which isn't installed, and fails where one doesn't run."""
-    for product in products:
+    for kind in kinds:
         try:
-            with OPENED[product]() as db:
+            with PLACES[kind]() as place, contextlib.closing(kind(place)) as db:
                 measure(db)
         except Skipped as why:
-            print(f"SKIPPED: {product}: {why}", flush=True)
+            print(f"SKIPPED: {kind.product}: {why}", flush=True)
         except Broken as why:
-            tally.fail(product, why)
+            tally.fail(kind.product, why)
 
 
 def found_rows(heading, number=0):

@@ -9,10 +9,9 @@ by types."""
 import itertools
 import os
 import sys
-import tempfile
 
 sys.path.append(os.path.realpath(f"{__file__}/../../lib"))
-from built import SEPARATOR, parts_of, proved
+from built import written
 from connections import Refused, each, found_rows
 from tally import Tally
 
@@ -84,8 +83,7 @@ def measure(db, made, tally):
 def statements():
     """Of each fragment its statements by the builder, and those by types."""
     texts = [*FRAGMENTS, *HARMLESS, "true"]
-    with tempfile.TemporaryDirectory(prefix="fragments-") as folder:
-        parts = parts_of(proved(folder, "fragments", "sql_typed"), SEPARATOR.join(texts), 2 * PLACES * len(texts))
+    parts = written("fragments", ["sql_typed"], 2 * PLACES * len(texts), texts)
     return {text: ([*itertools.islice(parts, PLACES)], [*itertools.islice(parts, PLACES)]) for text in texts}
 
 

@@ -12,16 +12,15 @@ seed."""
 
 import collections
 import ctypes
+import itertools
 import os
 import random
 import re
-import subprocess
 import sys
-import tempfile
 
 sys.path.append(os.path.realpath(f"{__file__}/../../lib"))
-from built import SEPARATOR, proved
-from connections import Refused, each
+from built import written
+from connections import Maria, Refused, Sqlite, each
 from hostile import all_of, asked
 from tally import Tally
 
@@ -48,7 +47,7 @@ MARIA |= {ord(it) + more: it for it in "'\"`" for more in (0, 512)}
 ENDS = {"": "", "--": "z\n", "/*": "*/", "'": "zz'", '"': 'zz"', "`": "zz`", "x'": "00'"}
 # What precedes a text on MariaDB, and what goes on behind it: one more column, an operand, arguments, a name.
 FRONTS, TAILS = ("SELECT ", "SELECT 1 ", "SELECT 1,"), (",7", "7", "(7)", "z,7")
-# pglast's lexer, which gives comments as tokens, ends a string where a comment follows it; PostgreSQL's goes on with it behind a line's end.
+# pglast's lexer ends a string where a comment follows it. PostgreSQL's goes on with it behind a line's end.
 COMMENT_IN_GAP = re.compile(r"'[ \t\f\n\r]*--[^\n\r]*[\n\r]")
 
 
@@ -120,10 +119,10 @@ def read_by_maria(db, text):
     return None
 
 
-def compare(name, read, meant, states, all_texts, tally):
+def compare(name, read, meant, states, tally):
     """Counts the texts behind which the lexer is in what the reader says, and prints each other one."""
     counts = collections.Counter()
-    for text, state in zip(all_texts, states):
+    for text, state in states.items():
         found, wanted = read(text), meant(state)
         if found is None or wanted is None:
             counts["not compared"] += 1
@@ -134,27 +133,23 @@ def compare(name, read, meant, states, all_texts, tally):
     print(f"{name}: {counts.total() - counts['not compared']} of {counts.total()} texts were compared: {shown}", flush=True)
 
 
-def states_of(all_texts, tally):
-    """Of each database the readers' states behind its texts."""
-    states = {}
-    with tempfile.TemporaryDirectory(prefix="states-") as folder:
-        program = proved(folder, "lexed", "database_readers")
-        for name, texts in all_texts.items():
-            made = subprocess.run([program], input=SEPARATOR.join(texts).encode(), stdout=subprocess.PIPE, check=True).stdout
-            states[name] = [*zip(*([int(state) for state in line.split()] for line in made.decode().splitlines()))]
-            tally.expect(f"{name}: texts that were read", len(states[name][0]), len(texts))
-    return states
+def states_of(all_texts):
+    """Of each reader the states behind the texts of its database, in the order of lexed.rt.txt."""
+    texts = [*dict.fromkeys(itertools.chain(*all_texts.values()))]
+    parts = written("lexed", ["database_readers"], 4 * len(texts), texts)
+    found = {text: [int(it) for it in itertools.islice(parts, 4)] for text in texts}
+    products = ("SQLite", "PostgreSQL", "MariaDB", "MariaDB")
+    return [{text: found[text][number] for text in all_texts[product]} for number, product in enumerate(products)]
 
 
-def measure(db, all_texts, states, tally):
+def measure(db, states, tally):
     """Compares SQLite, or MariaDB by its settings, with the readers."""
-    texts, found = all_texts[db.product], states[db.product]
     if db.product == "SQLite":
-        compare(db.name, lambda text: read_by_sqlite(db, text), of_sqlite, found[0], texts, tally)
+        compare(db.name, lambda text: read_by_sqlite(db, text), of_sqlite, states[0], tally)
         return
-    for setting, one in zip(db.settings, found[2:]):
+    for setting, some in zip(db.settings, states[2:]):
         db.set(setting)
-        compare(db.name, lambda text: read_by_maria(db, text), of_maria, one, texts, tally)
+        compare(db.name, lambda text: read_by_maria(db, text), of_maria, some, tally)
 
 
 def main():
@@ -165,11 +160,11 @@ def main():
     most = {"MariaDB": count // 4}
     all_texts = {name: [*dict.fromkeys([*all_of(it, 4), *longer[: most.get(name, count)]])] for name, it in CHARACTERS.items()}
     tally = Tally("lexed")
-    states = states_of(all_texts, tally)
-    each(tally, lambda db: measure(db, all_texts, states, tally), ("SQLite", "MariaDB"))
+    states = states_of(all_texts)
+    each(tally, lambda db: measure(db, states, tally), (Sqlite, Maria))
     if scan:
         read = lambda text: None if COMMENT_IN_GAP.search(text) else read_by_postgres(text)
-        compare("PostgreSQL's lexer", read, of_postgres, states["PostgreSQL"][1], all_texts["PostgreSQL"], tally)
+        compare("PostgreSQL's lexer", read, of_postgres, states[1], tally)
     else:
         print("SKIPPED: PostgreSQL: there is no Python module pglast")
     return tally.end()

@@ -8,14 +8,14 @@ with the text's literal or a placeholder for each `?`, and to find and store jus
 NO_BACKSLASH_ESCAPES for `Value`s, and with its defaults for parameters. A text with a zero byte may be refused, and MariaDB's lower() goes
 beyond ASCII."""
 
+import itertools
 import os
 import sys
-import tempfile
 
 sys.path.append(os.path.realpath(f"{__file__}/../../lib"))
 from blocks import code_spans, tables
-from bound import EMPTY, TEXTS, Bound, as_bytes, came, kept, of_kit, prepare, rows_of, show, values_of
-from built import SEPARATOR, parts_of, proved
+from bound import EMPTY, TEXTS, Bound, as_bytes, came, kept, of_kit, prepare, rows_of, show
+from built import arms, written
 from connections import Refused, each, head, row
 from hostile import quoted
 from tally import Tally
@@ -46,67 +46,51 @@ def by(fits):
     return lambda texts, text, low: as_bytes((number,) for number, it in enumerate(texts) if fits(it, text, low))
 
 
-def found_first(texts, text, low):
-    return as_bytes([(texts.index(text),)]) if text in texts else []
-
-
-def given(texts, text, low):
-    return as_bytes([(text,)])
-
-
-def none(texts, text, low):
-    return []
-
-
-def second(text):
-    return kept(text, 2)
-
-
-def fourth(text):
-    return kept(text, 4)
-
-
-def unchanged(text):
-    return EMPTY
-
-
-same = by(lambda it, text, low: it == text)
+# What statements find.
+same, other = by(lambda it, text, low: it == text), by(lambda it, text, low: it != text)
+within, alike = by(lambda it, text, low: text in it), by(lambda it, text, low: low(it) == low(text))
+same_or_b = by(lambda it, text, low: it == text or text == "b")
+first = lambda texts, text, low: as_bytes([(texts.index(text),)]) if text in texts else []
+given = lambda texts, text, low: as_bytes([(text,)])
+none = lambda texts, text, low: []
+# What they leave in the table `one`.
+unchanged, second, fourth = lambda text: EMPTY, lambda text: kept(text, 2), lambda text: kept(text, 4)
 TWO, FOUR = "INSERT INTO one (id, x) VALUES (2, ?)", "INSERT INTO one (id, x) VALUES (4, ?)"
 THOSE = "SELECT id FROM texts WHERE x = ?"
 OF_ONE = "EXISTS (SELECT one.id FROM one WHERE (one.id = 1) AND (texts.x = ?));"
-# The statements in the order of lines.rt.txt, with what each finds, and what it leaves in the table `one`.
+EXCLUDED = "ON CONFLICT (id) DO UPDATE SET x = excluded.x;"
+BOTH = f"WITH u AS ({THOSE}), v AS ({THOSE}) SELECT id FROM texts WHERE (x = ?) AND (id IN (SELECT id FROM u)) AND (id IN (SELECT id FROM v));"
+# The statements of lines.rt.txt, with what each finds, and what it leaves.
 TEMPLATES = {
-    "SELECT id FROM texts WHERE instr(x, ?) > 0;": (by(lambda it, text, low: text in it), unchanged),
-    "SELECT id FROM texts WHERE strpos(x, ?) > 0;": (by(lambda it, text, low: text in it), unchanged),
-    "SELECT id FROM texts WHERE lower(x) = lower(?);": (by(lambda it, text, low: low(it) == low(text)), unchanged),
-    "SELECT id FROM texts WHERE lower(x) = (lower(?));": (by(lambda it, text, low: low(it) == low(text)), unchanged),
-    "SELECT id FROM texts WHERE CASE WHEN (x = ?) THEN ? ELSE 'b' END = ?;": (by(lambda it, text, low: it == text or text == "b"), unchanged),
-    "SELECT id FROM texts ORDER BY CASE WHEN x = ? THEN 0 ELSE 1 END, id LIMIT 1;": (found_first, unchanged),
-    "UPDATE one SET x = COALESCE(?, x) WHERE id = 2;": (none, second),
-    f"WITH u AS ({THOSE}) SELECT id FROM u;": (same, unchanged),
-    f"{TWO} ON CONFLICT (id) DO UPDATE SET x = ?;": (none, second),
-    f"{TWO} ON CONFLICT (id) DO UPDATE SET x = ? RETURNING x;": (given, second),
-    f"{TWO} ON CONFLICT (id) DO UPDATE SET id = 2, x = ? RETURNING ?;": (given, second),
-    f"{TWO} ON CONFLICT (id) DO UPDATE SET x = excluded.x;": (none, second),
-    f"{TWO} ON CONFLICT (id) DO NOTHING;": (none, unchanged),
-    f"{FOUR} ON CONFLICT DO NOTHING RETURNING x;": (given, fourth),
-    f"{TWO} ON DUPLICATE KEY UPDATE x = ?, x = ?;": (none, second),
-    f"{TWO} ON DUPLICATE KEY UPDATE id = 2, x = VALUES(x) RETURNING x;": (given, second),
-    "INSERT INTO one (id, x) SELECT 4, x FROM texts WHERE x = ?;": (none, fourth),
-    "INSERT INTO one (id, x) SELECT 2, x FROM texts WHERE x = ? ON CONFLICT (id) DO UPDATE SET x = ?;": (none, second),
-    f"WITH u AS ({THOSE}), v AS ({THOSE}) SELECT id FROM texts WHERE (x = ?) AND (id IN (SELECT id FROM u)) AND (id IN (SELECT id FROM v));": (
-        same,
-        unchanged,
-    ),
-    "WITH u AS (SELECT x FROM texts WHERE x = ?) INSERT INTO one (id, x) SELECT 2, x FROM u WHERE x = ? ON CONFLICT (id) DO UPDATE SET x = excluded.x;": (
+    "instr": ("SELECT id FROM texts WHERE instr(x, ?) > 0;", within, unchanged),
+    "strpos": ("SELECT id FROM texts WHERE strpos(x, ?) > 0;", within, unchanged),
+    "lower": ("SELECT id FROM texts WHERE lower(x) = lower(?);", alike, unchanged),
+    "a template in a template": ("SELECT id FROM texts WHERE lower(x) = (lower(?));", alike, unchanged),
+    "case": ("SELECT id FROM texts WHERE CASE WHEN (x = ?) THEN ? ELSE 'b' END = ?;", same_or_b, unchanged),
+    "order": ("SELECT id FROM texts ORDER BY CASE WHEN x = ? THEN 0 ELSE 1 END, id LIMIT 1;", first, unchanged),
+    "set": ("UPDATE one SET x = COALESCE(?, x) WHERE id = 2;", none, second),
+    "WITH": (f"WITH u AS ({THOSE}) SELECT id FROM u;", same, unchanged),
+    "update": (f"{TWO} ON CONFLICT (id) DO UPDATE SET x = ?;", none, second),
+    "returning": (f"{TWO} ON CONFLICT (id) DO UPDATE SET x = ? RETURNING x;", given, second),
+    "second set": (f"{TWO} ON CONFLICT (id) DO UPDATE SET id = 2, x = ? RETURNING ?;", given, second),
+    "excluded": (f"{TWO} {EXCLUDED}", none, second),
+    "nothing": (f"{TWO} ON CONFLICT (id) DO NOTHING;", none, unchanged),
+    "new row": (f"{FOUR} ON CONFLICT DO NOTHING RETURNING x;", given, fourth),
+    "duplicate key": (f"{TWO} ON DUPLICATE KEY UPDATE x = ?, x = ?;", none, second),
+    "inserted": (f"{TWO} ON DUPLICATE KEY UPDATE id = 2, x = VALUES(x) RETURNING x;", given, second),
+    "rows of a query": ("INSERT INTO one (id, x) SELECT 4, x FROM texts WHERE x = ?;", none, fourth),
+    "rows in conflict": ("INSERT INTO one (id, x) SELECT 2, x FROM texts WHERE x = ? ON CONFLICT (id) DO UPDATE SET x = ?;", none, second),
+    "two WITH": (BOTH, same, unchanged),
+    "rows behind WITH": (
+        f"WITH u AS (SELECT x FROM texts WHERE x = ?) INSERT INTO one (id, x) SELECT 2, x FROM u WHERE x = ? {EXCLUDED}",
         none,
         second,
     ),
-    f"{THOSE} INTERSECT {THOSE};": (same, unchanged),
-    "SELECT id FROM texts EXCEPT SELECT id FROM texts WHERE x <> ?;": (same, unchanged),
-    f"{THOSE} FOR UPDATE SKIP LOCKED;": (same, unchanged),
-    f"SELECT id FROM texts WHERE {OF_ONE}": (same, unchanged),
-    f"SELECT id FROM texts WHERE NOT {OF_ONE}": (by(lambda it, text, low: it != text), unchanged),
+    "INTERSECT": (f"{THOSE} INTERSECT {THOSE};", same, unchanged),
+    "EXCEPT": ("SELECT id FROM texts EXCEPT SELECT id FROM texts WHERE x <> ?;", same, unchanged),
+    "lock": (f"{THOSE} FOR UPDATE SKIP LOCKED;", same, unchanged),
+    "EXISTS": (f"SELECT id FROM texts WHERE {OF_ONE}", same, unchanged),
+    "NOT EXISTS": (f"SELECT id FROM texts WHERE NOT {OF_ONE}", other, unchanged),
 }
 # What a database doesn't have.
 LACKS = {
@@ -115,53 +99,43 @@ LACKS = {
     "MariaDB": ("strpos", "CONFLICT"),
     KIT: ("strpos", "DUPLICATE", "LOCKED", "?) INSERT"),
 }
-WIDTH = 9
-
-
-class Line(Bound):
-    """A line, as the program makes it, and what the kit's `sqlite` found."""
-
-    def __init__(self, name, question, dollar, positional, values, kit):
-        super().__init__(question, dollar, positional, values_of(values), values_of(values))
-        self.name, self.kit = name, kit
 
 
 class Attack(Bound):
     """A template with a text in each hole, as the program makes it, and what the kit's `sqlite` found and left of both."""
 
-    def __init__(self, template, text, value, kit_value, left_value, question, dollar, positional, values, kit_bound, left_bound):
-        super().__init__(question, dollar, positional, values_of(values), values_of(values))
-        self.name, self.text, self.value, self.changes = template, text, value, "INTO one" in template or "UPDATE one" in template
-        self.kit = {"as values": (kit_value, left_value), "as parameters": (kit_bound, left_bound)}
+    def __init__(self, name, text, value, kit_value, left_value, *bound):
+        super().__init__(name, text, *bound)
+        self.template, self.value = TEMPLATES[name][0], value
+        self.changes = "INTO one" in self.template or "UPDATE one" in self.template
+        self.kit = {"as values": (kit_value, left_value), "as parameters": self.kit}
 
     def finds(self, texts, product):
         """The rows that are meant to be found, and what is to be in the table `one` then."""
-        finds, leaves = TEMPLATES[self.name]
+        _, finds, leaves = TEMPLATES[self.name]
         return finds(texts, self.text, str.lower if product == "MariaDB" else lower), leaves(self.text)
 
     def is_lacking(self, product):
-        return any(it in self.name for it in LACKS[product])
+        return any(it in self.template for it in LACKS[product])
 
 
 def made():
     """The lines, and the templates with each text."""
-    given = SEPARATOR.join([SHOP.format(text="TEXT", json="TEXT", order='"order"'), *TEXTS])
-    with tempfile.TemporaryDirectory(prefix="lines-") as folder:
-        program = proved(folder, "lines", "sql_typed", "sqlite")
-        parts = parts_of(program, given, 6 * len(LINES) + WIDTH * len(TEMPLATES) * len(TEXTS))
-    lines = [Line(*(next(parts) for _ in range(6))) for _ in LINES]
-    return lines, [Attack(template, text, *(next(parts) for _ in range(WIDTH))) for text in TEXTS for template in TEMPLATES]
+    count, shop = 6 * len(LINES) + 10 * len(TEMPLATES) * len(TEXTS), SHOP.format(text="TEXT", json="TEXT", order='"order"')
+    parts = written("lines", ("sql_typed", "sqlite"), count, LINES, [shop], TEMPLATES, TEXTS)
+    lines = [Bound(name, "", *itertools.islice(parts, 6)) for name in LINES]
+    return lines, [Attack(name, text, *itertools.islice(parts, 10)) for text in TEXTS for name in TEMPLATES]
 
 
-def check(lines, attacks, tally):
+def check(attacks, tally):
     """That the statements are the templates with literals or placeholders in their holes."""
-    tally.expect("the lines", [it.name for it in lines], [*LINES])
+    tally.expect("what only the program has", arms("lines") - {*LINES, *TEMPLATES}, set())
     for it in attacks:
-        first, *others = it.name.split("?")
+        first, *others = it.template.split("?")
         numbered = lambda sign: first + "".join(f"{sign}{number}{part}" for number, part in enumerate(others, 1))
-        wanted = [quoted(it.text).join([first, *others]), numbered("?"), numbered("$"), it.name]
-        if [it.value, it.question, it.dollar, it.positional] != wanted or it.values != [it.text] * len(others):
-            tally.fail(it.name, f"{it.text!r} gives {it.value!r}, {it.question!r}, {it.values!r}")
+        wanted = [quoted(it.text).join([first, *others]), numbered("?"), numbered("$"), it.template]
+        if [it.value, it.question, it.dollar, it.positional] != wanted or not it.values == it.ordered == [it.text] * len(others):
+            tally.fail(it.template, f"{it.text!r} gives {it.value!r}, {it.question!r}, {it.values!r}")
     tally.count(attacks, "no attacks")
 
 
@@ -231,16 +205,17 @@ def show_lines(lines, results, tally):
 
 def line_of_kit(line):
     """What the kit's `sqlite` found of a line; what it leaves isn't looked at."""
-    if line.kit == "refused":
+    [found] = line.kit
+    if found == "refused":
         return "refused"
-    found = shown(rows_of(line.kit))
+    found = shown(rows_of(found))
     return "same" if is_found(LINES[line.name][1], found) else found
 
 
 def main():
     tally, results = Tally("lines"), {}
     lines, attacks = made()
-    check(lines, attacks, tally)
+    check(attacks, tally)
     head("database", "texts", "statements", "as meant", "otherwise", "refused")
     each(tally, lambda db: measure(db, lines, attacks, results, tally))
     for way in ("as values", "as parameters"):

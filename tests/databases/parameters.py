@@ -15,45 +15,37 @@ refuses."""
 
 import collections
 import functools
+import itertools
 import operator
 import os
 import re
 import sys
-import tempfile
 
 sys.path.append(os.path.realpath(f"{__file__}/../../lib"))
-from bound import EMPTY, END_OF_ROW, TEXTS, ZERO, Bound, came, kept, of_kit, prepare, show, values_of
-from built import SEPARATOR, parts_of, proved
 from blocks import code_spans
+from bound import COMPARED, EMPTY, OF_TEXT, TEXTS, ZERO, Bound, came, kept, masks, of_kit, prepare, show, values_of
+from built import arms, written
 from connections import Refused, each, found_rows, head
 from hostile import pattern
 from tally import Tally
 
-OF_TEXT = ", of the text"
-
 
 @functools.cache
-def ids(texts, number, text):
+def ids(texts, condition, text):
     """The rows of the table of texts that a condition finds."""
-    return [(b"%d" % at,) for at, it in enumerate(texts) if FITS[number](it, text)]
+    return [(b"%d" % at,) for at, it in enumerate(texts) if CONDITIONS[condition](it, text)]
 
 
-# The calls in the order of parameters.rt.txt, with what each finds of a text and of the rows that have it.
+# The calls, with what each finds of a text and of the rows that have it.
+OF_TEXTS = ("limit", "or_where", "on", "on_eq", "having", "tables", "union", "condition of a template")
 CALLS = {
-    "set": lambda text, rows: [],
-    "row": lambda text, rows: [(text.encode(),)],
-    "values": lambda text, rows: [],
-    "delete": lambda text, rows: [(text.encode(),)],
-    "field": lambda text, rows: [(text.encode(),)],
-    "count": lambda text, rows: [(b"3",)],
-    **dict.fromkeys(("limit", "or_where", "on", "on_eq", "having", "tables", "union"), lambda text, rows: rows),
+    **dict.fromkeys(("set", "values", "statement of a template"), lambda text, rows: []),
+    **dict.fromkeys(("row", "delete", "field", "operand of a template"), lambda text, rows: [(text.encode(),)]),
+    **dict.fromkeys(("count", "group_by"), lambda text, rows: [(b"3",)]),
+    **dict.fromkeys(OF_TEXTS, lambda text, rows: rows),
     "union_all": lambda text, rows: rows * 2,
-    "group_by": lambda text, rows: [(b"3",)],
     # the first of all
     "order_asc": lambda text, rows: [(b"0",)],
-    "condition of a template": lambda text, rows: rows,
-    "operand of a template": lambda text, rows: [(text.encode(),)],
-    "statement of a template": lambda text, rows: [],
 }
 # What is in the table `one` behind some.
 LEAVES = {
@@ -61,41 +53,22 @@ LEAVES = {
     **dict.fromkeys(("row", "values", "statement of a template"), lambda text: kept(text, 4)),
     "delete": lambda text: [EMPTY[0], EMPTY[2]],
 }
+MASKS = ("containing", "starting_with", "ending_with")
 CONDITIONS = {
-    **{it.__name__: it for it in (operator.eq, operator.ne, operator.gt, operator.ge, operator.lt, operator.le)},
-    "eq_or_null": operator.eq,
-    "all": operator.eq,
-    "in_values": lambda it, text: it in (text, "b"),
-    "not_in_values": lambda it, text: it not in (text, "b"),
-    "between": lambda it, text: text <= it <= "b",
-    "between, the other": lambda it, text: "'" <= it <= text,
-    "not_between": lambda it, text: not text <= it <= "b",
-    "not_between, the other": lambda it, text: not "'" <= it <= text,
-    "any": operator.eq,
-    "not ne": operator.eq,
-    "not in_values": operator.ne,
+    **COMPARED,
+    **dict.fromkeys(("not in_values", "not between"), operator.ne),
     "any of two": lambda it, text: it < "'" or it > text,
-    "not between": operator.ne,
-    "in_query": operator.eq,
-    "not_in_query": operator.ne,
-    "like_mask of containing": str.__contains__,
-    "not_like_mask of containing": lambda it, text: text not in it,
-    "like_mask of starting_with": str.startswith,
-    "not_like_mask of starting_with": lambda it, text: not it.startswith(text),
-    "like_mask of ending_with": str.endswith,
-    "not_like_mask of ending_with": lambda it, text: not it.endswith(text),
+    **masks(*(f"like_mask of {it}" for it in MASKS)),
 }
 NAMES = [*CALLS, *CONDITIONS, *(it + OF_TEXT for it in CONDITIONS)]
-FITS = [*CONDITIONS.values()]
-MASKS = ("containing", "starting_with", "ending_with")
 # What the kit's SQL takes no value in.
 NOT_IN_KIT = ("group_by", "order_asc")
 # Conditions on the text that compare it with another value.
 BY_ORDER = ("between", "between, the other", "not_between", "not_between, the other", "any of two")
 # The most values that PostgreSQL and MariaDB take. Debian's SQLite takes more.
 MOST = 65_535
-# Statements with one value, and the rows of `one` that each database finds; and texts with numbers, made positional with the values 2 and
-# 3: how many values these give, how many placeholders MariaDB takes there, and the rows that it finds if they are as many.
+# Statements with one value, and the rows of `one` that each database finds. Then texts with numbers, made positional with the values
+# 2 and 3: how many values these give. Of MariaDB: how many placeholders it takes, and what it finds if they are as many.
 BOUND, POSITIONAL = ([*found_rows("Parameters", number)] for number in (1, 2))
 # What may come of a statement.
 CAME = ("same", "cut", "collated", "other", "refused")
@@ -104,11 +77,11 @@ KNOWN = CAME[:3]
 
 
 class Statement(Bound):
-    """What the program makes of a call and a text: the statement with its values, and what the kit found and left."""
+    """What the program makes of a call and a text."""
 
-    def __init__(self, name, text, question, dollar, positional, numbered, ordered, *kit):
-        super().__init__(question, dollar, positional, values_of(numbered), values_of(ordered))
-        self.name, self.text, self.kit, self.changes = name, text, kit, name in LEAVES
+    @property
+    def changes(self):
+        return self.name in LEAVES
 
     @property
     def is_masked(self):
@@ -116,13 +89,13 @@ class Statement(Bound):
 
     def finds(self, texts, _product):
         """The rows that are meant to be found, and what is to be in the table `one` then."""
-        rows = ids(texts, 0, self.text)
+        rows = ids(texts, "eq", self.text)
         if self.name in CALLS:
             return CALLS[self.name](self.text, rows), LEAVES.get(self.name, lambda _: EMPTY)(self.text)
-        number = [*CONDITIONS].index(self.name.removesuffix(OF_TEXT))
-        if self.name.endswith(OF_TEXT):
-            return rows if FITS[number](self.text, self.text) else [], EMPTY
-        return ids(texts, number, self.text), EMPTY
+        condition = self.name.removesuffix(OF_TEXT)
+        if self.name == condition:
+            return ids(texts, condition, self.text), EMPTY
+        return rows if CONDITIONS[condition](self.text, self.text) else [], EMPTY
 
     def otherwise(self, db, found, texts):
         """`cut` is what SQLite's LIKE finds of a zero byte, and `collated` of two values on MariaDB."""
@@ -135,21 +108,22 @@ class Statement(Bound):
         until = lambda text: text.split(ZERO)[0]
         matches = lambda text: bool(pattern(until(self.values[-1])).fullmatch(until(text))) != self.name.startswith("not")
         if self.name.endswith(OF_TEXT):
-            return ids(texts, 0, self.text) if matches(self.text) else []
+            return ids(texts, "eq", self.text) if matches(self.text) else []
         return [(b"%d" % at,) for at, it in enumerate(texts) if matches(it)]
 
 
 def made():
     """All statements of all texts, and those of POSITIONAL with their values."""
-    given = SEPARATOR.join(TEXTS) + END_OF_ROW + SEPARATOR.join(f"SELECT id FROM one WHERE {it}" for it, *_ in POSITIONAL)
-    with tempfile.TemporaryDirectory(prefix="parameters-") as folder:
-        parts = parts_of(proved(folder, "parameters", "sql_typed", "sqlite"), given, 7 * len(NAMES) * len(TEXTS) + 2 * len(POSITIONAL))
-    statements = [Statement(name, text, *(next(parts) for _ in range(7))) for text in TEXTS for name in NAMES]
-    return statements, [(next(parts), values_of(next(parts))) for _ in POSITIONAL]
+    count, uses = 7 * len(NAMES) * len(TEXTS) + 3 * len(POSITIONAL), ("sql_typed", "sqlite")
+    parts = written("parameters", uses, count, NAMES, TEXTS, [f"SELECT id FROM one WHERE {it}" for it, *_ in POSITIONAL])
+    statements = [Statement(name, text, *itertools.islice(parts, 7)) for text in TEXTS for name in NAMES]
+    positional = [(*itertools.islice(parts, 3),) for _ in POSITIONAL]
+    return statements, [(text, values_of(ordered)) for text, _, ordered in positional]
 
 
 def check(statements, tally):
     """That the texts of a call are the same for all values, and that the values of `?` are those of the numbers."""
+    tally.expect("what only the program has", arms("parameters", "conditions") - {*NAMES}, set())
     texts = collections.defaultdict(set)
     for it in statements:
         texts[it.name].add((it.question, it.dollar, it.positional))
@@ -166,10 +140,10 @@ def check(statements, tally):
 
 def takes(db, count, *how):
     """Whether a statement takes so many values, in a list."""
-    numbers = [*range(count)]
-    lists = (*(", ".join(f"{sign}{it + 1}" for it in numbers) for sign in "?$"), ", ".join("?" * count))
+    numbers = range(1, count + 1)
+    holes = ", ".join(db.placeholder.replace("1", f"{it}") for it in numbers)
     try:
-        return Bound(*(f"SELECT id FROM one WHERE id IN ({it})" for it in lists), numbers, numbers).run(db, *how) == [(b"1",), (b"2",), (b"3",)]
+        return db.run_with(f"SELECT id FROM one WHERE id IN ({holes})", [*numbers], *how) == [(b"1",), (b"2",), (b"3",)]
     except Refused:
         return False
 

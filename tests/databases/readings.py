@@ -21,8 +21,8 @@ MEANT = "docs/reference/readings.md"
 COLUMNS = {"numbers": ("INTEGER", "1", "2", "60"), "texts": ("", "'x1'", "'y'", "'x3'"), "large numbers": ("NUMERIC(20)", "1", "18446744073709551615", "5")}
 # What a statement finds where it doesn't run, and where it finds no row.
 REFUSED, NOTHING = "error", "nothing"
-# The texts that templates are bound with, and what shows that a placeholder is no text of its own: the first of them that isn't stored
-# as it is. Nothing shows it where it is one, and nothing has to where the template doesn't run with an empty text.
+# The texts that templates are bound with. The first of them that isn't stored as it is shows that the placeholder is no text of its own.
+# Nothing shows it where it is one, and nothing has to where the template doesn't run with an empty text.
 PROBES = ("", "it's", "a\\nb", "🙂")
 TRIED, NO_TEXT, EMPTY = "all stored", "doesn't run", "the empty text"
 # What LIKE finds otherwise than it is meant, of a text and a mask, or of both of so many bytes.

@@ -28,7 +28,8 @@ import tempfile
 from dataclasses import dataclass
 
 sys.path.append(os.path.realpath(f"{__file__}/../../lib"))
-from built import SEPARATOR, build, parts_of, printed, proved
+from bound import COMPARED, OF_TEXT, masks
+from built import arms, build, parts_of, printed, proved
 from connections import Refused, each, head, row
 from hostile import all_of, attacks, fits_line, is_like, pattern, texts
 from repository import read
@@ -37,26 +38,23 @@ from tally import Tally
 
 TAB, BACKSLASH = "\t", "\\"
 IN_ORDER = "SELECT id, x FROM one ORDER BY id"
-# The calls of texts.rt.txt, in its order.
+# The calls that put a text into a row.
 CALLS = ("quote", "bind", "binds", "bind_num", "bind_nums", "bind_name", "bind_names")
-# The calls of LIKE, and which texts fit a mask without wildcards.
+# The calls of LIKE, and which texts fit a mask without wildcards. By these names texts.rt.txt makes masks too.
 LIKES = {
     "and_where_like": str.__eq__,
     "and_where_like_left": str.startswith,
     "and_where_like_right": str.endswith,
     "and_where_like_any": str.__contains__,
 }
-# The masks of texts.rt.txt, in its order, which follow its calls.
-MASKS = tuple(LIKES.values())
-# Behind these is whether the text is let in, and then statements by types. These store it in this row, or have it as a name too.
-LET_IN = len(CALLS) + len(MASKS)
+# Statements by types. These store the text in this row, or have it as a name too.
 STORES = {"set": 2, "set_str": 2, "values": 4, "row": 4, "operand": 4}
 NAMES = {"the name of set": 2, "the name of set_str": 2, "an inserted name": 4}
-COLUMN = LET_IN + 1 + len(STORES) + len(NAMES)
 # What these give of a text and the numbers of the rows that have it: first those that a database may refuse.
 ALL_ROWS = [(b"1",), (b"2",), (b"3",)]
+COLUMN = "column"
 MAY_GIVE = {
-    "column": lambda text, rows: [(b"2",)],
+    COLUMN: lambda text, rows: [(b"2",)],
     **dict.fromkeys(("group_by", "order_asc", "order_desc"), lambda text, rows: ALL_ROWS),
     "the name of count_as": lambda text, rows: [(b"3",)],
     "the name of subquery_as": lambda text, rows: rows,
@@ -67,21 +65,18 @@ GIVES = {
     **dict.fromkeys(("or_where", "on", "on_eq", "on_eq, the other way", "having", "tables", "print_to", "union"), lambda text, rows: rows),
     "union_all": lambda text, rows: 2 * rows,
 }
-# Then conditions on a column, with the texts that each finds, and the same on the text.
-WIDTH = COLUMN + len(MAY_GIVE) + len(GIVES)
-FILTERS = (
-    *(operator.eq, operator.ne, operator.gt, operator.ge, operator.lt, operator.le),
-    lambda it, text: is_like(it, f"{text}%"),
-    lambda it, text: not is_like(it, f"%{text}%"),
-    *(lambda it, text, fits=fits, finds=finds: fits(it, text) == finds for fits in (str.__contains__, str.startswith, str.endswith) for finds in (True, False)),
-    lambda it, text: it in (text, "b"),
-    lambda it, text: it not in (text, "b"),
-    lambda it, text: text <= it <= "b",
-    lambda it, text: "'" <= it <= text,
-    lambda it, text: not text <= it <= "b",
-    lambda it, text: not "'" <= it <= text,
-    *(operator.eq, operator.eq, operator.eq, operator.ne, operator.eq, operator.eq, operator.eq),
-)
+# Conditions on a column, with the texts that each finds, and the same on the text. In these masks a backslash may escape.
+LIKE = {"like": lambda it, text: is_like(it, f"{text}%"), "not_like": lambda it, text: not is_like(it, f"%{text}%")}
+FILTERS = {
+    **COMPARED,
+    **LIKE,
+    "eq of an operand": operator.eq,
+    **masks("contains", "starts_with", "ends_with"),
+}
+BY_TYPES = (*STORES, *NAMES, *MAY_GIVE, *GIVES, *FILTERS, *(it + OF_TEXT for it in FILTERS))
+# Whether a text is let in.
+LET_IN = "let in"
+MAKES = (*CALLS, *LIKES, LET_IN, *BY_TYPES)
 # A text that is the same in each literal, and in no other part of a statement.
 HARMLESS = "é"
 # What can come of a statement.
@@ -198,10 +193,9 @@ class Statements:
         self.scripts = {"a zero byte": self.scripted(self.zeros), "a digit": self.scripted([it.replace("\0", "0") for it in self.zeros])}
 
     def called(self, texts):
-        """Of each text its statements by CALLS, those by MASKS, whether it is let in, and its statements by types."""
-        width = WIDTH + 2 * len(FILTERS)
-        parts = parts_of(self.program, SEPARATOR.join(texts), width * len(texts))
-        return [[*itertools.islice(parts, width)] for _ in texts]
+        """What each of MAKES makes of each text."""
+        parts = parts_of(self.program, len(MAKES) * len(texts), MAKES, texts)
+        return [dict(zip(MAKES, itertools.islice(parts, len(MAKES)))) for _ in texts]
 
     def numbered(self, texts):
         """The rows of these texts as a query finds them."""
@@ -218,23 +212,23 @@ class Statements:
         lines = [*self.lines, *self.zeros]
         yield from (self.kept("set_str", *it, 2) for it in zip(printed([update(2, it) for it in lines]), lines))
         made, texts = [*self.made, *self.called(self.zeros)], [*self.all, *self.zeros]
-        for number, call in enumerate(CALLS):
+        for call in CALLS:
             name = "quote" if call == "quote" else "the six calls of binding"
-            yield from (self.kept(name, statements[number], text, 2) for statements, text in zip(made, texts))
+            yield from (self.kept(name, statements[call], text, 2) for statements, text in zip(made, texts))
 
     def storing(self):
         """The same of statements by types."""
-        for number, (call, place) in enumerate([*STORES.items(), *NAMES.items()], LET_IN + 1):
+        for call, place in (STORES | NAMES).items():
             name = "a name or constant by types" if call in NAMES else "set, set_str, values and row by types"
-            yield from (self.kept(name, statements[number], text, place) for statements, text in self.typed)
+            yield from (self.kept(name, statements[call], text, place) for statements, text in self.typed)
 
     def giving(self):
         """The statements by types that give rows."""
-        for number, (call, gives) in enumerate({**MAY_GIVE, **GIVES}.items(), COLUMN):
-            name = "other arguments by types" if call in GIVES else "a column by types" if call == "column" else "a name or constant by types"
+        for call, gives in (MAY_GIVE | GIVES).items():
+            name = "other arguments by types" if call in GIVES else "a column by types" if call == COLUMN else "a name or constant by types"
             for statements, text in self.typed:
                 wanted = gives(text, self.numbered([text]))
-                yield Case(name, statements[number], [text], wanted, before=text if call == "delete" else None)
+                yield Case(name, statements[call], [text], wanted, before=text if call == "delete" else None)
 
     def scripted(self, texts):
         """Scripts that put each text into a row, and SECOND into the next one."""
@@ -257,29 +251,30 @@ class Statements:
 
     def matching(self):
         """Statements that ask for the rows that an escaped text matches."""
-        for number, fits in enumerate(MASKS, len(CALLS)):
+        for call, fits in LIKES.items():
             for statements, text in zip(self.made, self.all):
-                yield Case("escape_like", statements[number], [text], self.numbered(it for it in self.rows if fits(it, text)))
+                yield Case("escape_like", statements[call], [text], self.numbered(it for it in self.rows if fits(it, text)))
 
     def asking(self):
         """Statements by types that ask for the rows that a condition on an attack finds; what a backslash means in a mask is no matter here."""
-        for number, fits in enumerate(FILTERS):
+        for name, fits in FILTERS.items():
             for statements, text in self.typed:
-                if not (number in (6, 7) and BACKSLASH in text):
+                if not (name in LIKE and BACKSLASH in text):
                     found = self.numbered(it for it in self.rows if fits(it, text))
-                    yield Case("conditions by types", statements[WIDTH + number], [text], found)
+                    yield Case("conditions by types", statements[name], [text], found)
                     found = self.numbered([text] if fits(text, text) else [])
-                    yield Case("conditions by types", statements[WIDTH + len(FILTERS) + number], [text], found)
+                    yield Case("conditions by types", statements[name + OF_TEXT], [text], found)
 
     def differing(self):
         """The statements by types in which an attack changes more than its literals: what is around them has to be what is there with a
         harmless text, and inside of them each quote has to be doubled, and each wildcard escaped or none."""
-        wanted = [it.split(HARMLESS) for it in self.called([HARMLESS])[0]]
+        [wanted] = self.called([HARMLESS])
         for made, text in self.typed:
             literals = "|".join(re.escape(it.replace("'", "''")) for it in (text, re.sub("[%_!]", r"!\g<0>", text)))
-            for number, parts in enumerate(wanted):
-                if number > LET_IN and number != COLUMN and not re.fullmatch(f"({literals})".join(map(re.escape, parts)), made[number]):
-                    yield made[number]
+            for name in BY_TYPES:
+                shape = f"({literals})".join(map(re.escape, wanted[name].split(HARMLESS)))
+                if name != COLUMN and not re.fullmatch(shape, made[name]):
+                    yield made[name]
 
 
 def is_dropped(db):
@@ -389,7 +384,7 @@ def answers(db, zero):
 
 def measure(db, statements, checked, shown, tally):
     """Measures a database by each of its settings: prints what came of the statements, and adds what is as defined, and what fragments show."""
-    zero = statements.called(["a\0b"])[0][CALLS.index("bind")]
+    zero = statements.called(["a\0b"])[0]["bind"]
     for setting in db.settings:
         db.set(setting)
         for call, counts in count_came(db, statements).items():
@@ -426,6 +421,7 @@ def main():
     tally.expect("worked rows that are not what is tried on the databases", [*differing_rows()], [])
     build()
     with tempfile.TemporaryDirectory(prefix="calls-") as folder:
+        tally.expect("what only the program has", arms("texts") - {*MAKES}, set())
         statements = Statements(proved(folder, "texts", "sql_typed"))
         tally.expect("statements by types in which an attack changes more than its literal", [*statements.differing()], [])
         print(f"{len(statements.all)} texts, of which {len(statements.lines)} go through sqlb, and {len(statements.attacks)} attacks of pages\n")

@@ -25,8 +25,8 @@ NUMBERS, TEXTS = (None, 0, 1, 2), (None, "", "a", "ab", "b'a", "a%b")
 COLUMNS = ("a", "b", "c")
 ROWS = [dict(zip((*COLUMNS, "d"), it)) for it in itertools.product(NUMBERS, NUMBERS, NUMBERS, TEXTS)]
 # The comparisons, by the calls' endings.
-COMPARED = {it.__name__: it for it in (operator.eq, operator.ne, operator.gt, operator.ge, operator.lt, operator.le)}
-SIGNS = dict(zip(COMPARED, ("=", "<>", ">", ">=", "<", "<=")))
+SIGNED = {it.__name__: it for it in (operator.eq, operator.ne, operator.gt, operator.ge, operator.lt, operator.le)}
+SIGNS = dict(zip(SIGNED, ("=", "<>", ">", ">=", "<", "<=")))
 # The calls of LIKE, and the mask of each.
 MASKS = {"like": "{}", "like_left": "{}%", "like_right": "%{}", "like_any": "%{}%"}
 
@@ -49,7 +49,7 @@ def or3(values):
 
 
 def compared(sign, x, y):
-    return None if x is None or y is None else COMPARED[sign](x, y)
+    return None if x is None or y is None else SIGNED[sign](x, y)
 
 
 def is_in(x, values):

@@ -6,13 +6,14 @@ import re
 import shutil
 import subprocess
 import sys
+import tempfile
 from dataclasses import dataclass
 
 from repository import CRATES, ROOT, read
 
 SQLB = f"{CRATES}/sqlb/out/sqlb"
-# What is between the texts that a program of tests/databases reads and writes.
-SEPARATOR = "\x1e"
+# What is between the texts that a program of tests/databases reads and writes, and between lists of them.
+SEPARATOR, END_OF_LIST = "\x1e", "\x1d"
 
 
 @dataclass
@@ -28,10 +29,10 @@ class Ran:
         return self.out, self.err, self.status
 
 
-def rt(folder, *words):
-    """Runs `rt` in a crate's folder, and ends if it fails."""
+def rt(folder, *words, makes=""):
+    """Runs `rt` in a crate's folder. Ends if it fails, or if it doesn't make this program, however that ends."""
     ran = subprocess.run(["rt", *words], cwd=folder, stdin=subprocess.DEVNULL, capture_output=True, text=True)
-    if ran.returncode:
+    if not os.path.exists(makes) if makes else ran.returncode:
         sys.exit(f"{ran.stdout}{ran.stderr}FAILED: rt {' '.join(words)} in {folder}")
 
 
@@ -58,15 +59,34 @@ def lay_out(folder, name, uses, sources, parts=("",)):
     return f"{folder}/crates/{name}"
 
 
+def source(name):
+    return read(f"tests/databases/{name}.rt.txt")
+
+
 def proved(folder, name, *uses):
-    """Proves and builds tests/databases/NAME.rt.txt, over the proofs of the crates that it uses. Gives the program's path."""
-    crate = lay_out(folder, name, uses, {"main": read(f"tests/databases/{name}.rt.txt")})
-    rt(crate, "run")
-    return f"{crate}/out/{name}"
+    """Proves and builds tests/databases/NAME.rt.txt, with its modules beside it, over the proofs of the crates that it uses. Gives the
+    program's path."""
+    modules = {it: source(it) for it in re.findall(r"(?m)^mod (\w+);", source(name))}
+    crate = lay_out(folder, name, (*uses, "anyhow"), {"main": source(name), **modules})
+    program = f"{crate}/out/{name}"
+    rt(crate, "run", makes=program)
+    return program
 
 
-def parts_of(program, given, count):
-    """The so many parts that a program writes of an input, each with a separator behind it, one after another."""
+def arms(*names):
+    """The texts that these programs have arms of a `match` for."""
+    return {it for name in names for it in re.findall(r'"([^"]*)"(?= \| "| =>)', source(name))}
+
+
+def written(name, uses, count, *inputs):
+    """The parts that tests/databases/NAME.rt.txt writes, which is proved over these crates."""
+    with tempfile.TemporaryDirectory(prefix=f"{name}-") as folder:
+        return parts_of(proved(folder, name, *uses), count, *inputs)
+
+
+def parts_of(program, count, *inputs):
+    """The so many parts that a program writes of lists of texts, each with a separator behind it, one after another."""
+    given = END_OF_LIST.join(map(SEPARATOR.join, inputs))
     parts = subprocess.run([program], input=given.encode(), stdout=subprocess.PIPE, check=True).stdout.decode().split(SEPARATOR)
     if len(parts) != count + 1:
         sys.exit(f"FAILED: {program} wrote {len(parts) - 1} parts, not {count}")

@@ -179,8 +179,8 @@ def renamed(function, at, new, names):
         if (enum, it) in names.numbers:
             yield f"{enum}-{old}".lower(), f"{enum}-{it}".lower()
             yield f"{old} {names.numbers.get((enum, old))}", f"{it} {names.numbers[enum, it]}"
-        elif it.startswith("hold_"):
-            yield from ((old, it), (old.removeprefix("hold_"), it.removeprefix("hold_")))
+        elif it.startswith("step_"):
+            yield from ((old, it), (old.removeprefix("step_"), it.removeprefix("step_")))
 
 
 def replaced(function, at, number, new, names, folder):
