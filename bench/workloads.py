@@ -87,8 +87,8 @@ class Calls:
         return not self.is_test or int(printed.readline()) == (0 if self.step.startswith("has_") else self.count)
 
 
-# Steps by types, beside the same statements by the builder; by parameters, beside the same by `Value`s; and those that the crate doesn't
-# have: what is aimed at is the greatest number of instructions for a byte.
+# Steps by types, beside the same statements by the builder, and by parameters, beside the same by `Value`s. Of those that the crate
+# doesn't have, the aim is the greatest number of instructions for a byte.
 Typed = partial(Calls, ours="typed", crate="built", memory=1.15)
 Bound = partial(Typed, prints_same=False)
 Own = partial(Calls, crate=None)
@@ -210,15 +210,9 @@ CALLS = [
     Calls("`quote`, 1 MB of quotes", "quote", 100, 0.9, repeated("'" * 1_000_000)),
     *(Calls(f"`{call}`, 40 bytes", call, 200_000, 0.55, template(call, it)) for call, it in TEMPLATES.items()),
     Calls("`binds` of 5", "binds", 200_000, 1.0, lambda times: f"a b c d e\n{'?, ?, ?, ?, ?, ' * times}"),
-    *(
-        Calls(f"`bind_nums` of {count}", "bind_nums", 200_000, 1.0, numbered_few(count))
-        for count in (2, 5)
-    ),
+    *(Calls(f"`bind_nums` of {count}", "bind_nums", 200_000, 1.0, numbered_few(count)) for count in (2, 5)),
     Calls("three `bind` in a chain, 40 bytes", "bind_chain", 100_000, 0.55, repeated(TEMPLATES["binds"])),
-    *(
-        Calls(f"`{call}`, 4 KB", call, 5_000, 0.75, template(call, filled(it + PLAIN, "a = b")))
-        for call, it in TEMPLATES.items()
-    ),
+    *(Calls(f"`{call}`, 4 KB", call, 5_000, 0.75, template(call, filled(it + PLAIN, "a = b"))) for call, it in TEMPLATES.items()),
     Calls("`bind_num`, 4 KB among other numbers", "bind_num", 5_000, 0.75, repeated(filled("($2, $30, $4), ", "($1)"))),
     Calls("`bind_name`, 4 KB among other names", "bind_name", 5_000, 0.75, repeated(filled("(:name:, :sold:), ", "(:title:)"))),
     Calls("`bind_name`, 4 KB among other colons", "bind_name", 5_000, 0.75, repeated(filled("('12:30:59'), ", "(:title:)"))),
@@ -277,7 +271,7 @@ BOUND = [
 ]
 
 CONDITION = "(price > 100 AND title LIKE 'it''s%') OR CASE WHEN a THEN b ELSE c END = 3 AND cost BETWEEN 1 AND 2 OR "
-TESTS = {"is_closed": 20, "has_semicolon": 20, "is_balanced": 30, "has_clause_word": 30, "is_operand": 30, "misfit": 30, "has_dangling": 30}
+TESTS = {"is_closed": 20, "has_semicolon": 20, "is_balanced": 30, "has_clause_word": 30, "is_operand": 30, "violation": 30, "has_dangling": 30}
 
 KINDS = {"symbols": "+=<>,|&^", "brackets": "(((())))", "quotes": "'it''s'\"a\""}
 # How many times a test's aim is that on these kinds of text, whose tokens are short.
