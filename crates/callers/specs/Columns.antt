@@ -1,7 +1,7 @@
 -- The columns of the table of books.
 use Rattle.std.specs.Prelude.{ℕ, List, Option, Some, None, codes}
 use Rattle.sql_builder.specs.Builder.{ClauseTexts, with_condition, with_limit}
-use Rattle.sql_builder.specs.Condition.{Compare}
+use Rattle.sql_builder.specs.declared.condition.Condition.TheVariants.{Compare}
 use Rattle.sql_builder.specs.Quoting.{quoted}
 use Rattle.sql_builder.specs.Text.{decimal_text}
 use Rattle.sql_builder.specs.declared.condition.Family.TheVariants.{And}

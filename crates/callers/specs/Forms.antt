@@ -4,7 +4,8 @@ use Rattle.std.specs.Borrow.{Bor}
 use Rattle.sql_parts.specs.Literal.{literal_text, words}
 use Rattle.sql_parts.specs.Quoting.{quoted}
 use Rattle.sql_builder.specs.Calls.{Cond, Field, OrderAsc, SelectFrom}
-use Rattle.sql_builder.specs.Condition.{Compare, Raw, condition_bytes}
+use Rattle.sql_builder.specs.Condition.{condition_bytes}
+use Rattle.sql_builder.specs.declared.condition.Condition.TheVariants.{Compare, Raw}
 use Rattle.sql_builder.specs.Text.{decimal_text}
 use Rattle.sql_builder.specs.declared.condition.Family.TheVariants.{And}
 use Rattle.sql_builder.specs.declared.condition.Percent.TheVariants.{Any}

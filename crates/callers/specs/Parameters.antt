@@ -5,7 +5,8 @@ use Rattle.sql_parts.specs.Parameters.{placeholder_text, placeholders_behind}
 use Rattle.sql_parts.specs.declared.parameter.Style.{Style}
 use Rattle.sql_builder.specs.Calls.{Field, SelectFrom}
 use Rattle.sql_builder.specs.Combined.{like_text}
-use Rattle.sql_builder.specs.Condition.{Compare, condition_bytes}
+use Rattle.sql_builder.specs.Condition.{condition_bytes}
+use Rattle.sql_builder.specs.declared.condition.Condition.TheVariants.{Compare}
 use Rattle.sql_builder.specs.declared.condition.Relation.TheVariants.{Eq, Ge, Le}
 use Rattle.sql_typed.specs.Conditions.{list_text}
 use Rattle.sql_typed.specs.Fits.{Made, adding, beginning}

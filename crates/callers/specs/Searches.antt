@@ -2,7 +2,8 @@
 use Rattle.std.specs.Prelude.{ℕ, List, [], ◌∷◌, ◌++◌, codes, false, if◌then◌else◌, option_map}
 use Rattle.std.specs.Option.{option_to_list}
 use Rattle.sql_builder.specs.Calls.{CallText, Cond, Field, OrderAsc}
-use Rattle.sql_builder.specs.Condition.{ConditionText, Compare, Like}
+use Rattle.sql_builder.specs.Condition.{ConditionText}
+use Rattle.sql_builder.specs.declared.condition.Condition.TheVariants.{Compare, Like}
 use Rattle.sql_builder.specs.Quoting.{quoted}
 use Rattle.sql_builder.specs.Text.{decimal_text}
 use Rattle.sql_builder.specs.declared.condition.Family.TheVariants.{And}

@@ -2,7 +2,8 @@
 use Rattle.std.specs.Prelude.{ℕ, List, [], ◌∷◌, codes}
 use Rattle.sql_parts.specs.Quoting.{quoted}
 use Rattle.sql_builder.specs.Calls.{Cond, Field, InsertInto, SelectFrom, Values}
-use Rattle.sql_builder.specs.Condition.{Raw, condition_bytes}
+use Rattle.sql_builder.specs.Condition.{condition_bytes}
+use Rattle.sql_builder.specs.declared.condition.Condition.TheVariants.{Raw}
 use Rattle.sql_builder.specs.declared.condition.Family.TheVariants.{And}
 use Rattle.sql_typed.specs.Fits.{Made, adding, beginning}
 use Rattle.callers.specs.Searches.{written_by}

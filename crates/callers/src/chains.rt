@@ -2,7 +2,7 @@
 ghost use Rattle.std.specs.Prelude.{◌≡◌, [], ◌∷◌, ◌++◌, codes, false, string_bytes, IfOk, Ok, OnOk};
 ghost use Rattle.sql_builder.specs.Builder.{started, with_fields, with_limit, with_order};
 ghost use Rattle.sql_builder.specs.Calls.{Cond, Field, SelectFrom, Sql};
-ghost use Rattle.sql_builder.specs.Condition.{Compare};
+ghost use Rattle.sql_builder.specs.declared.condition.Condition.TheVariants.{Compare};
 ghost use Rattle.sql_builder.specs.Error.{FailsOnlyByMemory};
 ghost use Rattle.sql_builder.specs.Layout.{byte_units, sql};
 ghost use Rattle.sql_builder.specs.Quoting.{quoted};

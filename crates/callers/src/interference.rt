@@ -2,7 +2,7 @@
 ghost use Rattle.std.specs.Prelude.{◌≡◌, [], ◌∷◌, codes, false, string_bytes, IfOk, Ok};
 ghost use Rattle.sql_builder.specs.StringTexts.{outline};
 ghost use Rattle.sql_builder.specs.Calls.{Cond, SetStr, Sql, UpdateTable};
-ghost use Rattle.sql_builder.specs.Condition.{Like};
+ghost use Rattle.sql_builder.specs.declared.condition.Condition.TheVariants.{Like};
 ghost use Rattle.sql_builder.specs.Error.{FailsOnlyByMemory};
 ghost use Rattle.sql_builder.specs.Statement.{statement};
 ghost use Rattle.sql_builder.specs.Tokens.{tokens};

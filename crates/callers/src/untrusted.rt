@@ -3,7 +3,7 @@ ghost use Rattle.std.specs.Prelude.{◌≡◌, [], ◌∷◌, ◌++◌, codes, l
 ghost use Rattle.sql_builder.specs.Templates.{bound_tokens};
 ghost use Rattle.sql_builder.specs.Builder.{started, with_condition};
 ghost use Rattle.sql_builder.specs.Calls.{SelectFrom};
-ghost use Rattle.sql_builder.specs.Condition.{Compare};
+ghost use Rattle.sql_builder.specs.declared.condition.Condition.TheVariants.{Compare};
 ghost use Rattle.sql_builder.specs.Error.{FailsOnlyByMemory};
 ghost use Rattle.sql_builder.specs.Layout.{byte_units, sql};
 ghost use Rattle.sql_builder.specs.Meaning.{HasTruthOf};

@@ -14,7 +14,7 @@ use Rattle.sql_builder.specs.Interference.{blank_call, call_quoted_texts}
 use Rattle.sql_builder.specs.Statement.{pieces, text_unless_error}
 use Rattle.sql_builder.specs.StatementReaders.{parts_in, quotes_plain_texts}
 use Rattle.sql_builder.specs.Calls as call
-use Rattle.sql_builder.specs.Condition as condition
+use Rattle.sql_builder.specs.declared.condition.Condition.TheVariants as condition
 use Rattle.sql_builder.specs.Pieces.{Fixed, Quoted, Raw, pieces_text}
 use Rattle.sql_builder.specs.declared.condition.Percent.TheVariants as sign
 use Rattle.sql_builder.proofs.interference.StatementReaderLemmas.{plain-printed}

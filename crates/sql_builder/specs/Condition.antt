@@ -1,5 +1,6 @@
 -- A condition of WHERE: what it says, what it prints, and what is asked of its texts.
-use Rattle.std.specs.Prelude.{ℕ, List, [], ◌∷◌, ◌++◌, Bool, true, false, ◌&&◌, codes, map, string_bytes}
+use Rattle.std.specs.Borrow.{Bor}
+use Rattle.std.specs.Prelude.{ℕ, List, [], ◌∷◌, ◌++◌, Bool, true, false, ◌&&◌, codes, map, String, Vec, string_bytes}
 use Rattle.std.specs.List.{list_all}
 use Rattle.sql_parts.specs.Fragments.{balanced, operand}
 use Rattle.sql_parts.specs.Quoting.{quoted}
@@ -8,56 +9,36 @@ use Rattle.sql_builder.specs.RawTexts.{RawText, Bare, Enclosed}
 use Rattle.sql_builder.specs.Layout.{byte_units}
 use Rattle.sql_builder.specs.Phrases.{comma_list}
 use Rattle.sql_builder.specs.Pieces.{Pieces, fixed_piece, quoted_piece, raw_piece}
-use Rattle.sql_builder.specs.declared.condition.BorrowedCondition.{BorrowedCondition}
-use Rattle.sql_builder.specs.declared.condition.BorrowedCondition.TheVariants as borrowed
 use Rattle.sql_builder.specs.declared.condition.Condition.{Condition}
-use Rattle.sql_builder.specs.declared.condition.Condition.TheVariants as condition
+pub use Rattle.sql_builder.specs.declared.condition.Condition.TheVariants.{Raw, Compare, Like, IsNull, IsNotNull, InList, InQuoted, InQuery, Between}
 use Rattle.sql_builder.specs.declared.condition.Percent.{Percent}
 use Rattle.sql_builder.specs.declared.condition.Percent.TheVariants.{Plain, Right, Left, Any}
 use Rattle.sql_builder.specs.declared.condition.Relation.{Relation}
 use Rattle.sql_builder.specs.declared.condition.Relation.TheVariants.{Eq, Ne, Gt, Ge, Lt, Le}
 
--- A condition, each text as its bytes; a truth value says whether it is the NOT form.
-pub data ConditionText : Type 0 where
-  Raw : List ℕ → ConditionText
-  Compare : Relation → List ℕ → List ℕ → ConditionText
-  Like : Bool → Percent → List ℕ → List ℕ → ConditionText
-  IsNull : List ℕ → ConditionText
-  IsNotNull : List ℕ → ConditionText
-  InList : Bool → List ℕ → List (List ℕ) → ConditionText
-  InQuoted : Bool → List ℕ → List (List ℕ) → ConditionText
-  InQuery : Bool → List ℕ → List ℕ → ConditionText
-  Between : Bool → List ℕ → List ℕ → List ℕ → ConditionText
+-- a condition, each text as its bytes
+abbrev pub ConditionText : Type 0
+ConditionText = Condition (List ℕ) (List (List ℕ))
+
+-- a condition with other texts and lists
+abbrev pub map_condition : {S T L M : Type 0} → (S → T) → (L → M) → Condition S L → Condition T M
+map_condition text list (Raw condition) = Raw (text condition)
+map_condition text list (Compare relation field value) = Compare relation (text field) (text value)
+map_condition text list (Like negated percent field mask) = Like negated percent (text field) (text mask)
+map_condition text list (IsNull field) = IsNull (text field)
+map_condition text list (IsNotNull field) = IsNotNull (text field)
+map_condition text list (InList negated field values) = InList negated (text field) (list values)
+map_condition text list (InQuoted negated field values) = InQuoted negated (text field) (list values)
+map_condition text list (InQuery negated field query) = InQuery negated (text field) (text query)
+map_condition text list (Between negated field least greatest) = Between negated (text field) (text least) (text greatest)
 
 -- a condition, its texts as bytes
-abbrev pub condition_view : Condition → ConditionText
-condition_view (condition.Raw t) = Raw (string_bytes t)
-condition_view (condition.Compare relation field value) =
-    Compare relation (string_bytes field) (string_bytes value)
-condition_view (condition.Like negated percent field mask) =
-    Like negated percent (string_bytes field) (string_bytes mask)
-condition_view (condition.IsNull field) = IsNull (string_bytes field)
-condition_view (condition.IsNotNull field) = IsNotNull (string_bytes field)
-condition_view (condition.InList negated field values) =
-    InList negated (string_bytes field) (texts values.items)
-condition_view (condition.InQuoted negated field values) =
-    InQuoted negated (string_bytes field) (texts values.items)
-condition_view (condition.InQuery negated field query) =
-    InQuery negated (string_bytes field) (string_bytes query)
-condition_view (condition.Between negated field least greatest) =
-    Between negated (string_bytes field) (string_bytes least) (string_bytes greatest)
+abbrev pub condition_view : {Z : Type 0} → Condition (String Z) (Vec (String Z) Z) → ConditionText
+condition_view condition = map_condition (λ s. string_bytes s) (λ values. texts values.items) condition
 
 -- a borrowed condition, its texts as bytes; `left` gives the texts of a list
-abbrev pub borrowed_view : {T : Type 0} → (T → List (List ℕ)) → BorrowedCondition T → ConditionText
-borrowed_view left (borrowed.Raw t) = Raw t.now
-borrowed_view left (borrowed.Compare relation field value) = Compare relation field.now value.now
-borrowed_view left (borrowed.Like negated percent field mask) = Like negated percent field.now mask.now
-borrowed_view left (borrowed.IsNull field) = IsNull field.now
-borrowed_view left (borrowed.IsNotNull field) = IsNotNull field.now
-borrowed_view left (borrowed.InList negated field values) = InList negated field.now (left values)
-borrowed_view left (borrowed.InQuoted negated field values) = InQuoted negated field.now (left values)
-borrowed_view left (borrowed.InQuery negated field query) = InQuery negated field.now query.now
-borrowed_view left (borrowed.Between negated field least greatest) = Between negated field.now least.now greatest.now
+abbrev pub borrowed_view : {T : Type 0} → (T → List (List ℕ)) → Condition (Bor (List ℕ)) T → ConditionText
+borrowed_view left condition = map_condition (λ text. text.now) left condition
 
 -- the sign of a comparison, with its blanks
 abbrev pub relation_text : Relation → List ℕ

@@ -12,20 +12,18 @@ pub use crate::checks::{
     CheckedError, InvalidText, Place, check, check_confined, run_checked, run_confined,
 };
 use crate::clauses::Kind;
-use crate::concat::replace;
 pub use crate::condition::{BorrowedCondition, Condition, Family, Percent, Relation};
 pub use crate::ghost_list::GhostList;
 use crate::sink::Count;
 pub use crate::steps::{
     BinaryClause, NullaryClause, UnaryClause, VariadicClause, add_condition, add_row,
     condition_text, make_binary, make_condition, make_nullary, make_order, make_unary,
-    make_variadic,
+    make_variadic, restart_on, restart_values,
 };
 pub use crate::text_list::TextList;
 use sql_parts::SqlBuilderError;
 use sql_parts::text::{Items, Texts};
 use std::alloc::{AllocError, Global};
-use std::mem::swap;
 
 /// The start of a list of calls.
 #[derive(Drop)]
@@ -161,7 +159,7 @@ pub fn begin(alloc: Global, start: &Start) -> Result<SqlBuilder, SqlBuilderError
 
 impl TableStart {
     #[inline(always)]
-    fn kind(self) -> Kind
+    pub(crate) fn kind(self) -> Kind
         ensures { (table : List ℕ) → result ≡ kind_of (start_on self table) }
     {
         match self {
@@ -204,53 +202,6 @@ pub fn restart(builder: &mut SqlBuilder, start: &Start) -> Result<(), SqlBuilder
         Start::UpdateTable(table) => restart_on(builder, TableStart::UpdateTable, table),
         Start::DeleteFrom(table) => restart_on(builder, TableStart::DeleteFrom, table),
     }
-}
-
-/// Turns a builder into that of a statement on this table, and keeps its buffers. Fails only if
-/// memory runs out, and then leaves the builder unchanged. For `sqlb`: as `restart`, with its text
-/// borrowed.
-/// ```
-/// let mut b = SqlBuilder::select_from(alloc, "t")?;
-/// restart_on(&mut b, TableStart::DeleteFrom, "u")?;
-/// b.sql()?; // DELETE FROM u;
-/// ```
-pub fn restart_on(
-    builder: &mut SqlBuilder,
-    start: TableStart,
-    table: &str,
-) -> Result<(), SqlBuilderError>
-    ensures restarted { OnOk result (builder.new ≡ started (start_on start table.now)) }
-    ensures unchanged { OnErr result (builder.new ≡ builder.old) }
-    ensures memory { FailsOnlyByMemory result }
-{
-    let kind = start.kind();
-    replace(&mut builder.table, table)?;
-    builder.fields.clear();
-    builder.clear(kind);
-    Ok(())
-}
-
-/// Turns a builder into that of a SELECT of these values, without a table, and keeps its buffers.
-/// The values are taken one after another. Fails only if memory runs out, and then leaves the
-/// builder unchanged. For `sqlb`: as `restart`, with its texts borrowed.
-/// ```
-/// let mut b = SqlBuilder::select_from(alloc, "t")?;
-/// restart_values(&mut b, Items { items: &[1, 2] })?;
-/// b.sql()?; // SELECT 1, 2;
-/// ```
-pub fn restart_values<'a, T: Texts<'a>>(
-    builder: &mut SqlBuilder,
-    values: T,
-) -> Result<(), SqlBuilderError>
-    ensures restarted { OnOk result (builder.new ≡ started (SelectValues (T.left values))) }
-    ensures unchanged { OnErr result (builder.new ≡ builder.old) }
-    ensures memory { FailsOnlyByMemory result }
-{
-    builder.spare.refill(builder.alloc, values)?;
-    swap(&mut builder.fields, &mut builder.spare);
-    builder.table.clear();
-    builder.clear(Kind::SelectValues);
-    Ok(())
 }
 
 /// Makes a call of a builder. Fails only if memory runs out, and then leaves the builder unchanged.

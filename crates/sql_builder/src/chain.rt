@@ -372,7 +372,7 @@ impl SqlBuilder {
         ensures same { IsSameLoan self.entry result }
         ensures changed { result.now ≡ with_natural self.old }
     {
-        self.natural = true;
+        self.put_natural();
         self
     }
 
@@ -384,7 +384,7 @@ impl SqlBuilder {
         ensures same { IsSameLoan self.entry result }
         ensures changed { result.now ≡ with_operator Left self.old }
     {
-        self.operator = Some(JoinOperator::Left);
+        self.put_operator(JoinOperator::Left);
         self
     }
 
@@ -396,7 +396,7 @@ impl SqlBuilder {
         ensures same { IsSameLoan self.entry result }
         ensures changed { result.now ≡ with_operator LeftOuter self.old }
     {
-        self.operator = Some(JoinOperator::LeftOuter);
+        self.put_operator(JoinOperator::LeftOuter);
         self
     }
 
@@ -408,7 +408,7 @@ impl SqlBuilder {
         ensures same { IsSameLoan self.entry result }
         ensures changed { result.now ≡ with_operator Right self.old }
     {
-        self.operator = Some(JoinOperator::Right);
+        self.put_operator(JoinOperator::Right);
         self
     }
 
@@ -420,7 +420,7 @@ impl SqlBuilder {
         ensures same { IsSameLoan self.entry result }
         ensures changed { result.now ≡ with_operator RightOuter self.old }
     {
-        self.operator = Some(JoinOperator::RightOuter);
+        self.put_operator(JoinOperator::RightOuter);
         self
     }
 
@@ -432,7 +432,7 @@ impl SqlBuilder {
         ensures same { IsSameLoan self.entry result }
         ensures changed { result.now ≡ with_operator Inner self.old }
     {
-        self.operator = Some(JoinOperator::Inner);
+        self.put_operator(JoinOperator::Inner);
         self
     }
 
@@ -444,7 +444,7 @@ impl SqlBuilder {
         ensures same { IsSameLoan self.entry result }
         ensures changed { result.now ≡ with_operator Cross self.old }
     {
-        self.operator = Some(JoinOperator::Cross);
+        self.put_operator(JoinOperator::Cross);
         self
     }
 
@@ -455,7 +455,7 @@ impl SqlBuilder {
         ensures same { IsSameLoan self.entry result }
         ensures changed { result.now ≡ with_distinct self.old }
     {
-        self.distinct = true;
+        self.put_distinct();
         self
     }
 }

@@ -55,50 +55,30 @@ pub enum Percent {
 
 /// A condition. A truth value says whether it is the NOT form.
 #[derive(Drop)]
-pub enum Condition {
+pub enum Condition<S = String, L = Vec<String>> {
     /// A raw condition, which is printed unchanged.
-    Raw(String),
+    Raw(S),
     /// A field compared with a value.
-    Compare(Relation, String, String),
+    Compare(Relation, S, S),
     /// A field that is like a mask, which is quoted with its percent signs.
-    Like(bool, Percent, String, String),
+    Like(bool, Percent, S, S),
     /// A field that is NULL.
-    IsNull(String),
+    IsNull(S),
     /// A field that is not NULL.
-    IsNotNull(String),
+    IsNotNull(S),
     /// A field that is one of a list of values.
-    InList(bool, String, Vec<String>),
+    InList(bool, S, L),
     /// A field that is one of a list of values, each of which is quoted.
-    InQuoted(bool, String, Vec<String>),
+    InQuoted(bool, S, L),
     /// A field that is one of what a query gives.
-    InQuery(bool, String, String),
+    InQuery(bool, S, S),
     /// A field between a least and a greatest value.
-    Between(bool, String, String, String),
+    Between(bool, S, S, S),
 }
 
-/// A condition whose texts are borrowed, and whose lists are taken text by text. A truth value says
-/// whether it is the NOT form. For `sqlb` and `sql_typed`.
-#[derive(Drop)]
-pub enum BorrowedCondition<'a, T> {
-    /// A raw condition, which is printed unchanged.
-    Raw(&'a str),
-    /// A field compared with a value.
-    Compare(Relation, &'a str, &'a str),
-    /// A field that is like a mask, which is quoted with its percent signs.
-    Like(bool, Percent, &'a str, &'a str),
-    /// A field that is NULL.
-    IsNull(&'a str),
-    /// A field that is not NULL.
-    IsNotNull(&'a str),
-    /// A field that is one of a list of values.
-    InList(bool, &'a str, T),
-    /// A field that is one of a list of values, each of which is quoted.
-    InQuoted(bool, &'a str, T),
-    /// A field that is one of what a query gives.
-    InQuery(bool, &'a str, &'a str),
-    /// A field between a least and a greatest value.
-    Between(bool, &'a str, &'a str, &'a str),
-}
+/// A condition whose texts are borrowed, and whose lists are taken text by text. For `sqlb` and
+/// `sql_typed`.
+pub type BorrowedCondition<'a, T> = Condition<&'a str, T>;
 
 impl Relation {
     /// Returns the sign, between blanks. Never fails.
@@ -131,38 +111,38 @@ impl Percent {
     }
 }
 
-impl Condition {
+impl Condition<String, Vec<String>> {
     /// The condition with its texts borrowed.
     pub(crate) fn borrowed(&self) -> BorrowedCondition<'_, Items<'_, String>>
         ensures { borrowed_view (λ values. map (λ s. string_bytes s) values.items.now) result ≡ condition_view self.now }
     {
         match self {
-            Condition::Raw(condition) => BorrowedCondition::Raw(condition),
+            Condition::Raw(condition) => Condition::Raw(condition),
             Condition::Compare(relation, field, value) => {
-                BorrowedCondition::Compare(*relation, field, value)
+                Condition::Compare(*relation, field, value)
             }
             Condition::Like(negated, percent, field, mask) => {
-                BorrowedCondition::Like(*negated, *percent, field, mask)
+                Condition::Like(*negated, *percent, field, mask)
             }
-            Condition::IsNull(field) => BorrowedCondition::IsNull(field),
-            Condition::IsNotNull(field) => BorrowedCondition::IsNotNull(field),
+            Condition::IsNull(field) => Condition::IsNull(field),
+            Condition::IsNotNull(field) => Condition::IsNotNull(field),
             Condition::InList(negated, field, values) => {
-                BorrowedCondition::InList(*negated, field, Items { items: values })
+                Condition::InList(*negated, field, Items { items: values })
             }
             Condition::InQuoted(negated, field, values) => {
-                BorrowedCondition::InQuoted(*negated, field, Items { items: values })
+                Condition::InQuoted(*negated, field, Items { items: values })
             }
             Condition::InQuery(negated, field, query) => {
-                BorrowedCondition::InQuery(*negated, field, query)
+                Condition::InQuery(*negated, field, query)
             }
             Condition::Between(negated, field, least, greatest) => {
-                BorrowedCondition::Between(*negated, field, least, greatest)
+                Condition::Between(*negated, field, least, greatest)
             }
         }
     }
 }
 
-impl<'a, T: Texts<'a>> BorrowedCondition<'a, T> {
+impl<'a, T: Texts<'a>> Condition<&'a str, T> {
     /// The condition's text. It is a part of its caller, where the condition need not be made first.
     #[inline(always)]
     #[tactic(auto, using(crate::proofs::conditions::QuotedMaskFacts::quoted_mask))]
@@ -172,26 +152,20 @@ impl<'a, T: Texts<'a>> BorrowedCondition<'a, T> {
         ensures memory { FailsOnlyByMemory result }
     {
         match self {
-            BorrowedCondition::Raw(condition) => condition.to_text(alloc),
-            BorrowedCondition::Compare(relation, field, value) => {
-                compare(alloc, relation, field, value)
-            }
-            BorrowedCondition::Like(negated, percent, field, mask) => {
+            Condition::Raw(condition) => condition.to_text(alloc),
+            Condition::Compare(relation, field, value) => { compare(alloc, relation, field, value) }
+            Condition::Like(negated, percent, field, mask) => {
                 let mask = escaped(alloc, mask)?;
                 Ok(like_in_form(alloc, negated, percent, field, mask.as_str())?)
             }
-            BorrowedCondition::IsNull(field) => is_null(alloc, field),
-            BorrowedCondition::IsNotNull(field) => is_not_null(alloc, field),
-            BorrowedCondition::InList(negated, field, values) => {
-                in_list(alloc, negated, field, values)
-            }
-            BorrowedCondition::InQuoted(negated, field, values) => {
+            Condition::IsNull(field) => is_null(alloc, field),
+            Condition::IsNotNull(field) => is_not_null(alloc, field),
+            Condition::InList(negated, field, values) => { in_list(alloc, negated, field, values) }
+            Condition::InQuoted(negated, field, values) => {
                 in_quoted(alloc, negated, field, values)
             }
-            BorrowedCondition::InQuery(negated, field, query) => {
-                in_query(alloc, negated, field, query)
-            }
-            BorrowedCondition::Between(negated, field, least, greatest) => {
+            Condition::InQuery(negated, field, query) => { in_query(alloc, negated, field, query) }
+            Condition::Between(negated, field, least, greatest) => {
                 between(alloc, negated, field, least, greatest)
             }
         }

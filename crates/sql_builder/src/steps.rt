@@ -4,11 +4,12 @@ ghost use Rattle.std.specs.Prelude.{◌≡◌, [], ◌∷◌, ◌++◌, map, cod
 ghost use Rattle.sql_parts.specs.Error.{FailsOnlyByMemory};
 ghost use Rattle.sql_parts.specs.Quoting.{escaped};
 ghost use Rattle.sql_builder.specs.{with_condition, with_condition_bytes, with_order, with_returning, IsBinaryError, IsNullaryError, IsUnaryError, with_binary};
-ghost use Rattle.sql_builder.specs.{with_nullary, with_row, with_unary, with_variadic, concat_bytes, borrowed_view, condition_bytes, AddsBinary, Applies};
+ghost use Rattle.sql_builder.specs.{SelectValues, start_on, started, with_nullary, with_row, with_unary, with_variadic, concat_bytes, borrowed_view, condition_bytes, AddsBinary, Applies};
 
 use crate::builder::SqlBuilder;
-use crate::clauses::{GroupedCondition, JoinOperator};
-use crate::concat::{Part, append};
+use crate::calls::TableStart;
+use crate::clauses::{GroupedCondition, JoinOperator, Kind};
+use crate::concat::{Part, append, replace};
 use crate::condition::{BorrowedCondition, Family};
 use crate::ghost_list::GhostList;
 use crate::text_list::TextList;
@@ -106,12 +107,30 @@ pub enum VariadicClause {
 const SOME_CONDITIONS: usize = 16;
 
 impl SqlBuilder {
-    ghost use Rattle.sql_builder.specs.Builder.{IsConstraintError, with_fields, with_fields_set, with_group_field, with_having, with_join, with_limit, with_offset, with_on, with_query, with_set, with_table, with_union};
+    ghost use Rattle.sql_builder.specs.Builder.{IsConstraintError, with_distinct, with_fields, with_fields_set, with_group_field, with_having, with_join, with_limit, with_natural, with_offset, with_on, with_operator, with_query, with_set, with_table, with_union};
 
     fn push_table(&mut self, table: &str) -> Result<(), SqlBuilderError>
         ensures { Applies result self.old self.new (with_table table.now) }
     {
         Ok(append(&mut self.table, &[Part(", "), Part(table)])?)
+    }
+
+    pub(crate) fn put_natural(&mut self)
+        ensures { self.new ≡ with_natural self.old }
+    {
+        self.natural = true;
+    }
+
+    pub(crate) fn put_operator(&mut self, operator: JoinOperator)
+        ensures { self.new ≡ with_operator operator self.old }
+    {
+        self.operator = Some(operator);
+    }
+
+    pub(crate) fn put_distinct(&mut self)
+        ensures { self.new ≡ with_distinct self.old }
+    {
+        self.distinct = true;
     }
 
     // A function of its own, as the two that print constraints and unions, so that the others have less
@@ -292,6 +311,53 @@ impl SqlBuilder {
     }
 }
 
+/// Turns a builder into that of a statement on this table, and keeps its buffers. Fails only if
+/// memory runs out, and then leaves the builder unchanged. For `sqlb`: as `restart`, with its text
+/// borrowed.
+/// ```
+/// let mut b = SqlBuilder::select_from(alloc, "t")?;
+/// restart_on(&mut b, TableStart::DeleteFrom, "u")?;
+/// b.sql()?; // DELETE FROM u;
+/// ```
+pub fn restart_on(
+    builder: &mut SqlBuilder,
+    start: TableStart,
+    table: &str,
+) -> Result<(), SqlBuilderError>
+    ensures restarted { OnOk result (builder.new ≡ started (start_on start table.now)) }
+    ensures unchanged { OnErr result (builder.new ≡ builder.old) }
+    ensures memory { FailsOnlyByMemory result }
+{
+    let kind = start.kind();
+    replace(&mut builder.table, table)?;
+    builder.fields.clear();
+    builder.clear(kind);
+    Ok(())
+}
+
+/// Turns a builder into that of a SELECT of these values, without a table, and keeps its buffers.
+/// The values are taken one after another. Fails only if memory runs out, and then leaves the
+/// builder unchanged. For `sqlb`: as `restart`, with its texts borrowed.
+/// ```
+/// let mut b = SqlBuilder::select_from(alloc, "t")?;
+/// restart_values(&mut b, Items { items: &[1, 2] })?;
+/// b.sql()?; // SELECT 1, 2;
+/// ```
+pub fn restart_values<'a, T: Texts<'a>>(
+    builder: &mut SqlBuilder,
+    values: T,
+) -> Result<(), SqlBuilderError>
+    ensures restarted { OnOk result (builder.new ≡ started (SelectValues (T.left values))) }
+    ensures unchanged { OnErr result (builder.new ≡ builder.old) }
+    ensures memory { FailsOnlyByMemory result }
+{
+    builder.spare.refill(builder.alloc, values)?;
+    swap(&mut builder.fields, &mut builder.spare);
+    builder.table.clear();
+    builder.clear(Kind::SelectValues);
+    Ok(())
+}
+
 /// Makes a call without a text, for `make`, `sqlb` and `sql_typed`. `returning_id` fails only if
 /// memory runs out, and then leaves the builder unchanged. The others never fail.
 /// ```
@@ -305,14 +371,14 @@ pub fn make_nullary(builder: &mut SqlBuilder, clause: NullaryClause) -> Result<(
     ensures memory { IfErr result (IsNullaryError clause) }
 {
     match clause {
-        NullaryClause::Natural => builder.natural = true,
-        NullaryClause::Left => builder.operator = Some(JoinOperator::Left),
-        NullaryClause::LeftOuter => builder.operator = Some(JoinOperator::LeftOuter),
-        NullaryClause::Right => builder.operator = Some(JoinOperator::Right),
-        NullaryClause::RightOuter => builder.operator = Some(JoinOperator::RightOuter),
-        NullaryClause::Inner => builder.operator = Some(JoinOperator::Inner),
-        NullaryClause::Cross => builder.operator = Some(JoinOperator::Cross),
-        NullaryClause::Distinct => builder.distinct = true,
+        NullaryClause::Natural => builder.put_natural(),
+        NullaryClause::Left => builder.put_operator(JoinOperator::Left),
+        NullaryClause::LeftOuter => builder.put_operator(JoinOperator::LeftOuter),
+        NullaryClause::Right => builder.put_operator(JoinOperator::Right),
+        NullaryClause::RightOuter => builder.put_operator(JoinOperator::RightOuter),
+        NullaryClause::Inner => builder.put_operator(JoinOperator::Inner),
+        NullaryClause::Cross => builder.put_operator(JoinOperator::Cross),
+        NullaryClause::Distinct => builder.put_distinct(),
         NullaryClause::ReturningId => return builder.put_returning("id"),
     }
     Ok(())

@@ -14,7 +14,8 @@ pub use Rattle.sql_builder.specs.Builder.{ClauseTexts, started, with_call}
 pub use Rattle.sql_builder.specs.Calls.{CallText, FinishText, is_join, finish_raw_texts, nullary_call, Sql, StartText, kind_of, Select, clauses, Query, SubqueryAs, Subquery, Field, GroupBy, Limit, Offset, OrderAsc, OrderDesc, SelectFrom, SelectValues, QueryValues, condition_in}
 pub use Rattle.sql_builder.specs.Calls.{Union, UnionAll, Cond, DeleteFrom, InsertInto, Join, On, OnEq, Returning, ReturningId, UpdateTable, start_on, Values, finish_view}
 pub use Rattle.sql_builder.specs.Combined.{IsCombined, combined_text, like_text, exists_text, constant_text, negation_text}
-pub use Rattle.sql_builder.specs.Condition.{ConditionText, Raw, Compare, Like, IsNull, IsNotNull, InList, InQuoted, InQuery, Between, condition_bytes, condition_raw_texts, has_operands, not_text}
+pub use Rattle.sql_builder.specs.Condition.{ConditionText, condition_bytes, condition_raw_texts, has_operands, not_text}
+pub use Rattle.sql_builder.specs.declared.condition.Condition.TheVariants.{Raw, Compare, Like, IsNull, IsNotNull, InList, InQuoted, InQuery, Between}
 pub use Rattle.sql_builder.specs.FitCalls.{call_fits}
 pub use Rattle.sql_builder.specs.Layout.{byte_units, concat_sections, statement_sections}
 pub use Rattle.sql_builder.specs.Phrases.{in_brackets}

@@ -5,7 +5,7 @@ use Rattle.sql_parts.specs.declared.error.SqlBuilderError.{SqlBuilderError}
 use Rattle.sql_builder.specs.Builder.{IsNullaryError}
 use Rattle.sql_builder.specs.Calls as call
 use Rattle.sql_builder.specs.Calls.{CallText, Cond, Sql, Values, binary_call, nullary_call, unary_call}
-use Rattle.sql_builder.specs.Condition.{Raw}
+use Rattle.sql_builder.specs.declared.condition.Condition.TheVariants.{Raw}
 use Rattle.sql_builder.specs.Meaning.{prints_where}
 use Rattle.sql_builder.specs.declared.clauses.Kind.{Kind}
 use Rattle.sql_typed.specs.declared.select.JoinKind.{JoinKind}

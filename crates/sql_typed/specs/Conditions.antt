@@ -6,7 +6,8 @@ use Rattle.sql_parts.specs.Like.{like_escaped}
 use Rattle.sql_parts.specs.Operands.{ServesAsOperand}
 use Rattle.sql_parts.specs.Tokens.{begins_with, is_one_of}
 use Rattle.sql_builder.specs.Combined.{constant_text}
-use Rattle.sql_builder.specs.Condition.{ConditionText, Between, Compare, InList, InQuery, IsNotNull, IsNull, Like, condition_bytes, mask_text}
+use Rattle.sql_builder.specs.Condition.{ConditionText, condition_bytes, mask_text}
+use Rattle.sql_builder.specs.declared.condition.Condition.TheVariants.{Between, Compare, InList, InQuery, IsNotNull, IsNull, Like}
 use Rattle.sql_builder.specs.Layout.{byte_units}
 use Rattle.sql_builder.specs.Phrases.{in_brackets}
 use Rattle.sql_builder.specs.declared.condition.Percent.{Percent}

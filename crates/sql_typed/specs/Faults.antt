@@ -9,7 +9,7 @@ use Rattle.sql_parts.specs.declared.error.SqlBuilderError.{SqlBuilderError}
 use Rattle.sql_builder.specs.Calls as call
 use Rattle.sql_builder.specs.Calls.{CallText, FinishText, StartText, is_join, returning_in}
 use Rattle.sql_builder.specs.Combined.{constant_text, negation_text}
-use Rattle.sql_builder.specs.Condition.{Raw}
+use Rattle.sql_builder.specs.declared.condition.Condition.TheVariants.{Raw}
 use Rattle.sql_builder.specs.Statement.{error_at}
 use Rattle.sql_builder.specs.StatementLaws.{made_by}
 use Rattle.sql_typed.specs.Filled as template

@@ -3,17 +3,12 @@ ghost use Rattle.std.specs.Prelude.{◌≡◌, ◌+◌, ◌≤◌, [], IfErr, If
 ghost use Rattle.std.specs.List.{list_all};
 ghost use Rattle.sql_parts.specs.Error.{FailsOnlyByMemory};
 ghost use Rattle.sql_parts.specs.Fragments.{balanced};
-ghost use Rattle.sql_parts.specs.StringTexts.{outline};
-ghost use Rattle.sql_parts.specs.Tokens.{closed, tokens};
 ghost use Rattle.sql_builder.specs.Builder.{IsNullaryError, with_call};
 ghost use Rattle.sql_builder.specs.Calls.{Cond, Returning, ReturningId, Sql, Values, binary_call, finish_raw_texts, finish_view, kind_of, nullary_call, start_on, unary_call};
-ghost use Rattle.sql_builder.specs.Condition.{Raw};
+ghost use Rattle.sql_builder.specs.declared.condition.Condition.TheVariants.{Raw};
 ghost use Rattle.sql_builder.specs.FitCalls.{call_fits};
-ghost use Rattle.sql_builder.specs.Interference.{answer_of};
-ghost use Rattle.sql_builder.specs.Meaning.{HasTruthOf, condition_groups, prints_where};
+ghost use Rattle.sql_builder.specs.Meaning.{prints_where};
 ghost use Rattle.sql_builder.specs.RawFragments.{is_fit};
-ghost use Rattle.sql_builder.specs.Reading.{clause_list, read};
-ghost use Rattle.sql_builder.specs.Shape.{EndsInOneSemicolon, shape};
 ghost use Rattle.sql_builder.specs.Statement.{error_at, statement, text_at};
 ghost use Rattle.sql_builder.specs.StatementLaws.{made_by};
 ghost use Rattle.sql_builder.specs.declared.clauses.Kind.{Kind};
@@ -21,7 +16,7 @@ ghost use Rattle.sql_builder.specs.declared.clauses.Kind.TheVariants.{DeleteFrom
 ghost use Rattle.sql_builder.specs.declared.condition.Family.TheVariants.{And, Or};
 ghost use Rattle.sql_typed.specs.Faults.{FailsAs, fault_of};
 ghost use Rattle.sql_typed.specs.Fits.{IsFitBy, Made, adding, beginning, meaning_all_rows};
-ghost use Rattle.sql_typed.specs.Printed.{DifferInStrings, IsPrinted, PrintsBehind, ReadersIgnoreTexts};
+ghost use Rattle.sql_typed.specs.Printed.{IsPrinted, PrintsBehind};
 ghost use Rattle.sql_typed.specs.Results.{Gives};
 ghost use Rattle.sql_typed.specs.AddedCalls.{IsAddedError, prints_added, added_call};
 
@@ -336,20 +331,8 @@ impl<K: Begins> Statement<K> {
     /// HAVING without a GROUP BY. Otherwise it fails only if memory runs out.
     /// `Select::from(alloc, Fragment::of("t"))?.and_where(eq(alloc, Operand::of("a"), Value("it's"))?)?.sql()?` gives `SELECT * FROM t WHERE a = 'it''s';`
     pub fn sql(&self) -> Result<String, Error>
-        ensures statement { IfOk result (λ s.
-            statement self.now.start self.now.calls Sql ≡ Ok (string_bytes s)) }
+        ensures printed { IfOk result (λ s. IsPrinted self.now Sql (string_bytes s)) }
         ensures error { FailsAs self.now Sql result }
-        ensures tokens { IfOk result (λ s.
-            shape self.now.start self.now.calls Sql ≡ Ok (tokens (string_bytes s))) }
-        ensures closed { IfOk result (λ s. IsTrue (closed (string_bytes s))) }
-        ensures semicolon { IfOk result (λ s. EndsInOneSemicolon (tokens (string_bytes s))) }
-        ensures clauses { IfOk result (λ s. clause_list self.now.start self.now.calls Sql
-            ≡ Ok (read (tokens (string_bytes s)))) }
-        ensures truth { IfOk result (λ s. HasTruthOf (condition_groups self.now.calls) (string_bytes s)) }
-        ensures no_interference { (other : Made) → DifferInStrings Sql self.now other
-            → IfOk result (λ s.
-            answer_of outline other.start other.calls Sql ≡ Ok (outline (string_bytes s))) }
-        ensures readers { IfOk result (λ s. ReadersIgnoreTexts self.now Sql (string_bytes s)) }
     {
         let text = self.print(&Finish::Sql)?;
         Ok(text)

@@ -1,7 +1,7 @@
 -- The names that a line may begin with: what each means, by how many arguments it takes, and the conditions that some of them add.
 use Rattle.std.specs.Prelude.{ℕ, List, [], ◌∷◌, Option, Some, None, true, false, bytes_eq, codes, drop, find, if◌then◌else◌, length, option_map, take}
 use Rattle.std.specs.Option.{option_and_then, option_or}
-use Rattle.sql_builder.specs.Condition as condition
+use Rattle.sql_builder.specs.declared.condition.Condition.TheVariants as condition
 use Rattle.sql_builder.specs.Condition.{ConditionText}
 use Rattle.sql_builder.specs.declared.calls.TableStart.TheVariants as start
 use Rattle.sql_builder.specs.declared.condition.Family.{Family}

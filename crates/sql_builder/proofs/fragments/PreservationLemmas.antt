@@ -1,6 +1,6 @@
 -- What holds of what each call adds to each clause, for any property of pieces that each step preserves.
 use Rattle.sql_builder.specs.{RawText, Bare, Enclosed, CallText, StartText, clauses, condition_in, conditions_of, constraint_in, drops_fields, fields_in}
-use Rattle.sql_builder.specs.{group_fields_in, group_pieces, groups, having_in, is_join, is_select, is_values, join_after, join_in, limit_in, natural_of}
+use Rattle.sql_builder.specs.{group_fields_in, group_pieces, having_in, is_join, is_select, is_values, join_after, join_in, limit_in, natural_of}
 use Rattle.sql_builder.specs.{offset_in, opens_group, operator_of, order_fields_in, query_in, returning_in, rows_in, sets_in, start_fields, start_table}
 use Rattle.sql_builder.specs.{table_in, unions_in, call_raw_texts, field_text, start_raw_texts, ConditionText, condition_pieces, condition_raw_texts}
 use Rattle.sql_builder.specs.{call_quoted_texts, condition_quoted_texts, Group, cut, in_place, last_given, since, until, equation, join_words, order}

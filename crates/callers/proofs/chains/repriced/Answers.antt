@@ -1,6 +1,6 @@
 use Rattle.std.proofs.Common.{codes, refl}
 use Rattle.sql_builder.specs.Calls.{Cond, SetStr, SetTo, Sql, UpdateTable}
-use Rattle.sql_builder.specs.Condition.{Compare}
+use Rattle.sql_builder.specs.declared.condition.Condition.TheVariants.{Compare}
 use Rattle.sql_builder.specs.declared.condition.Family.TheVariants.{And}
 use Rattle.sql_builder.specs.declared.condition.Relation.TheVariants.{Lt}
 use Rattle.sql_parts.specs.Text.{decimal_text}

@@ -1,7 +1,7 @@
 use Rattle.std.proofs.Common.{◌≡◌, ℕ, List, [], ◌∷◌, ◌++◌, codes, Result, Ok, Err, IfOk, String, string_bytes, refl, sym, ap, subst, append_assoc}
 use Rattle.std.proofs.lemmas.Bool.{and_from}
 use Rattle.sql_builder.specs.Calls.{Cond, SelectFrom, Sql, clauses}
-use Rattle.sql_builder.specs.Condition.{Compare}
+use Rattle.sql_builder.specs.declared.condition.Condition.TheVariants.{Compare}
 use Rattle.sql_builder.specs.Pieces.{fixed_piece, pieces_text, raw_piece}
 use Rattle.sql_builder.specs.Statement.{layout_at}
 use Rattle.sql_builder.specs.declared.condition.Family.TheVariants.{And}

@@ -1,6 +1,6 @@
 use Rattle.std.proofs.Common.{◌∙◌, [], ◌∷◌, List, ℕ, codes, false, refl}
 use Rattle.sql_builder.specs.Calls.{CallText, Cond, SetStr, Sql, UpdateTable}
-use Rattle.sql_builder.specs.Condition.{Like}
+use Rattle.sql_builder.specs.declared.condition.Condition.TheVariants.{Like}
 use Rattle.sql_parts.specs.StringTexts.{outline}
 use Rattle.sql_builder.specs.declared.condition.Family.TheVariants.{And}
 use Rattle.sql_builder.specs.declared.condition.Percent.TheVariants.{Any}

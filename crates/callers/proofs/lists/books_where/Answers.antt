@@ -3,7 +3,7 @@ use Rattle.std.proofs.Common.{IfOk, ◌≡◌, refl, sym, ◌∙◌, ap, subst, 
 use Rattle.std.proofs.lemmas.Bool.{and_from}
 use Rattle.sql_parts.specs.Fragments.{balanced, has_clause_word}
 use Rattle.sql_builder.specs.Calls.{CallText, Cond, SelectFrom, Sql}
-use Rattle.sql_builder.specs.Condition.{Raw}
+use Rattle.sql_builder.specs.declared.condition.Condition.TheVariants.{Raw}
 use Rattle.sql_builder.specs.RawFragments.{has_fit_texts, is_fit}
 use Rattle.sql_builder.specs.Meaning.{HasTruthOf, condition_groups}
 use Rattle.sql_builder.specs.declared.condition.Family.TheVariants.{And}

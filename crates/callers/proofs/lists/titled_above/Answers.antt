@@ -4,7 +4,7 @@ use Rattle.sql_parts.specs.Operands.{ServesAsOperand}
 use Rattle.sql_parts.specs.Text.{decimal_text}
 use Rattle.sql_parts.specs.Tokens.{Str, tokens}
 use Rattle.sql_builder.specs.Calls.{CallText, Cond, SelectFrom, Sql, call_view}
-use Rattle.sql_builder.specs.Condition.{Compare}
+use Rattle.sql_builder.specs.declared.condition.Condition.TheVariants.{Compare}
 use Rattle.sql_builder.specs.RawFragments.{has_fit_texts, is_fit}
 use Rattle.sql_builder.specs.RawTexts.{Bare}
 use Rattle.sql_builder.specs.Meaning.{HasTruthOf, condition_groups}

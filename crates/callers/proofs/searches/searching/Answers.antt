@@ -1,6 +1,6 @@
 use Rattle.std.proofs.Common.{rules, ◌∙◌, ◌++◌, [], ◌∷◌, codes, string_bytes, refl}
 use Rattle.sql_builder.specs.Calls.{Cond, Field, SelectFrom}
-use Rattle.sql_builder.specs.Condition.{Compare}
+use Rattle.sql_builder.specs.declared.condition.Condition.TheVariants.{Compare}
 use Rattle.sql_builder.specs.declared.condition.Family.TheVariants.{And}
 use Rattle.sql_builder.specs.declared.condition.Relation.TheVariants.{Eq}
 use Rattle.sql_builder.proofs.for_callers.ChainLemmas.{Chain, chain_call, chain_start, with_calls-read}

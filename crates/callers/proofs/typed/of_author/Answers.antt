@@ -19,9 +19,9 @@ differ one other =
 
 pub returns : goal.returns
 returns c = record {
-  same = IfOk-weaker c.sql.result
-      (λ s. answer_of outline (asked_of_author []).start (asked_of_author []).calls Sql ≡ Ok (outline (string_bytes s)))
-      (λ s. outline (string_bytes s) ≡ tokens (codes "SELECT * FROM books WHERE author = '';")) (λ s same. sym (cc same))
-      (c.sql.ensures.no_interference (asked_of_author [])
-      (subst (λ (made : Made). DifferInStrings Sql made (asked_of_author [])) (sym c.in_ok-books.ensures.made) (differ c.args.author.now [])));
+  same = IfOk-weaker c.sql.result _
+      (λ s. outline (string_bytes s) ≡ tokens (codes "SELECT * FROM books WHERE author = '';"))
+      (λ s printed. let same = printed.no_interference (asked_of_author [])
+          (subst (λ (made : Made). DifferInStrings Sql made (asked_of_author [])) (sym c.in_ok-books.ensures.made) (differ c.args.author.now [])) in sym (cc same))
+      c.sql.ensures.printed;
 }

@@ -2,7 +2,7 @@ use Rattle.std.proofs.Common.{◌≡◌, [], ◌∷◌, List, ℕ, Option, None,
 use Rattle.std.specs.Prelude.{IsNone}
 use Rattle.sql_builder.specs.Builder.{ClauseTexts, started, with_condition}
 use Rattle.sql_builder.specs.Calls.{CallText, Cond, SelectFrom, Sql}
-use Rattle.sql_builder.specs.Condition.{Compare}
+use Rattle.sql_builder.specs.declared.condition.Condition.TheVariants.{Compare}
 use Rattle.sql_builder.specs.Layout.{sql_error}
 use Rattle.sql_builder.specs.Shape.{HasClosedFragments}
 use Rattle.sql_builder.specs.declared.condition.Family.TheVariants.{And}

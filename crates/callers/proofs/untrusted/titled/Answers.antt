@@ -1,7 +1,7 @@
 use Rattle.std.proofs.Common.{[], ◌∷◌, ◌++◌, codes, string_bytes, IfOk, refl, subst, sym}
 use Rattle.std.proofs.lemmas.Bool.{and_from}
 use Rattle.sql_builder.specs.Calls.{Cond, SelectFrom, Sql}
-use Rattle.sql_builder.specs.Condition.{Compare}
+use Rattle.sql_builder.specs.declared.condition.Condition.TheVariants.{Compare}
 use Rattle.sql_builder.specs.Meaning.{HasTruthOf, condition_groups}
 use Rattle.sql_builder.specs.declared.condition.Family.TheVariants.{And}
 use Rattle.sql_builder.specs.declared.condition.Relation.TheVariants.{Eq}
