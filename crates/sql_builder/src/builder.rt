@@ -44,8 +44,10 @@ pub struct SqlBuilder {
 }
 
 // A function of its own, so that a caller's proof sees one step where a builder is dropped, and not
-// one for each of its clauses.
+// one for each of its clauses. Its code is a part of its callers, where a builder that is made in its
+// box then needs no copy.
 impl Drop for SqlBuilder {
+    #[inline(always)]
     fn drop(self) {
         let SqlBuilder {
             alloc: _,

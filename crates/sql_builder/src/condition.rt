@@ -8,7 +8,7 @@ use crate::concat::{Part, concat, push_text};
 use crate::phrases::{push_items, push_quoted_items};
 use crate::text_list::FIRST_ROOM;
 use sql_parts::text::{Items, Texts};
-use sql_parts::{SqlBuilderError, ToText, escaped};
+use sql_parts::{SqlBuilderError, ToText, push_escaped};
 use std::alloc::{AllocError, Global};
 
 /// The most bytes that LIKE takes beside its field and its mask.
@@ -145,7 +145,6 @@ impl Condition<String, Vec<String>> {
 impl<'a, T: Texts<'a>> Condition<&'a str, T> {
     /// The condition's text. It is a part of its caller, where the condition need not be made first.
     #[inline(always)]
-    #[tactic(auto, using(crate::proofs::conditions::QuotedMaskFacts::quoted_mask))]
     pub(crate) fn text(self, alloc: Global) -> Result<String, SqlBuilderError>
         ensures made { IfOk result (λ s. string_bytes s
             ≡ condition_bytes (borrowed_view T.left self.entry)) }
@@ -155,8 +154,7 @@ impl<'a, T: Texts<'a>> Condition<&'a str, T> {
             Condition::Raw(condition) => condition.to_text(alloc),
             Condition::Compare(relation, field, value) => { compare(alloc, relation, field, value) }
             Condition::Like(negated, percent, field, mask) => {
-                let mask = escaped(alloc, mask)?;
-                Ok(like_in_form(alloc, negated, percent, field, mask.as_str())?)
+                Ok(like(alloc, negated, percent, field, mask)?)
             }
             Condition::IsNull(field) => is_null(alloc, field),
             Condition::IsNotNull(field) => is_not_null(alloc, field),
@@ -190,19 +188,6 @@ fn between_words(negated: bool) -> &'static str
     }
 }
 
-// LIKE, and what precedes the mask.
-fn like_words(negated: bool, percent: Percent) -> &'static str
-    ensures { result.now ≡ (not_text negated ++ codes " LIKE ")
-        ++ (if has_leading percent then codes "'%" else codes "'") }
-{
-    match (negated, percent.has_leading()) {
-        (false, false) => " LIKE '",
-        (false, true) => " LIKE '%",
-        (true, false) => " NOT LIKE '",
-        (true, true) => " NOT LIKE '%",
-    }
-}
-
 /// A field compared with a value.
 pub(crate) fn compare<'a>(
     alloc: Global,
@@ -233,46 +218,6 @@ pub(crate) fn is_not_null(alloc: Global, field: &str) -> Result<String, SqlBuild
     Ok(concat(alloc, &[Part(field), Part(" IS NOT NULL")])?)
 }
 
-/// A field that is like a mask, which is quoted with its percent signs.
-#[tactic(auto, using(crate::proofs::conditions::QuotedMaskFacts::quoted_mask))]
-pub(crate) fn like<'a>(
-    alloc: Global,
-    negated: bool,
-    percent: Percent,
-    field: &'a str,
-    mask: &'a str,
-) -> Result<String, SqlBuilderError>
-    ensures made { IfOk result (λ s. string_bytes s
-        ≡ condition_bytes (Like negated percent field.now mask.now)) }
-    ensures memory { FailsOnlyByMemory result }
-{
-    let mask = escaped(alloc, mask)?;
-    Ok(like_escaped(alloc, negated, percent, field, mask.as_str())?)
-}
-
-// The same of a mask whose quotes are doubled.
-fn like_escaped<'a>(
-    alloc: Global,
-    negated: bool,
-    percent: Percent,
-    field: &'a str,
-    mask: &'a str,
-) -> Result<String, AllocError>
-    ensures { IfOk result (λ s. string_bytes s ≡ field.now
-        ++ (((not_text negated ++ codes " LIKE ") ++ (if has_leading percent then codes "'%" else codes "'"))
-        ++ (mask.now ++ (if has_trailing percent then codes "%'" else codes "'")))) }
-{
-    concat(
-        alloc,
-        &[
-            Part(field),
-            Part(like_words(negated, percent)),
-            Part(mask),
-            Part(if percent.has_trailing() { "%'" } else { "'" }),
-        ],
-    )
-}
-
 // Appends LIKE and what precedes the mask. Each text is a constant, so that no call copies it.
 #[inline(always)]
 fn push_like_words(out: &mut String, negated: bool, percent: Percent)
@@ -289,29 +234,29 @@ fn push_like_words(out: &mut String, negated: bool, percent: Percent)
     }
 }
 
-// Prints what `like_escaped` does, where the form isn't a constant. As a part of its caller it took
-// more instructions.
+/// A field that is like a mask, which is quoted with its percent signs. As a part of its callers it
+/// took more instructions.
 #[inline(never)]
-fn like_in_form<'a>(
+#[tactic(auto, using(crate::proofs::conditions::QuotedMaskFacts::quoted_mask))]
+pub(crate) fn like(
     alloc: Global,
     negated: bool,
     percent: Percent,
-    field: &'a str,
-    mask: &'a str,
+    field: &str,
+    mask: &str,
 ) -> Result<String, AllocError>
-    ensures { IfOk result (λ s. string_bytes s ≡ field.now
-        ++ (((not_text negated ++ codes " LIKE ") ++ (if has_leading percent then codes "'%" else codes "'"))
-        ++ (mask.now ++ (if has_trailing percent then codes "%'" else codes "'")))) }
+    ensures made { IfOk result (λ s. string_bytes s
+        ≡ condition_bytes (Like negated percent field.now mask.now)) }
 {
     let room = field.len().saturating_add(mask.len());
     let mut text = String::with_capacity(alloc, room.saturating_add(LIKE_ROOM))?;
     push_text(&mut text, field);
     push_like_words(&mut text, negated, percent);
-    push_text(&mut text, mask);
+    push_escaped(&mut text, mask)?;
     if percent.has_trailing() {
-        push_text(&mut text, "%'");
+        text.push_str("%'")?;
     } else {
-        push_text(&mut text, "'");
+        text.push_str("'")?;
     }
     Ok(text)
 }

@@ -106,16 +106,23 @@ fn push_twice(out: &mut String, delimiters: &str) -> Result<(), AllocError>
     out.push_str(delimiters)
 }
 
-/// Appends the text with each `delimiter` in it written twice. Room for a closing delimiter is taken too.
-#[tactic(auto, using(crate::proofs::bytes::DoublingLemmas::starts_with_more))]
-pub(crate) fn push_doubled(out: &mut String, delimiter: char, text: &str) -> Result<(), AllocError>
+// Appends the text before a delimiter, and what is behind that, with each delimiter written twice. A
+// function of its own has its callers keep fewer registers, for texts without a delimiter.
+#[inline(never)]
+#[tactic(auto, using(crate::proofs::bytes::DoublingLemmas::starts_with_more, std::proofs::lemmas::List::append_assoc))]
+pub(crate) fn push_parts_doubled(
+    out: &mut String,
+    delimiter: char,
+    before: &str,
+    after: &str,
+) -> Result<(), AllocError>
     requires one_byte { delimiter < 128 }
-    ensures text { OnOk result
-        (string_bytes out.new ≡ string_bytes out.old ++ doubled delimiter text.now) }
+    ensures text { OnOk result (string_bytes out.new
+        ≡ string_bytes out.old ++ before.now ++ delimiter ∷ delimiter ∷ doubled delimiter after.now) }
     ensures kept { OnErr result (StartsWith (string_bytes out.new) (string_bytes out.old)) }
 {
-    out.reserve(text.len().saturating_add(1))?;
-    let mut rest = text;
+    push_with_delimiter(out, before, delimiter)?;
+    let mut rest = after;
     'delimiters: while let Some((before, after)) = split_at_delimiter(rest, delimiter) {
         push_with_delimiter(out, before, delimiter)?;
         let (delimiters, behind) = split_delimiters(after, delimiter);
@@ -123,4 +130,18 @@ pub(crate) fn push_doubled(out: &mut String, delimiter: char, text: &str) -> Res
         rest = behind;
     }
     out.push_str(rest)
+}
+
+/// Appends the text with each `delimiter` in it written twice. Room for a closing delimiter is taken too.
+pub(crate) fn push_doubled(out: &mut String, delimiter: char, text: &str) -> Result<(), AllocError>
+    requires one_byte { delimiter < 128 }
+    ensures text { OnOk result
+        (string_bytes out.new ≡ string_bytes out.old ++ doubled delimiter text.now) }
+    ensures kept { OnErr result (StartsWith (string_bytes out.new) (string_bytes out.old)) }
+{
+    out.reserve(text.len().saturating_add(1))?;
+    match split_at_delimiter(text, delimiter) {
+        Some((before, after)) => push_parts_doubled(out, delimiter, before, after),
+        None => out.push_str(text),
+    }
 }

@@ -38,5 +38,7 @@ pub use error::SqlBuilderError;
 pub use name::SqlName;
 pub use parameter::{Parameters, Placeholder, Style};
 pub use positional::{Positional, PositionalError};
-pub use quoting::{baquote, brquote, dquote, esc, escaped, push_quoted, quote, split_at_quote};
+pub use quoting::{
+    baquote, brquote, dquote, esc, escaped, push_escaped, push_quoted, quote, split_at_quote,
+};
 pub use text::ToText;

@@ -5,7 +5,7 @@ ghost use Rattle.std.specs.Io.{StartsWith};
 ghost use Rattle.sql_parts.specs.{FailsOnlyByMemory, baquoted, between, brquoted, doubled, dquoted, escaped, quoted, Str, closed, quoted_token, tokens};
 ghost use Rattle.sql_parts.specs.Tokens.{Name};
 
-use crate::delimiters::{Quotes, push_doubled, split_at_delimiter};
+use crate::delimiters::{Quotes, push_doubled, push_parts_doubled, split_at_delimiter};
 use crate::error::SqlBuilderError;
 use crate::text::ToText;
 use std::alloc::{AllocError, Global};
@@ -92,10 +92,23 @@ pub fn escaped(alloc: Global, text: &str) -> Result<CowStr<'_>, AllocError>
         return Ok(CowStr::Borrowed(text));
     };
     let mut out = String::with_capacity(alloc, text.len().saturating_add(SOME_DELIMITERS))?;
-    out.push_str(before)?;
-    out.push_str("''")?;
-    push_doubled(&mut out, '\'', after)?;
+    push_parts_doubled(&mut out, '\'', before, after)?;
     Ok(CowStr::Owned(out))
+}
+
+/// Appends the text with each `'` in it doubled. Fails only if memory runs out, and `out` then still
+/// begins with what it had.
+/// ```
+/// let mut text = String::new(alloc);
+/// push_escaped(&mut text, "it's")?;
+/// text; // it''s
+/// ```
+#[inline(always)]
+pub fn push_escaped(out: &mut String, text: &str) -> Result<(), AllocError>
+    ensures text { OnOk result (string_bytes out.new ≡ string_bytes out.old ++ escaped text.now) }
+    ensures kept { OnErr result (StartsWith (string_bytes out.new) (string_bytes out.old)) }
+{
+    push_doubled(out, '\'', text)
 }
 
 /// Appends the text between single quotes, with each `'` in it doubled. Fails only if memory runs
