@@ -84,7 +84,7 @@ def owner_of(impl, module, homes):
     parameters = re.findall(r"\w+", re.sub(r":[^,]*|'\w+", "", bounds or ""))
     if own or trait:
         return module + (own or name_of(type_, parameters) + name_of(trait, parameters)) + "::"
-    first, *others = re.findall(r"(?<!')\b\w+", type_)
+    first, *others = (it.replace("&", "ref") for it in re.findall(r"&|(?<!')\b\w+", type_))
     others = [] if all(it in parameters for it in others) else others
     return f"{module if others else homes.get(first, module)}{'+'.join([first, *others])}::"
 

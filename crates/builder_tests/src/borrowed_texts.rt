@@ -6,7 +6,7 @@ use sql_builder::calls::{
 };
 use sql_builder::text::{Items, Texts};
 use sql_builder::{SqlBuilder, SqlBuilderError};
-use sql_parts::{escaped, push_quoted, split_at_quote};
+use sql_parts::{escaped, push_escaped, push_quoted, split_at_quote};
 use std::alloc::Global;
 use std::test::Fail;
 
@@ -67,11 +67,18 @@ fn equation(alloc: Global) -> Result<String, SqlBuilderError> {
     Ok(text)
 }
 
+fn inside_of_quotes(alloc: Global) -> Result<String, SqlBuilderError> {
+    let mut text = String::from_str(alloc, "a = '")?;
+    push_escaped(&mut text, "it's")?;
+    Ok(text)
+}
+
 #[test]
 fn quotes_borrowed_texts(rt: HostRuntime) -> Result<(), Fail> {
     let alloc = rt.alloc();
     assert_eq!(rt; equation(alloc)?.as_str(), "a = 'it''s'");
     assert_eq!(rt; escaped(alloc, "it's")?.as_str(), "it''s");
+    assert_eq!(rt; inside_of_quotes(alloc)?.as_str(), "a = 'it''s");
     Ok(())
 }
 

@@ -334,8 +334,7 @@ impl<K: Begins> Statement<K> {
         ensures printed { IfOk result (λ s. IsPrinted self.now Sql (string_bytes s)) }
         ensures error { FailsAs self.now Sql result }
     {
-        let text = self.print(&Finish::Sql)?;
-        Ok(text)
+        self.print(&Finish::Sql)
     }
 
     /// Appends to a text what `sql` prints. Fails as `sql` does, and then leaves `out` unchanged.

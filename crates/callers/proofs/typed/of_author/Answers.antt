@@ -22,6 +22,6 @@ returns c = record {
   same = IfOk-weaker c.sql.result _
       (λ s. outline (string_bytes s) ≡ tokens (codes "SELECT * FROM books WHERE author = '';"))
       (λ s printed. let same = printed.no_interference (asked_of_author [])
-          (subst (λ (made : Made). DifferInStrings Sql made (asked_of_author [])) (sym c.in_ok-books.ensures.made) (differ c.args.author.now [])) in sym (cc same))
+      (subst (λ (made : Made). DifferInStrings Sql made (asked_of_author [])) (sym c.in_ok-books.ensures.made) (differ c.args.author.now [])) in sym (cc same))
       c.sql.ensures.printed;
 }
