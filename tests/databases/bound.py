@@ -3,7 +3,7 @@
 import collections
 import operator
 
-from connections import Refused, row
+from connections import as_bytes, attempt, row
 from hostile import CHARACTERS, PIECES, all_of, attacks
 
 END_OF_VALUE, END_OF_ROW, ZERO = "\x1f", "\x1d", "\0"
@@ -49,10 +49,6 @@ def values_of(parts):
     return [None if it == "-" else int(it[1:]) if it[0] == "n" else it[1:] for it in parts.split(END_OF_VALUE)[:-1]]
 
 
-def as_bytes(rows):
-    return [tuple(None if it is None else f"{it}".encode() for it in row) for row in rows]
-
-
 def rows_of(rows):
     """Rows as the program writes them, as those of a connection."""
     return as_bytes(values_of(row) for row in rows.split(END_OF_ROW)[:-1])
@@ -90,9 +86,8 @@ def prepare(db):
 def came(db, run, statement, texts):
     """What came of a statement."""
     rows, left = statement.finds(texts, db.product)
-    try:
-        found, now = run(statement), EMPTY
-    except Refused:
+    found, now = attempt(run, statement), EMPTY
+    if found is None:
         return "refused"
     if statement.changes:
         now = db.run("SELECT id, x FROM one ORDER BY id")

@@ -28,9 +28,22 @@ class Refused(Exception):
     """A statement that a database did not run."""
 
 
+def attempt(run, *words, otherwise=None):
+    """What this gives, or, where the database refuses a statement, something else, with the reason at `{}`."""
+    try:
+        return run(*words)
+    except Refused as why:
+        return otherwise.format(why) if isinstance(otherwise, str) else otherwise
+
+
 def first_line(message):
     """The first line of a database's message."""
     return message.decode(errors="replace").split("\n")[0].removeprefix("ERROR:").strip()
+
+
+def as_bytes(rows):
+    """Rows as `run` gives them."""
+    return [tuple(None if it is None else f"{it}".encode() for it in row) for row in rows]
 
 
 class Database:
@@ -49,18 +62,14 @@ class Database:
     def set(self, setting):
         pass
 
-    def is_silent(self, script):
-        """Gives a script to the command-line program. Whether that finds no fault in it."""
-        done = subprocess.run(self.words(), input=script.encode(), env={**os.environ, **self.variables}, capture_output=True)
-        return not done.returncode and not done.stderr
+    def command(self, *words, script=""):
+        """Runs the command-line program with these further words, and a script as its input."""
+        return subprocess.run([*self.words(), *words], input=script.encode(), env={**os.environ, **self.variables}, capture_output=True)
 
     def shown(self, statement):
         """The first value of each row, to be shown, or why there is none."""
-        try:
-            rows = self.run(statement)
-        except Refused as why:
-            return f"refused: {why}"[:60]
-        return ", ".join("NULL" if it[0] is None else it[0].decode(errors="replace") for it in rows)
+        rows = attempt(self.run, statement, otherwise="refused: {}")
+        return rows[:60] if isinstance(rows, str) else ", ".join("NULL" if it is None else it.decode(errors="replace") for it, *_ in rows)
 
     def make(self, table, columns, *rows):
         """Makes a table anew, with these rows."""
@@ -93,7 +102,6 @@ def library(given, *names):
     for name, gives in given.items():
         getattr(lib, name).restype = gives
     return lib
-
 
 
 class Sqlite(Database):
@@ -148,10 +156,9 @@ class Sqlite(Database):
     def run_with(self, statement, values):
         """By Python's library."""
         try:
-            rows = self.python.execute(statement, values).fetchall()
+            return as_bytes(self.python.execute(statement, values))
         except sqlite3.Error as why:
             raise Refused(f"{why}") from why
-        return [tuple(None if it is None else f"{it}".encode() for it in row) for row in rows]
 
     def close(self):
         self.python.close()

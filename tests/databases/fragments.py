@@ -10,9 +10,9 @@ import itertools
 import os
 import sys
 
-sys.path.append(os.path.realpath(f"{__file__}/../../lib"))
+sys.path.append(f"{sys.path[0]}/../lib")
 from built import written
-from connections import Refused, each, found_rows
+from connections import attempt, each, found_rows
 from tally import Tally
 
 PLACES = 13
@@ -33,14 +33,6 @@ def prepare(db):
     db.run("DROP TABLE IF EXISTS evil")
 
 
-def is_made(db):
-    try:
-        db.run("SELECT 1 FROM evil")
-        return True
-    except Refused:
-        return False
-
-
 def is_written(db):
     """Whether the file is there, which is then removed."""
     path = f"{db.folder}/{FILE}"
@@ -53,10 +45,8 @@ def is_written(db):
 def found(db, statement):
     """The rows that a statement finds, or None where the database refuses it."""
     prepare(db)
-    try:
-        return sorted(map(repr, db.run(statement)))
-    except Refused:
-        return None
+    rows = attempt(db.run, statement)
+    return rows and sorted(map(repr, rows))
 
 
 def done(db, statement, harmless):
@@ -66,7 +56,9 @@ def done(db, statement, harmless):
         return REFUSED
     if is_written(db):
         return WRITES
-    return MAKES if is_made(db) else RUNS if rows == found(db, harmless) else READS
+    if attempt(db.run, "SELECT 1 FROM evil") is not None:
+        return MAKES
+    return RUNS if rows == found(db, harmless) else READS
 
 
 def measure(db, made, tally):
@@ -99,5 +91,4 @@ def main():
     return tally.end()
 
 
-if __name__ == "__main__":
-    sys.exit(main())
+sys.exit(main())

@@ -13,14 +13,13 @@ seed."""
 import collections
 import ctypes
 import itertools
-import os
 import random
 import re
 import sys
 
-sys.path.append(os.path.realpath(f"{__file__}/../../lib"))
+sys.path.append(f"{sys.path[0]}/../lib")
 from built import written
-from connections import Maria, Refused, Sqlite, each
+from connections import Maria, Sqlite, attempt, each
 from hostile import all_of, asked
 from tally import Tally
 
@@ -51,10 +50,6 @@ FRONTS, TAILS = ("SELECT ", "SELECT 1 ", "SELECT 1,"), (",7", "7", "(7)", "z,7")
 COMMENT_IN_GAP = re.compile(r"'[ \t\f\n\r]*--[^\n\r]*[\n\r]")
 
 
-def of_sqlite(state):
-    return SQLITE.get(state, "")
-
-
 def of_postgres(state):
     if state < 16:
         return {5: "--", 6: '"', 15: None}.get(state, "")
@@ -62,10 +57,6 @@ def of_postgres(state):
         kind, place = divmod(state - 16, 8)
         return STRINGS[kind] if place < 2 else "--" if place == 6 else ""
     return NESTED[(state - 48) % 8]
-
-
-def of_maria(state):
-    return MARIA.get(state, "")
 
 
 def read_by_sqlite(db, text):
@@ -105,18 +96,10 @@ def read_by_postgres(text):
 
 def read_by_maria(db, text):
     """What MariaDB is in behind a text, or None where no statement shows it."""
-
-    def parses(statement):
-        try:
-            db.takes(statement)
-        except Refused as why:
-            return "SQL syntax" not in str(why)
-        return True
-
-    for what, end in ENDS.items():
-        if any(parses(it) and not parses(f"{it})") for front in FRONTS for tail in TAILS for it in [front + text + end + tail]):
-            return what
-    return None
+    parses = lambda statement: "SQL syntax" not in f"{attempt(db.takes, statement, otherwise='{}')}"
+    shows = lambda statement: parses(statement) and not parses(f"{statement})")
+    around = [*itertools.product(FRONTS, TAILS)]
+    return next((what for what, end in ENDS.items() if any(shows(front + text + end + tail) for front, tail in around)), None)
 
 
 def compare(name, read, meant, states, tally):
@@ -145,11 +128,11 @@ def states_of(all_texts):
 def measure(db, states, tally):
     """Compares SQLite, or MariaDB by its settings, with the readers."""
     if db.product == "SQLite":
-        compare(db.name, lambda text: read_by_sqlite(db, text), of_sqlite, states[0], tally)
+        compare(db.name, lambda text: read_by_sqlite(db, text), lambda state: SQLITE.get(state, ""), states[0], tally)
         return
     for setting, some in zip(db.settings, states[2:]):
         db.set(setting)
-        compare(db.name, lambda text: read_by_maria(db, text), of_maria, some, tally)
+        compare(db.name, lambda text: read_by_maria(db, text), lambda state: MARIA.get(state, ""), some, tally)
 
 
 def main():
@@ -170,5 +153,4 @@ def main():
     return tally.end()
 
 
-if __name__ == "__main__":
-    sys.exit(main())
+sys.exit(main())

@@ -9,14 +9,13 @@ NO_BACKSLASH_ESCAPES for `Value`s, and with its defaults for parameters. A text 
 beyond ASCII."""
 
 import itertools
-import os
 import sys
 
-sys.path.append(os.path.realpath(f"{__file__}/../../lib"))
+sys.path.append(f"{sys.path[0]}/../lib")
 from blocks import code_spans, tables
-from bound import EMPTY, TEXTS, Bound, as_bytes, came, kept, of_kit, prepare, rows_of, show
+from bound import EMPTY, TEXTS, Bound, came, kept, of_kit, prepare, rows_of, show
 from built import arms, written
-from connections import Refused, each, head, row
+from connections import as_bytes, attempt, each, head, row
 from hostile import quoted
 from tally import Tally
 
@@ -146,10 +145,10 @@ def came_of_line(db, line):
         db.run(f"DROP TABLE IF EXISTS {table}")
     json = {"PostgreSQL": "JSONB", "MariaDB": "JSON"}.get(db.product, "TEXT")
     db.run(SHOP.format(text=db.column, json=json, order="`order`" if db.product == "MariaDB" else '"order"'))
-    try:
-        found = shown(line.run(db) if line.values else db.run(line.question))
-    except Refused:
+    rows = attempt(line.run, db) if line.values else attempt(db.run, line.question)
+    if rows is None:
         return "refused"
+    found = shown(rows)
     behind = shown(db.run(code_spans(query)[0])) if query else ""
     if is_found(finds, found) and behind == left:
         return "same"
@@ -225,5 +224,4 @@ def main():
     return tally.end()
 
 
-if __name__ == "__main__":
-    sys.exit(main())
+sys.exit(main())

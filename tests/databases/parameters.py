@@ -17,15 +17,14 @@ import collections
 import functools
 import itertools
 import operator
-import os
 import re
 import sys
 
-sys.path.append(os.path.realpath(f"{__file__}/../../lib"))
+sys.path.append(f"{sys.path[0]}/../lib")
 from blocks import code_spans
 from bound import COMPARED, EMPTY, OF_TEXT, TEXTS, ZERO, Bound, came, kept, masks, of_kit, prepare, show, values_of
 from built import arms, written
-from connections import Refused, each, found_rows, head
+from connections import attempt, each, found_rows, head
 from hostile import pattern
 from tally import Tally
 
@@ -142,18 +141,13 @@ def takes(db, count, *how):
     """Whether a statement takes so many values, in a list."""
     numbers = range(1, count + 1)
     holes = ", ".join(db.placeholder.replace("1", f"{it}") for it in numbers)
-    try:
-        return db.run_with(f"SELECT id FROM one WHERE id IN ({holes})", [*numbers], *how) == [(b"1",), (b"2",), (b"3",)]
-    except Refused:
-        return False
+    return attempt(db.run_with, f"SELECT id FROM one WHERE id IN ({holes})", [*numbers], *how) == [(b"1",), (b"2",), (b"3",)]
 
 
 def found_with(db, statement, values):
     """The rows that a statement finds, as the tables have them."""
-    try:
-        return ", ".join(it[0].decode() for it in db.run_with(statement, values)) or "nothing"
-    except Refused:
-        return "error"
+    rows = attempt(db.run_with, statement, values)
+    return "error" if rows is None else ", ".join(it[0].decode() for it in rows) or "nothing"
 
 
 def check_bound(db, tally):
@@ -175,19 +169,11 @@ def check_limit(db, tally):
 
 
 def check_positional(db, positional, tally):
-    """Compares what MariaDB makes of each of POSITIONAL."""
-    for (statement, gives, takes, finds), (text, values) in zip(POSITIONAL, positional):
-        found = takes_and_finds(db, text, values)
-        tally.expect(f"{db.name}: {statement} with {text}", (str(len(values)), *found), (gives, takes.split(",")[0], finds))
-
-
-def takes_and_finds(db, text, values):
-    """How many values a text takes, and what it finds if these are so many."""
-    try:
-        takes = db.takes(text)
-    except Refused:
-        return "error", "–"
-    return str(takes), found_with(db, text, values) if takes == len(values) else "–"
+    """Compares what MariaDB makes of each of POSITIONAL: how many values it takes, and what it finds if these are so many."""
+    for (statement, gives, wanted, finds), (text, values) in zip(POSITIONAL, positional):
+        taken = attempt(db.takes, text, otherwise="error")
+        found = found_with(db, text, values) if taken == len(values) else "–"
+        tally.expect(f"{db.name}: {statement} with {text}", (f"{len(values)}", f"{taken}", found), (gives, wanted.split(",")[0], finds))
 
 
 def measure(db, statements, positional, limited, tally):
@@ -224,5 +210,4 @@ def main():
     return tally.end()
 
 
-if __name__ == "__main__":
-    sys.exit(main())
+sys.exit(main())

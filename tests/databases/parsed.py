@@ -11,12 +11,11 @@ The parser is the Python module pglast. sqlb has to be built. The arguments are 
 
 import itertools
 import json
-import os
 import random
 import sys
 from dataclasses import dataclass, field
 
-sys.path.append(os.path.realpath(f"{__file__}/../../lib"))
+sys.path.append(f"{sys.path[0]}/../lib")
 from built import printed
 from hostile import asked, fits_line, mixed, quoted, texts
 from tally import Tally
@@ -59,10 +58,15 @@ class Written:
         self.lines += lines
         self.texts += texts
 
+    def put(self, words, call, written, behind=""):
+        """Adds words and what a call takes: its text, and the texts that are quoted in it."""
+        text, texts = written
+        self.add(f"{words}{text}{behind}", f"{call}\t{text}", texts=texts)
+
     def listed(self, call, parts):
-        """Adds parts, each by its call and its text, with commas between them."""
-        for number, (text, texts) in enumerate(parts):
-            self.add(f"{', ' if number else ''}{text}", f"{call}\t{text}", texts=texts)
+        """Adds parts, each by its call, with commas between them."""
+        for number, it in enumerate(parts):
+            self.put(", " if number else "", call, it)
 
     def where(self, groups):
         self.add("", *where_lines(groups), texts=texts_of(itertools.chain(*groups)))
@@ -99,17 +103,20 @@ class StatementMaker(Maker):
         kind, text = self.chance.randrange(4), self.text()
         if kind == 0:
             return self.number()[0], []
-        if kind == 1:
-            return quoted(text), [text]
-        if kind == 2:
-            return f"d || {quoted(text)}", [text]
+        if kind < 3:
+            return ("" if kind == 1 else "d || ") + quoted(text), [text]
+        condition, texts = self.written_condition()
+        return f"CASE WHEN {condition} THEN {quoted(text)} END", [*texts, text]
+
+    def written_condition(self):
+        """A condition as it is written, and the texts that are quoted in it."""
         condition = self.condition()
-        return f"CASE WHEN {condition.text} THEN {quoted(text)} END", [*condition.texts, text]
+        return condition.text, condition.texts
 
     def query(self):
         """A query as it is written, and the texts that are quoted in it."""
-        (value, texts), condition = self.value(), self.condition()
-        return f"SELECT {value} FROM w WHERE {condition.text}", [*texts, *condition.texts]
+        (value, texts), (condition, more) = self.value(), self.written_condition()
+        return f"SELECT {value} FROM w WHERE {condition}", [*texts, *more]
 
     def statement(self):
         return self.chance.choice((self.select, self.select, self.update, self.delete, self.insert))()
@@ -131,14 +138,14 @@ class StatementMaker(Maker):
             made.add(" GROUP BY ")
             made.listed("group_by", [self.value() for _ in range(self.chance.randint(1, 2))])
             if self.toss():
-                self.condition_of(made, " HAVING ", "having\t")
+                made.put(" HAVING ", "having", self.written_condition())
         unions = self.chance.choice((0, 0, 0, 1, 2))
         for _ in range(unions):
-            query, texts = self.query()
-            made.add(*self.chance.choice(((f" UNION {query}", f"union\t{query}"), (f" UNION ALL {query}", f"union_all\t{query}"))), texts=texts)
+            query, names = self.query(), self.chance.choice(((" UNION ", "union"), (" UNION ALL ", "union_all")))
+            made.put(*names, query)
         if not unions and self.toss():
-            (value, texts), (word, call) = self.value(), self.chance.choice((("", "order_asc"), (" DESC", "order_desc")))
-            made.add(f" ORDER BY {value}{word}", f"{call}\t{value}", texts=texts)
+            value, (word, call) = self.value(), self.chance.choice((("", "order_asc"), (" DESC", "order_desc")))
+            made.put(" ORDER BY ", call, value, word)
         if self.toss():
             made.add(" LIMIT 5 OFFSET 6", "limit\t5", "offset\t6")
         return made
@@ -150,52 +157,40 @@ class StatementMaker(Maker):
         else:
             made.add(f" {words}JOIN {table}", call, f"join\t{table}")
             if call != "cross":
-                self.condition_of(made, " ON ", "on\t")
-
-    def condition_of(self, made, words, call):
-        condition = self.condition()
-        made.add(f"{words}{condition.text}", f"{call}{condition.text}", texts=condition.texts)
+                made.put(" ON ", "on", self.written_condition())
 
     def update(self):
-        made = Written(["update_table\tw"])
-        made.add("UPDATE w SET ")
+        made = Written(["update_table\tw"], "UPDATE w SET ")
         for number in range(self.chance.randint(1, 3)):
             made.add(", " if number else "")
             if self.toss():
                 text = self.text()
                 made.add(f"d = {quoted(text)}", f"set_str\td\t{text}", texts=[text])
             else:
-                value, texts = self.value()
-                made.add(f"a = {value}", f"set\ta\t{value}", texts=texts)
+                made.put("a = ", "set\ta", self.value())
         return self.changing(made)
 
     def delete(self):
-        made = Written(["delete_from\tw"])
-        made.add("DELETE FROM w")
-        return self.changing(made)
+        return self.changing(Written(["delete_from\tw"], "DELETE FROM w"))
 
     def changing(self, made):
         made.where(self.some_groups())
-        self.returning(made)
-        return made
+        return self.returning(made)
 
     def returning(self, made):
         if self.toss():
-            value, texts = self.value()
-            made.add(f" RETURNING {value}", f"returning\t{value}", texts=texts)
+            made.put(" RETURNING ", "returning", self.value())
+        return made
 
     def insert(self):
-        made = Written(["insert_into\tw"])
-        made.add("INSERT INTO w (a, d) ", "fields\ta\td")
+        made = Written(["insert_into\tw", "fields\ta\td"], "INSERT INTO w (a, d) ")
         if self.toss():
-            query, texts = self.query()
-            made.add(query, f"select\t{query}", texts=texts)
+            made.put("", "select", self.query())
         else:
             for number in range(self.chance.randint(1, 3)):
                 (one, texts), (other, more) = self.value(), self.value()
                 made.add(f"{', ' if number else 'VALUES '}({one}, {other})", f"values\t{one}\t{other}", texts=[*texts, *more])
-        self.returning(made)
-        return made
+        return self.returning(made)
 
 
 # ---- parse trees
@@ -329,5 +324,4 @@ def main():
     return tally.end()
 
 
-if __name__ == "__main__":
-    sys.exit(main())
+sys.exit(main())

@@ -8,14 +8,12 @@ written without one in a literal, by `char(13)` or the like, and has then to be 
 
 import contextlib
 import functools
-import os
 import sqlite3
-import subprocess
 import sys
 import tempfile
 
-sys.path.append(os.path.realpath(f"{__file__}/../../lib"))
-from connections import Refused, each, head, row
+sys.path.append(f"{sys.path[0]}/../lib")
+from connections import attempt, each, head, row
 from hostile import quoted
 from tally import Tally
 
@@ -67,17 +65,7 @@ def by_program(db, path, words, script):
     with open(path, "w", encoding="utf-8", newline="") as it:
         it.write(script)
     words = [script if it == SCRIPT else it.replace(FILE, path) for it in words]
-    given = "" if words else script
-    done = subprocess.run([*db.words(), *words], input=given.encode(), env={**os.environ, **db.variables}, capture_output=True)
-    return done.stderr.decode(errors="replace")
-
-
-def by_library(db, script):
-    try:
-        db.run(script)
-        return ""
-    except Refused as why:
-        return f"{why}"
+    return db.command(*words, script="" if words else script).stderr.decode(errors="replace")
 
 
 def by_python(path, script):
@@ -90,7 +78,7 @@ def ways(db, path):
     yield from ((name, functools.partial(by_program, db, path, words)) for name, words in WAYS[db.product].items())
     if db.product == "SQLite":
         yield "Python's `executescript`", functools.partial(by_python, db.path)
-    yield "its C library", functools.partial(by_library, db)
+    yield "its C library", functools.partial(attempt, db.run, otherwise="{}")
 
 
 def stored(db, run, setup, expressions):
@@ -126,5 +114,4 @@ def main():
     return tally.end()
 
 
-if __name__ == "__main__":
-    sys.exit(main())
+sys.exit(main())

@@ -7,12 +7,11 @@ with an empty text and with PROBES, and what is stored is looked at: where it is
 text of its own there. LIKES has what LIKE finds of characters that it doesn't tell apart, of long masks, and behind a zero byte."""
 
 import itertools
-import os
 import sys
 
-sys.path.append(os.path.realpath(f"{__file__}/../../lib"))
+sys.path.append(f"{sys.path[0]}/../lib")
 from blocks import code_spans, tables
-from connections import Refused, each, found_rows
+from connections import attempt, each, found_rows
 from hostile import quoted
 from tally import Tally
 
@@ -48,9 +47,8 @@ def prepare(db, column):
 
 def finding(db, statement):
     """What a statement finds."""
-    try:
-        rows = db.run(statement)
-    except Refused:
+    rows = attempt(db.run, statement)
+    if rows is None:
         return REFUSED
     return f"rows: {len(rows)}" if "UNION" in statement else ", ".join(sorted(it[0].decode() for it in rows)) or NOTHING
 
@@ -59,11 +57,8 @@ def showing(db, template):
     """The first of PROBES that isn't stored as it is by a template, as the table has it."""
     for text in PROBES:
         db.run("UPDATE t SET a = NULL")
-        try:
-            db.run(template.format(quoted(text)))
-            found = db.run("SELECT a FROM t WHERE id = 1")[0][0]
-        except Refused:
-            found = None
+        is_run = attempt(db.run, template.format(quoted(text))) is not None
+        found = db.run("SELECT a FROM t WHERE id = 1")[0][0] if is_run else None
         if found != text.encode():
             return f"`{text}`" if text else NO_TEXT if found is None else EMPTY
     return TRIED
@@ -76,11 +71,8 @@ def on_like(db):
     cases += [("a" * 50_000, "a" * 50_000, True), ("a" * 50_001, "a" * 50_001, True), ("a\0b", "%b%", True)]
     for text, mask, fits in cases:
         prepare(db, "texts")
-        try:
-            db.run(f"UPDATE t SET a = {db.text_of(text)} WHERE id = 1")
-            found = finding(db, f"SELECT id FROM t WHERE a LIKE '{mask}' ESCAPE '!' AND id = 1")
-        except Refused:
-            found = "not stored"
+        is_stored = attempt(db.run, f"UPDATE t SET a = {db.text_of(text)} WHERE id = 1") is not None
+        found = finding(db, f"SELECT id FROM t WHERE a LIKE '{mask}' ESCAPE '!' AND id = 1") if is_stored else "not stored"
         yield (text, mask) if len(text) < 10 else len(text), found, "1" if fits else NOTHING
 
 
@@ -105,5 +97,4 @@ def main():
     return tally.end()
 
 
-if __name__ == "__main__":
-    sys.exit(main())
+sys.exit(main())

@@ -27,10 +27,10 @@ import sys
 import tempfile
 from dataclasses import dataclass
 
-sys.path.append(os.path.realpath(f"{__file__}/../../lib"))
+sys.path.append(f"{sys.path[0]}/../lib")
 from bound import COMPARED, OF_TEXT, masks
 from built import arms, build, parts_of, printed, proved
-from connections import Refused, each, head, row
+from connections import attempt, each, head, row
 from hostile import all_of, attacks, fits_line, is_like, pattern, texts
 from repository import read
 from servers import Broken, Skipped
@@ -279,23 +279,20 @@ class Statements:
 
 def is_dropped(db):
     """Whether the table `t` is gone, which is there to be dropped, and is then made anew."""
-    try:
-        db.run("SELECT id FROM t")
-        return False
-    except Refused:
+    is_there = attempt(db.run, "SELECT id FROM t") is not None
+    if not is_there:
         db.make_texts("t", [])
-        return True
+    return not is_there
 
 
 def came(db, case):
     """What comes of a statement."""
     if case.before is not None:
         db.run(f"INSERT INTO one VALUES (4, {db.text_of(case.before)})")
-    try:
-        rows = db.run(case.statement)
-        found = "same" if (db.run(case.asked) if case.asked else rows) == case.wanted else "other"
-    except Refused:
-        found = "refused"
+    rows = attempt(db.run, case.statement)
+    if case.asked and rows is not None:
+        rows = attempt(db.run, case.asked)
+    found = "refused" if rows is None else "same" if rows == case.wanted else "other"
     if found != "same":
         found = "dropped" if is_dropped(db) else found
         db.fill()
@@ -328,7 +325,8 @@ def given(db, scripts):
     """How often what came of the scripts that the database's command-line program was given."""
     counts = collections.Counter()
     for script, text in scripts:
-        is_silent = db.is_silent(script)
+        done = db.command(script=script)
+        is_silent = not done.returncode and not done.stderr
         same = db.run(IN_ORDER) == [(b"1", None), (b"2", text.encode()), (b"3", SECOND.encode())]
         counts["dropped" if is_dropped(db) else "refused" if not is_silent else "same" if same else "other"] += 1
         db.fill()
@@ -365,21 +363,14 @@ def defined(db):
 def is_as_defined(db, text):
     """Whether a literal ends where it is defined to, and stands for what it is defined to."""
     found = literal(text)
-    try:
-        rows = db.run(f"SELECT {text[:found[1]]}, 'end'" if found else f"SELECT {text}")
-        return bool(found) and rows == [(found[0].encode(), b"end")]
-    except Refused:
-        return not found
+    rows = attempt(db.run, f"SELECT {text[:found[1]]}, 'end'" if found else f"SELECT {text}")
+    return rows == (found and [(found[0].encode(), b"end")])
 
 
 def answers(db, zero):
     """What the database makes of each fragment, and of a zero character in a text."""
     yield from (db.shown(f"SELECT {fragment}") for _, fragment in FRAGMENTS)
-    try:
-        db.run(zero)
-        yield db.shown("SELECT x FROM one WHERE id = 2")
-    except Refused as why:
-        yield f"refused: {why}"[:60]
+    yield db.shown(zero) or db.shown("SELECT x FROM one WHERE id = 2")
 
 
 def measure(db, statements, checked, shown, tally):
@@ -432,5 +423,4 @@ def main():
     return tally.end()
 
 
-if __name__ == "__main__":
-    sys.exit(main())
+sys.exit(main())

@@ -6,18 +6,18 @@ and of queries, BETWEEN, their NOT forms, and conditions of their own with OR, A
 What the groups mean is computed here, in three-valued logic: a row is found where the AND of the groups, each the OR of its conditions, is
 true. The table has every row of small values and NULLs. The arguments are how many statements are made and a seed."""
 
+import dataclasses
 import functools
 import itertools
 import operator
-import os
 import random
 import sys
 from dataclasses import dataclass, field
 from typing import Any, Callable
 
-sys.path.append(os.path.realpath(f"{__file__}/../../lib"))
+sys.path.append(f"{sys.path[0]}/../lib")
 from built import printed
-from connections import Refused, each
+from connections import attempt, each
 from hostile import asked, is_like, quoted
 from tally import Tally
 
@@ -44,8 +44,7 @@ def and3(values):
 
 
 def or3(values):
-    values = [*values]
-    return True if True in values else None if None in values else False
+    return not3(and3(map(not3, values)))
 
 
 def compared(sign, x, y):
@@ -102,9 +101,8 @@ class Maker:
 
     def either(self, call, name, arguments, words, truth, texts=()):
         """A condition, or its NOT form."""
-        if self.chance.random() < 0.4:
-            return Condition(f"_not_{call}", [name, *arguments], f"{name} NOT {words}", lambda row: not3(truth(row)), [*texts])
-        return Condition(f"_{call}", [name, *arguments], f"{name} {words}", truth, [*texts])
+        no, word, fits = ("_not", "NOT ", lambda row: not3(truth(row))) if self.chance.random() < 0.4 else ("", "", truth)
+        return Condition(f"{no}_{call}", [name, *arguments], f"{name} {word}{words}", fits, [*texts])
 
     def like(self):
         call, part = self.chance.choice([*MASKS]), self.text()
@@ -148,24 +146,20 @@ class Maker:
             return self.plain()
         one, other, third = (self.own(depth - 1) for _ in range(3))
         kind = self.chance.randrange(5)
-        if kind == 0:
-            text, of, truth = f"{one.text} OR {other.text}", (one, other), lambda row: or3((one.truth(row), other.truth(row)))
-        elif kind == 1:
-            text, of, truth = f"({one.text}) AND ({other.text})", (one, other), lambda row: and3((one.truth(row), other.truth(row)))
-        elif kind == 2:
-            text, of, truth = f"NOT ({one.text})", (one,), lambda row: not3(one.truth(row))
-        elif kind == 3:
-            text, of = f"CASE WHEN {one.text} THEN {other.text} ELSE {third.text} END", (one, other, third)
-            truth = lambda row: (other if one.truth(row) is True else third).truth(row)
-        else:
-            result = self.chance.randrange(2)
-            text, of = f"CASE WHEN {one.text} THEN 1 ELSE 0 END = {result}", (one,)
-            truth = lambda row: (one.truth(row) is True) == bool(result)
+        result = self.chance.randrange(2) if kind == 4 else None
+        case = f"CASE WHEN {one.text} THEN {other.text} ELSE {third.text} END"
+        text, of, truth = (
+            (f"{one.text} OR {other.text}", (one, other), lambda row: or3((one.truth(row), other.truth(row)))),
+            (f"({one.text}) AND ({other.text})", (one, other), lambda row: and3((one.truth(row), other.truth(row)))),
+            (f"NOT ({one.text})", (one,), lambda row: not3(one.truth(row))),
+            (case, (one, other, third), lambda row: (other if one.truth(row) is True else third).truth(row)),
+            (f"CASE WHEN {one.text} THEN 1 ELSE 0 END = {result}", (one,), lambda row: (one.truth(row) is True) == bool(result)),
+        )[kind]
         return Condition("", [], text, truth, texts_of(of))
 
     def raw(self):
         made = self.own()
-        return Condition("", [made.text], made.text, made.truth, made.texts)
+        return dataclasses.replace(made, call="", arguments=[made.text])
 
     def condition(self):
         kind = self.chance.random()
@@ -213,10 +207,7 @@ def measure(db, statements, wanted, tally):
     prepare(db)
     before = tally.passed
     for statement, numbers in zip(statements, wanted):
-        try:
-            found = [int(it[0]) for it in db.run(statement)]
-        except Refused as why:
-            found = f"refused: {why}"
+        found = attempt(lambda: [int(it[0]) for it in db.run(statement)], otherwise="refused: {}")
         tally.count(found == numbers, f"{db.name}: {statement}\n  wanted {numbers}\n  found  {found}")
     print(f"{db.name}: {tally.passed - before} of {len(statements)} statements found the rows that their groups mean", flush=True)
 

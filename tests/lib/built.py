@@ -2,6 +2,7 @@
 
 import itertools
 import os
+import pathlib
 import re
 import shutil
 import subprocess
@@ -9,7 +10,7 @@ import sys
 import tempfile
 from dataclasses import dataclass
 
-from repository import CRATES, ROOT, read
+from repository import CRATES, ROOT, read, write
 
 SQLB = f"{CRATES}/sqlb/out/sqlb"
 # What is between the texts that a program of tests/databases reads and writes, and between lists of them.
@@ -29,17 +30,15 @@ class Ran:
         return self.out, self.err, self.status
 
 
-def rt(folder, *words, makes=""):
-    """Runs `rt` in a crate's folder. Ends if it fails, or if it doesn't make this program, however that ends."""
-    ran = subprocess.run(["rt", *words], cwd=folder, stdin=subprocess.DEVNULL, capture_output=True, text=True)
-    if not os.path.exists(makes) if makes else ran.returncode:
-        sys.exit(f"{ran.stdout}{ran.stderr}FAILED: rt {' '.join(words)} in {folder}")
+def rt(folder, *words):
+    """Runs `rt` in a crate's folder."""
+    return subprocess.run(["rt", *words], cwd=folder, stdin=subprocess.DEVNULL, capture_output=True, text=True)
 
 
 def build(crate="sqlb", command="run"):
     """Proves and builds the program or the tests of a crate, unless an argument is --built."""
-    if "--built" not in sys.argv:
-        rt(f"{CRATES}/{crate}", command)
+    if "--built" not in sys.argv and (ran := rt(f"{CRATES}/{crate}", command)).returncode:
+        sys.exit(f"{ran.stdout}{ran.stderr}FAILED: rt {command} in crates/{crate}")
 
 
 def lay_out(folder, name, uses, sources, parts=("",)):
@@ -53,8 +52,7 @@ def lay_out(folder, name, uses, sources, parts=("",)):
     files = {f"crates/{name}/src/{source}.rt": text for source, text in sources.items()}
     files["crates.txt"] = "".join(f"{it}: {known[it]}\n" for it in copied) + f"{name}: {' '.join(used)}\n"
     for path, text in files.items():
-        with open(f"{folder}/{path}", "w", encoding="utf-8") as it:
-            it.write(text)
+        write(f"{folder}/{path}", text)
     subprocess.run(["git", "init", "-q"], cwd=folder, check=True)
     return f"{folder}/crates/{name}"
 
@@ -68,8 +66,10 @@ def proved(folder, name, *uses):
     program's path."""
     modules = {it: source(it) for it in re.findall(r"(?m)^mod (\w+);", source(name))}
     crate = lay_out(folder, name, (*uses, "anyhow"), {"main": source(name), **modules})
-    program = f"{crate}/out/{name}"
-    rt(crate, "run", makes=program)
+    program, ran = f"{crate}/out/{name}", rt(crate, "run")
+    # (it is run without input, and may fail then)
+    if not os.path.exists(program):
+        sys.exit(f"{ran.stdout}{ran.stderr}FAILED: rt run in {crate}")
     return program
 
 
@@ -103,16 +103,14 @@ def build_failing(folder):
 
 
 def run(given=b"", *words, folder=None, **settings):
-    """Runs the program, or a command, on this input. The settings are variables of the library in the folder."""
-    if not settings:
-        done = subprocess.run(words or [SQLB], input=given, capture_output=True)
-        return Ran(done.stdout, done.stderr, done.returncode)
-    # LD_PRELOAD ends a path at a blank, so the library is named from its own folder; the shell and env are without it
-    variables = ["LD_PRELOAD=./fail.so", *(f"{name}={value}" for name, value in settings.items())]
-    shell = ["/bin/sh", "-c", 'exec 3>said; exec env "$@"', "sh"]
-    done = subprocess.run([*shell, *variables, *(words or [SQLB])], cwd=folder, input=given, capture_output=True)
-    with open(f"{folder}/said", "rb") as it:
-        return Ran(done.stdout, done.stderr, done.returncode, it.read())
+    """Runs the program, or a command, on this input in a folder. The settings are variables of the library that is there."""
+    words = words or (SQLB,)
+    if settings:
+        # LD_PRELOAD ends a path at a blank, so the library is named from its own folder; the shell and env are without it
+        variables = ["LD_PRELOAD=./fail.so", *(f"{name}={value}" for name, value in settings.items())]
+        words = ("/bin/sh", "-c", 'exec 3>said; exec env "$@"', "sh", *variables, *words)
+    done = subprocess.run(words, cwd=folder, input=given, capture_output=True)
+    return Ran(done.stdout, done.stderr, done.returncode, pathlib.Path(f"{folder}/said").read_bytes() if settings else b"")
 
 
 def printed(all_lines):

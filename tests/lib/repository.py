@@ -9,8 +9,14 @@ LIBRARIES = ("sql_parts", "sql_builder", "sql_typed")
 
 
 def read(path):
-    with open(f"{ROOT}/{path}", encoding="utf-8") as it:
+    """The text of a file, whose path may be below this repository."""
+    with open(os.path.join(ROOT, path), encoding="utf-8") as it:
         return it.read()
+
+
+def write(path, text):
+    with open(os.path.join(ROOT, path), "w", encoding="utf-8") as it:
+        it.write(text)
 
 
 def listed(folder, ending):
