@@ -1,5 +1,7 @@
 """Reads pages: their blocks of code, tables and texts; and blocks of Rust as statements with the comments after them."""
 
+import itertools
+import math
 import re
 from dataclasses import dataclass, field
 
@@ -10,6 +12,8 @@ ITEM_WORDS = ("use ", "pub ", "fn ", "struct ", "enum ", "impl ", "impl<", "trai
 MARK = re.compile(r"\s*(?:[-*] |\d+\. |#+ |> )")
 # A comment right above further code is of the statement before it only where it is a statement of SQL.
 PRINTED = re.compile(r"(SELECT|INSERT INTO|UPDATE|DELETE FROM) ")
+# What goes on with the code behind a `}`.
+GOES_ON = re.compile(r"\s*([.?;,)]|else\b)")
 TOKEN = re.compile(r"""//[^\n]*|"(?:[^"\\]|\\.)*"|'(?:[^'\\\n]|\\(?:.|u\{[0-9a-f]+\}))'|[()\[\]{};]|\n|[^\n]""", re.S)
 
 
@@ -45,10 +49,12 @@ class Table:
 
 @dataclass
 class Statement:
-    """A statement: the line of the page where it begins, its code, and what the comment after it says, if there is one."""
+    """A statement: the line of the page where it begins, its code, the line where it ends, and what the comment after it says, if there
+    is one."""
 
     line: int
     code: str
+    end: int
     says: str = ""
 
     @property
@@ -103,8 +109,10 @@ class Page:
         self.open, self.fence = None, ""
 
     def read(self, number, line):
-        if self.fence:
-            self.read_fenced(line)
+        if self.fence and line.strip() == self.fence:
+            self.end()
+        elif self.fence:
+            self.open.lines.append(line)
         elif fence := re.match(r"\s*(```+)(\w*)\s*$", line):
             self.end()
             self.open, self.fence = Block(self.name, number + 1, fence[2] or "text"), fence[1]
@@ -119,12 +127,6 @@ class Page:
 
     def goes_on_indented(self, line):
         return isinstance(self.open, Block) and re.match(r"    |\s*$", line)
-
-    def read_fenced(self, line):
-        if line.strip() == self.fence:
-            self.end()
-        else:
-            self.open.lines.append(line)
 
     def read_row(self, number, line):
         if not isinstance(self.open, Table):
@@ -153,59 +155,43 @@ def tables(page, heading):
     return [it for it in Page(page, section).parts if isinstance(it, Table)]
 
 
-class Splitter:
-    """Splits a text of Rust into its statements, and gives each the comment after it: on the line where it ends, or on the lines
-    right below, where a blank line or the end follows these."""
+def depth_of(token):
+    """How much deeper what follows is inside of brackets."""
+    return (token in "([{") - (token in ")]}") if len(token) == 1 else 0
 
-    def __init__(self, text, line):
-        self.found, self.code, self.depth, self.line, self.begin = [], "", 0, line, line
-        self.ended, self.note, self.note_end = 0, [], 0
-        tokens = TOKEN.findall(text)
-        for at, token in enumerate(tokens):
-            self.read(token, "".join(tokens[at + 1 : at + 40]))
-            self.line += token.count("\n")
-        self.close_note(self.line + 1)
-        self.end()
 
-    def read(self, token, rest):
-        if token.startswith("//"):
-            if self.depth == 0 and not self.code.strip():
-                self.take_note(token[2:].strip())
-            return
-        self.depth += (token in "([{") - (token in ")]}") if len(token) == 1 else 0
-        if self.code.strip() or token.strip():
-            if not self.code.strip():
-                self.close_note(self.line)
-                self.begin = self.line
-            self.code += token
-        if self.depth == 0 and (token == ";" or token == "}" and self.ends_after_brace(rest)):
-            self.end()
-
-    def ends_after_brace(self, rest):
-        return not self.code.lstrip().startswith(("let ", "use ")) and not re.match(r"\s*([.?;,)]|else\b)", rest)
-
-    def end(self):
-        if self.code.strip():
-            self.found.append(Statement(self.begin, self.code.strip()))
-            self.ended = self.line
-        self.code = ""
-
-    def take_note(self, text):
-        if self.found and self.line == self.ended:
-            self.found[-1].says = text
-        elif self.found and not self.found[-1].says and self.line == max(self.ended, self.note_end) + 1:
-            self.note.append(text)
-            self.note_end = self.line
-
-    def close_note(self, line):
-        """A comment on lines of its own is of the statement above, unless code follows that the comment may be of."""
-        if self.note and (line > self.note_end + 1 or PRINTED.match(self.note[0])):
-            self.found[-1].says = " ".join(self.note)
-        self.note, self.note_end = [], 0
+def split_statements(text, line):
+    """The statements of a text of Rust, and the comments between them by their lines."""
+    found, notes, code, depth, begin = [], {}, "", 0, line
+    for match in TOKEN.finditer(text):
+        token = match[0]
+        if not code.strip():
+            begin = line
+        if not token.startswith("//"):
+            depth += depth_of(token)
+            code += token
+        elif not code.strip():
+            notes[line] = token[2:].strip()
+        goes_on = token == "}" and (code.lstrip().startswith(("let ", "use ")) or GOES_ON.match(text, match.end()))
+        if depth == 0 and token in (";", "}") and not goes_on:
+            found.append(Statement(begin, code.strip(), line))
+            code = ""
+        line += token.count("\n")
+    return found + [Statement(begin, code.strip(), line)] * bool(code.strip()), notes
 
 
 def statements(block):
-    return Splitter(block.text, block.line).found
+    """The statements of a block of Rust, each with the comment after it: on the line where it ends, or on the lines right below, unless
+    code follows that the comment may be of."""
+    found, notes = split_statements(block.text, block.line)
+    for it, following in itertools.zip_longest(found, found[1:]):
+        begin = following.line if following else math.inf
+        below = [*map(notes.get, itertools.takewhile(notes.__contains__, itertools.count(it.end + 1)))]
+        if it.end in notes and begin > it.end:
+            it.says = notes[it.end]
+        elif below and (begin > it.end + len(below) + 1 or begin > it.end and PRINTED.match(below[0])):
+            it.says = " ".join(below)
+    return found
 
 
 def without_texts(code):
@@ -230,7 +216,7 @@ def split_commas(text):
     """The parts of a text between commas outside of brackets."""
     parts, depth = [""], 0
     for token in TOKEN.findall(text):
-        depth += (token in "([{") - (token in ")]}") if len(token) == 1 else 0
+        depth += depth_of(token)
         if token == "," and depth == 0:
             parts.append("")
         else:

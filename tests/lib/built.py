@@ -102,6 +102,10 @@ def build_failing(folder):
     return True
 
 
+def encoded(text):
+    return text.encode() if isinstance(text, str) else text
+
+
 def run(given=b"", *words, folder=None, **settings):
     """Runs the program, or a command, on this input in a folder. The settings are variables of the library that is there."""
     words = words or (SQLB,)
@@ -109,13 +113,18 @@ def run(given=b"", *words, folder=None, **settings):
         # LD_PRELOAD ends a path at a blank, so the library is named from its own folder; the shell and env are without it
         variables = ["LD_PRELOAD=./fail.so", *(f"{name}={value}" for name, value in settings.items())]
         words = ("/bin/sh", "-c", 'exec 3>said; exec env "$@"', "sh", *variables, *words)
-    done = subprocess.run(words, cwd=folder, input=given, capture_output=True)
+    done = subprocess.run(words, cwd=folder, input=encoded(given), capture_output=True)
     return Ran(done.stdout, done.stderr, done.returncode, pathlib.Path(f"{folder}/said").read_bytes() if settings else b"")
+
+
+def shell(command, given=b"", folder=None):
+    """Runs a command of the shell, in which "$0" is the program. Gives what it printed and said, and its status."""
+    return run(given, "bash", "-c", command, SQLB, folder=folder).ended()
 
 
 def printed(all_lines):
     """The statements that sqlb makes of these, each the lines of one."""
-    done = run("".join(all_lines).encode())
+    done = run("".join(all_lines))
     made = done.out.decode().split("\n")
     if done.status or len(made) != len(all_lines) + 1:
         sys.exit(f"FAILED: sqlb printed {len(made) - 1} statements for {len(all_lines)}, and said: {done.err.decode()}")
