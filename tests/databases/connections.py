@@ -48,8 +48,8 @@ def as_bytes(rows):
 
 class Database:
     """A connection. `run` runs all statements of a text and gives their rows, each value as its bytes or None, `run_with` runs one with
-    values beside it (texts, whole numbers and None), `text_of` is an expression for a text that needs no quoting, and `words` start the
-    database's command-line program, with `variables`."""
+    values beside it (texts, whole numbers and None). `literal` is an expression for a text by its bytes, which needs no quoting. The
+    command-line program is one of the `clients`, started with `arguments` and `variables`."""
 
     # What the database is measured with, by `set`, first as it comes, and which of it has a backslash escape nothing.
     settings, standard = ("",), ""
@@ -62,9 +62,13 @@ class Database:
     def set(self, setting):
         pass
 
+    def text_of(self, text):
+        return self.literal.format(text.encode().hex())
+
     def command(self, *words, script=""):
         """Runs the command-line program with these further words, and a script as its input."""
-        return subprocess.run([*self.words(), *words], input=script.encode(), env={**os.environ, **self.variables}, capture_output=True)
+        words = [program(*self.clients), *self.arguments, *words]
+        return subprocess.run(words, input=script.encode(), env={**os.environ, **self.variables}, capture_output=True)
 
     def shown(self, statement):
         """The first value of each row, to be shown, or why there is none."""
@@ -106,10 +110,11 @@ def library(given, *names):
 
 class Sqlite(Database):
     product, number, placeholder = "SQLite", 0, "?1"
+    clients, literal = ("sqlite3",), "CAST(x'{}' AS TEXT)"
     GIVEN = {"sqlite3_errmsg": ctypes.c_char_p, "sqlite3_libversion": ctypes.c_char_p, "sqlite3_column_text": Pointer}
 
     def __init__(self, folder):
-        self.folder, self.path = folder, f"{folder}/database"
+        self.folder, self.path, self.arguments = folder, f"{folder}/database", [f"{folder}/database"]
         self.lib, self.db = library(self.GIVEN, "sqlite3"), Pointer()
         self.lib.sqlite3_open(self.path.encode(), ctypes.byref(self.db))
         self.name = f"SQLite {self.lib.sqlite3_libversion().decode()}"
@@ -118,12 +123,6 @@ class Sqlite(Database):
         settings = "PRAGMA case_sensitive_like = ON; PRAGMA synchronous = OFF; PRAGMA journal_mode = MEMORY"
         self.run(settings)
         self.python.executescript(settings)
-
-    def words(self):
-        return [program("sqlite3"), self.path]
-
-    def text_of(self, text):
-        return f"CAST(x'{text.encode().hex()}' AS TEXT)"
 
     def run(self, statement):
         text = statement.encode()
@@ -168,6 +167,7 @@ class Sqlite(Database):
 class Postgres(Database):
     product, number, placeholder = "PostgreSQL", 1, "$1"
     settings, standard = ("on", "off"), "on"
+    clients, arguments, literal = ("psql",), ("-qX", "postgres"), "convert_from(decode('{}', 'hex'), 'UTF8')"
 
     def __init__(self, variables):
         if not pq:
@@ -181,12 +181,6 @@ class Postgres(Database):
         self.run(f"SET standard_conforming_strings = {setting}")
         self.escapes = setting == "off"
         self.name = f"PostgreSQL {self.shown('SHOW server_version').split()[0]}, standard_conforming_strings {setting}"
-
-    def words(self):
-        return [program("psql"), "-qX", "postgres"]
-
-    def text_of(self, text):
-        return f"convert_from(decode('{text.encode().hex()}', 'hex'), 'UTF8')"
 
     def run(self, statement):
         return self.rows(self.db.exec_(statement.encode()))
@@ -238,6 +232,7 @@ def bound(value):
 class Maria(Database):
     product, number, placeholder = "MariaDB", 2, "?"
     settings, standard = ("default mode", "NO_BACKSLASH_ESCAPES"), "NO_BACKSLASH_ESCAPES"
+    clients, literal = ("mariadb", "mysql"), "CONVERT(x'{}' USING utf8mb4)"
     GIVEN = {
         **dict.fromkeys(("mysql_init", "mysql_real_connect", "mysql_store_result", "mysql_stmt_init"), Pointer),
         **dict.fromkeys(("mysql_error", "mysql_stmt_error"), ctypes.c_char_p),
@@ -249,6 +244,7 @@ class Maria(Database):
 
     def __init__(self, folder):
         self.folder, self.lib = folder, library(self.GIVEN, "mariadb", "mysqlclient")
+        self.arguments = ["--no-defaults", f"--socket={folder}/socket", "--user=root", "texts"]
         lib, self.db = self.lib, self.lib.mysql_init(None)
         lib.mysql_options(self.db, 7, b"utf8mb4")  # MYSQL_SET_CHARSET_NAME
         several = ctypes.c_ulong(1 << 16)  # CLIENT_MULTI_STATEMENTS, without which a second statement is always refused
@@ -269,12 +265,6 @@ class Maria(Database):
         if not self.escapes:
             self.run(f"SET SESSION sql_mode = CONCAT(@@sql_mode, ',{setting}')")
         self.name = f"{self.version}, {setting}"
-
-    def words(self):
-        return [program("mariadb", "mysql"), "--no-defaults", f"--socket={self.folder}/socket", "--user=root", "texts"]
-
-    def text_of(self, text):
-        return f"CONVERT(x'{text.encode().hex()}' USING utf8mb4)"
 
     def run(self, statement):
         text = statement.encode()

@@ -33,7 +33,7 @@ from built import arms, build, parts_of, printed, proved
 from connections import attempt, each, head, row
 from hostile import all_of, attacks, fits_line, is_like, pattern, texts
 from repository import read
-from servers import Broken, Skipped
+from servers import Broken, Skipped, program
 from tally import Tally
 
 TAB, BACKSLASH = "\t", "\\"
@@ -336,7 +336,7 @@ def given(db, scripts):
 def measure_program(db, scripts, tally):
     """Prints what came of the scripts in the database's command-line program, if that is installed."""
     try:
-        name = os.path.basename(db.words()[0])
+        name = os.path.basename(program(*db.clients))
     except Skipped as why:
         print(f"SKIPPED: {db.name}: {why}", flush=True)
         return
