@@ -16,10 +16,6 @@ def is_there(tool):
     return shutil.which(tool) is not None
 
 
-def is_same(folder, other):
-    return subprocess.run(["diff", "-rq", folder, other], capture_output=True).returncode == 0
-
-
 def made(program, words, folder, log):
     """Runs a command that makes a program, with what it says in a file, and answers the program."""
     with open(log, "wb") as out:
@@ -31,8 +27,7 @@ def made(program, words, folder, log):
 
 def sqlb(work):
     """The program of the repository, as `rt run` proves and builds it; without `rt` the one that is there."""
-    folder = f"{ROOT}/crates/sqlb"
-    program = f"{folder}/out/sqlb"
+    folder, program = f"{ROOT}/crates/sqlb", f"{ROOT}/crates/sqlb/out/sqlb"
     if not is_there("rt"):
         return program if os.path.isfile(program) else None
     say("proving and building sqlb")
@@ -42,14 +37,10 @@ def sqlb(work):
 def copy_crate(name, copy):
     """Copies a crate, with what was proved of it, where no copy is there that is the same."""
     crate = f"{ROOT}/crates/{name}"
-    parts = [part for part in ("src", "specs", "proofs") if os.path.isdir(f"{crate}/{part}")]
-    if all(is_same(f"{crate}/{part}", f"{copy}/{part}") for part in parts):
-        return
-    shutil.rmtree(copy, ignore_errors=True)
-    os.makedirs(copy)
-    for part in (*parts, "out"):
-        if os.path.isdir(f"{crate}/{part}"):
-            subprocess.run(["cp", "-a", f"{crate}/{part}", copy], check=True)
+    if subprocess.run(["diff", "-rqx", "out", crate, copy], capture_output=True).returncode:
+        shutil.rmtree(copy, ignore_errors=True)
+        os.makedirs(os.path.dirname(copy), exist_ok=True)
+        subprocess.run(["cp", "-a", crate, copy], check=True)
 
 
 def library(work):
