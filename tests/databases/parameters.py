@@ -192,10 +192,6 @@ def measure(db, statements, positional, limited, tally):
         tally.expect(f"{db.name}: whether it takes {MOST} values, and one more", most, [True, db.product == "SQLite"])
 
 
-def is_right_of_kit(statement, result, _):
-    return result == ("refused" if statement.is_masked or statement.name in NOT_IN_KIT else "same")
-
-
 def main():
     tally, limited = Tally("parameters"), []
     statements, positional = made()
@@ -203,7 +199,8 @@ def main():
     head("database", "texts", "statements", "as meant", "LIKE to a zero byte", "without case", "otherwise", "refused")
     each(tally, lambda db: measure(db, statements, positional, limited, tally))
     results = [(it, of_kit(it, *it.kit)) for it in statements]
-    show("the kit's sqlite", results, CAME, is_right_of_kit, tally)
+    is_right = lambda it, result, _: result == ("refused" if it.is_masked or it.name in NOT_IN_KIT else "same")
+    show("the kit's sqlite", results, CAME, is_right, tally)
     refused = {it.name for it, result in results if result == "refused"}
     print(f"\nThe kit's sqlite refuses: {', '.join(it for it in NAMES if it in refused)}")
     print(f"How many texts are refused in LIMIT: {', '.join(limited)}\n")

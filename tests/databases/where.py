@@ -55,10 +55,6 @@ def is_in(x, values):
     return or3(compared("eq", x, it) for it in values)
 
 
-def is_between(x, least, greatest):
-    return and3((compared("ge", x, least), compared("le", x, greatest)))
-
-
 @dataclass
 class Condition:
     """A condition: the ending of its call with the arguments, its text, its truth for a row, and the texts that are quoted in it."""
@@ -125,7 +121,7 @@ class Maker:
 
     def between(self):
         (name, value), (least, x), (most, y) = self.column(), self.number(), self.number()
-        truth = lambda row: is_between(value(row), x(row), y(row))
+        truth = lambda row: and3((compared("ge", value(row), x(row)), compared("le", value(row), y(row))))
         return self.either("between", name, [least, most], f"BETWEEN {least} AND {most}", truth)
 
     def nested(self):

@@ -109,6 +109,7 @@ class Page:
         self.open, self.fence = None, ""
 
     def read(self, number, line):
+        goes_on = isinstance(self.open, Block)
         if self.fence and line.strip() == self.fence:
             self.end()
         elif self.fence:
@@ -116,7 +117,7 @@ class Page:
         elif fence := re.match(r"\s*(```+)(\w*)\s*$", line):
             self.end()
             self.open, self.fence = Block(self.name, number + 1, fence[2] or "text"), fence[1]
-        elif re.match(r"    \S", line) and not self.is_list and not self.paragraph or self.goes_on_indented(line):
+        elif re.match(r"    \S", line) and not self.is_list and not self.paragraph or goes_on and re.match(r"    |\s*$", line):
             self.open = self.open or Block(self.name, number, "text", False)
             self.open.lines.append(line[4:])
         elif line.startswith("|"):
@@ -124,9 +125,6 @@ class Page:
         else:
             self.end()
             self.read_prose(number, line)
-
-    def goes_on_indented(self, line):
-        return isinstance(self.open, Block) and re.match(r"    |\s*$", line)
 
     def read_row(self, number, line):
         if not isinstance(self.open, Table):
