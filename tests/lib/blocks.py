@@ -3,7 +3,7 @@
 import itertools
 import math
 import re
-from dataclasses import dataclass, field
+from dataclasses import dataclass
 
 from repository import read
 
@@ -24,8 +24,8 @@ class Block:
     page: str
     line: int
     language: str
-    is_fenced: bool = True
-    lines: list = field(default_factory=list)
+    is_fenced: bool
+    lines: list
 
     @property
     def text(self):
@@ -92,55 +92,48 @@ class Page:
     """The blocks and the tables of a page, in their order; and its paragraphs, items and headings, each with its first line."""
 
     def __init__(self, name, text):
-        self.name, self.parts, self.texts, self.paragraph, self.last = name, [], [], [], ""
-        self.open, self.fence, self.is_list = None, "", False
-        for number, line in enumerate(text.split("\n"), 1):
-            self.read(number, line)
-        self.end()
+        self.name, self.parts, self.texts, self.paragraph, self.is_list = name, [], [], [], False
+        # the paragraph before a table, and the next line's place
+        self.last, self.lines, self.at = "", text.split("\n"), 0
+        while self.at < len(self.lines):
+            self.read(self.lines[self.at])
 
-    def end(self):
-        """Ends an open block or table."""
-        if isinstance(self.open, Block):
-            while self.open.lines and not self.open.lines[-1].strip():
-                self.open.lines.pop()
-        if self.open:
-            self.parts.append(self.open)
-            self.last = ""
-        self.open, self.fence = None, ""
-
-    def read(self, number, line):
-        goes_on = isinstance(self.open, Block)
-        if self.fence and line.strip() == self.fence:
-            self.end()
-        elif self.fence:
-            self.open.lines.append(line)
-        elif fence := re.match(r"\s*(```+)(\w*)\s*$", line):
-            self.end()
-            self.open, self.fence = Block(self.name, number + 1, fence[2] or "text"), fence[1]
-        elif re.match(r"    \S", line) and not self.is_list and not self.paragraph or goes_on and re.match(r"    |\s*$", line):
-            self.open = self.open or Block(self.name, number, "text", False)
-            self.open.lines.append(line[4:])
+    def read(self, line):
+        """Reads a block, a table, or a line of other text."""
+        self.at += 1
+        if fence := re.match(r"\s*(```+)(\w*)\s*$", line):
+            self.add(Block(self.name, self.at + 1, fence[2] or "text", True, self.take(lambda it: it.strip() != fence[1])))
+            self.at += 1
+        elif re.match(r"    \S", line) and not self.is_list and not self.paragraph:
+            number, lines = self.at, [line, *self.take(re.compile(r"    |\s*$").match)]
+            self.add(Block(self.name, number, "text", False, [it[4:] for it in lines]))
         elif line.startswith("|"):
-            self.read_row(number, line)
+            number, rows = self.at, self.take(lambda it: it.startswith("|"))
+            self.add(Table(self.name, number, code_spans(self.last), cells(line), [*enumerate(map(cells, rows[1:]), number + 2)]))
         else:
-            self.end()
-            self.read_prose(number, line)
+            self.read_prose(line)
 
-    def read_row(self, number, line):
-        if not isinstance(self.open, Table):
-            self.end()
-            self.open = Table(self.name, number, code_spans(self.last), cells(line), [])
-        elif number > self.open.line + 1:
-            self.open.rows.append((number, cells(line)))
+    def take(self, belongs):
+        """The next lines, up to one that doesn't belong to them."""
+        taken = [*itertools.takewhile(belongs, self.lines[self.at :])]
+        self.at += len(taken)
+        return taken
 
-    def read_prose(self, number, line):
+    def add(self, part):
+        # (blank lines behind a block are none of it)
+        while isinstance(part, Block) and part.lines and not part.lines[-1].strip():
+            part.lines.pop()
+        self.parts.append(part)
+        self.last = ""
+
+    def read_prose(self, line):
         if not line.strip() or line.startswith("<!--"):
             self.paragraph = []
             return
         mark = MARK.match(line)
         self.is_list = bool(re.match(r"\s*([-*]|\d+\.) ", line)) or self.is_list and line.startswith(" ")
         if mark or not self.paragraph:
-            self.texts.append((number, line[mark.end() if mark else 0 :]))
+            self.texts.append((self.at, line[mark.end() if mark else 0 :]))
         else:
             self.texts[-1] = (self.texts[-1][0], f"{self.texts[-1][1]} {line}")
         self.paragraph.append(line)
