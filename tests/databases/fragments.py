@@ -6,7 +6,6 @@ makes a table, writes a file, reads another table, or has a further clause. By t
 let in, so no table and no file is made, and no other table read. Of HARMLESS, whose words are in brackets, quotes or names, each is printed
 by types."""
 
-import itertools
 import os
 import sys
 
@@ -75,8 +74,8 @@ def measure(db, made, tally):
 def statements():
     """Of each fragment its statements by the builder, and those by types."""
     texts = [*FRAGMENTS, *HARMLESS, "true"]
-    parts = written("fragments", ["sql_typed"], 2 * PLACES * len(texts), texts)
-    return {text: ([*itertools.islice(parts, PLACES)], [*itertools.islice(parts, PLACES)]) for text in texts}
+    [made] = written("fragments", ["sql_typed"], [(len(texts), 2 * PLACES)], texts)
+    return {text: (it[:PLACES], it[PLACES:]) for text, it in zip(texts, made)}
 
 
 def main():

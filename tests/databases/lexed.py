@@ -119,10 +119,10 @@ def compare(name, read, meant, states, tally):
 def states_of(all_texts):
     """Of each reader the states behind the texts of its database, in the order of lexed.rt.txt."""
     texts = [*dict.fromkeys(itertools.chain(*all_texts.values()))]
-    parts = written("lexed", ["database_readers"], 4 * len(texts), texts)
-    found = {text: [int(it) for it in itertools.islice(parts, 4)] for text in texts}
+    [made] = written("lexed", ["database_readers"], [(len(texts), 4)], texts)
+    found = dict(zip(texts, made))
     products = ("SQLite", "PostgreSQL", "MariaDB", "MariaDB")
-    return [{text: found[text][number] for text in all_texts[product]} for number, product in enumerate(products)]
+    return [{text: int(found[text][number]) for text in all_texts[product]} for number, product in enumerate(products)]
 
 
 def measure(db, states, tally):

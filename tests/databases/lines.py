@@ -120,10 +120,11 @@ class Attack(Bound):
 
 def made():
     """The lines, and the templates with each text."""
-    count, shop = 6 * len(LINES) + 10 * len(TEMPLATES) * len(TEXTS), SHOP.format(text="TEXT", json="TEXT", order='"order"')
-    parts = written("lines", ("sql_typed", "sqlite"), count, LINES, [shop], TEMPLATES, TEXTS)
-    lines = [Bound(name, "", *itertools.islice(parts, 6)) for name in LINES]
-    return lines, [Attack(name, text, *itertools.islice(parts, 10)) for text in TEXTS for name in TEMPLATES]
+    attacks, shop = [*itertools.product(TEXTS, TEMPLATES)], SHOP.format(text="TEXT", json="TEXT", order='"order"')
+    shapes = (len(LINES), 6), (len(attacks), 10)
+    of_lines, of_attacks = written("lines", ("sql_typed", "sqlite"), shapes, LINES, [shop], TEMPLATES, TEXTS)
+    lines = [Bound(name, "", *it) for name, it in zip(LINES, of_lines)]
+    return lines, [Attack(name, text, *it) for (text, name), it in zip(attacks, of_attacks)]
 
 
 def check(attacks, tally):

@@ -113,10 +113,10 @@ class Statement(Bound):
 
 def made():
     """All statements of all texts, and those of POSITIONAL with their values."""
-    count, uses = 7 * len(NAMES) * len(TEXTS) + 3 * len(POSITIONAL), ("sql_typed", "sqlite")
-    parts = written("parameters", uses, count, NAMES, TEXTS, [f"SELECT id FROM one WHERE {it}" for it, *_ in POSITIONAL])
-    statements = [Statement(name, text, *itertools.islice(parts, 7)) for text in TEXTS for name in NAMES]
-    positional = [(*itertools.islice(parts, 3),) for _ in POSITIONAL]
+    several, shapes = [*itertools.product(TEXTS, NAMES)], ((len(TEXTS) * len(NAMES), 7), (len(POSITIONAL), 3))
+    numbered = [f"SELECT id FROM one WHERE {it}" for it, *_ in POSITIONAL]
+    statements, positional = written("parameters", ("sql_typed", "sqlite"), shapes, NAMES, TEXTS, numbered)
+    statements = [Statement(name, text, *it) for (text, name), it in zip(several, statements)]
     return statements, [(text, values_of(ordered)) for text, _, ordered in positional]
 
 

@@ -24,12 +24,11 @@ import operator
 import os
 import re
 import sys
-import tempfile
 from dataclasses import dataclass
 
 sys.path.append(f"{sys.path[0]}/../lib")
-from bound import COMPARED, OF_TEXT, masks
-from built import arms, build, parts_of, printed, proved
+from bound import COMPARED, OF_TEXT, kept, masks
+from built import arms, build, printed, written
 from connections import attempt, each, head, row
 from hostile import all_of, attacks, fits_line, is_like, pattern, texts
 from repository import read
@@ -37,7 +36,7 @@ from servers import Broken, Skipped, program
 from tally import Tally
 
 TAB, BACKSLASH = "\t", "\\"
-IN_ORDER = "SELECT id, x FROM one ORDER BY id"
+IN_ORDER, REMOVING = "SELECT id, x FROM one ORDER BY id", "DELETE FROM one WHERE id > 3 RETURNING id, x"
 # The calls that put a text into a row.
 CALLS = ("quote", "bind", "binds", "bind_num", "bind_nums", "bind_name", "bind_names")
 # The calls of LIKE, and which texts fit a mask without wildcards. By these names texts.rt.txt makes masks too.
@@ -82,8 +81,8 @@ HARMLESS = "é"
 # What can come of a statement.
 CAME = ("same", "other", "refused", "dropped")
 
-# Texts with a zero byte are those of up to three of these, and this one.
-OF_ZEROS, ZERO_ATTACK = "\0'a", "\0'; DROP TABLE t; --"
+# Texts with a zero byte are those of up to three of these, and this one; and one that is shown.
+OF_ZEROS, ZERO_ATTACK, SHOWN_ZERO = "\0'a", "\0'; DROP TABLE t; --", "a\0b"
 # The second text of a script, which a program runs that takes its quote for the end of the first.
 SECOND = "; DROP TABLE t; --"
 
@@ -125,7 +124,7 @@ def literal(text):
     return (re.sub(r"\\(.)|''", lambda it: it[1] or "'", found[1], flags=re.DOTALL), found.end()) if found else None
 
 
-def written(term):
+def text_of_term(term):
     """The text that a term of a worked row is."""
     codes = re.search(r'"(.*)"', term)
     if not codes:
@@ -145,12 +144,12 @@ def worked(file, shape):
 def differing_rows():
     """The worked rows that `literal` and `pattern`, which say the definitions once more, do not give."""
     for text, stands, length in worked("BackslashRows", LITERAL_ROW):
-        wanted = (written(stands), int(length)) if length else None
-        if literal(written(text)) != wanted:
+        wanted = (text_of_term(stands), int(length)) if length else None
+        if literal(text_of_term(text)) != wanted:
             yield text
     for mask, text, fits in worked("LikeRows", MASK_ROW):
-        expression = pattern(written(mask))
-        if (expression is not None and bool(expression.fullmatch(written(text)))) != (fits == "true"):
+        expression = pattern(text_of_term(mask))
+        if (expression is not None and bool(expression.fullmatch(text_of_term(text)))) != (fits == "true"):
             yield f"{mask} {text}"
 
 
@@ -173,17 +172,17 @@ class Case:
 
 
 class Statements:
-    """What sqlb and texts.rt.txt make of the texts."""
+    """What sqlb and texts.rt.txt make of the texts, of each by each of MAKES."""
 
-    def __init__(self, program):
-        self.program, self.attacks = program, attacks()
-        self.all = texts()
+    def __init__(self):
+        self.all, self.attacks = texts(), attacks()
         self.rows = [*dict.fromkeys([*self.all, *self.attacks])]
         self.numbers = {text: number for number, text in enumerate(self.rows)}
         self.lines = [*filter(fits_line, self.all)]
         self.zeros = [*(it for it in all_of(OF_ZEROS, 3) if "\0" in it), ZERO_ATTACK]
-        self.made = self.called(self.all)
-        self.typed = list(zip(self.called(self.attacks), self.attacks))
+        several = [*dict.fromkeys([*self.rows, *self.zeros, *(it for _, it in FRAGMENTS), SHOWN_ZERO, HARMLESS])]
+        [made] = written("texts", ["sql_typed"], [(len(several), len(MAKES))], MAKES, several)
+        self.made = {text: dict(zip(MAKES, it)) for text, it in zip(several, made)}
         # the ones after the others, each of which begins with the table `one` as it was
         self.cases = [
             [*self.keeping(), *self.storing()],
@@ -192,43 +191,34 @@ class Statements:
         ]
         self.scripts = {"a zero byte": self.scripted(self.zeros), "a digit": self.scripted([it.replace("\0", "0") for it in self.zeros])}
 
-    def called(self, texts):
-        """What each of MAKES makes of each text."""
-        parts = parts_of(self.program, len(MAKES) * len(texts), MAKES, texts)
-        return [dict(zip(MAKES, itertools.islice(parts, len(MAKES)))) for _ in texts]
-
     def numbered(self, texts):
         """The rows of these texts as a query finds them."""
         return [(b"%d" % it,) for it in sorted(self.numbers[it] for it in texts)]
 
     def kept(self, call, statement, text, row):
         """A statement that puts a text into this row."""
-        if row == 4:
-            return Case(call, statement, [text], [(b"4", text.encode())], "DELETE FROM one WHERE id > 3 RETURNING id, x")
-        return Case(call, statement, [text], [(b"1", None), (b"2", text.encode()), (b"3", None)], IN_ORDER)
+        wanted, asked = ([(b"4", text.encode())], REMOVING) if row == 4 else (kept(text, row), IN_ORDER)
+        return Case(call, statement, [text], wanted, asked)
 
     def keeping(self):
         """Statements that put a text into a row."""
         lines = [*self.lines, *self.zeros]
         yield from (self.kept("set_str", *it, 2) for it in zip(printed([update(2, it) for it in lines]), lines))
-        made, texts = [*self.made, *self.called(self.zeros)], [*self.all, *self.zeros]
-        for call in CALLS:
-            name = "quote" if call == "quote" else "the six calls of binding"
-            yield from (self.kept(name, statements[call], text, 2) for statements, text in zip(made, texts))
+        for call, text in itertools.product(CALLS, [*self.all, *self.zeros]):
+            yield self.kept("quote" if call == "quote" else "the six calls of binding", self.made[text][call], text, 2)
 
     def storing(self):
         """The same of statements by types."""
-        for call, place in (STORES | NAMES).items():
+        for (call, place), text in itertools.product((STORES | NAMES).items(), self.attacks):
             name = "a name or constant by types" if call in NAMES else "set, set_str, values and row by types"
-            yield from (self.kept(name, statements[call], text, place) for statements, text in self.typed)
+            yield self.kept(name, self.made[text][call], text, place)
 
     def giving(self):
         """The statements by types that give rows."""
-        for call, gives in (MAY_GIVE | GIVES).items():
+        for (call, gives), text in itertools.product((MAY_GIVE | GIVES).items(), self.attacks):
             name = "other arguments by types" if call in GIVES else "a column by types" if call == COLUMN else "a name or constant by types"
-            for statements, text in self.typed:
-                wanted = gives(text, self.numbered([text]))
-                yield Case(name, statements[call], [text], wanted, before=text if call == "delete" else None)
+            wanted = gives(text, self.numbered([text]))
+            yield Case(name, self.made[text][call], [text], wanted, before=text if call == "delete" else None)
 
     def scripted(self, texts):
         """Scripts that put each text into a row, and SECOND into the next one."""
@@ -251,30 +241,26 @@ class Statements:
 
     def matching(self):
         """Statements that ask for the rows that an escaped text matches."""
-        for call, fits in LIKES.items():
-            for statements, text in zip(self.made, self.all):
-                yield Case("escape_like", statements[call], [text], self.numbered(it for it in self.rows if fits(it, text)))
+        for (call, fits), text in itertools.product(LIKES.items(), self.all):
+            yield Case("escape_like", self.made[text][call], [text], self.numbered(it for it in self.rows if fits(it, text)))
 
     def asking(self):
         """Statements by types that ask for the rows that a condition on an attack finds; what a backslash means in a mask is no matter here."""
-        for name, fits in FILTERS.items():
-            for statements, text in self.typed:
-                if not (name in LIKE and BACKSLASH in text):
-                    found = self.numbered(it for it in self.rows if fits(it, text))
-                    yield Case("conditions by types", statements[name], [text], found)
-                    found = self.numbered([text] if fits(text, text) else [])
-                    yield Case("conditions by types", statements[name + OF_TEXT], [text], found)
+        for (name, fits), text in itertools.product(FILTERS.items(), self.attacks):
+            if not (name in LIKE and BACKSLASH in text):
+                found = self.numbered(it for it in self.rows if fits(it, text))
+                yield Case("conditions by types", self.made[text][name], [text], found)
+                found = self.numbered([text] if fits(text, text) else [])
+                yield Case("conditions by types", self.made[text][name + OF_TEXT], [text], found)
 
     def differing(self):
         """The statements by types in which an attack changes more than its literals: what is around them has to be what is there with a
         harmless text, and inside of them each quote has to be doubled, and each wildcard escaped or none."""
-        [wanted] = self.called([HARMLESS])
-        for made, text in self.typed:
+        for text, name in itertools.product(self.attacks, BY_TYPES):
             literals = "|".join(re.escape(it.replace("'", "''")) for it in (text, re.sub("[%_!]", r"!\g<0>", text)))
-            for name in BY_TYPES:
-                shape = f"({literals})".join(map(re.escape, wanted[name].split(HARMLESS)))
-                if name != COLUMN and not re.fullmatch(shape, made[name]):
-                    yield made[name]
+            shape = f"({literals})".join(map(re.escape, self.made[HARMLESS][name].split(HARMLESS)))
+            if name != COLUMN and not re.fullmatch(shape, self.made[text][name]):
+                yield self.made[text][name]
 
 
 def is_dropped(db):
@@ -375,7 +361,6 @@ def answers(db, zero):
 
 def measure(db, statements, checked, shown, tally):
     """Measures a database by each of its settings: prints what came of the statements, and adds what is as defined, and what fragments show."""
-    zero = statements.called(["a\0b"])[0]["bind"]
     for setting in db.settings:
         db.set(setting)
         for call, counts in count_came(db, statements).items():
@@ -389,7 +374,7 @@ def measure(db, statements, checked, shown, tally):
         for name, what, tried, same in defined(db):
             checked.append((name, what, tried, same))
             tally.expect(f"{name}: {what} that are as defined", same, tried)
-        shown[db.name] = [*answers(db, zero)]
+        shown[db.name] = [*answers(db, statements.made[SHOWN_ZERO]["bind"])]
 
 
 def show(statements, checked, shown):
@@ -400,10 +385,9 @@ def show(statements, checked, shown):
         row(*it)
     print()
     head("what", "fragment", "let in", *shown)
-    let_in = [it[LET_IN] for it in statements.called([fragment for _, fragment in FRAGMENTS])]
     for number, (what, fragment) in enumerate(FRAGMENTS):
-        row(what, fragment, let_in[number], *(given[number] for given in shown.values()))
-    row("a zero character in a bound text", "a\0b", "", *(given[-1] for given in shown.values()))
+        row(what, fragment, statements.made[fragment][LET_IN], *(given[number] for given in shown.values()))
+    row("a zero character in a bound text", SHOWN_ZERO, "", *(given[-1] for given in shown.values()))
     print()
 
 
@@ -411,14 +395,13 @@ def main():
     tally, checked, shown = Tally("texts"), [], {}
     tally.expect("worked rows that are not what is tried on the databases", [*differing_rows()], [])
     build()
-    with tempfile.TemporaryDirectory(prefix="calls-") as folder:
-        tally.expect("what only the program has", arms("texts") - {*MAKES}, set())
-        statements = Statements(proved(folder, "texts", "sql_typed"))
-        tally.expect("statements by types in which an attack changes more than its literal", [*statements.differing()], [])
-        print(f"{len(statements.all)} texts, of which {len(statements.lines)} go through sqlb, and {len(statements.attacks)} attacks of pages\n")
-        head("database", "call", "statements", *CAME)
-        each(tally, lambda db: measure(db, statements, checked, shown, tally))
-        show(statements, checked, shown)
+    tally.expect("what only the program has", arms("texts") - {*MAKES}, set())
+    statements = Statements()
+    tally.expect("statements by types in which an attack changes more than its literal", [*statements.differing()], [])
+    print(f"{len(statements.all)} texts, of which {len(statements.lines)} go through sqlb, and {len(statements.attacks)} attacks of pages\n")
+    head("database", "call", "statements", *CAME)
+    each(tally, lambda db: measure(db, statements, checked, shown, tally))
+    show(statements, checked, shown)
     tally.count(shown, "no database was measured")
     return tally.end()
 

@@ -78,19 +78,16 @@ def arms(*names):
     return {it for name in names for it in re.findall(r'"([^"]*)"(?= \| "| =>)', source(name))}
 
 
-def written(name, uses, count, *inputs):
-    """The parts that tests/databases/NAME.rt.txt writes, which is proved over these crates."""
+def written(name, uses, shapes, *inputs):
+    """What tests/databases/NAME.rt.txt, which is proved over these crates, writes of lists of texts: parts, each with a separator behind
+    it. For each shape, which is two numbers, so many lists of so many parts."""
     with tempfile.TemporaryDirectory(prefix=f"{name}-") as folder:
-        return parts_of(proved(folder, name, *uses), count, *inputs)
-
-
-def parts_of(program, count, *inputs):
-    """The so many parts that a program writes of lists of texts, each with a separator behind it, one after another."""
-    given = END_OF_LIST.join(map(SEPARATOR.join, inputs))
-    parts = subprocess.run([program], input=given.encode(), stdout=subprocess.PIPE, check=True).stdout.decode().split(SEPARATOR)
-    if len(parts) != count + 1:
-        sys.exit(f"FAILED: {program} wrote {len(parts) - 1} parts, not {count}")
-    return iter(parts[:-1])
+        ran = run(END_OF_LIST.join(map(SEPARATOR.join, inputs)), proved(folder, name, *uses))
+    parts, count = ran.out.decode().split(SEPARATOR), sum(number * size for number, size in shapes)
+    if ran.status or len(parts) != count + 1:
+        sys.exit(f"{ran.err.decode()}FAILED: {name} wrote {len(parts) - 1} parts, not {count}, and ended with status {ran.status}")
+    left = iter(parts)
+    return [[[*itertools.islice(left, size)] for _ in range(number)] for number, size in shapes]
 
 
 def build_failing(folder):
