@@ -13,7 +13,7 @@ import operator
 import random
 import sys
 from dataclasses import dataclass, field
-from typing import Any, Callable
+from typing import Callable
 
 sys.path.append(f"{sys.path[0]}/../lib")
 from built import printed
@@ -29,30 +29,16 @@ SIGNED = {it.__name__: it for it in (operator.eq, operator.ne, operator.gt, oper
 SIGNS = dict(zip(SIGNED, ("=", "<>", ">", ">=", "<", "<=")))
 # The calls of LIKE, and the mask of each.
 MASKS = {"like": "{}", "like_left": "{}%", "like_right": "%{}", "like_any": "%{}%"}
-
-
-# ---- three-valued logic: True, False, and None for what is unknown
-
-
-def not3(value):
-    return None if value is None else not value
-
-
-def and3(values):
-    values = [*values]
-    return False if False in values else None if None in values else True
-
-
-def or3(values):
-    return not3(and3(map(not3, values)))
+# A truth is 1, 0, or between them where it is unknown. So AND is the minimum, OR the maximum, and NOT is 1 minus it.
+UNKNOWN = 0.5
 
 
 def compared(sign, x, y):
-    return None if x is None or y is None else SIGNED[sign](x, y)
+    return UNKNOWN if x is None or y is None else SIGNED[sign](x, y)
 
 
 def is_in(x, values):
-    return or3(compared("eq", x, it) for it in values)
+    return max((compared("eq", x, it) for it in values), default=0)
 
 
 @dataclass
@@ -62,7 +48,7 @@ class Condition:
     call: str
     arguments: list
     text: str
-    truth: Callable[[dict], Any]
+    truth: Callable[[dict], float]
     texts: list = field(default_factory=list)
 
 
@@ -97,13 +83,13 @@ class Maker:
 
     def either(self, call, name, arguments, words, truth, texts=()):
         """A condition, or its NOT form."""
-        no, word, fits = ("_not", "NOT ", lambda row: not3(truth(row))) if self.chance.random() < 0.4 else ("", "", truth)
+        no, word, fits = ("_not", "NOT ", lambda row: 1 - truth(row)) if self.chance.random() < 0.4 else ("", "", truth)
         return Condition(f"{no}_{call}", [name, *arguments], f"{name} {word}{words}", fits, [*texts])
 
     def like(self):
         call, part = self.chance.choice([*MASKS]), self.text()
         mask = MASKS[call].format(part)
-        truth = lambda row: None if row["d"] is None else is_like(row["d"], mask)
+        truth = lambda row: UNKNOWN if row["d"] is None else is_like(row["d"], mask)
         return self.either(call, "d", [part], f"LIKE {quoted(mask)}", truth, [mask])
 
     def some(self, make):
@@ -121,7 +107,7 @@ class Maker:
 
     def between(self):
         (name, value), (least, x), (most, y) = self.column(), self.number(), self.number()
-        truth = lambda row: and3((compared("ge", value(row), x(row)), compared("le", value(row), y(row))))
+        truth = lambda row: min(compared("ge", value(row), x(row)), compared("le", value(row), y(row)))
         return self.either("between", name, [least, most], f"BETWEEN {least} AND {most}", truth)
 
     def nested(self):
@@ -129,7 +115,7 @@ class Maker:
         (name, value), (selected, found) = self.column(), self.column()
         groups = self.groups(2, self.plain)
         query = f"SELECT {selected} FROM w WHERE {where_text(groups)}"
-        values = functools.cache(lambda: [found(row) for row in ROWS if where_truth(groups, row) is True])
+        values = functools.cache(lambda: [found(row) for row in ROWS if where_truth(groups, row) == 1])
         truth = lambda row: is_in(value(row), values())
         return self.either("in_query", name, [query], f"IN ({query})", truth, texts_of(itertools.chain(*groups)))
 
@@ -145,11 +131,11 @@ class Maker:
         result = self.chance.randrange(2) if kind == 4 else None
         case = f"CASE WHEN {one.text} THEN {other.text} ELSE {third.text} END"
         text, of, truth = (
-            (f"{one.text} OR {other.text}", (one, other), lambda row: or3((one.truth(row), other.truth(row)))),
-            (f"({one.text}) AND ({other.text})", (one, other), lambda row: and3((one.truth(row), other.truth(row)))),
-            (f"NOT ({one.text})", (one,), lambda row: not3(one.truth(row))),
-            (case, (one, other, third), lambda row: (other if one.truth(row) is True else third).truth(row)),
-            (f"CASE WHEN {one.text} THEN 1 ELSE 0 END = {result}", (one,), lambda row: (one.truth(row) is True) == bool(result)),
+            (f"{one.text} OR {other.text}", (one, other), lambda row: max(one.truth(row), other.truth(row))),
+            (f"({one.text}) AND ({other.text})", (one, other), lambda row: min(one.truth(row), other.truth(row))),
+            (f"NOT ({one.text})", (one,), lambda row: 1 - one.truth(row)),
+            (case, (one, other, third), lambda row: (other if one.truth(row) == 1 else third).truth(row)),
+            (f"CASE WHEN {one.text} THEN 1 ELSE 0 END = {result}", (one,), lambda row: (one.truth(row) == 1) == result),
         )[kind]
         return Condition("", [], text, truth, texts_of(of))
 
@@ -176,7 +162,7 @@ def where_text(groups):
 
 
 def where_truth(groups, row):
-    return and3(or3(it.truth(row) for it in group) for group in groups)
+    return min(max(it.truth(row) for it in group) for group in groups)
 
 
 def where_lines(groups):
@@ -212,7 +198,7 @@ def main():
     count, seed = asked(5000, 41)
     maker = Maker(random.Random(seed))
     all_groups = [maker.groups(3, maker.condition) for _ in range(count)]
-    wanted = [[number for number, row in enumerate(ROWS) if where_truth(groups, row) is True] for groups in all_groups]
+    wanted = [[number for number, row in enumerate(ROWS) if where_truth(groups, row) == 1] for groups in all_groups]
     statements = printed([*map(lines, all_groups)])
     some = sum(bool(it) and len(it) < len(ROWS) for it in wanted)
     print(f"{count} statements over {len(ROWS)} rows, of which {some} find some of the rows and not all")
