@@ -11,39 +11,6 @@ STATEMENTS = f"{os.path.dirname(os.path.realpath(__file__))}/statements"
 
 
 @dataclass
-class Lines:
-    """Lines of a kind of `statements`: how many in all, of which a tenth is counted, and the greatest ratios aimed at."""
-
-    name: str
-    kind: str
-    count: int
-    aim: float
-    memory: float
-
-    # Of which program of ours something is measured, beside which one of the crate, and above which limit.
-    ours, crate, limit = "sqlb", "lines", "limit"
-    unit, growth, prints_same = "line", 10.5, True
-    counted, tenfold, whole = (1, 1), (1, 10), (1, 10)
-
-    def difference(self, amount):
-        """Two amounts, whose difference it is: the other reads nothing."""
-        return amount, (1, 0)
-
-    def words(self, _turns, _program):
-        return []
-
-    def input(self, times):
-        words = [STATEMENTS, self.kind, str(self.count // 10 * times)]
-        return subprocess.run(words, stdout=subprocess.PIPE, check=True).stdout if times else b""
-
-    def units(self, _turns, text):
-        return text.count(b"\n")
-
-    def is_right(self, _printed):
-        return True
-
-
-@dataclass
 class Calls:
     """Turns of one step of the library's programs: how many in all, of which a fiftieth is counted, the greatest ratio aimed at, and the
     text, so many times as large, if the step reads one; else ten times the input are ten times the turns, and how many times as much these
@@ -55,6 +22,7 @@ class Calls:
     aim: float
     text: Optional[Callable[[int], str]] = None
     growth: float = 10.5
+    # Of which program of ours something is measured, beside which one of the crate, and above which limit.
     ours: str = "library"
     crate: Optional[str] = "calls"
     memory: float = 1.0
@@ -87,6 +55,32 @@ class Calls:
         return not self.is_test or int(printed.readline()) == (0 if self.step.startswith("has_") else self.count)
 
 
+@dataclass
+class Lines(Calls):
+    """Lines of a kind of `statements`: how many in all, of which a tenth is counted."""
+
+    ours: str = "sqlb"
+    crate: str = "lines"
+    limit = "limit"
+
+    def __post_init__(self):
+        self.unit, self.whole, self.counted, self.tenfold = "line", (1, 10), (1, 1), (1, 10)
+
+    def difference(self, amount):
+        """Two amounts, whose difference it is: the other reads nothing."""
+        return amount, (1, 0)
+
+    def words(self, _turns, _program):
+        return []
+
+    def input(self, times):
+        words = [STATEMENTS, self.step, str(self.count // 10 * times)]
+        return subprocess.run(words, stdout=subprocess.PIPE, check=True).stdout if times else b""
+
+    def units(self, _turns, text):
+        return text.count(b"\n")
+
+
 # Steps by types, beside the same statements by the builder, and by parameters, beside the same by `Value`s. Of those that the crate
 # doesn't have, the aim is the greatest number of instructions for a byte.
 Typed = partial(Calls, ours="typed", crate="built", memory=1.15)
@@ -99,7 +93,7 @@ Sorted = Copied = partial(Calls, growth=14)
 
 
 def lines(kind, count=1_000_000, name="a statement with {count:,} `{kind}` lines", aim=0.55, memory=1.0):
-    return Lines(name.format(kind=kind, count=count), kind, count, aim, memory)
+    return Lines(name.format(kind=kind, count=count), kind, count, aim, memory=memory)
 
 
 LINES = [
@@ -140,9 +134,9 @@ PLACEHOLDERS = {"binds": "?", "bind_num": "$1", "bind_nums": "$1", "bind_name": 
 PLAIN = " AND the_first_column = the_second_column OR another_column IS NOT NULL AND "
 
 
-def filled(text, end, size=4096):
-    """The text again and again, to nearly a size, and then its end."""
-    return text * ((size - len(end)) // len(text)) + end
+def filled(text, end):
+    """The text again and again, to nearly 4 KB, and then its end."""
+    return text * ((4096 - len(end)) // len(text)) + end
 
 
 def repeated(text):
