@@ -58,6 +58,7 @@ TWO, FOUR = "INSERT INTO one (id, x) VALUES (2, ?)", "INSERT INTO one (id, x) VA
 THOSE = "SELECT id FROM texts WHERE x = ?"
 OF_ONE = "EXISTS (SELECT one.id FROM one WHERE (one.id = 1) AND (texts.x = ?));"
 EXCLUDED = "ON CONFLICT (id) DO UPDATE SET x = excluded.x;"
+BEHIND = f"WITH u AS (SELECT x FROM texts WHERE x = ?) INSERT INTO one (id, x) SELECT 2, x FROM u WHERE x = ? {EXCLUDED}"
 BOTH = f"WITH u AS ({THOSE}), v AS ({THOSE}) SELECT id FROM texts WHERE (x = ?) AND (id IN (SELECT id FROM u)) AND (id IN (SELECT id FROM v));"
 # The statements of lines.rt.txt, with what each finds, and what it leaves.
 TEMPLATES = {
@@ -80,11 +81,7 @@ TEMPLATES = {
     "rows of a query": ("INSERT INTO one (id, x) SELECT 4, x FROM texts WHERE x = ?;", none, fourth),
     "rows in conflict": ("INSERT INTO one (id, x) SELECT 2, x FROM texts WHERE x = ? ON CONFLICT (id) DO UPDATE SET x = ?;", none, second),
     "two WITH": (BOTH, same, unchanged),
-    "rows behind WITH": (
-        f"WITH u AS (SELECT x FROM texts WHERE x = ?) INSERT INTO one (id, x) SELECT 2, x FROM u WHERE x = ? {EXCLUDED}",
-        none,
-        second,
-    ),
+    "rows behind WITH": (BEHIND, none, second),
     "INTERSECT": (f"{THOSE} INTERSECT {THOSE};", same, unchanged),
     "EXCEPT": ("SELECT id FROM texts EXCEPT SELECT id FROM texts WHERE x <> ?;", same, unchanged),
     "lock": (f"{THOSE} FOR UPDATE SKIP LOCKED;", same, unchanged),

@@ -66,12 +66,7 @@ GIVES = {
 }
 # Conditions on a column, with the texts that each finds, and the same on the text. In these masks a backslash may escape.
 LIKE = {"like": lambda it, text: is_like(it, f"{text}%"), "not_like": lambda it, text: not is_like(it, f"%{text}%")}
-FILTERS = {
-    **COMPARED,
-    **LIKE,
-    "eq of an operand": operator.eq,
-    **masks("contains", "starts_with", "ends_with"),
-}
+FILTERS = {**COMPARED, **LIKE, "eq of an operand": operator.eq, **masks("contains", "starts_with", "ends_with")}
 BY_TYPES = (*STORES, *NAMES, *MAY_GIVE, *GIVES, *FILTERS, *(it + OF_TEXT for it in FILTERS))
 # Whether a text is let in.
 LET_IN = "let in"
@@ -184,11 +179,8 @@ class Statements:
         [made] = written("texts", ["sql_typed"], [(len(several), len(MAKES))], MAKES, several)
         self.made = {text: dict(zip(MAKES, it)) for text, it in zip(several, made)}
         # the ones after the others, each of which begins with the table `one` as it was
-        self.cases = [
-            [*self.keeping(), *self.storing()],
-            [*self.finding(), *self.matching(), *self.asking()],
-            [*self.giving()],
-        ]
+        changing, finding = [*self.keeping(), *self.storing()], [*self.finding(), *self.matching(), *self.asking()]
+        self.cases = [changing, finding, [*self.giving()]]
         self.scripts = {"a zero byte": self.scripted(self.zeros), "a digit": self.scripted([it.replace("\0", "0") for it in self.zeros])}
 
     def numbered(self, texts):
