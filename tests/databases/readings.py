@@ -25,15 +25,9 @@ REFUSED, NOTHING = "error", "nothing"
 PROBES = ("", "it's", "a\\nb", "🙂")
 TRIED, NO_TEXT, EMPTY = "all stored", "doesn't run", "the empty text"
 # What LIKE finds otherwise than it is meant, of a text and a mask, or of both of so many bytes.
-LIKES = (
-    {
-        **{(f"a{it}b", f"a{other}%"): "1" for it, other in itertools.permutations("\ufffe\uffff\ufffd", 2)},
-        50_001: REFUSED,
-        ("a\0b", "%b%"): NOTHING,
-    },
-    {("a\0b", "%b%"): "not stored"},
-    {},
-)
+REPLACED = "\ufffe\uffff\ufffd"
+ALIKE = {(f"a{it}b", f"a{other}%"): "1" for it, other in itertools.permutations(REPLACED, 2)}
+LIKES = ({**ALIKE, 50_001: REFUSED, ("a\0b", "%b%"): NOTHING}, {("a\0b", "%b%"): "not stored"}, {})
 
 
 def prepare(db, column):
@@ -66,8 +60,7 @@ def showing(db, template):
 
 def on_like(db):
     """Statements that store a text and find it by a mask, and whether it is found."""
-    replaced = ("\ufffe", "\uffff", "\ufffd")
-    cases = [(f"a{it}b", f"a{other}%", it == other) for it in replaced for other in replaced]
+    cases = [(f"a{it}b", f"a{other}%", it == other) for it, other in itertools.product(REPLACED, repeat=2)]
     cases += [("a" * 50_000, "a" * 50_000, True), ("a" * 50_001, "a" * 50_001, True), ("a\0b", "%b%", True)]
     for text, mask, fits in cases:
         prepare(db, "texts")
