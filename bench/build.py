@@ -3,6 +3,7 @@ import os
 import shutil
 import subprocess
 import sys
+from pathlib import Path
 
 BENCH = os.path.dirname(os.path.realpath(__file__))
 ROOT = os.path.dirname(BENCH)
@@ -54,8 +55,8 @@ def library(work):
     folder = f"{project}/crates/bench_library"
     os.makedirs(f"{folder}/src", exist_ok=True)
     shutil.copyfile(f"{BENCH}/library/main.rt.txt", f"{folder}/src/main.rt")
-    with open(f"{project}/crates.txt", "w", encoding="utf-8") as file:
-        file.write("sql_parts:\nsql_builder: sql_parts\nsql_typed: sql_builder sql_parts\nbench_library: sql_typed sql_builder sql_parts anyhow\n")
+    crates = ("sql_parts:", "sql_builder: sql_parts", "sql_typed: sql_builder sql_parts", "bench_library: sql_typed sql_builder sql_parts anyhow")
+    Path(f"{project}/crates.txt").write_text("".join(f"{it}\n" for it in crates), "utf-8")
     return made(f"{folder}/out/bench_library", ["rt", "run", "--", "name", "0"], folder, f"{work}/library.log")
 
 

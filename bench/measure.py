@@ -3,6 +3,7 @@ import os
 import re
 import subprocess
 import sys
+from pathlib import Path
 
 TIME = "/usr/bin/time"
 
@@ -38,16 +39,14 @@ def megabytes(words, source, work):
     """The greatest memory of one run. It is asked of `time`, which is small: what runs a program counts as part of it."""
     file = f"{work}/memory"
     run([TIME, "-f", "%M", "-o", file, *words], source)
-    with open(file, encoding="utf-8") as read:
-        return int(read.read()) / 1024
+    return int(Path(file).read_text("utf-8")) / 1024
 
 
 def count(words, source, file):
     """The instructions of one run, by callgrind, which writes its file."""
     valgrind = ["valgrind", "-q", "--tool=callgrind", f"--callgrind-out-file={file}"]
     run([*valgrind, *words], source, GLIBC_TUNABLES=COPIES)
-    with open(file, encoding="utf-8") as read:
-        return int(re.search(r"^(?:summary|totals): (\d+)", read.read(), re.MULTILINE)[1])
+    return int(re.search(r"^(?:summary|totals): (\d+)", Path(file).read_text("utf-8"), re.MULTILINE)[1])
 
 
 def profile(file, most):

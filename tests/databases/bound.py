@@ -28,15 +28,12 @@ COMPARED = {
 OF_TEXT = ", of the text"
 
 
-def but(fits):
-    """What fits if this doesn't."""
-    return lambda it, text: not fits(it, text)
-
-
 def masks(*names):
     """Conditions by masks of these names, which find what contains a text, and what begins and ends with it, each with its NOT."""
-    found = zip(names, (str.__contains__, str.startswith, str.endswith))
-    return {name: how for plain, fits in found for name, how in ((plain, fits), (f"not_{plain}", but(fits)))}
+    found = {}
+    for name, fits in zip(names, (str.__contains__, str.startswith, str.endswith)):
+        found |= {name: fits, f"not_{name}": lambda it, text, fits=fits: not fits(it, text)}
+    return found
 
 
 def kept(text, number):

@@ -32,15 +32,6 @@ def prepare(db):
     db.run("DROP TABLE IF EXISTS evil")
 
 
-def is_written(db):
-    """Whether the file is there, which is then removed."""
-    path = f"{db.folder}/{FILE}"
-    found = os.path.exists(path)
-    if found:
-        os.remove(path)
-    return found
-
-
 def found(db, statement):
     """The rows that a statement finds, or None where the database refuses it."""
     prepare(db)
@@ -53,7 +44,8 @@ def done(db, statement, harmless):
     rows = found(db, statement.replace(FOLDER, db.folder))
     if rows is None:
         return REFUSED
-    if is_written(db):
+    if os.path.exists(path := f"{db.folder}/{FILE}"):
+        os.remove(path)
         return WRITES
     if attempt(db.run, "SELECT 1 FROM evil") is not None:
         return MAKES

@@ -54,10 +54,7 @@ NUMBERED = {"SQLite": "{} || char(13) || {}", "PostgreSQL": "{} || chr(13) || {}
 
 def numbered(product, text):
     """An expression for the text, without a carriage return in a literal."""
-    first, *others = map(quoted, text.split(CR))
-    for it in others:
-        first = NUMBERED[product].format(first, it)
-    return first
+    return functools.reduce(NUMBERED[product].format, map(quoted, text.split(CR)))
 
 
 def by_program(db, path, words, script):
