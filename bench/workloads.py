@@ -129,6 +129,8 @@ TEMPLATES = {
     "bind_name": "title = :title: AND price > 100 OR name = :title:",
     "bind_names": "title = :title: AND price > :least: OR sold = :sold:",
 }
+ARGUMENTS = {"wide": "an i128 above 64 bits", "narrow": "a small i128", "u64": "an u64", "some": "a `Some(u64)`"}
+ARGUMENTS |= {"whole": "a `Literal::Whole`", "bool": "a bool", "none": "a `None`"}
 QUOTINGS = ("esc", "quote", "baquote", "brquote", "dquote")
 PLACEHOLDERS = {"binds": "?", "bind_num": "$1", "bind_nums": "$1", "bind_name": ":title:", "bind_names": ":title:"}
 PLAIN = " AND the_first_column = the_second_column OR another_column IS NOT NULL AND "
@@ -223,13 +225,7 @@ CALLS = [
         Calls(f"`bind_name` of {count:,} colons in 100,000 colons", "bind_only", 50, 0.9, colons(count, 100_000))
         for count in (10, 100, 1_000)
     ),
-    Calls("`sql_arg` of an i128 above 64 bits", "arg_wide", 200_000, 1.0),
-    Calls("`sql_arg` of a small i128", "arg_narrow", 200_000, 1.0),
-    Calls("`sql_arg` of an u64", "arg_u64", 200_000, 1.0),
-    Calls("`sql_arg` of a `Some(u64)`", "arg_some", 200_000, 1.0),
-    Calls("`sql_arg` of a `Literal::Whole`", "arg_whole", 200_000, 1.0),
-    Calls("`sql_arg` of a bool", "arg_bool", 200_000, 1.0),
-    Calls("`sql_arg` of a `None`", "arg_none", 200_000, 1.0),
+    *(Calls(f"`sql_arg` of {what}", f"arg_{step}", 200_000, 1.0) for step, what in ARGUMENTS.items()),
     *(Calls(f"IN of 1,000 {of}", f"in_{of}", 500, 1.0, repeated("x" * 1_000)) for of in ("u8", "u32", "i64", "i128")),
     Calls("`clone` of a SELECT of 6,000 items", "clone", 500, 0.9, repeated("x" * 1_000)),
     *(

@@ -174,6 +174,7 @@ class Postgres(Database):
             raise Skipped("there is no Python module psycopg")
         self.folder, self.variables = variables["PGHOST"], variables
         self.db = pq.PGconn.connect(f"host={self.folder} user={variables['PGUSER']} dbname=postgres client_encoding=UTF8".encode())
+        self.close = self.db.finish
         self.run("SET client_min_messages = error")
         self.set("on")
 
@@ -200,9 +201,6 @@ class Postgres(Database):
         if result.status not in (0, 1, 2):  # of nothing, of a statement without rows, of one with rows
             raise Refused(first_line(result.error_message))
         return [tuple(result.get_value(row, it) for it in range(result.nfields)) for row in range(result.ntuples)]
-
-    def close(self):
-        self.db.finish()
 
 
 class Bind(ctypes.Structure):

@@ -63,15 +63,11 @@ def measure(db, made, tally):
         tally.expect(f"{db.name}: by the builder {text!r}", next(it for it in CAME if it in by_builder), finds[db.number])
 
 
-def statements():
-    """Of each fragment its statements by the builder, and those by types."""
-    texts = [*FRAGMENTS, *HARMLESS, "true"]
-    [made] = written("fragments", ["sql_typed"], [(len(texts), 2 * PLACES)], texts)
-    return {text: (it[:PLACES], it[PLACES:]) for text, it in zip(texts, made)}
-
-
 def main():
-    tally, made = Tally("fragments"), statements()
+    tally, texts = Tally("fragments"), [*FRAGMENTS, *HARMLESS, "true"]
+    [parts] = written("fragments", ["sql_typed"], [(len(texts), 2 * PLACES)], texts)
+    # of each fragment its statements by the builder, and those by types
+    made = {text: (it[:PLACES], it[PLACES:]) for text, it in zip(texts, parts)}
     for text in (it for it in FRAGMENTS if it not in LET_IN):
         tally.expect(f"by types {text!r} is", {*made[text][1]}, {REFUSED})
     for text in (*HARMLESS, *LET_IN):

@@ -203,9 +203,7 @@ def show_lines(lines, results, tally):
 def line_of_kit(line):
     """What the kit's `sqlite` found of a line; what it leaves isn't looked at."""
     [found] = line.kit
-    if found == "refused":
-        return "refused"
-    found = shown(rows_of(found))
+    found = found if found == "refused" else shown(rows_of(found))
     return "same" if is_found(LINES[line.name][1], found) else found
 
 

@@ -6,13 +6,12 @@ and of queries, BETWEEN, their NOT forms, and conditions of their own with OR, A
 What the groups mean is computed here, in three-valued logic: a row is found where the AND of the groups, each the OR of its conditions, is
 true. The table has every row of small values and NULLs. The arguments are how many statements are made and a seed."""
 
-import dataclasses
 import functools
 import itertools
 import operator
 import random
 import sys
-from dataclasses import dataclass, field
+from dataclasses import dataclass, field, replace
 from typing import Callable
 
 sys.path.append(f"{sys.path[0]}/../lib")
@@ -141,7 +140,7 @@ class Maker:
 
     def raw(self):
         made = self.own()
-        return dataclasses.replace(made, call="", arguments=[made.text])
+        return replace(made, call="", arguments=[made.text])
 
     def condition(self):
         kind = self.chance.random()
