@@ -49,14 +49,14 @@ def library(work):
     if not is_there("rt"):
         return None
     say("proving and building the library's calls")
-    project = f"{work}/project"
-    for name in ("sql_parts", "sql_builder", "sql_typed"):
+    project, libraries = f"{work}/project", ("sql_parts", "sql_builder", "sql_typed")
+    for name in libraries:
         copy_crate(name, f"{project}/crates/{name}")
     folder = f"{project}/crates/bench_library"
     os.makedirs(f"{folder}/src", exist_ok=True)
     shutil.copyfile(f"{BENCH}/library/main.rt.txt", f"{folder}/src/main.rt")
-    crates = ("sql_parts:", "sql_builder: sql_parts", "sql_typed: sql_builder sql_parts", "bench_library: sql_typed sql_builder sql_parts anyhow")
-    Path(f"{project}/crates.txt").write_text("".join(f"{it}\n" for it in crates), "utf-8")
+    known = [it for it in Path(f"{ROOT}/crates.txt").read_text("utf-8").split("\n") if it.startswith(libraries)]
+    Path(f"{project}/crates.txt").write_text("\n".join([*known, "bench_library: sql_typed sql_builder sql_parts anyhow\n"]), "utf-8")
     return made(f"{folder}/out/bench_library", ["rt", "run", "--", "name", "0"], folder, f"{work}/library.log")
 
 

@@ -390,7 +390,8 @@ def main():
     tally.expect("what only the program has", arms("texts") - {*MAKES}, set())
     statements = Statements()
     tally.expect("statements by types in which an attack changes more than its literal", [*statements.differing()], [])
-    print(f"{len(statements.all)} texts, of which {len(statements.lines)} go through sqlb, and {len(statements.attacks)} attacks of pages\n")
+    counts = [len(it) for it in (statements.all, statements.lines, statements.attacks)]
+    print("{} texts, of which {} go through sqlb, and {} attacks of pages\n".format(*counts))
     head("database", "call", "statements", *CAME)
     each(tally, lambda db: measure(db, statements, checked, shown, tally))
     show(statements, checked, shown)
