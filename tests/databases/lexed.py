@@ -117,22 +117,20 @@ def compare(name, read, meant, states, tally):
 
 
 def states_of(all_texts):
-    """Of each reader the states behind the texts of its database, in the order of lexed.rt.txt."""
+    """Of each database, for each setting that its reader tells apart, the states behind its texts."""
     texts = [*dict.fromkeys(itertools.chain(*all_texts.values()))]
     [made] = written("lexed", ["database_readers"], [(len(texts), 4)], texts)
-    found = dict(zip(texts, made))
-    products = ("SQLite", "PostgreSQL", "MariaDB", "MariaDB")
-    return [{text: int(found[text][number]) for text in all_texts[product]} for number, product in enumerate(products)]
+    # the parts that lexed.rt.txt writes of a text
+    parts, found = {"SQLite": [0], "PostgreSQL": [1], "MariaDB": [2, 3]}, dict(zip(texts, made))
+    return {product: [{text: int(found[text][it]) for text in all_texts[product]} for it in parts[product]] for product in parts}
 
 
 def measure(db, states, tally):
     """Compares SQLite, or MariaDB by its settings, with the readers."""
-    if db.product == "SQLite":
-        compare(db.name, lambda text: read_by_sqlite(db, text), lambda state: SQLITE.get(state, ""), states[0], tally)
-        return
-    for setting, some in zip(db.settings, states[2:]):
+    read, meant = {"SQLite": (read_by_sqlite, SQLITE), "MariaDB": (read_by_maria, MARIA)}[db.product]
+    for setting, some in zip(db.settings, states[db.product]):
         db.set(setting)
-        compare(db.name, lambda text: read_by_maria(db, text), lambda state: MARIA.get(state, ""), some, tally)
+        compare(db.name, lambda text: read(db, text), lambda state: meant.get(state, ""), some, tally)
 
 
 def main():
@@ -147,7 +145,7 @@ def main():
     each(tally, lambda db: measure(db, states, tally), (Sqlite, Maria))
     if scan:
         read = lambda text: None if COMMENT_IN_GAP.search(text) else read_by_postgres(text)
-        compare("PostgreSQL's lexer", read, of_postgres, states[1], tally)
+        compare("PostgreSQL's lexer", read, of_postgres, states["PostgreSQL"][0], tally)
     else:
         print("SKIPPED: PostgreSQL: there is no Python module pglast")
     return tally.end()

@@ -299,16 +299,13 @@ def kind_of(db, text):
     return f", {'with' if BACKSLASH in text else 'without'} a backslash" if db.escapes else ""
 
 
-def given(db, scripts):
-    """How often what came of the scripts that the database's command-line program was given."""
-    counts = collections.Counter()
-    for script, text in scripts:
-        done = db.command(script=script)
-        is_silent = not done.returncode and not done.stderr
-        same = db.run(IN_ORDER) == [(b"1", None), (b"2", text.encode()), (b"3", SECOND.encode())]
-        counts["dropped" if is_dropped(db) else "refused" if not is_silent else "same" if same else "other"] += 1
-        db.fill()
-    return counts
+def given(db, script, text):
+    """What came of a script that the database's command-line program was given."""
+    done = db.command(script=script)
+    same = db.run(IN_ORDER) == [(b"1", None), (b"2", text.encode()), (b"3", SECOND.encode())]
+    found = "dropped" if is_dropped(db) else "refused" if done.returncode or done.stderr else "same" if same else "other"
+    db.fill()
+    return found
 
 
 def measure_program(db, scripts, tally):
@@ -319,7 +316,7 @@ def measure_program(db, scripts, tally):
         print(f"SKIPPED: {db.name}: {why}", flush=True)
         return
     for what, some in scripts.items():
-        counts = given(db, some)
+        counts = collections.Counter(given(db, *it) for it in some)
         row(db.name, f"{name}, two statements with {what} in the first", len(some), *(counts[it] for it in CAME))
         if what != "a zero byte":
             tally.expect(f"{db.name}: scripts of {name} that gave their texts back", counts["same"], len(some))
