@@ -103,7 +103,7 @@ class Page:
         self.at += 1
         if fence := re.match(r"\s*(```+)(\w*)\s*$", line):
             self.add(Block(self.name, self.at + 1, fence[2] or "text", True, self.take(lambda it: it.strip() != fence[1])))
-            self.at += 1
+            self.at += 1  # behind the other fence
         elif re.match(r"    \S", line) and not self.is_list and not self.paragraph:
             number, lines = self.at, [line, *self.take(re.compile(r"    |\s*$").match)]
             self.add(Block(self.name, number, "text", False, [it[4:] for it in lines]))
@@ -168,7 +168,9 @@ def split_statements(text, line):
             found.append(Statement(begin, code.strip(), line))
             code = ""
         line += token.count("\n")
-    return found + [Statement(begin, code.strip(), line)] * bool(code.strip()), notes
+    if code.strip():
+        found.append(Statement(begin, code.strip(), line))
+    return found, notes
 
 
 def statements(block):

@@ -31,7 +31,7 @@ class Ran:
 
 
 def rt(folder, *words):
-    """Runs `rt` in a crate's folder."""
+    """Runs `rt` in a crate's folder, without input. Gives how that ended."""
     return subprocess.run(["rt", *words], cwd=folder, stdin=subprocess.DEVNULL, capture_output=True, text=True)
 
 
