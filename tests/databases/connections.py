@@ -77,8 +77,7 @@ class Database:
 
     def make(self, table, columns, *rows):
         """Makes a table anew, with these rows."""
-        self.run(f"DROP TABLE IF EXISTS {table}")
-        self.run(f"CREATE TABLE {table} ({columns})")
+        self.run(f"DROP TABLE IF EXISTS {table}; CREATE TABLE {table} ({columns})")
         for at in range(0, len(rows), 500):
             self.run(f"INSERT INTO {table} VALUES {', '.join(rows[at : at + 500])}")
 
@@ -88,8 +87,7 @@ class Database:
 
     def fill(self):
         """Fills the table `one` anew, with three rows without a text."""
-        self.run("DELETE FROM one")
-        self.run("INSERT INTO one (id) VALUES (1), (2), (3)")
+        self.run("DELETE FROM one; INSERT INTO one (id) VALUES (1), (2), (3)")
 
 
 class Pointer(ctypes.c_void_p):
@@ -254,8 +252,7 @@ class Maria(Database):
         collation = "utf8mb4_nopad_bin" if is_maria else "utf8mb4_0900_bin"
         self.column = f"LONGTEXT CHARACTER SET utf8mb4 COLLATE {collation}"
         self.run(f"SET collation_connection = {collation}")
-        self.run("CREATE DATABASE texts CHARACTER SET utf8mb4")
-        self.run("USE texts")
+        self.run("CREATE DATABASE texts CHARACTER SET utf8mb4; USE texts")
         self.set("default mode")
 
     def set(self, setting):
