@@ -97,7 +97,7 @@ pub fn escaped(alloc: Global, text: &str) -> Result<CowStr<'_>, AllocError>
 }
 
 /// Appends the text with each `'` in it doubled. Fails only if memory runs out, and `out` then still
-/// begins with what it had.
+/// begins with what it had. For the crates here alone.
 /// ```
 /// let mut text = String::new(alloc);
 /// push_escaped(&mut text, "it's")?;
