@@ -262,7 +262,8 @@ BOUND = [
 ]
 
 CONDITION = "(price > 100 AND title LIKE 'it''s%') OR CASE WHEN a THEN b ELSE c END = 3 AND cost BETWEEN 1 AND 2 OR "
-TESTS = {"is_closed": 20, "has_semicolon": 20, "is_balanced": 30, "has_clause_word": 30, "is_operand": 30, "violation": 30, "has_dangling": 30}
+LONGER = ("is_balanced", "has_clause_word", "is_operand", "violation", "has_dangling")
+TESTS = {"is_closed": 20, "has_semicolon": 20, **dict.fromkeys(LONGER, 30)}
 
 KINDS = {"symbols": "+=<>,|&^", "brackets": "(((())))", "quotes": "'it''s'\"a\""}
 # How many times a test's aim is that on these kinds of text, whose tokens are short.

@@ -4,7 +4,7 @@ Each test measures what is installed, by servers of its own, and prints what is 
 psycopg and pglast are packages. Its program NAME.rt.txt is proved over the stored proofs, and built, in a temporary folder. The status is 0
 where all was as the test says, and some was measured.
 
-PostgreSQL is reached by psycopg's `pq`, which sends each byte as it is given. Python's sqlite3 runs one statement without a zero byte, whose
+PostgreSQL is reached by psycopg's `pq`, which sends each byte as it is given. Python's sqlite3 runs one statement without zero bytes, whose
 parameters all have values. No module of MariaDB prepares statements as they are. So the C libraries of both are called here."""
 
 import contextlib

@@ -59,7 +59,8 @@ THOSE = "SELECT id FROM texts WHERE x = ?"
 OF_ONE = "EXISTS (SELECT one.id FROM one WHERE (one.id = 1) AND (texts.x = ?));"
 EXCLUDED = "ON CONFLICT (id) DO UPDATE SET x = excluded.x;"
 BEHIND = f"WITH u AS (SELECT x FROM texts WHERE x = ?) INSERT INTO one (id, x) SELECT 2, x FROM u WHERE x = ? {EXCLUDED}"
-BOTH = f"WITH u AS ({THOSE}), v AS ({THOSE}) SELECT id FROM texts WHERE (x = ?) AND (id IN (SELECT id FROM u)) AND (id IN (SELECT id FROM v));"
+IN_BOTH = "(id IN (SELECT id FROM u)) AND (id IN (SELECT id FROM v))"
+BOTH = f"WITH u AS ({THOSE}), v AS ({THOSE}) SELECT id FROM texts WHERE (x = ?) AND {IN_BOTH};"
 # The statements of lines.rt.txt, with what each finds, and what it leaves.
 TEMPLATES = {
     "instr": ("SELECT id FROM texts WHERE instr(x, ?) > 0;", within, unchanged),

@@ -44,8 +44,7 @@ pub struct SqlBuilder {
 }
 
 // A function of its own, so that a caller's proof sees one step where a builder is dropped, and not
-// one for each of its clauses. Its code is a part of its callers, where a builder that is made in its
-// box then needs no copy.
+// one for each of its clauses. It is inlined, so that a builder that is made in its box isn't copied.
 impl Drop for SqlBuilder {
     #[inline(always)]
     fn drop(self) {

@@ -22,7 +22,7 @@ pub use crate::steps::{
 };
 pub use crate::text_list::TextList;
 use sql_parts::SqlBuilderError;
-use sql_parts::text::{Items, Texts};
+use sql_parts::text::Items;
 use std::alloc::{AllocError, Global};
 
 /// The start of a list of calls.
@@ -171,8 +171,8 @@ impl TableStart {
     }
 }
 
-/// Returns the builder of a statement on this table. Never fails. Inlined, so that `sql_typed`
-/// makes the builder in its box. For the crates here alone.
+/// Returns the builder of a statement on this table. Never fails. It is inlined, so that
+/// `sql_typed` makes the builder in its box. For the crates here alone.
 /// `begin_on(alloc, TableStart::SelectFrom, String::from_str(alloc, "t")?).sql()?` gives
 /// `SELECT * FROM t;`
 #[inline(always)]

@@ -53,7 +53,7 @@ pub enum Percent {
     Any,
 }
 
-/// A condition. A truth value says whether it is the NOT form.
+/// A condition, of texts `S` and lists of them `L`. A truth value says whether it is the NOT form.
 #[derive(Drop)]
 pub enum Condition<S = String, L = Vec<String>> {
     /// A raw condition, which is printed unchanged.

@@ -1,5 +1,6 @@
 //! The steps of the calls: one for each way to be given texts. A constant says which clause is
-//! meant, and one that adds a condition. Those that borrow their texts are public in `calls`.
+//! meant. One step adds a condition, and two restart a builder. Those that borrow their texts are
+//! public in `calls`.
 ghost use Rattle.std.specs.Prelude.{◌≡◌, [], ◌∷◌, ◌++◌, map, codes, drop, string_bytes, IfErr, IfOk, OnOk, OnErr};
 ghost use Rattle.sql_parts.specs.Error.{FailsOnlyByMemory};
 ghost use Rattle.sql_parts.specs.Quoting.{escaped};

@@ -106,8 +106,8 @@ fn push_twice(out: &mut String, delimiters: &str) -> Result<(), AllocError>
     out.push_str(delimiters)
 }
 
-// Appends the text before a delimiter, and what is behind that, with each delimiter written twice. A
-// function of its own has its callers keep fewer registers, for texts without a delimiter.
+// Appends a text, the delimiter behind it twice, and the rest with each delimiter twice. It is a
+// function of its own, so that callers keep fewer registers for texts without a delimiter.
 #[inline(never)]
 #[tactic(auto, using(crate::proofs::bytes::DoublingLemmas::starts_with_more, std::proofs::lemmas::List::append_assoc))]
 pub(crate) fn push_parts_doubled(

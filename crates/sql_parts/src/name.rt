@@ -131,7 +131,7 @@ impl SqlName {
         Ok(())
     }
 
-    fn hold<S: ToText>(
+    fn step<S: ToText>(
         &mut self,
         change: Change,
         text: S,
@@ -156,7 +156,7 @@ impl SqlName {
         ensures changed { IsChangedTo self.entry (with_part (S.text part) self.old) result }
         ensures memory { FailsOnlyByMemory result }
     {
-        release(self.hold(Change::Part, part))
+        release(self.step(Change::Part, part))
     }
 
     /// Sets the alias, in place of any other. An alias that isn't plain is between backquotes in
@@ -168,7 +168,7 @@ impl SqlName {
         ensures changed { IsChangedTo self.entry (with_alias (S.text alias) self.old) result }
         ensures memory { FailsOnlyByMemory result }
     {
-        release(self.hold(Change::Alias, alias))
+        release(self.step(Change::Alias, alias))
     }
 
     fn copy_rest(&self) -> Result<Option<(String, Vec<String>)>, SqlBuilderError>

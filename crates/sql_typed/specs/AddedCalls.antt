@@ -1,4 +1,4 @@
--- The calls that a statement adds.
+-- The calls that are added to a statement.
 use Rattle.std.specs.Prelude.{Bool, true, string_bytes}
 use Rattle.sql_parts.specs.Error.{IsMemory}
 use Rattle.sql_parts.specs.declared.error.SqlBuilderError.{SqlBuilderError}
@@ -13,7 +13,7 @@ use Rattle.sql_typed.specs.declared.select.JoinKind.TheVariants as kind
 use Rattle.sql_typed.specs.declared.statement.AddedCall.{AddedCall}
 use Rattle.sql_typed.specs.declared.statement.AddedCall.TheVariants as added
 
--- what is added
+-- the call that is added
 abbrev pub added_call : AddedCall → CallText
 added_call (added.Unary clause text) = unary_call clause text.now
 added_call (added.Binary clause first second) = binary_call clause first.now second.now

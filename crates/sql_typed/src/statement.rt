@@ -9,7 +9,7 @@ ghost use Rattle.sql_builder.specs.declared.condition.Condition.TheVariants.{Raw
 ghost use Rattle.sql_builder.specs.FitCalls.{call_fits};
 ghost use Rattle.sql_builder.specs.Meaning.{prints_where};
 ghost use Rattle.sql_builder.specs.RawFragments.{is_fit};
-ghost use Rattle.sql_builder.specs.Statement.{error_at, statement, text_at};
+ghost use Rattle.sql_builder.specs.Statement.{error_at, text_at};
 ghost use Rattle.sql_builder.specs.StatementLaws.{made_by};
 ghost use Rattle.sql_builder.specs.declared.clauses.Kind.{Kind};
 ghost use Rattle.sql_builder.specs.declared.clauses.Kind.TheVariants.{DeleteFrom, InsertInto, SelectFrom, UpdateTable};
@@ -54,6 +54,7 @@ pub struct DeleteKind {}
 
 /// The kinds of statements. Each statement is begun as its type says.
 pub trait Begins {
+    /// How a statement of this type is begun.
     ghost kind: { Kind };
 }
 
@@ -75,6 +76,7 @@ impl Begins for DeleteKind {
 
 /// The kinds of statements that have a WHERE.
 pub trait Filters: Begins {
+    /// That such a statement has a WHERE, if there is a condition.
     ghost has_where: { IsTrue (prints_where Sql Self.kind) };
 }
 

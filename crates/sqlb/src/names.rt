@@ -276,7 +276,7 @@ fn end_call(name: &str) -> Option<NamedCall>
 }
 
 impl NamedCall {
-    /// Returns what the name means, if it is known. Names are compared exactly.
+    /// Returns what the name calls, if it is known. Names are compared exactly.
     #[tactic(auto, unfolding(crate::specs::Names::call_named))]
     pub(crate) fn of(name: &str) -> Option<NamedCall>
         ensures call { result ≡ call_named name.now }

@@ -110,7 +110,7 @@ impl SqlBuilder {
     }
 
     // A step of its own: with a `Polarity` too the calls would pass three constants, and the lemmas
-    // that prove such calls (`proofs/chains/`, some hundred lines) are longer.
+    // that prove such calls (`proofs/chains/`) would be longer.
     #[tactic(auto, using(crate::proofs::pieces::ClauseShapeLemmas::step_adds_condition))]
     pub(super) fn step_not_like<S: ToText, T: ToText>(
         &mut self,

@@ -17,9 +17,9 @@ use Rattle.sql_parts.proofs.loan.release.Symbol as release_code
 use Rattle.sql_parts.specs.contracts.name.Change as change
 use Rattle.sql_parts.specs.declared.name.Change.TheVariants as change_case
 use Rattle.sql_parts.proofs.name.Change.TheLaws as change_laws
-use Rattle.sql_parts.specs.contracts.name.SqlName.hold as step
-use Rattle.sql_parts.proofs.name.SqlName.hold.Met as step_met
-use Rattle.sql_parts.proofs.name.SqlName.hold.Symbol as step_code
+use Rattle.sql_parts.specs.contracts.name.SqlName.step
+use Rattle.sql_parts.proofs.name.SqlName.step.Met as step_met
+use Rattle.sql_parts.proofs.name.SqlName.step.Symbol as step_code
 
 abbrev pub name : BorrowedType
 name = record {

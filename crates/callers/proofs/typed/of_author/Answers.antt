@@ -4,7 +4,6 @@ use Rattle.std.proofs.lemmas.Result.{IfOk-weaker}
 use Rattle.sql_parts.specs.StringTexts.{outline}
 use Rattle.sql_parts.specs.Tokens.{Token, tokens}
 use Rattle.sql_builder.specs.Calls.{Sql}
-use Rattle.sql_builder.specs.Interference.{answer_of}
 use Rattle.sql_builder.proofs.interference.OutlineLemmas.{equation-outline}
 use Rattle.sql_typed.specs.Fits.{Made}
 use Rattle.sql_typed.specs.Printed.{DifferInStrings}

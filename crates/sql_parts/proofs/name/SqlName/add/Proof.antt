@@ -5,4 +5,4 @@ use Rattle.sql_parts.proofs.name.SqlName.add as its
 pub add_spec : {M : Type 1} → its.Statement.statement M
 add_spec 𝓤 𝓛 𝓜 𝓡 w S LS s d d' ms md =
     by_change 𝓤 𝓛 𝓜 𝓡 part S LS s d d' ms md (record { code = (refl, refl); closed = its.Code.unfolded 𝓤 𝓛.H 𝓜 𝓡 w (S, tt) d d' })
-    (its.Code.calls-sql_parts::name::SqlName::hold 𝓡.env w) (its.Code.calls-sql_parts::loan::release 𝓡.env w)
+    (its.Code.calls-sql_parts::name::SqlName::step 𝓡.env w) (its.Code.calls-sql_parts::loan::release 𝓡.env w)
