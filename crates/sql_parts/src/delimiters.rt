@@ -77,7 +77,7 @@ fn split_delimiters(text: &str, delimiter: char) -> (&str, &str)
     text.split_at(end)
 }
 
-// Appends the text, and the delimiter twice behind it. It is inlined in a loop.
+// Appends the text, and the delimiter twice behind it. It is inlined, since a loop calls it.
 #[inline(always)]
 #[tactic(auto, using(crate::proofs::bytes::DoublingLemmas::starts_with_more))]
 fn push_with_delimiter(out: &mut String, text: &str, delimiter: char) -> Result<(), AllocError>
