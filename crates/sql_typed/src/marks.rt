@@ -105,8 +105,9 @@ impl Marks {
     }
 
     // Why a statement isn't printed.
-    pub(crate) fn fault(self) -> Option<Error>
-        ensures { result ≡ fault self }
+    #[inline(always)]
+    pub(crate) fn fault(&self) -> Option<Error>
+        ensures { result ≡ fault self.now }
     {
         if !self.has_filter {
             Some(Error::NoCondition)
