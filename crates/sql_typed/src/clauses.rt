@@ -344,8 +344,8 @@ impl Statement<InsertKind> {
             ⊎ (error_at Sql (made_by self.start (asking (string_bytes query.now.text) self.calls)) ≡ Some e)) }
     {
         let mut builder = self.builder;
-        make_unary(&mut builder, UnaryClause::Select, query.text.as_str())?;
-        bare(self.alloc, &builder)
+        make_unary(&mut builder.it, UnaryClause::Select, query.text.as_str())?;
+        bare(self.alloc, &builder.it)
     }
 }
 

@@ -245,7 +245,7 @@ impl Statement<SelectKind> {
             q.needs_brackets ≡ needs_brackets (made_by self.now.start self.now.calls)) }
         ensures error { FailsAs self.now finish.Query result }
     {
-        let needs_brackets = needs_brackets(&self.builder);
+        let needs_brackets = needs_brackets(self.clauses());
         let text = self.print(&Finish::Query)?;
         Ok(Query {
             text,

@@ -122,12 +122,24 @@ impl Model for MadeOf {
     ghost view = { λ _. beginning (SelectFrom []) };
 }
 
+/// A builder in a box, since a call moves its statement.
+pub(crate) struct BoxedBuilder {
+    pub(crate) it: Box<SqlBuilder>,
+}
+
+// Each is dropped here: where one function alone drops it, the builder isn't copied from its box.
+impl Drop for BoxedBuilder {
+    #[inline(never)]
+    fn drop(self) {
+        let BoxedBuilder { it: _ } = self;
+    }
+}
+
 /// A statement on a table. Contracts see its start and the calls that were made after it.
 #[derive(Drop)]
 pub struct Statement<K: Begins> {
     pub(crate) alloc: Global,
-    // in a box, since a call moves its statement
-    pub(crate) builder: Box<SqlBuilder>,
+    pub(crate) builder: BoxedBuilder,
     pub(crate) marks: Marks,
     // has one item
     pub(crate) made: GhostList<MadeOf>,
@@ -144,7 +156,7 @@ impl<K: Begins> Model for Statement<K> {
 
     ghost view = { λ s. made_in s.made.items };
 
-    ghost invariant = { λ s. IsFitBy (made_in s.made.items) s.builder.value
+    ghost invariant = { λ s. IsFitBy (made_in s.made.items) s.builder.it.value
         × (s.marks ≡ marks_of (made_in s.made.items))
         × (kind_of (made_in s.made.items).start ≡ K.kind) };
 }
@@ -192,7 +204,7 @@ impl<K: Begins> Statement<K> {
         };
         Ok(Statement {
             alloc,
-            builder,
+            builder: BoxedBuilder { it: builder },
             marks: Marks::of(start),
             made,
             kind: PhantomData,
@@ -210,7 +222,7 @@ impl<K: Begins> Statement<K> {
         let call: GhostList<MadeOf> = GhostList::of(&added);
         let made = GhostList::of(&(&self.made, &call));
         let marks = self.marks.with(&added);
-        make_call(&mut self.builder, added)?;
+        make_call(&mut self.builder.it, added)?;
         self.marks = marks;
         self.made = made;
         Ok(self)
@@ -223,7 +235,7 @@ impl<K: Begins> Statement<K> {
     {
         let made = GhostList::of(&(&self.made, &values));
         let values = Items { items: values };
-        make_variadic(&mut self.builder, VariadicClause::Values, values)?;
+        make_variadic(&mut self.builder.it, VariadicClause::Values, values)?;
         self.made = made;
         Ok(self)
     }
@@ -289,7 +301,7 @@ impl<K: Begins> Statement<K> {
     pub(crate) fn clauses(&self) -> &SqlBuilder
         ensures { IsFitBy self.now result.now }
     {
-        &self.builder
+        &self.builder.it
     }
 
     // What a finish prints, whose name, if it has one, fits.
@@ -311,10 +323,12 @@ impl<K: Begins> Statement<K> {
         ensures equal { Gives result self.now }
     {
         let made = GhostList::of(&self.made);
-        let builder = self.builder.clone()?;
+        let builder = self.builder.it.clone()?;
         Ok(Statement {
             alloc: self.alloc,
-            builder: Box::new(self.alloc, builder)?,
+            builder: BoxedBuilder {
+                it: Box::new(self.alloc, builder)?,
+            },
             marks: self.marks,
             made,
             kind: PhantomData,
