@@ -1,5 +1,4 @@
 pub mod BetweenLemmas
-pub mod DepthCountLemmas
 pub mod DepthFacts
 pub mod KeywordLemmas
 pub mod ViolationLemmas
@@ -10,7 +9,6 @@ pub mod SideLemmas
 pub mod StringTextFacts
 -- Each name of these files, for one line of imports.
 unfoldable pub use BetweenLemmas.*
-unfoldable pub use DepthCountLemmas.*
 unfoldable pub use DepthFacts.*
 unfoldable pub use KeywordLemmas.*
 unfoldable pub use ViolationLemmas.*
@@ -19,5 +17,4 @@ unfoldable pub use OperandFacts.*
 unfoldable pub use PlaceholderFacts.*
 unfoldable pub use SideLemmas.*
 unfoldable pub use StringTextFacts.*
-pub use Rattle.sql_parts.proofs.fragments.DepthCountLemmas.{has_top_level-is, is_at_least_0, is_zero}
 pub use Rattle.sql_parts.proofs.fragments.ViolationLemmas.{serves}

@@ -1,12 +1,13 @@
 -- The AND of each BETWEEN, looked for from the front of a list of tokens.
-use Rattle.sql_parts.proofs.Imports.{code, ◌≡◌, refl, sym, ◌∙◌, ap, ℕ, suc, ◌+◌, Bool, true, false, not, cond, ◌&&◌, ◌||◌, eqb, leb, ltb, List, [], ◌∷◌, take}
-use Rattle.sql_parts.proofs.Imports.{ℤ, pos, ◌+ℤ◌, ◌-ℤ◌, ◌≤ℤ◌, ◌<ℤ◌, inl, inr, codes, arith, int_le, int_eq, list_all, list_any, sum_by-cons, ints, and-false}
-use Rattle.sql_parts.proofs.Imports.{and-true, or-false, bytes_eq-Decides, bytes_eq, str_eq_ignore_ascii_case, str_to_ascii_lowercase, cases_Bool, eqb-true}
-use Rattle.sql_parts.proofs.Imports.{ltb-true, lt-ltb, le-ltb, false≢true, same_from_decides, Decides-int_eq, Decides-ltb, Name}
-use Rattle.sql_parts.specs.{Token, Word, Str, Symbol, Open, any_token, has_ands, is_and_of, is_between, is_joining, is_symbol, is_word, depth_at, lowers}
+use Rattle.sql_parts.proofs.Imports.{◌≡◌, refl, sym, ◌∙◌, ℕ, suc, ◌+◌, Bool, true, false, not, cond, ◌&&◌, ◌||◌, eqb, leb, ltb, List, [], ◌∷◌}
+use Rattle.sql_parts.proofs.Imports.{ℤ, pos, negsuc, ◌+ℤ◌, ◌-ℤ◌, ◌≤ℤ◌, ◌<ℤ◌, inl, inr, codes, arith, int_le, int_eq, list_all, list_any, ints, and-false}
+use Rattle.sql_parts.proofs.Imports.{and-true, cases_Bool}
+use Rattle.sql_parts.proofs.Imports.{ltb-true, lt-ltb, le-ltb, same_from_decides, Decides-int_eq, Decides-ltb}
+use Rattle.sql_parts.specs.{Token, any_token, has_ands, is_and_of, is_between, is_joining, is_word, depth_at, lowers}
 use Rattle.sql_parts.specs.{places, raises, weight, is_answered}
-use Rattle.sql_parts.proofs.fragments.DepthCountLemmas.{any_place, each_place, is_at_least_0, is_zero, depth_from, depth_from-start, depth_from-suc}
-use Rattle.sql_parts.proofs.fragments.DepthCountLemmas.{depth_from-zero}
+use Rattle.sql_parts.proofs.fragments.DepthFacts.{after, any_place, each_place, is_at_least_0, is_zero, depth_from, depth_from-start, depth_from-suc, depth_from-zero}
+use Rattle.sql_parts.proofs.fragments.DepthFacts.{zero-is, least-is, after-counted, zero-counted, least-counted}
+use Rattle.sql_parts.proofs.fragments.KeywordLemmas.{apart-lowers, apart-raises}
 
 abbrev pub is_and : Token → Bool
 is_and token = is_word (codes "AND") token
@@ -33,49 +34,49 @@ any-and : (b : Bool) (test : ℕ → Bool) (xs : List ℕ) → list_any (λ x. b
 any-and true test xs = refl
 any-and false test xs = any-false xs
 
--- the AND at a place answers a BETWEEN before the tokens
-abbrev answers : ℕ → ℕ → List Token → ℕ → Bool
-answers up down ts and =
-    int_eq (depth_from up down ts and) (pos 0)
-    && list_all (λ place. not (ltb place and) || int_le (pos 0) (depth_from up down ts place)) (places any_token ts)
-    && not (list_any (λ place. ltb place and && int_eq (depth_from up down ts place) (pos 0)) (places is_joining ts))
+-- the AND at a place answers a BETWEEN before the tokens, over which their front is at this depth
+abbrev answers : ℤ → List Token → ℕ → Bool
+answers l ts and =
+    is_zero (depth_from l ts and)
+    && list_all (λ place. not (ltb place and) || is_at_least_0 (depth_from l ts place)) (places any_token ts)
+    && not (list_any (λ place. ltb place and && is_zero (depth_from l ts place)) (places is_joining ts))
 
-answers-zero : (up down : ℕ) (ts : List Token) → answers up down ts 0 ≡ eqb up down
-answers-zero up down ts =
-    (λ i. (is_zero up down (depth_from up down ts 0) (depth_from-zero up down ts) i
-    && list_all (λ place. not (ltb-zero place i) || int_le (pos 0) (depth_from up down ts place)) (places any_token ts))
-    && not (list_any (λ place. ltb-zero place i && int_eq (depth_from up down ts place) (pos 0)) (places is_joining ts)))
-    ∙ (λ i. (eqb up down && all-true (places any_token ts) i) && not (any-false (places is_joining ts) i))
-    ∙ and-true (eqb up down && true) ∙ and-true (eqb up down)
+answers-zero : (l : ℤ) (ts : List Token) → answers l ts 0 ≡ is_zero l
+answers-zero l ts =
+    (λ i. (is_zero (depth_from-zero l ts i)
+    && list_all (λ place. not (ltb-zero place i) || is_at_least_0 (depth_from l ts place)) (places any_token ts))
+    && not (list_any (λ place. ltb-zero place i && is_zero (depth_from l ts place)) (places is_joining ts)))
+    ∙ (λ i. (is_zero l && all-true (places any_token ts) i) && not (any-false (places is_joining ts) i))
+    ∙ and-true (is_zero l && true) ∙ and-true (is_zero l)
 
 rearranged : (zero high joined at_least none : Bool)
     → ((zero && (high && at_least)) && not (joined || none)) ≡ ((high && not joined) && ((zero && at_least) && not none))
 rearranged zero high joined at_least none = grind arith
 
-answers-suc : (up down : ℕ) (token : Token) (ts : List Token) (and : ℕ)
-    → answers up down (token ∷ ts) (suc and)
-    ≡ ((leb down up && not (is_joining token && eqb up down)) && answers (up + weight raises token) (down + weight lowers token) ts and)
-answers-suc up down token ts and =
+answers-suc : (l : ℤ) (token : Token) (ts : List Token) (and : ℕ)
+    → answers l (token ∷ ts) (suc and) ≡ ((is_at_least_0 l && not (is_joining token && is_zero l)) && answers (after l token) ts and)
+answers-suc l token ts and =
     let whole = token ∷ ts in
-    let here = depth_from up down whole 0 in
-    let front = depth_from-zero up down whole in
-    (λ i. (int_eq (depth_from up down whole (suc and)) (pos 0)
-    && each_place (λ place. not (ltb place (suc and)) || int_le (pos 0) (depth_from up down whole place)) true (places any_token ts) i)
-    && not (any_place (λ place. ltb place (suc and) && int_eq (depth_from up down whole place) (pos 0)) (is_joining token) (places is_joining ts) i))
-    ∙ (λ i. (int_eq (depth_from-suc up down token ts and i) (pos 0)
-    && ((not (ltb-first and i) || is_at_least_0 up down here front i)
-    && list_all (λ place. not (ltb-suc place and i) || int_le (pos 0) (depth_from-suc up down token ts place i)) (places any_token ts)))
-    && not ((is_joining token && (ltb-first and i && is_zero up down here front i))
-    || list_any (λ place. ltb-suc place and i && int_eq (depth_from-suc up down token ts place i) (pos 0)) (places is_joining ts)))
-    ∙ rearranged _ (leb down up) (is_joining token && eqb up down) _ _
+    (λ i. (is_zero (depth_from l whole (suc and))
+    && each_place (λ place. not (ltb place (suc and)) || is_at_least_0 (depth_from l whole place)) true (places any_token ts) i)
+    && not (any_place (λ place. ltb place (suc and) && is_zero (depth_from l whole place)) (is_joining token) (places is_joining ts) i))
+    ∙ (λ i. (is_zero (depth_from-suc l token ts and i)
+    && ((not (ltb-first and i) || is_at_least_0 (depth_from-zero l whole i))
+    && list_all (λ place. not (ltb-suc place and i) || is_at_least_0 (depth_from-suc l token ts place i)) (places any_token ts)))
+    && not ((is_joining token && (ltb-first and i && is_zero (depth_from-zero l whole i)))
+    || list_any (λ place. ltb-suc place and i && is_zero (depth_from-suc l token ts place i)) (places is_joining ts)))
+    ∙ rearranged _ (is_at_least_0 l) (is_joining token && is_zero l) _ _
 
-answered-is : (up down : ℕ) (ts : List Token) → list_any (answers up down ts) (places is_and ts) ≡ is_answered up down ts
+answered-is : (up down : ℕ) (ts : List Token) → list_any (answers (pos up -ℤ pos down) ts) (places is_and ts) ≡ is_answered up down ts
 answered-is up down [] = refl
 answered-is up down (token ∷ ts) =
-    any_place (answers up down (token ∷ ts)) (is_and token) (places is_and ts)
-    ∙ (λ i. (is_and token && answers-zero up down (token ∷ ts) i) || list_any (λ and. answers-suc up down token ts and i) (places is_and ts))
-    ∙ (λ i. (is_and token && eqb up down) || any-and (leb down up && not (is_joining token && eqb up down))
-    (answers (up + weight raises token) (down + weight lowers token) ts) (places is_and ts) i)
+    let l = pos up -ℤ pos down in
+    any_place (answers l (token ∷ ts)) (is_and token) (places is_and ts)
+    ∙ (λ i. (is_and token && answers-zero l (token ∷ ts) i) || list_any (λ and. answers-suc l token ts and i) (places is_and ts))
+    ∙ (λ i. (is_and token && is_zero l)
+    || any-and (is_at_least_0 l && not (is_joining token && is_zero l)) (answers (after l token) ts) (places is_and ts) i)
+    ∙ (λ i. (is_and token && zero-counted up down i) || ((least-counted up down i && not (is_joining token && zero-counted up down i))
+    && list_any (answers (after-counted up down token i) ts) (places is_and ts)))
     ∙ (λ i. (is_and token && eqb up down) || ((leb down up && not (is_joining token && eqb up down))
     && answered-is (up + weight raises token) (down + weight lowers token) ts i))
 
@@ -105,30 +106,24 @@ le-shift w x y x' y' left right = elim (cases_Bool (int_le x y)) [
   | inr e ↦ let more = le-unread x y e in le-no x' y' (omega (arith, ints, left, right, more)) ∙ sym e
 ]
 
-abbrev rise : Token → ℤ
-rise token = pos (weight raises token) -ℤ pos (weight lowers token)
-
-depth_at-suc : (token : Token) (ts : List Token) (place : ℕ) → depth_at (token ∷ ts) (suc place) ≡ rise token +ℤ depth_at ts place
-depth_at-suc token ts place =
-    let more = sum_by-cons (weight raises) token (take place ts) in
-    let less = sum_by-cons (weight lowers) token (take place ts) in
-    omega (arith, ints, more, less)
+depth_at-suc : (token : Token) (ts : List Token) (place : ℕ) → depth_at (token ∷ ts) (suc place) ≡ depth_from (after (pos 0) token) ts place
+depth_at-suc token ts place = sym (depth_from-start (token ∷ ts) (suc place)) ∙ depth_from-suc (pos 0) token ts place
 
 and_of-suc : (token : Token) (ts : List Token) (between and : ℕ) → is_and_of (token ∷ ts) (suc between) (suc and) ≡ is_and_of ts between and
 and_of-suc token ts between and =
     let whole = token ∷ ts in
     let up = depth_at-suc token ts in
-    (λ i. ((ltb-suc between and i && eq-shift (rise token) _ _ _ _ (up and) (up between) i)
+    (λ i. ((ltb-suc between and i && eq-shift (after (pos 0) token) _ _ _ _ (up and) (up between) i)
     && each_place (λ place. not (is_between (suc between) (suc and) place) || int_le (depth_at whole (suc between)) (depth_at whole place)) true
     (places any_token ts) i)
     && not (any_place (λ place. is_between (suc between) (suc and) place && int_eq (depth_at whole place) (depth_at whole (suc between))) (is_joining token)
     (places is_joining ts) i))
     ∙ (λ i. ((ltb between and && int_eq (depth_at ts and) (depth_at ts between))
     && ((not (ltb-zero (suc between) i && ltb 0 (suc and)) || int_le (depth_at whole (suc between)) (depth_at whole 0))
-    && list_all (λ place. not (ltb-suc between place i && ltb-suc place and i) || le-shift (rise token) _ _ _ _ (up between) (up place) i)
+    && list_all (λ place. not (ltb-suc between place i && ltb-suc place and i) || le-shift (after (pos 0) token) _ _ _ _ (up between) (up place) i)
     (places any_token ts)))
     && not ((is_joining token && ((ltb-zero (suc between) i && ltb 0 (suc and)) && int_eq (depth_at whole 0) (depth_at whole (suc between))))
-    || list_any (λ place. (ltb-suc between place i && ltb-suc place and i) && eq-shift (rise token) _ _ _ _ (up place) (up between) i) (places is_joining ts)))
+    || list_any (λ place. (ltb-suc between place i && ltb-suc place and i) && eq-shift (after (pos 0) token) _ _ _ _ (up place) (up between) i) (places is_joining ts)))
     ∙ (λ i. ((ltb between and && int_eq (depth_at ts and) (depth_at ts between))
     && list_all (λ place. not (is_between between and place) || int_le (depth_at ts between) (depth_at ts place)) (places any_token ts))
     && not (and-false (is_joining token) i || list_any (λ place. is_between between and place && int_eq (depth_at ts place) (depth_at ts between))
@@ -139,73 +134,23 @@ and_of-none token ts between = λ i. ((ltb-zero between i && int_eq (depth_at ts
     && list_all (λ place. not (is_between between 0 place) || int_le (depth_at ts between) (depth_at ts place)) (places any_token ts))
     && not (list_any (λ place. is_between between 0 place && int_eq (depth_at ts place) (depth_at ts between)) (places is_joining ts))
 
--- a token is not two keywords, nor a keyword and a sign
-pub word_apart : (one other : List ℕ) (token : Token) → str_eq_ignore_ascii_case one other ≡ false → is_word one token ≡ true → is_word other token ≡ false
-word_apart one other (Word text) apart is =
-    ap (λ x. bytes_eq x (str_to_ascii_lowercase other)) ((bytes_eq-Decides (str_to_ascii_lowercase text) (str_to_ascii_lowercase one)).0 is) ∙ apart
-word_apart one other (Str text) apart is = refl
-word_apart one other (Name text) apart is = refl
-word_apart one other (Symbol byte) apart is = refl
-word_apart one other Open apart is = refl
-
--- a token that is this sign or this keyword, as each is that raises or lowers the depth
-abbrev is_bracket : ℕ → List ℕ → Token → Bool
-is_bracket sign keyword token = is_symbol sign token || is_word keyword token
-
-bracket-apart : (sign : ℕ) (one other : List ℕ) (token : Token) → str_eq_ignore_ascii_case one other ≡ false → is_bracket sign one token ≡ true
-    → is_word other token ≡ false
-bracket-apart sign one other (Word text) apart is = word_apart one other (Word text) apart is
-bracket-apart sign one other (Str text) apart is = refl
-bracket-apart sign one other (Name text) apart is = refl
-bracket-apart sign one other (Symbol byte) apart is = refl
-bracket-apart sign one other Open apart is = refl
-
-apart-bracket : (sign : ℕ) (one other : List ℕ) (token : Token) → str_eq_ignore_ascii_case one other ≡ false → is_word one token ≡ true
-    → is_bracket sign other token ≡ false
-apart-bracket sign one other (Word text) apart is = word_apart one other (Word text) apart is
-apart-bracket sign one other (Str text) apart is = refl
-apart-bracket sign one other (Name text) apart is = refl
-apart-bracket sign one other (Symbol byte) apart is = absurd (false≢true is)
-apart-bracket sign one other Open apart is = refl
-
-pub raises-apart : (keyword : List ℕ) (token : Token) → str_eq_ignore_ascii_case (codes "CASE") keyword ≡ false → raises token ≡ true
-    → is_word keyword token ≡ false
-raises-apart keyword token apart is = bracket-apart (code "(") (codes "CASE") keyword token apart is
-
-pub lowers-apart : (keyword : List ℕ) (token : Token) → str_eq_ignore_ascii_case (codes "END") keyword ≡ false → lowers token ≡ true
-    → is_word keyword token ≡ false
-lowers-apart keyword token apart is = bracket-apart (code ")") (codes "END") keyword token apart is
-
-pub apart-raises : (keyword : List ℕ) (token : Token) → str_eq_ignore_ascii_case keyword (codes "CASE") ≡ false → is_word keyword token ≡ true
-    → raises token ≡ false
-apart-raises keyword token apart is = apart-bracket (code "(") keyword (codes "CASE") token apart is
-
-pub apart-lowers : (keyword : List ℕ) (token : Token) → str_eq_ignore_ascii_case keyword (codes "END") ≡ false → is_word keyword token ≡ true
-    → lowers token ≡ false
-apart-lowers keyword token apart is = apart-bracket (code ")") keyword (codes "END") token apart is
-
-pub raises-alone : (token : Token) → raises token ≡ true → lowers token ≡ false
-raises-alone (Word text) is = word_apart (codes "CASE") (codes "END") (Word text) refl is
-raises-alone (Str text) is = refl
-raises-alone (Name text) is = refl
-raises-alone (Symbol byte) is = ap (λ n. lowers (Symbol n)) (eqb-true byte 40 (sym (or-false (eqb byte 40)) ∙ is))
-raises-alone Open is = refl
-
 -- the AND of a BETWEEN that is first
 and_of-first : (token : Token) (ts : List Token) (and : ℕ) → raises token ≡ false → lowers token ≡ false
-    → is_and_of (token ∷ ts) 0 (suc and) ≡ answers 0 0 ts and
+    → is_and_of (token ∷ ts) 0 (suc and) ≡ answers (pos 0) ts and
 and_of-first token ts and flat_up flat_down =
     let whole = token ∷ ts in
-    let at : (place : ℕ) → depth_at whole (suc place) ≡ depth_from 0 0 ts place = λ place.
-    sym (depth_from-start whole (suc place)) ∙ depth_from-suc 0 0 token ts place
-    ∙ (λ i. depth_from (0 + cond (flat_up i) 1 0) (0 + cond (flat_down i) 1 0) ts place) in
+    let at : (place : ℕ) → depth_at whole (suc place) ≡ depth_from (pos 0) ts place = λ place.
+    depth_at-suc token ts place ∙ (λ i. depth_from (cond (flat_up i) (pos 1) (cond (flat_down i) (negsuc 0) (pos 0))) ts place) in
     (λ i. ((ltb-first and i && int_eq (at and i) (pos 0))
     && each_place (λ place. not (is_between 0 (suc and) place) || int_le (depth_at whole 0) (depth_at whole place)) true (places any_token ts) i)
     && not (any_place (λ place. is_between 0 (suc and) place && int_eq (depth_at whole place) (depth_at whole 0)) (is_joining token) (places is_joining ts) i))
-    ∙ (λ i. (int_eq (depth_from 0 0 ts and) (pos 0)
+    ∙ (λ i. (zero-is (depth_from (pos 0) ts and) i
     && list_all (λ place. not (ltb-first place i && ltb-suc place and i) || int_le (pos 0) (at place i)) (places any_token ts))
     && not (and-false (is_joining token) i || list_any (λ place. (ltb-first place i && ltb-suc place and i) && int_eq (at place i) (pos 0))
     (places is_joining ts)))
+    ∙ (λ i. (is_zero (depth_from (pos 0) ts and)
+    && list_all (λ place. not (ltb place and) || least-is (depth_from (pos 0) ts place) i) (places any_token ts))
+    && not (list_any (λ place. ltb place and && zero-is (depth_from (pos 0) ts place) i) (places is_joining ts)))
 
 -- each BETWEEN of the tokens has its AND behind it
 abbrev each_answered : List Token → Bool

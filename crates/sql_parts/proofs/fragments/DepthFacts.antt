@@ -1,14 +1,14 @@
 -- The nesting depth along the tokens, and that it is that of the places.
 use Rattle.sql_parts.proofs.Imports.{◌≡◌, refl, sym, ◌∙◌, ap, ℕ, zero, suc, ◌+◌, Bool, true, false, not, cond, ◌&&◌, eqb, leb, List, [], ◌∷◌, length, map, ℤ}
-use Rattle.sql_parts.proofs.Imports.{pos, negsuc, ◌-ℤ◌, ◌≤ℤ◌, ◌<ℤ◌, inl, inr, codes, arith, int_le, ◌||◌, list_all, list_any, zip, int_eq, ints, cases_Bool}
-use Rattle.sql_parts.proofs.Imports.{eqb-true, eq-eqb, leb-true, leb-false, true≢false, and_assoc, and-false, and-true, suc_ℤ, pred_ℤ, +ℤ_one, suc-pred}
+use Rattle.sql_parts.proofs.Imports.{pos, negsuc, ◌-ℤ◌, ◌+ℤ◌, codes, arith, int_le, ◌||◌, list_all, list_any, zip, int_eq, ints, take}
+use Rattle.sql_parts.proofs.Imports.{eqb-true, eq-eqb, le-leb, true≢false, and_assoc, and-false, and-true, suc_ℤ, pred_ℤ, +ℤ_one, suc-pred}
+use Rattle.sql_parts.proofs.Imports.{list_all-map, sum_by-cons, same_from_decides, Decides-int_eq, nat_tests}
+use Rattle.std.proofs.Math.IntN.{+ℤ_idl, +ℤ_idr}
+use Rattle.std.proofs.lemmas.Simd.{map-map}
 use Rattle.sql_parts.specs.{Token, begins_with, is_empty, Placed, any_token, as_placed, is_joining, at_top_level, is_whole, is_word, depth_at, lowers, places}
 use Rattle.sql_parts.specs.{raises, weight}
 use Rattle.sql_parts.specs.Fragments as fragments
-use Rattle.sql_parts.proofs.fragments.DepthCountLemmas as depths
-use Rattle.sql_parts.proofs.fragments.DepthCountLemmas.{each_place, brackets_match_from, depth_from, depth_from-start, depth_from-suc, depth_from-zero}
-use Rattle.sql_parts.proofs.fragments.DepthCountLemmas.{top_level_from}
-use Rattle.sql_parts.proofs.fragments.BetweenLemmas.{raises-alone}
+use Rattle.sql_parts.proofs.fragments.KeywordLemmas.{raises-alone}
 
 -- the depth after a token, from the depth before it
 abbrev pub after : ℤ → Token → ℤ
@@ -41,18 +41,25 @@ placed_from l (t ∷ ts) = as_placed (is_zero l) t ∷ placed_from (after l t) t
 abbrev pub placed : List Token → List Placed
 placed ts = placed_from (pos 0) ts
 
+abbrev pub has_top_level_from : (Token → Bool) → ℤ → List Token → Bool
+has_top_level_from test l ts = list_any (at_top_level test) (placed_from l ts)
+
 abbrev pub has_top_level : (Token → Bool) → List Token → Bool
-has_top_level test ts = list_any (at_top_level test) (placed ts)
+has_top_level test ts = has_top_level_from test (pos 0) ts
 
 -- from depth l on, the depth is at least 0 after each token, and 0 after the last
 abbrev pub closes_from : ℤ → List Token → Bool
 closes_from l [] = is_zero l
 closes_from l (t ∷ ts) = is_at_least_0 (after l t) && closes_from (after l t) ts
 
+-- the depth after each token passes a test
+abbrev pub all_behind : (ℤ → Bool) → ℤ → List Token → Bool
+all_behind test l [] = true
+all_behind test l (t ∷ ts) = test (after l t) && all_behind test (after l t) ts
+
 -- the depth is at least 1 after each token
 abbrev pub stays_inside : ℤ → List Token → Bool
-stays_inside l [] = true
-stays_inside l (t ∷ ts) = is_at_least_1 (after l t) && stays_inside (after l t) ts
+stays_inside l ts = all_behind is_at_least_1 l ts
 
 -- balanced, or no token at all
 abbrev pub is_even : List Token → Bool
@@ -64,78 +71,143 @@ is_balanced ts = not (is_empty ts) && is_even ts
 abbrev pub is_operand : List Token → Bool
 is_operand ts = is_balanced ts && (not (has_top_level is_joining ts) && not (begins_with (is_word (codes "NOT")) ts))
 
+-- ---- the depth at the places, from the depth before the first token
+
+step : (up down : Bool) (l : ℤ) → (up ≡ true → down ≡ false)
+    → cond up (suc_ℤ l) (cond down (pred_ℤ l) l) ≡ l +ℤ (pos (cond up 1 0) -ℤ pos (cond down 1 0))
+step true true l alone = absurd (true≢false (alone refl))
+step true false l alone = sym (+ℤ_one l)
+step false true l alone = let one = +ℤ_one (pred_ℤ l) ∙ suc-pred l in omega (arith, ints, one)
+step false false l alone = sym (+ℤ_idr l)
+
+after-is : (l : ℤ) (t : Token) → after l t ≡ l +ℤ (pos (weight raises t) -ℤ pos (weight lowers t))
+after-is l t = step (raises t) (lowers t) l (raises-alone t)
+
+abbrev pub depth_from : ℤ → List Token → ℕ → ℤ
+depth_from l ts place = l +ℤ depth_at ts place
+
+pub depth_from-suc : (l : ℤ) (t : Token) (ts : List Token) (place : ℕ) → depth_from l (t ∷ ts) (suc place) ≡ depth_from (after l t) ts place
+depth_from-suc l t ts place =
+    let more = sum_by-cons (weight raises) t (take place ts) in
+    let less = sum_by-cons (weight lowers) t (take place ts) in
+    let moved = after-is l t in
+    omega (arith, ints, more, less, moved)
+
+pub depth_from-zero : (l : ℤ) (ts : List Token) → depth_from l ts 0 ≡ l
+depth_from-zero l ts = +ℤ_idr l
+
+pub depth_from-start : (ts : List Token) (place : ℕ) → depth_from (pos 0) ts place ≡ depth_at ts place
+depth_from-start ts place = +ℤ_idl (depth_at ts place)
+
+pub zero-is : (l : ℤ) → int_eq l (pos 0) ≡ is_zero l
+zero-is (pos zero) = refl
+zero-is (pos (suc n)) = grind (arith, ints)
+zero-is (negsuc n) = refl
+
+pub least-is : (l : ℤ) → int_le (pos 0) l ≡ is_at_least_0 l
+least-is (pos n) = le-leb 0 n (omega arith)
+least-is (negsuc n) = refl
+
+one-is : (l : ℤ) → int_le (pos 1) l ≡ is_at_least_1 l
+one-is (pos zero) = refl
+one-is (pos (suc n)) = le-leb 1 (suc n) (omega arith)
+one-is (negsuc n) = refl
+
+pub after-counted : (n m : ℕ) (t : Token) → after (pos n -ℤ pos m) t ≡ pos (n + weight raises t) -ℤ pos (m + weight lowers t)
+after-counted n m t = let moved = after-is (pos n -ℤ pos m) t in omega (arith, ints, moved)
+
+pub zero-counted : (n m : ℕ) → is_zero (pos n -ℤ pos m) ≡ eqb n m
+zero-counted n m = sym (zero-is (pos n -ℤ pos m)) ∙ same_from_decides _ (eqb n m) (Decides-int_eq (pos n -ℤ pos m) (pos 0))
+    (λ e. let same = eqb-true n m e in omega (arith, ints, same), λ z. eq-eqb n m (omega (arith, ints, z)))
+
+pub least-counted : (n m : ℕ) → is_at_least_0 (pos n -ℤ pos m) ≡ leb m n
+least-counted n m = sym (least-is (pos n -ℤ pos m)) ∙ compared
+  where
+    compared : int_le (pos 0) (pos n -ℤ pos m) ≡ leb m n
+    compared = grind (arith, ints, nat_tests)
+
+-- a fact of the places of a list, by its first token and the places of the rest
+list_any-map : {X Y : Type 0} (test : Y → Bool) (f : X → Y) (xs : List X) → list_any test (map f xs) ≡ list_any (λ x. test (f x)) xs
+list_any-map test f [] = refl
+list_any-map test f (x ∷ xs) = ap (λ b. test (f x) || b) (list_any-map test f xs)
+
+pub any_place : (test : ℕ → Bool) (passes : Bool) (later : List ℕ)
+    → list_any test (cond passes (0 ∷ map suc later) (map suc later)) ≡ ((passes && test 0) || list_any (λ place. test (suc place)) later)
+any_place test true later = ap (λ b. test 0 || b) (list_any-map test suc later)
+any_place test false later = list_any-map test suc later
+
+pub each_place : (test : ℕ → Bool) (passes : Bool) (later : List ℕ)
+    → list_all test (cond passes (0 ∷ map suc later) (map suc later)) ≡ ((not passes || test 0) && list_all (λ place. test (suc place)) later)
+each_place test true later = ap (λ b. test 0 && b) (list_all-map test suc later)
+each_place test false later = list_all-map test suc later
+
 -- ---- by places, and along the tokens
 
-step : (up down : Bool) (l : ℤ) (n m : ℕ) → (up ≡ true → down ≡ false) → l ≡ pos n -ℤ pos m
-    → cond up (suc_ℤ l) (cond down (pred_ℤ l) l) ≡ pos (n + cond up 1 0) -ℤ pos (m + cond down 1 0)
-step true true l n m alone is = absurd (true≢false (alone refl))
-step true false l n m alone is = let one = +ℤ_one l in omega (arith, ints, one, is)
-step false true l n m alone is = let one = +ℤ_one (pred_ℤ l) ∙ suc-pred l in omega (arith, ints, one, is)
-step false false l n m alone is = omega (arith, ints, is)
+top_level-place : (test : Token → Bool) (at_top : Bool) (t : Token) → (test t && at_top) ≡ at_top_level test (as_placed at_top t)
+top_level-place test true t = and-true (test t)
+top_level-place test false t = and-false (test t)
 
-zero-is : (l : ℤ) (n m : ℕ) → l ≡ pos n -ℤ pos m → is_zero l ≡ eqb n m
-zero-is (pos zero) n m is = sym (eq-eqb n m (omega (arith, ints, is)))
-zero-is (pos (suc k)) n m is = elim (cases_Bool (eqb n m)) [ inl e ↦ let same = eqb-true n m e in absurd (omega (arith, ints, is, same)) | inr e ↦ sym e ]
-zero-is (negsuc k) n m is = elim (cases_Bool (eqb n m)) [ inl e ↦ let same = eqb-true n m e in absurd (omega (arith, ints, is, same)) | inr e ↦ sym e ]
+top_level_from-is : (test : Token → Bool) (l : ℤ) (ts : List Token)
+    → list_any (λ place. is_zero (depth_from l ts place)) (places test ts) ≡ has_top_level_from test l ts
+top_level_from-is test l [] = refl
+top_level_from-is test l (t ∷ ts) =
+    any_place (λ place. is_zero (depth_from l (t ∷ ts) place)) (test t) (places test ts)
+    ∙ (λ i. (test t && is_zero (+ℤ_idr l i)) || list_any (λ place. is_zero (depth_from-suc l t ts place i)) (places test ts))
+    ∙ (λ i. top_level-place test (is_zero l) t i || top_level_from-is test (after l t) ts i)
 
-least-is : (l : ℤ) (n m : ℕ) → l ≡ pos n -ℤ pos m → is_at_least_0 l ≡ leb m n
-least-is (pos k) n m is = elim (cases_Bool (leb m n)) [ inl e ↦ sym e | inr e ↦ let more = leb-false m n e in absurd (omega (arith, ints, is, more)) ]
-least-is (negsuc k) n m is = elim (cases_Bool (leb m n)) [ inl e ↦ let fewer = leb-true m n e in absurd (omega (arith, ints, is, fewer)) | inr e ↦ sym e ]
+pub top_level-is : (ts : List Token) (place : ℕ) → fragments.is_top_level ts place ≡ is_zero (depth_from (pos 0) ts place)
+top_level-is ts place = zero-is (depth_at ts place) ∙ ap is_zero (sym (depth_from-start ts place))
 
-top_level-place : (test : Token → Bool) (at_top : Bool) (t : Token) → at_top_level test (as_placed at_top t) ≡ (test t && at_top)
-top_level-place test true t = sym (and-true (test t))
-top_level-place test false t = sym (and-false (test t))
-
-top_level-from-is : (test : Token → Bool) (l : ℤ) (n m : ℕ) (ts : List Token) → l ≡ pos n -ℤ pos m
-    → list_any (at_top_level test) (placed_from l ts) ≡ top_level_from test n m ts
-top_level-from-is test l n m [] is = refl
-top_level-from-is test l n m (t ∷ ts) is =
-    (λ i. at_top_level test (as_placed (zero-is l n m is i) t)
-    || top_level-from-is test (after l t) (n + weight raises t) (m + weight lowers t) ts (step (raises t) (lowers t) l n m (raises-alone t) is) i)
-    ∙ ap (λ b. b || top_level_from test (n + weight raises t) (m + weight lowers t) ts) (top_level-place test (eqb n m) t)
-
-closes-from-is : (l : ℤ) (n m : ℕ) (ts : List Token) → l ≡ pos n -ℤ pos m → closes_from l ts ≡ brackets_match_from n m ts
-closes-from-is l n m [] is = zero-is l n m is
-closes-from-is l n m (t ∷ ts) is =
-    let next = step (raises t) (lowers t) l n m (raises-alone t) is in
-    λ i. least-is (after l t) (n + weight raises t) (m + weight lowers t) next i
-    && closes-from-is (after l t) (n + weight raises t) (m + weight lowers t) ts next i
-
--- the tokens with their places
-places-map : {X : Type 0} (f : ℕ → X) (later : List ℕ) → map f (map suc later) ≡ map (λ place. f (suc place)) later
-places-map f [] = refl
-places-map f (place ∷ later) = ap (λ xs. f (suc place) ∷ xs) (places-map f later)
-
-abbrev top_level_places : ℕ → ℕ → List Token → List Bool
-top_level_places n m ts = map (λ place. int_eq (depth_from n m ts place) (pos 0)) (places any_token ts)
-
-top_level_places-cons : (l : ℤ) (n m : ℕ) (t : Token) (ts : List Token) → l ≡ pos n -ℤ pos m
-    → top_level_places n m (t ∷ ts) ≡ is_zero l ∷ top_level_places (n + weight raises t) (m + weight lowers t) ts
-top_level_places-cons l n m t ts is =
-    let first : int_eq (depth_from n m (t ∷ ts) 0) (pos 0) ≡ is_zero l = depths.is_zero n m _ (depth_from-zero n m (t ∷ ts)) ∙ sym (zero-is l n m is) in
-    (λ i. first i ∷ places-map (λ place. int_eq (depth_from n m (t ∷ ts) place) (pos 0)) (places any_token ts) i)
-    ∙ (λ i. is_zero l ∷ map (λ place. int_eq (depth_from-suc n m t ts place i) (pos 0)) (places any_token ts))
+pub has_top_level-is : (test : Token → Bool) (ts : List Token) → fragments.has_top_level test ts ≡ has_top_level test ts
+has_top_level-is test ts = (λ i. list_any (λ place. top_level-is ts place i) (places test ts)) ∙ top_level_from-is test (pos 0) ts
 
 abbrev as_placed_all : List (Bool × Token) → List Placed
 as_placed_all found = map (λ (f : Bool × Token). as_placed f.0 f.1) found
 
-placed_from-is : (l : ℤ) (n m : ℕ) (ts : List Token) → l ≡ pos n -ℤ pos m → as_placed_all (zip (top_level_places n m ts) ts) ≡ placed_from l ts
-placed_from-is l n m [] is = refl
-placed_from-is l n m (t ∷ ts) is =
-    ap (λ at_top. as_placed_all (zip at_top (t ∷ ts))) (top_level_places-cons l n m t ts is)
-    ∙ ap (λ ms. as_placed (is_zero l) t ∷ ms)
-    (placed_from-is (after l t) (n + weight raises t) (m + weight lowers t) ts (step (raises t) (lowers t) l n m (raises-alone t) is))
+placed_from-is : (l : ℤ) (ts : List Token)
+    → as_placed_all (zip (map (λ place. is_zero (depth_from l ts place)) (places any_token ts)) ts) ≡ placed_from l ts
+placed_from-is l [] = refl
+placed_from-is l (t ∷ ts) =
+    (λ i. as_placed (is_zero (+ℤ_idr l i)) t
+    ∷ as_placed_all (zip (map-map (λ place. is_zero (depth_from l (t ∷ ts) place)) suc (places any_token ts) i) ts))
+    ∙ (λ i. as_placed (is_zero l) t ∷ as_placed_all (zip (map (λ place. is_zero (depth_from-suc l t ts place i)) (places any_token ts)) ts))
+    ∙ ap (λ ms. as_placed (is_zero l) t ∷ ms) (placed_from-is (after l t) ts)
 
 pub placed-is : (ts : List Token) → fragments.placed ts ≡ placed ts
-placed-is ts =
-    (λ i. as_placed_all (zip (map (λ place. int_eq (sym (depth_from-start ts place) i) (pos 0)) (places any_token ts)) ts))
-    ∙ placed_from-is (pos 0) 0 0 ts refl
+placed-is ts = (λ i. as_placed_all (zip (map (λ place. top_level-is ts place i) (places any_token ts)) ts)) ∙ placed_from-is (pos 0) ts
 
-pub has_top_level-is : (test : Token → Bool) (ts : List Token) → fragments.has_top_level test ts ≡ has_top_level test ts
-has_top_level-is test ts = depths.has_top_level-is test ts ∙ sym (top_level-from-is test (pos 0) 0 0 ts refl)
+behind_from-is : (test : ℤ → Bool) (l : ℤ) (ts : List Token)
+    → list_all (λ place. test (depth_from l ts (suc place))) (places any_token ts) ≡ all_behind test l ts
+behind_from-is test l [] = refl
+behind_from-is test l (t ∷ ts) =
+    (λ i. list_all (λ place. test (depth_from-suc l t ts place i)) (places any_token (t ∷ ts)))
+    ∙ each_place (λ place. test (depth_from (after l t) ts place)) true (places any_token ts)
+    ∙ (λ i. test (+ℤ_idr (after l t) i) && behind_from-is test (after l t) ts i)
+
+behind-is : (test : ℤ → Bool) (ts : List Token) → list_all (λ place. test (depth_at ts (suc place))) (places any_token ts) ≡ all_behind test (pos 0) ts
+behind-is test ts = (λ i. list_all (λ place. test (sym (depth_from-start ts (suc place)) i)) (places any_token ts)) ∙ behind_from-is test (pos 0) ts
+
+pub inside-is : (ts : List Token) → list_all (λ place. int_le (pos 1) (depth_at ts (suc place))) (places any_token ts) ≡ stays_inside (pos 0) ts
+inside-is ts = (λ i. list_all (λ place. one-is (depth_at ts (suc place)) i) (places any_token ts)) ∙ behind-is is_at_least_1 ts
+
+end_from-is : (l : ℤ) (ts : List Token) → depth_from l ts (length ts) ≡ at_end l ts
+end_from-is l [] = +ℤ_idr l
+end_from-is l (t ∷ ts) = depth_from-suc l t ts (length ts) ∙ end_from-is (after l t) ts
+
+-- the depth behind the last token
+pub end-is : (ts : List Token) → fragments.is_top_level ts (length ts) ≡ is_zero (at_end (pos 0) ts)
+end-is ts = top_level-is ts (length ts) ∙ ap is_zero (end_from-is (pos 0) ts)
+
+closes_from-is : (l : ℤ) (ts : List Token) → (all_behind is_at_least_0 l ts && is_zero (at_end l ts)) ≡ closes_from l ts
+closes_from-is l [] = refl
+closes_from-is l (t ∷ ts) = and_assoc (is_at_least_0 (after l t)) (all_behind is_at_least_0 (after l t) ts) (is_zero (at_end (after l t) ts))
+    ∙ ap (λ b. is_at_least_0 (after l t) && b) (closes_from-is (after l t) ts)
 
 brackets_match-closes : (ts : List Token) → fragments.brackets_match ts ≡ closes_from (pos 0) ts
-brackets_match-closes ts = depths.brackets_match-is ts ∙ sym (closes-from-is (pos 0) 0 0 ts refl)
+brackets_match-closes ts =
+    (λ i. list_all (λ place. least-is (depth_at ts (suc place)) i) (places any_token ts) && end-is ts i)
+    ∙ (λ i. behind-is is_at_least_0 ts i && is_zero (at_end (pos 0) ts))
+    ∙ closes_from-is (pos 0) ts
 
 pub is_balanced-is : (ts : List Token) → fragments.is_balanced ts ≡ is_balanced ts
 is_balanced-is ts =
@@ -147,39 +219,55 @@ is_operand-is ts =
     (λ i. is_balanced-is ts i && not (has_top_level-is is_joining ts i) && not (begins_with (is_word (codes "NOT")) ts))
     ∙ and_assoc (is_balanced ts) (not (has_top_level is_joining ts)) (not (begins_with (is_word (codes "NOT")) ts))
 
--- the depth behind the last token
-end-from-is : (l : ℤ) (n m : ℕ) (ts : List Token) → l ≡ pos n -ℤ pos m → int_eq (depth_from n m ts (length ts)) (pos 0) ≡ is_zero (at_end l ts)
-end-from-is l n m [] is = depths.is_zero n m _ (depth_from-zero n m []) ∙ sym (zero-is l n m is)
-end-from-is l n m (t ∷ ts) is =
-    (λ i. int_eq (depth_from-suc n m t ts (length ts) i) (pos 0))
-    ∙ end-from-is (after l t) (n + weight raises t) (m + weight lowers t) ts (step (raises t) (lowers t) l n m (raises-alone t) is)
+-- ---- read by the code
 
-pub end-is : (ts : List Token) → fragments.is_top_level ts (length ts) ≡ is_zero (at_end (pos 0) ts)
-end-is ts = (λ i. int_eq (sym (depth_from-start ts (length ts)) i) (pos 0)) ∙ end-from-is (pos 0) 0 0 ts refl
+pub top_level-read : (test : Token → Bool) (n m : ℕ) (t : Token) (ts behind : List Token) → ts ≡ t ∷ behind
+    → has_top_level_from test (pos n -ℤ pos m) ts
+    ≡ ((test t && eqb n m) || has_top_level_from test (pos (n + weight raises t) -ℤ pos (m + weight lowers t)) behind)
+top_level-read test n m t ts behind is =
+    ap (has_top_level_from test (pos n -ℤ pos m)) is
+    ∙ (λ i. sym (top_level-place test (is_zero (pos n -ℤ pos m)) t) i || has_top_level_from test (after-counted n m t i) behind)
+    ∙ ap (λ b. (test t && b) || has_top_level_from test (pos (n + weight raises t) -ℤ pos (m + weight lowers t)) behind) (zero-counted n m)
 
--- the depth is at least 1 behind each token
-one-yes : (l : ℤ) → pos 1 ≤ℤ l → int_le (pos 1) l ≡ true
-one-yes l h = grind (arith, ints)
+-- Balanced, none of these words top-level, and none of those first, where the depth before the tokens is l. Before them may be
+-- others, so `empty` says whether a first token is still to come.
+pub balances : (barred first : Token → Bool) → Bool → ℤ → List Token → Bool
+balances barred first empty l ts =
+    not (empty && is_empty ts) && list_all is_whole ts && closes_from l ts && not (has_top_level_from barred l ts) && not (empty && begins_with first ts)
 
-one-no : (l : ℤ) → l <ℤ pos 1 → int_le (pos 1) l ≡ false
-one-no l h = grind (arith, ints)
+pub balances-is : (barred first : Token → Bool) (ts : List Token)
+    → balances barred first true (pos 0) ts ≡ (fragments.is_balanced ts && not (fragments.has_top_level barred ts) && not (begins_with first ts))
+unfolding balances
+balances-is barred first ts = λ i.
+    not (is_empty ts) && list_all is_whole ts && sym (brackets_match-closes ts) i && not (sym (has_top_level-is barred ts) i) && not (begins_with first ts)
 
-one-is : (l k : ℤ) → k ≡ l → int_le (pos 1) k ≡ is_at_least_1 l
-one-is (pos zero) k is = one-no k (omega (arith, ints, is))
-one-is (pos (suc n)) k is = one-yes k (omega (arith, ints, is))
-one-is (negsuc n) k is = one-no k (omega (arith, ints, is))
+pub balances-end : (barred first : Token → Bool) (empty : Bool) (n m : ℕ) (ts : List Token) → ts ≡ []
+    → balances barred first empty (pos n -ℤ pos m) ts ≡ (not empty && eqb n m)
+unfolding balances
+balances-end barred first empty n m ts is = ap (balances barred first empty (pos n -ℤ pos m)) is
+    ∙ parted empty (is_zero (pos n -ℤ pos m)) ∙ ap (λ b. not empty && b) (zero-counted n m)
+  where
+    parted : (empty closes : Bool) → (not (empty && true) && true && closes && true && not (empty && false)) ≡ (not empty && closes)
+    parted empty closes = grind arith
 
-inside-from-is : (l : ℤ) (n m : ℕ) (ts : List Token) → l ≡ pos n -ℤ pos m
-    → list_all (λ place. int_le (pos 1) (depth_from n m ts (suc place))) (places any_token ts) ≡ stays_inside l ts
-inside-from-is l n m [] is = refl
-inside-from-is l n m (t ∷ ts) is =
+pub balances-read : (barred first : Token → Bool) (empty : Bool) (n m : ℕ) (t : Token) (ts behind : List Token) → ts ≡ t ∷ behind
+    → balances barred first empty (pos n -ℤ pos m) ts
+    ≡ (not (empty && first t || eqb n m && barred t) && (is_whole t && leb (m + weight lowers t) (n + weight raises t))
+    && balances barred first false (pos (n + weight raises t) -ℤ pos (m + weight lowers t)) behind)
+unfolding balances
+balances-read barred first empty n m t ts behind is =
     let more = n + weight raises t in
     let less = m + weight lowers t in
-    let next = step (raises t) (lowers t) l n m (raises-alone t) is in
-    (λ i. list_all (λ place. int_le (pos 1) (depth_from-suc n m t ts place i)) (places any_token (t ∷ ts)))
-    ∙ each_place (λ place. int_le (pos 1) (depth_from more less ts place)) true (places any_token ts)
-    ∙ (λ i. one-is (after l t) (depth_from more less ts 0) (depth_from-zero more less ts ∙ sym next) i && inside-from-is (after l t) more less ts next i)
-
-pub inside-is : (ts : List Token) → list_all (λ place. int_le (pos 1) (depth_at ts (suc place))) (places any_token ts) ≡ stays_inside (pos 0) ts
-inside-is ts =
-    (λ i. list_all (λ place. int_le (pos 1) (sym (depth_from-start ts (suc place)) i)) (places any_token ts)) ∙ inside-from-is (pos 0) 0 0 ts refl
+    (λ i. not (empty && is_empty (is i)) && list_all is_whole (is i) && closes_from (pos n -ℤ pos m) (is i)
+    && not (top_level-read barred n m t ts behind is i) && not (empty && begins_with first (is i)))
+    ∙ (λ i. not (empty && false) && list_all is_whole (t ∷ behind) && (is_at_least_0 (after-counted n m t i) && closes_from (after-counted n m t i) behind)
+    && not ((barred t && eqb n m) || has_top_level_from barred (pos more -ℤ pos less) behind) && not (empty && first t))
+    ∙ parted empty (first t) (eqb n m) (barred t) (is_whole t) (is_at_least_0 (pos more -ℤ pos less)) (list_all is_whole behind)
+    (closes_from (pos more -ℤ pos less) behind) (has_top_level_from barred (pos more -ℤ pos less) behind)
+    ∙ ap (λ b. not (empty && first t || eqb n m && barred t) && (is_whole t && b)
+    && balances barred first false (pos more -ℤ pos less) behind) (least-counted more less)
+  where
+    parted : (empty first top barred whole high all even later : Bool)
+        → (not (empty && false) && (whole && all) && (high && even) && not ((barred && top) || later) && not (empty && first))
+        ≡ (not (empty && first || top && barred) && (whole && high) && (true && all && even && not later && true))
+    parted empty first top barred whole high all even later = grind arith

@@ -1,9 +1,9 @@
--- The roles of tokens, looked up among the keywords.
+-- The roles of tokens, looked up among the keywords, and which keywords and signs exclude each other.
 use Rattle.sql_parts.proofs.Imports.{◌≡◌, ◌≢◌, ◌∙◌, ℕ, ◌<◌, Bool, true, false, cond, ◌&&◌, List, [], ◌∷◌, ap, refl, sym, arith, length, eqb, get_or, codes}
 use Rattle.sql_parts.proofs.Imports.{drop, ne_eqb, inl, inr, map, to_ascii_lowercase, list_any, bytes_eq, str_eq_ignore_ascii_case, str_to_ascii_lowercase}
-use Rattle.sql_parts.proofs.Imports.{cases_Bool, false≢true, or_cases, or_from, or_parts, bytes_eq-Decides, Role}
+use Rattle.sql_parts.proofs.Imports.{cases_Bool, false≢true, or_cases, or_from, or_parts, bytes_eq-Decides, Role, code, eqb-true, or-false, Name, ◌||◌}
 use Rattle.sql_parts.specs.{is_clause_word, is_closing, is_dialect_word, is_joining, is_opening, is_whole, is_word, lowers, needs_left, needs_right, raises}
-use Rattle.sql_parts.specs.{HasRole, sample, Token, Word, Str, Symbol}
+use Rattle.sql_parts.specs.{HasRole, sample, Token, Word, Str, Symbol, Open, is_symbol}
 use Rattle.sql_parts.specs.declared.roles.Role.TheVariants as role
 
 -- all that the tests of fragments ask of a token
@@ -172,3 +172,55 @@ other-plain letter byte text front is none =
 pub sign-plain : (sign : ℕ) → sign ≢ 40 → sign ≢ 41 → sign ≢ 44 → sign ≢ 59 → HasRole role.Plain (Symbol sign)
 sign-plain sign up down comma semicolon =
     has-role role.Plain (Symbol sign) (rw (ne_eqb sign 40 up, ne_eqb sign 41 down, ne_eqb sign 44 comma, ne_eqb sign 59 semicolon) refl)
+
+-- a token is not two keywords, nor a keyword and a sign
+pub word_apart : (one other : List ℕ) (token : Token) → str_eq_ignore_ascii_case one other ≡ false → is_word one token ≡ true → is_word other token ≡ false
+word_apart one other (Word text) apart is =
+    ap (λ x. bytes_eq x (str_to_ascii_lowercase other)) ((bytes_eq-Decides (str_to_ascii_lowercase text) (str_to_ascii_lowercase one)).0 is) ∙ apart
+word_apart one other (Str text) apart is = refl
+word_apart one other (Name text) apart is = refl
+word_apart one other (Symbol byte) apart is = refl
+word_apart one other Open apart is = refl
+
+-- a token that is this sign or this keyword, as each is that raises or lowers the depth
+abbrev is_bracket : ℕ → List ℕ → Token → Bool
+is_bracket sign keyword token = is_symbol sign token || is_word keyword token
+
+bracket-apart : (sign : ℕ) (one other : List ℕ) (token : Token) → str_eq_ignore_ascii_case one other ≡ false → is_bracket sign one token ≡ true
+    → is_word other token ≡ false
+bracket-apart sign one other (Word text) apart is = word_apart one other (Word text) apart is
+bracket-apart sign one other (Str text) apart is = refl
+bracket-apart sign one other (Name text) apart is = refl
+bracket-apart sign one other (Symbol byte) apart is = refl
+bracket-apart sign one other Open apart is = refl
+
+apart-bracket : (sign : ℕ) (one other : List ℕ) (token : Token) → str_eq_ignore_ascii_case one other ≡ false → is_word one token ≡ true
+    → is_bracket sign other token ≡ false
+apart-bracket sign one other (Word text) apart is = word_apart one other (Word text) apart is
+apart-bracket sign one other (Str text) apart is = refl
+apart-bracket sign one other (Name text) apart is = refl
+apart-bracket sign one other (Symbol byte) apart is = absurd (false≢true is)
+apart-bracket sign one other Open apart is = refl
+
+pub raises-apart : (keyword : List ℕ) (token : Token) → str_eq_ignore_ascii_case (codes "CASE") keyword ≡ false → raises token ≡ true
+    → is_word keyword token ≡ false
+raises-apart keyword token apart is = bracket-apart (code "(") (codes "CASE") keyword token apart is
+
+pub lowers-apart : (keyword : List ℕ) (token : Token) → str_eq_ignore_ascii_case (codes "END") keyword ≡ false → lowers token ≡ true
+    → is_word keyword token ≡ false
+lowers-apart keyword token apart is = bracket-apart (code ")") (codes "END") keyword token apart is
+
+pub apart-raises : (keyword : List ℕ) (token : Token) → str_eq_ignore_ascii_case keyword (codes "CASE") ≡ false → is_word keyword token ≡ true
+    → raises token ≡ false
+apart-raises keyword token apart is = apart-bracket (code "(") keyword (codes "CASE") token apart is
+
+pub apart-lowers : (keyword : List ℕ) (token : Token) → str_eq_ignore_ascii_case keyword (codes "END") ≡ false → is_word keyword token ≡ true
+    → lowers token ≡ false
+apart-lowers keyword token apart is = apart-bracket (code ")") keyword (codes "END") token apart is
+
+pub raises-alone : (token : Token) → raises token ≡ true → lowers token ≡ false
+raises-alone (Word text) is = word_apart (codes "CASE") (codes "END") (Word text) refl is
+raises-alone (Str text) is = refl
+raises-alone (Name text) is = refl
+raises-alone (Symbol byte) is = ap (λ n. lowers (Symbol n)) (eqb-true byte 40 (sym (or-false (eqb byte 40)) ∙ is))
+raises-alone Open is = refl

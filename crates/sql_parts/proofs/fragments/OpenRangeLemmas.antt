@@ -6,7 +6,8 @@ use Rattle.sql_parts.proofs.Imports.{and-false, and-true, beq, or-false, or-true
 use Rattle.std.proofs.lemmas.List.Sorted.{IsPermutation-reverse, list_any-IsPermutation}
 use Rattle.sql_parts.specs.{Token, has_ands, is_joining, is_word, lowers, raises, weight, are_answered, is_answered, HasRole}
 use Rattle.sql_parts.specs.declared.roles.Role.TheVariants as role
-use Rattle.sql_parts.proofs.fragments.BetweenLemmas.{apart-lowers, apart-raises, has_ands-rule, is_and, lowers-apart, raises-alone, raises-apart, word_apart}
+use Rattle.sql_parts.proofs.fragments.BetweenLemmas.{has_ands-rule, is_and}
+use Rattle.sql_parts.proofs.fragments.KeywordLemmas.{apart-lowers, apart-raises, lowers-apart, raises-alone, raises-apart, word_apart}
 
 answered-by : (height : ℕ) (token : Token) (ts : List Token) (up down and joined : Bool) → raises token ≡ up → lowers token ≡ down → is_and token ≡ and
     → is_joining token ≡ joined

@@ -1,7 +1,7 @@
 -- The sides of OR, AND and NOT, read from the front of a list of tokens.
 use Rattle.sql_parts.proofs.Imports.{arith, ◌≡◌, refl, sym, ◌∙◌, ap, suc, Bool, true, false, not, ◌&&◌, ◌||◌, List, [], ◌∷◌, list_all, and_assoc}
 use Rattle.sql_parts.specs.{Token, has_left_sides, has_right_sides, is_at, is_before, is_closing, is_opening, needs_left, needs_right, places}
-use Rattle.sql_parts.proofs.fragments.DepthCountLemmas.{each_place}
+use Rattle.sql_parts.proofs.fragments.DepthFacts.{each_place}
 
 abbrev may_join : Token → Bool
 may_join token = not (is_opening token)

@@ -1,15 +1,15 @@
 -- A text meets what is asked of it exactly where no reason against it holds.
-use Rattle.sql_parts.proofs.Imports.{◌≡◌, refl, sym, ◌∙◌, ap, ℕ, ◌+◌, Bool, true, false, not, ◌&&◌, ◌||◌, eqb, List, [], ◌∷◌, Option, None, Some, codes, arith}
+use Rattle.sql_parts.proofs.Imports.{◌≡◌, refl, sym, ◌∙◌, ap, ℕ, suc, Bool, true, false, not, ◌&&◌, ◌||◌, map, List, [], ◌∷◌, Option, None, Some, codes, arith}
 use Rattle.sql_parts.proofs.Imports.{is_none, if◌then◌else◌, list_all, list_any, and_parts, and-true, not-not, or-false}
 use Rattle.std.specs.Prelude.{find}
 use Rattle.sql_parts.specs.{balanced, brackets_match, encloses_clauses, has_clause_word, has_dialect_word, has_top_level, is_balanced, is_clause_word}
-use Rattle.sql_parts.specs.{is_dialect_word, is_joining, is_whole, is_word, lowers, operand, raises, weight, holds_of, meets, violation, reasons, ServesAsOperand}
+use Rattle.sql_parts.specs.{is_dialect_word, is_joining, is_top_level, is_whole, is_word, places, operand, Placed, TopLevel, Nested, at_top_level, holds_of, meets, violation, reasons, ServesAsOperand}
 use Rattle.sql_parts.specs.{has_no_clause, is_bare_operand, is_fragment, is_typed_fragment, is_typed_operand, Token, begins_with, closed, has_semicolon}
 use Rattle.sql_parts.specs.{is_empty, is_open, is_semicolon, tokens}
 use Rattle.sql_parts.specs.declared.violations.Requirement.{Requirement}
 use Rattle.sql_parts.specs.declared.violations.Requirement.TheVariants as requirement
 use Rattle.sql_parts.specs.declared.violations.Violation.{Violation}
-use Rattle.sql_parts.proofs.fragments.DepthCountLemmas.{has_top_level-is, top_level_from}
+use Rattle.sql_parts.proofs.fragments.DepthFacts.{has_top_level-is, placed}
 
 -- each token is whole where none is open and none is a `;`
 pub all_whole : (ts : List Token) → list_all is_whole ts ≡ (not (list_any is_open ts) && not (list_any is_semicolon ts))
@@ -22,28 +22,40 @@ all_whole (token ∷ ts) =
     parted shut semicolon shuts semicolons = grind arith
 
 -- a top-level token that passes one of two tests
-any_of : (one other : Token → Bool) (up down : ℕ) (ts : List Token)
-    → top_level_from (λ token. one token || other token) up down ts ≡ (top_level_from one up down ts || top_level_from other up down ts)
-any_of one other up down [] = refl
-any_of one other up down (token ∷ ts) =
-    let more = up + weight raises token in
-    let less = down + weight lowers token in
-    ap (λ b. ((one token || other token) && eqb up down) || b) (any_of one other more less ts)
-    ∙ parted (one token) (other token) (eqb up down) (top_level_from one more less ts) (top_level_from other more less ts)
+any_of : (one other : Token → Bool) (ms : List Placed)
+    → list_any (at_top_level (λ token. one token || other token)) ms ≡ (list_any (at_top_level one) ms || list_any (at_top_level other) ms)
+any_of one other [] = refl
+any_of one other (m ∷ ms) =
+    (λ i. either m i || any_of one other ms i)
+    ∙ parted (at_top_level one m) (at_top_level other m) (list_any (at_top_level one) ms) (list_any (at_top_level other) ms)
   where
-    parted : (first second even later last : Bool)
-        → (((first || second) && even) || (later || last)) ≡ (((first && even) || later) || ((second && even) || last))
-    parted first second even later last = grind arith
+    either : (m : Placed) → at_top_level (λ token. one token || other token) m ≡ (at_top_level one m || at_top_level other m)
+    either (TopLevel token) = refl
+    either (Nested token) = refl
+
+    parted : (first second later last : Bool) → ((first || second) || (later || last)) ≡ ((first || later) || (second || last))
+    parted first second later last = grind arith
 
 either_top_level : (one other : Token → Bool) (ts : List Token)
     → has_top_level (λ token. one token || other token) ts ≡ (has_top_level one ts || has_top_level other ts)
 either_top_level one other ts =
-    has_top_level-is (λ token. one token || other token) ts ∙ any_of one other 0 0 ts
+    has_top_level-is (λ token. one token || other token) ts ∙ any_of one other (placed ts)
     ∙ (λ i. sym (has_top_level-is one ts) i || sym (has_top_level-is other ts) i)
 
 never_first : (ts : List Token) → begins_with (λ token. false) ts ≡ false
 never_first [] = refl
 never_first (token ∷ ts) = refl
+
+-- no place passes a test that no token passes
+no_places : (ts : List Token) → places (λ token. false) ts ≡ []
+no_places [] = refl
+no_places (token ∷ ts) = ap (map suc) (no_places ts)
+
+-- where no words are asked for
+pub balanced-alone : (ts : List Token) → (is_balanced ts && not (has_top_level (λ token. false) ts) && not (begins_with (λ token. false) ts)) ≡ is_balanced ts
+balanced-alone ts =
+    (λ i. is_balanced ts && not (list_any (is_top_level ts) (no_places ts i)) && not (never_first ts i))
+    ∙ and-true (is_balanced ts && true) ∙ and-true (is_balanced ts)
 
 -- what one reading says of a fragment, and of an operand without a top-level clause keyword
 pub fragment_read : (text : List ℕ)

@@ -1,6 +1,6 @@
-use Rattle.sql_parts.proofs.Imports.{◌≡◌, ◌∙◌, ◌+◌, ◌&&◌, ◌||◌, Bool, ap, eqb, false, rules, sym, and-false, if◌then◌else◌}
-use Rattle.sql_parts.specs.{is_clause_word, is_dialect_word, lowers, raises, weight, Token, tokens}
-use Rattle.sql_parts.proofs.fragments.{has_top_level-is, top_level_from}
+use Rattle.sql_parts.proofs.Imports.{◌≡◌, ◌∙◌, ◌&&◌, Bool, ap, arith, common_steps, eqb, false, rules, sym, and-false, if◌then◌else◌}
+use Rattle.sql_parts.specs.{is_clause_word, is_dialect_word, Token, tokens}
+use Rattle.sql_parts.proofs.fragments.DepthFacts.{has_top_level-is, top_level-read}
 use Rattle.sql_parts.proofs.lex.has_clause.Goals as goal
 use Rattle.sql_parts.proofs.lex.has_clause.Goals.{else-is_top_level-via-then-is_top_level+else-begins_clause, else-is_top_level-via-else-is_top_level}
 
@@ -24,13 +24,17 @@ loop-role-preserved c =
           (sym (w.begins_clause.ensures found.0 found.1) ∙ w.if-begins_clause.false)
       | else-is_top_level-via-else-is_top_level w ↦ ap (λ b. test found.0 && b) (sym c.is_top_level.ensures ∙ w.if-is_top_level.false) ∙ and-false (test found.0)
     ] in
+    let read = top_level-read test old.raised old.lowered found.0 (tokens c.loop-role.rest.now) (tokens c.in-Some.behind.now) found.2 in
     record {
       text = search rules;
       raised = search rules;
       lowered = search rules;
-      same = (λ i. top_level_from test (depth i).raised (depth i).lowered (tokens c.in-Some.behind.now))
-          ∙ ap (λ b. b || top_level_from test (old.raised + weight raises found.0) (old.lowered + weight lowers found.0) (tokens c.in-Some.behind.now))
-          (sym plain)
-          ∙ ap (top_level_from test old.raised old.lowered) (sym found.2)
-          ∙ c.loop-role.invariant.same;
+      same = rw depth (sym (rw plain at read) ∙ c.loop-role.invariant.same);
     }
+
+pub returns-then-begins_clause : goal.returns-then-begins_clause
+returns-then-begins_clause c =
+    let found = c.in-Some.ensures.token in
+    let read = top_level-read (λ token. if c.args.dialect then is_dialect_word token else is_clause_word token) c.loop-role.depth.raised
+    c.loop-role.depth.lowered found.0 (tokens c.loop-role.rest.now) (tokens c.in-Some.behind.now) found.2 in
+    grind (arith, common_steps, read)
