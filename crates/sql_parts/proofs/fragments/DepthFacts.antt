@@ -10,9 +10,12 @@ use Rattle.sql_parts.specs.{raises, weight}
 use Rattle.sql_parts.specs.Fragments as fragments
 use Rattle.sql_parts.proofs.fragments.KeywordLemmas.{raises-alone}
 
+abbrev pub change : (up down : Bool) → ℤ → ℤ
+change up down l = cond up (suc_ℤ l) (cond down (pred_ℤ l) l)
+
 -- the depth after a token, from the depth before it
 abbrev pub after : ℤ → Token → ℤ
-after l t = cond (raises t) (suc_ℤ l) (cond (lowers t) (pred_ℤ l) l)
+after l t = change (raises t) (lowers t) l
 
 -- the depth after all tokens
 abbrev pub at_end : ℤ → List Token → ℤ
@@ -71,18 +74,18 @@ is_balanced ts = not (is_empty ts) && is_even ts
 abbrev pub is_operand : List Token → Bool
 is_operand ts = is_balanced ts && (not (has_top_level is_joining ts) && not (begins_with (is_word (codes "NOT")) ts))
 
--- ---- the depth at the places, from the depth before the first token
+-- ---- the depth at a place, and the depth after the token before it
 
-step : (up down : Bool) (l : ℤ) → (up ≡ true → down ≡ false)
-    → cond up (suc_ℤ l) (cond down (pred_ℤ l) l) ≡ l +ℤ (pos (cond up 1 0) -ℤ pos (cond down 1 0))
-step true true l alone = absurd (true≢false (alone refl))
-step true false l alone = sym (+ℤ_one l)
-step false true l alone = let one = +ℤ_one (pred_ℤ l) ∙ suc-pred l in omega (arith, ints, one)
-step false false l alone = sym (+ℤ_idr l)
+change-is : (up down : Bool) (l : ℤ) → (up ≡ true → down ≡ false) → change up down l ≡ l +ℤ (pos (cond up 1 0) -ℤ pos (cond down 1 0))
+change-is true true l alone = absurd (true≢false (alone refl))
+change-is true false l alone = sym (+ℤ_one l)
+change-is false true l alone = let one = +ℤ_one (pred_ℤ l) ∙ suc-pred l in omega (arith, ints, one)
+change-is false false l alone = sym (+ℤ_idr l)
 
 after-is : (l : ℤ) (t : Token) → after l t ≡ l +ℤ (pos (weight raises t) -ℤ pos (weight lowers t))
-after-is l t = step (raises t) (lowers t) l (raises-alone t)
+after-is l t = change-is (raises t) (lowers t) l (raises-alone t)
 
+-- the depth at a place, where the first token has depth l before it
 abbrev pub depth_from : ℤ → List Token → ℕ → ℤ
 depth_from l ts place = l +ℤ depth_at ts place
 
@@ -113,19 +116,6 @@ one-is (pos zero) = refl
 one-is (pos (suc n)) = le-leb 1 (suc n) (omega arith)
 one-is (negsuc n) = refl
 
-pub after-counted : (n m : ℕ) (t : Token) → after (pos n -ℤ pos m) t ≡ pos (n + weight raises t) -ℤ pos (m + weight lowers t)
-after-counted n m t = let moved = after-is (pos n -ℤ pos m) t in omega (arith, ints, moved)
-
-pub zero-counted : (n m : ℕ) → is_zero (pos n -ℤ pos m) ≡ eqb n m
-zero-counted n m = sym (zero-is (pos n -ℤ pos m)) ∙ same_from_decides _ (eqb n m) (Decides-int_eq (pos n -ℤ pos m) (pos 0))
-    (λ e. let same = eqb-true n m e in omega (arith, ints, same), λ z. eq-eqb n m (omega (arith, ints, z)))
-
-pub least-counted : (n m : ℕ) → is_at_least_0 (pos n -ℤ pos m) ≡ leb m n
-least-counted n m = sym (least-is (pos n -ℤ pos m)) ∙ compared
-  where
-    compared : int_le (pos 0) (pos n -ℤ pos m) ≡ leb m n
-    compared = grind (arith, ints, nat_tests)
-
 -- a fact of the places of a list, by its first token and the places of the rest
 list_any-map : {X Y : Type 0} (test : Y → Bool) (f : X → Y) (xs : List X) → list_any test (map f xs) ≡ list_any (λ x. test (f x)) xs
 list_any-map test f [] = refl
@@ -151,9 +141,7 @@ top_level_from-is : (test : Token → Bool) (l : ℤ) (ts : List Token)
     → list_any (λ place. is_zero (depth_from l ts place)) (places test ts) ≡ has_top_level_from test l ts
 top_level_from-is test l [] = refl
 top_level_from-is test l (t ∷ ts) =
-    any_place (λ place. is_zero (depth_from l (t ∷ ts) place)) (test t) (places test ts)
-    ∙ (λ i. (test t && is_zero (+ℤ_idr l i)) || list_any (λ place. is_zero (depth_from-suc l t ts place i)) (places test ts))
-    ∙ (λ i. top_level-place test (is_zero l) t i || top_level_from-is test (after l t) ts i)
+    simp (any_place, depth_from-zero l (t ∷ ts), depth_from-suc l t ts, top_level-place test (is_zero l) t, top_level_from-is test (after l t) ts)
 
 pub top_level-is : (ts : List Token) (place : ℕ) → fragments.is_top_level ts place ≡ is_zero (depth_from (pos 0) ts place)
 top_level-is ts place = zero-is (depth_at ts place) ∙ ap is_zero (sym (depth_from-start ts place))
@@ -167,11 +155,7 @@ as_placed_all found = map (λ (f : Bool × Token). as_placed f.0 f.1) found
 placed_from-is : (l : ℤ) (ts : List Token)
     → as_placed_all (zip (map (λ place. is_zero (depth_from l ts place)) (places any_token ts)) ts) ≡ placed_from l ts
 placed_from-is l [] = refl
-placed_from-is l (t ∷ ts) =
-    (λ i. as_placed (is_zero (+ℤ_idr l i)) t
-    ∷ as_placed_all (zip (map-map (λ place. is_zero (depth_from l (t ∷ ts) place)) suc (places any_token ts) i) ts))
-    ∙ (λ i. as_placed (is_zero l) t ∷ as_placed_all (zip (map (λ place. is_zero (depth_from-suc l t ts place i)) (places any_token ts)) ts))
-    ∙ ap (λ ms. as_placed (is_zero l) t ∷ ms) (placed_from-is (after l t) ts)
+placed_from-is l (t ∷ ts) = simp (map-map, depth_from-zero l (t ∷ ts), depth_from-suc l t ts, placed_from-is (after l t) ts)
 
 pub placed-is : (ts : List Token) → fragments.placed ts ≡ placed ts
 placed-is ts = (λ i. as_placed_all (zip (map (λ place. top_level-is ts place i) (places any_token ts)) ts)) ∙ placed_from-is (pos 0) ts
@@ -180,9 +164,7 @@ behind_from-is : (test : ℤ → Bool) (l : ℤ) (ts : List Token)
     → list_all (λ place. test (depth_from l ts (suc place))) (places any_token ts) ≡ all_behind test l ts
 behind_from-is test l [] = refl
 behind_from-is test l (t ∷ ts) =
-    (λ i. list_all (λ place. test (depth_from-suc l t ts place i)) (places any_token (t ∷ ts)))
-    ∙ each_place (λ place. test (depth_from (after l t) ts place)) true (places any_token ts)
-    ∙ (λ i. test (+ℤ_idr (after l t) i) && behind_from-is test (after l t) ts i)
+    simp (list_all-map, depth_from-suc l t ts, depth_from-suc l t ts 0, depth_from-zero (after l t) ts, behind_from-is test (after l t) ts)
 
 behind-is : (test : ℤ → Bool) (ts : List Token) → list_all (λ place. test (depth_at ts (suc place))) (places any_token ts) ≡ all_behind test (pos 0) ts
 behind-is test ts = (λ i. list_all (λ place. test (sym (depth_from-start ts (suc place)) i)) (places any_token ts)) ∙ behind_from-is test (pos 0) ts
@@ -191,17 +173,16 @@ pub inside-is : (ts : List Token) → list_all (λ place. int_le (pos 1) (depth_
 inside-is ts = (λ i. list_all (λ place. one-is (depth_at ts (suc place)) i) (places any_token ts)) ∙ behind-is is_at_least_1 ts
 
 end_from-is : (l : ℤ) (ts : List Token) → depth_from l ts (length ts) ≡ at_end l ts
-end_from-is l [] = +ℤ_idr l
+end_from-is l [] = depth_from-zero l []
 end_from-is l (t ∷ ts) = depth_from-suc l t ts (length ts) ∙ end_from-is (after l t) ts
 
 -- the depth behind the last token
 pub end-is : (ts : List Token) → fragments.is_top_level ts (length ts) ≡ is_zero (at_end (pos 0) ts)
 end-is ts = top_level-is ts (length ts) ∙ ap is_zero (end_from-is (pos 0) ts)
 
-closes_from-is : (l : ℤ) (ts : List Token) → (all_behind is_at_least_0 l ts && is_zero (at_end l ts)) ≡ closes_from l ts
+pub closes_from-is : (l : ℤ) (ts : List Token) → (all_behind is_at_least_0 l ts && is_zero (at_end l ts)) ≡ closes_from l ts
 closes_from-is l [] = refl
-closes_from-is l (t ∷ ts) = and_assoc (is_at_least_0 (after l t)) (all_behind is_at_least_0 (after l t) ts) (is_zero (at_end (after l t) ts))
-    ∙ ap (λ b. is_at_least_0 (after l t) && b) (closes_from-is (after l t) ts)
+closes_from-is l (t ∷ ts) = simp (and_assoc, closes_from-is (after l t) ts)
 
 brackets_match-closes : (ts : List Token) → fragments.brackets_match ts ≡ closes_from (pos 0) ts
 brackets_match-closes ts =
@@ -219,15 +200,25 @@ is_operand-is ts =
     (λ i. is_balanced-is ts i && not (has_top_level-is is_joining ts i) && not (begins_with (is_word (codes "NOT")) ts))
     ∙ and_assoc (is_balanced ts) (not (has_top_level is_joining ts)) (not (begins_with (is_word (codes "NOT")) ts))
 
--- ---- read by the code
+-- ---- as the code counts: so many tokens raised the depth, and so many lowered it
+
+pub after-counted : (n m : ℕ) (t : Token) → after (pos n -ℤ pos m) t ≡ pos (n + weight raises t) -ℤ pos (m + weight lowers t)
+after-counted n m t = let moved = after-is (pos n -ℤ pos m) t in omega (arith, ints, moved)
+
+pub zero-counted : (n m : ℕ) → is_zero (pos n -ℤ pos m) ≡ eqb n m
+zero-counted n m = sym (zero-is (pos n -ℤ pos m)) ∙ same_from_decides _ (eqb n m) (Decides-int_eq (pos n -ℤ pos m) (pos 0))
+    (λ e. let same = eqb-true n m e in omega (arith, ints, same), λ z. eq-eqb n m (omega (arith, ints, z)))
+
+pub least-counted : (n m : ℕ) → is_at_least_0 (pos n -ℤ pos m) ≡ leb m n
+least-counted n m = sym (least-is (pos n -ℤ pos m)) ∙ compared
+  where
+    compared : int_le (pos 0) (pos n -ℤ pos m) ≡ leb m n
+    compared = grind (arith, ints, nat_tests)
 
 pub top_level-read : (test : Token → Bool) (n m : ℕ) (t : Token) (ts behind : List Token) → ts ≡ t ∷ behind
     → has_top_level_from test (pos n -ℤ pos m) ts
     ≡ ((test t && eqb n m) || has_top_level_from test (pos (n + weight raises t) -ℤ pos (m + weight lowers t)) behind)
-top_level-read test n m t ts behind is =
-    ap (has_top_level_from test (pos n -ℤ pos m)) is
-    ∙ (λ i. sym (top_level-place test (is_zero (pos n -ℤ pos m)) t) i || has_top_level_from test (after-counted n m t i) behind)
-    ∙ ap (λ b. (test t && b) || has_top_level_from test (pos (n + weight raises t) -ℤ pos (m + weight lowers t)) behind) (zero-counted n m)
+top_level-read test n m t ts behind is = rw (is, zero-counted n m, after-counted n m t, ← top_level-place test (eqb n m) t) refl
 
 -- Balanced, none of these words top-level, and none of those first, where the depth before the tokens is l. Before them may be
 -- others, so `empty` says whether a first token is still to come.
@@ -244,11 +235,7 @@ balances-is barred first ts = λ i.
 pub balances-end : (barred first : Token → Bool) (empty : Bool) (n m : ℕ) (ts : List Token) → ts ≡ []
     → balances barred first empty (pos n -ℤ pos m) ts ≡ (not empty && eqb n m)
 unfolding balances
-balances-end barred first empty n m ts is = ap (balances barred first empty (pos n -ℤ pos m)) is
-    ∙ parted empty (is_zero (pos n -ℤ pos m)) ∙ ap (λ b. not empty && b) (zero-counted n m)
-  where
-    parted : (empty closes : Bool) → (not (empty && true) && true && closes && true && not (empty && false)) ≡ (not empty && closes)
-    parted empty closes = grind arith
+balances-end barred first empty n m ts is = simp (is, zero-counted n m, and-true, and-false)
 
 pub balances-read : (barred first : Token → Bool) (empty : Bool) (n m : ℕ) (t : Token) (ts behind : List Token) → ts ≡ t ∷ behind
     → balances barred first empty (pos n -ℤ pos m) ts
@@ -256,16 +243,8 @@ pub balances-read : (barred first : Token → Bool) (empty : Bool) (n m : ℕ) (
     && balances barred first false (pos (n + weight raises t) -ℤ pos (m + weight lowers t)) behind)
 unfolding balances
 balances-read barred first empty n m t ts behind is =
-    let more = n + weight raises t in
-    let less = m + weight lowers t in
-    (λ i. not (empty && is_empty (is i)) && list_all is_whole (is i) && closes_from (pos n -ℤ pos m) (is i)
-    && not (top_level-read barred n m t ts behind is i) && not (empty && begins_with first (is i)))
-    ∙ (λ i. not (empty && false) && list_all is_whole (t ∷ behind) && (is_at_least_0 (after-counted n m t i) && closes_from (after-counted n m t i) behind)
-    && not ((barred t && eqb n m) || has_top_level_from barred (pos more -ℤ pos less) behind) && not (empty && first t))
-    ∙ parted empty (first t) (eqb n m) (barred t) (is_whole t) (is_at_least_0 (pos more -ℤ pos less)) (list_all is_whole behind)
-    (closes_from (pos more -ℤ pos less) behind) (has_top_level_from barred (pos more -ℤ pos less) behind)
-    ∙ ap (λ b. not (empty && first t || eqb n m && barred t) && (is_whole t && b)
-    && balances barred first false (pos more -ℤ pos less) behind) (least-counted more less)
+    rw (is, zero-counted n m, after-counted n m t, least-counted (n + weight raises t) (m + weight lowers t), ← top_level-place barred (eqb n m) t)
+    (parted empty (first t) (eqb n m) (barred t) (is_whole t) _ (list_all is_whole behind) _ _)
   where
     parted : (empty first top barred whole high all even later : Bool)
         → (not (empty && false) && (whole && all) && (high && even) && not ((barred && top) || later) && not (empty && first))

@@ -1,8 +1,8 @@
 -- Tokens that no test of fragments distinguishes from a text between quotes make an operand: those of literals, and of names
 -- between quotes.
-use Rattle.sql_parts.proofs.Imports.{◌≡◌, ◌<◌, ℕ, suc, zero, ◌+◌, ◌/◌, ◌%◌, Bool, true, false, not, cond, ◌||◌, List, [], ◌∷◌, ◌++◌, Option, Some, None, map}
+use Rattle.sql_parts.proofs.Imports.{◌≡◌, ◌<◌, ℕ, suc, zero, ◌+◌, ◌/◌, ◌%◌, Bool, true, false, not, ◌||◌, List, [], ◌∷◌, ◌++◌, Option, Some, None, map}
 use Rattle.sql_parts.proofs.Imports.{pos, negsuc, ℤ, refl, sym, ap, ◌∙◌, subst, arith, inl, inr, codes, eqb, leb, ne_eqb, append-nil, flat_map, if◌then◌else◌}
-use Rattle.sql_parts.proofs.Imports.{to_ascii_lowercase, AllBelowBase, digits_of, AllByRecursion, list_all, list_any, suc_ℤ, pred_ℤ, and_from, and_parts}
+use Rattle.sql_parts.proofs.Imports.{to_ascii_lowercase, AllBelowBase, digits_of, AllByRecursion, list_all, list_any, and_from, and_parts}
 use Rattle.sql_parts.proofs.Imports.{cases_Bool, false≢true, leb-true, not-true, not_from_false, or_from, or_parts, nat_tests, all_below_base_digits_of}
 use Rattle.sql_parts.proofs.Imports.{digits_of_step, Form, Bare, Between, Quotes, Single, Back, Square, Double}
 use Rattle.sql_parts.specs.{literal_tokens, as_placed, is_clause_word, is_joining, at_top_level, is_whole, is_word, lowers, operand, raises, LiteralValue, null}
@@ -13,8 +13,8 @@ use Rattle.sql_parts.specs.{between, HasRole, bool_text, decimal_text, join_with
 use Rattle.sql_parts.specs.declared.roles.Role.TheVariants as role
 use Rattle.sql_parts.proofs.fragments.KeywordLemmas.{answers, has-role, initials, other-plain}
 use Rattle.sql_parts.proofs.tokens.{name_closed, name_is, plain-tokens, safe_fits, between-tokens, between_closed, decimal-glyphs, literal-closed, literal-is}
-use Rattle.sql_parts.proofs.fragments.DepthFacts.{after, closes_from, has_top_level, has_top_level-is, is_at_least_0, is_balanced, is_balanced-is, is_operand}
-use Rattle.sql_parts.proofs.fragments.DepthFacts.{is_operand-is, is_zero, placed_from}
+use Rattle.sql_parts.proofs.fragments.DepthFacts.{after, change, closes_from, has_top_level, has_top_level-is, is_at_least_0, is_balanced, is_balanced-is, is_operand}
+use Rattle.sql_parts.proofs.fragments.DepthFacts.{is_operand-is, is_zero, has_top_level_from}
 
 -- a token that is no bracket, no `;` and no word that joins, negates or begins a clause, nor a quote or a comment without an end
 pub record Inert (token : Token) : Type 0 where
@@ -50,7 +50,7 @@ top_level-none : (test : Token → Bool) (at_top : Bool) (t : Token) → test t 
 top_level-none test true t none = none
 top_level-none test false t none = refl
 
-none-top_level : (test : Token → Bool) (l : ℤ) (ts : List Token) → list_any test ts ≡ false → list_any (at_top_level test) (placed_from l ts) ≡ false
+none-top_level : (test : Token → Bool) (l : ℤ) (ts : List Token) → list_any test ts ≡ false → has_top_level_from test l ts ≡ false
 none-top_level test l [] none = refl
 none-top_level test l (t ∷ ts) none =
     let both = or_parts (test t) (list_any test ts) none in
@@ -193,7 +193,7 @@ parts-between quotes [] = tt
 parts-between quotes (part ∷ parts) = ((quoted-inert quotes part, tt), parts-between quotes parts)
 
 -- a word that is an operand by itself, without a clause word
-no-change : (up down : Bool) → is_zero (cond up (suc_ℤ (pos 0)) (cond down (pred_ℤ (pos 0)) (pos 0))) ≡ true → (up ≡ false) × (down ≡ false)
+no-change : (up down : Bool) → is_zero (change up down (pos 0)) ≡ true → (up ≡ false) × (down ≡ false)
 no-change true down h = absurd (false≢true h)
 no-change false true h = absurd (false≢true h)
 no-change false false h = (refl, refl)

@@ -25,16 +25,8 @@ all_whole (token ∷ ts) =
 any_of : (one other : Token → Bool) (ms : List Placed)
     → list_any (at_top_level (λ token. one token || other token)) ms ≡ (list_any (at_top_level one) ms || list_any (at_top_level other) ms)
 any_of one other [] = refl
-any_of one other (m ∷ ms) =
-    (λ i. either m i || any_of one other ms i)
-    ∙ parted (at_top_level one m) (at_top_level other m) (list_any (at_top_level one) ms) (list_any (at_top_level other) ms)
-  where
-    either : (m : Placed) → at_top_level (λ token. one token || other token) m ≡ (at_top_level one m || at_top_level other m)
-    either (TopLevel token) = refl
-    either (Nested token) = refl
-
-    parted : (first second later last : Bool) → ((first || second) || (later || last)) ≡ ((first || later) || (second || last))
-    parted first second later last = grind arith
+any_of one other (TopLevel token ∷ ms) = let more = any_of one other ms in grind (arith, more)
+any_of one other (Nested token ∷ ms) = any_of one other ms
 
 either_top_level : (one other : Token → Bool) (ts : List Token)
     → has_top_level (λ token. one token || other token) ts ≡ (has_top_level one ts || has_top_level other ts)

@@ -1,13 +1,13 @@
 -- A template with operands in its holes serves as one does with a `?` in each.
-use Rattle.sql_parts.proofs.Imports.{◌≡◌, ◌≢◌, ◌<◌, ◌∙◌, ap, arith, codes, refl, sym, subst, ℕ, suc, Bool, true, false, not, cond, eqb-true, ne_eqb, get_or}
+use Rattle.sql_parts.proofs.Imports.{◌≡◌, ◌≢◌, ◌<◌, ◌∙◌, ap, arith, codes, refl, sym, subst, ℕ, suc, Bool, true, false, not, eqb-true, ne_eqb, get_or}
 use Rattle.sql_parts.proofs.Imports.{length, take, ◌-◌, List, [], ◌∷◌, ◌++◌, append_assoc, append-nil, ◌&&◌, ◌==◌, flat_map, AllByRecursion, and_from}
 use Rattle.sql_parts.proofs.Imports.{and_parts, cases_Bool, common_steps, inl, inr, zero, and-true, ℤ, pos, negsuc, list_all, list_any, or_from, or_parts}
-use Rattle.sql_parts.proofs.Imports.{not-true, not_from_false, false≢true, suc_ℤ, pred_ℤ}
+use Rattle.sql_parts.proofs.Imports.{not-true, not_from_false, false≢true}
 use Rattle.sql_parts.specs.{balanced, has_clause_word, is_clause_word, operand, cut, filled, holding, holes_apart, in_hole, is_bracketed, is_unit, unsigned}
 use Rattle.sql_parts.specs.{segment_apart, segments_apart, Token, Symbol, closed, ends_with, tokens, ServesAsOperand, is_bare_operand, is_fragment, is_joining}
 use Rattle.sql_parts.specs.{is_operand, as_placed, at_top_level, is_whole, lowers, raises, begins_with, is_empty}
 use Rattle.sql_parts.specs.Fragments as fragments
-use Rattle.sql_parts.proofs.fragments.DepthFacts.{after, closes_from, has_top_level, has_top_level-is, is_at_least_0, is_balanced, is_balanced-is, is_even}
+use Rattle.sql_parts.proofs.fragments.DepthFacts.{after, change, closes_from, has_top_level, has_top_level-is, is_at_least_0, is_balanced, is_balanced-is, is_even}
 use Rattle.sql_parts.proofs.fragments.DepthFacts.{is_zero, placed_from}
 use Rattle.sql_parts.proofs.fragments.{serves, is-fragment}
 use Rattle.sql_parts.proofs.templates.ApartFacts.{part_tokens, segments-shut, segments-tokens}
@@ -149,9 +149,6 @@ nested test l (t ∷ ts) all =
 abbrev further : ℕ → ℕ → ℕ
 further n zero = n
 further n (suc k) = suc (further n k)
-
-abbrev change : Bool → Bool → ℤ → ℤ
-change up down l = cond up (suc_ℤ l) (cond down (pred_ℤ l) l)
 
 -- what follows n further in, follows behind a token too, where the depth stays at least 0
 step : (P Q : ℤ → Type 0) (n k : ℕ) (up down : Bool) → ((k : ℕ) → P (pos k) → Q (pos (further n k))) → is_at_least_0 (change up down (pos k)) ≡ true
