@@ -19,9 +19,9 @@ pub use Rattle.std.specs.Prelude.{IfSome, IsNone, IsTrue, is_none, is_ok, is_som
 pub use Rattle.std.specs.Result.{result_and, result_map_both}
 pub use Rattle.sql_parts.proofs.chains.Prelude.{Logic, MutBor, RattleType, SProp, Ura, a_type, bounded, dcons, dnil, inst_fn, plain}
 pub use Rattle.sql_parts.proofs.chains.VariantLemmas.{variant}
-pub use Rattle.sql_parts.proofs.fragments.DepthFacts.{after, at_end, closes_from, end-is, has_top_level, has_top_level-is, inside-is, is_at_least_0}
-pub use Rattle.sql_parts.proofs.fragments.DepthFacts.{is_at_least_1, is_balanced, is_balanced-is, is_even, is_operand, is_operand-is, is_zero, placed}
-pub use Rattle.sql_parts.proofs.fragments.DepthFacts.{placed-is, placed_from, stays_inside}
+pub use Rattle.sql_parts.proofs.fragments.DepthFacts.{after, all_behind, at_end, change, closes_from, closes_from-is, end-is, has_top_level}
+pub use Rattle.sql_parts.proofs.fragments.DepthFacts.{has_top_level-is, inside-is, is_at_least_0, is_at_least_1, is_balanced, is_balanced-is, is_even, is_operand}
+pub use Rattle.sql_parts.proofs.fragments.DepthFacts.{is_operand-is, is_zero, placed, placed-is, placed_from, stays_inside}
 pub use Rattle.sql_parts.proofs.fragments.ViolationLemmas.{balanced_whole, met}
 pub use Rattle.sql_parts.proofs.fragments.StringTextFacts.{any-blank, closed-alike, ignores, somewhere}
 pub use Rattle.sql_parts.proofs.templates.BoundSeamLemmas.{texts-apart, unmarked-front}

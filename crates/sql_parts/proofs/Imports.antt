@@ -4,13 +4,13 @@ pub use Rattle.std.proofs.Common.{append_assoc, ap₂, arith, below_more, bit_an
 pub use Rattle.std.proofs.Common.{false, flat_map, get_or, inl, inr, int_le, leb, length, length-append, length-drop, length-set, length-take, lit<, ltb, map}
 pub use Rattle.std.proofs.Common.{mul-le-mul_left, mul-one, mul_assoc, mul_comm, ne_eqb, negsuc, not, option_map, pos, refl, replicate, reverse, rules, set}
 pub use Rattle.std.proofs.Common.{string_bytes, subst, suc, sym, take, tests, to_z-of_z, true, true≢false, unsigned_abs, unwrap_or, w64, w8, zero, ℕ, ℤ, ◌%◌}
-pub use Rattle.std.proofs.Common.{◌&&◌, ◌*◌, ◌++◌, ◌+ℤ◌, ◌+◌, ◌-ℤ◌, ◌-◌, ◌/◌, ◌<ℤ◌, ◌<◌, ◌^◌, ◌||◌, ◌∙◌, ◌∷◌, ◌≡◌, ◌≢◌, ◌≤ℤ◌, ◌≤◌, ◌⊎◌}
+pub use Rattle.std.proofs.Common.{◌&&◌, ◌*◌, ◌++◌, ◌+ℤ◌, ◌+◌, ◌-ℤ◌, ◌-◌, ◌/◌, ◌<◌, ◌^◌, ◌||◌, ◌∙◌, ◌∷◌, ◌≡◌, ◌≢◌, ◌≤◌, ◌⊎◌}
 pub use Rattle.std.proofs.Math.Bool.{and-false, and-true, and_assoc, beq, not-not, or-false, or-true}
-pub use Rattle.std.proofs.Math.IntN.{+ℤ_one, pred_ℤ, suc-pred, suc_ℤ}
+pub use Rattle.std.proofs.Math.IntN.{+ℤ_idl, +ℤ_idr, +ℤ_one, pred_ℤ, suc-pred, suc_ℤ}
 pub use Rattle.std.proofs.Math.Seq.{drop-append_seam, drop-length, take-append_seam, take-length}
 pub use Rattle.std.proofs.lemmas.Bool.{and_from, and_parts, cases_Bool, cases_lt, cond-false, cond-true, eqb-false, false≢true, le-leb, le-ltb, leb-false}
 pub use Rattle.std.proofs.lemmas.Bool.{leb-true, lt-leb, lt-ltb, ltb-true, not-true, not_from_false, or_cases, or_from, or_left, or_parts, or_right}
-pub use Rattle.std.proofs.lemmas.Bool.Decides.{Decides-eqb, Decides-int_eq, Decides-ltb, eqb_tells, nat_tests, same_from_decides}
+pub use Rattle.std.proofs.lemmas.Bool.Decides.{Decides-eqb, Decides-ltb, eqb_tells, nat_tests, same_from_decides}
 pub use Rattle.std.proofs.lemmas.Fmt.{IsAscii-decimal_wide, decimal_digit, length-decimal-le}
 pub use Rattle.std.proofs.lemmas.Grind.{common_steps, flat_map-append}
 pub use Rattle.std.proofs.lemmas.Int.{ints}

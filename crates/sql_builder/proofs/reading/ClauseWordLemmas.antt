@@ -125,7 +125,7 @@ flags-plain (m ∷ ms) none =
 flags-raw : (n : ℕ) (a : List Token) → is_even a ≡ true → (not (is_zero (pos n)) || not (has_clause a)) ≡ true → flags (placed_from (pos n) a)
     ≡ flags (map Nested a)
 flags-raw zero a even none = flags-plain (placed a) (not-true _ none) ∙ ap (λ ts. flags (map Nested ts)) (tokens-placed_from (pos 0) a)
-flags-raw (suc n) a even none = ap flags (placed-above (pos n) a refl (stays-up n a (stays-closes (pos 0) a (and_parts (list_all is_whole a) _ even).1)))
+flags-raw (suc n) a even none = ap flags (placed-above (pos n) a refl (stays-up n a (and_parts (list_all is_whole a) _ even).1))
 
 flag-str : (zero : Bool) (text : List ℕ) → flag (as_placed zero (Str text)) ≡ flag (Nested (Str text))
 flag-str true text = refl
@@ -133,10 +133,10 @@ flag-str false text = refl
 
 -- a balanced list leaves the depth as it is
 pub even-ends : (n : ℕ) (a : List Token) → is_even a ≡ true → at_end (pos n) a ≡ pos n
-even-ends n a even = ends-up n a (at_end-closes (pos 0) a (and_parts (list_all is_whole a) _ even).1)
+even-ends n a even = ends-up n a (and_parts (list_all is_whole a) _ even).1
 
 pub even-stays : (n : ℕ) (a : List Token) → is_even a ≡ true → stays_from (pos n) a ≡ true
-even-stays n a even = stays-up n a (stays-closes (pos 0) a (and_parts (list_all is_whole a) _ even).1)
+even-stays n a even = stays-up n a (and_parts (list_all is_whole a) _ even).1
 
 -- where fragments are fit and the builder's clause words are at depth 0, the top-level clause keywords are the builder's
 pub fit-flags : (l : ℤ) (ps : Pieces) → is_at_least_0 l ≡ true → are_fit_at l ps ≡ true → laid_from l (own ps) ≡ true

@@ -1,12 +1,12 @@
 -- What is made of balanced lists is balanced, and what is made of conditions is a condition.
-use Rattle.sql_builder.proofs.Imports.{◌≡◌, refl, sym, ◌∙◌, ℕ, ap, zero, suc, Bool, true, false, not, ◌||◌, List, [], ◌∷◌, ◌++◌, pos, ℤ, suc_ℤ, and_parts}
+use Rattle.sql_builder.proofs.Imports.{◌≡◌, refl, sym, ◌∙◌, ℕ, ap, Bool, true, false, not, ◌||◌, List, [], ◌∷◌, ◌++◌, pos, and_parts}
 use Rattle.sql_builder.proofs.Imports.{and_from, or_from, false≢true, not-true, not_from_false, list_all-append, list_any-append, list_any, list_all, Token}
-use Rattle.sql_builder.proofs.Imports.{is_empty, tokens, closed, after, closes_from, has_top_level, is_at_least_0, is_balanced, is_even, is_operand, placed}
+use Rattle.sql_builder.proofs.Imports.{is_empty, tokens, closed, after, at_end, closes_from, has_top_level, is_at_least_0, is_balanced, is_even, is_operand, placed}
 use Rattle.sql_builder.proofs.Imports.{placed_from, is_balanced-is, is_clause_word, is_joining, at_top_level, is_whole, balanced, balanced_whole}
 use Rattle.sql_builder.specs.{group_tokens, joined}
 use Rattle.sql_builder.specs.WhereTokens.{in_brackets}
 use Rattle.sql_builder.proofs.tokens.WhereTokenFacts.{is_condition, is_group, has_clause, or_word, right_bracket}
-use Rattle.sql_builder.proofs.tokens.DepthFacts.{closes_from-append, at_end-closes, after-suc, high}
+use Rattle.sql_builder.proofs.tokens.DepthFacts.{closes_from-append, at_end-append, at_end-closes, closes-stays, ends-up, stays_from, stays-both, stays-up}
 use Rattle.sql_builder.proofs.tokens.PartFacts.{none-append}
 use Rattle.sql_builder.proofs.truth.ConnectiveLemmas.{none-brackets, placed-then}
 
@@ -30,22 +30,18 @@ none-joined test a b closes h k = ap (list_any (at_top_level test)) (placed-then
     ∙ none-append test (placed a) (placed b) h k
 
 -- one deeper, and a `)` after it
-closes-suc : (l : ℤ) (ts : List Token) → closes_from l ts ≡ true → closes_from (suc_ℤ l) (ts ++ right_bracket ∷ []) ≡ true
-closes-suc l [] h = at_zero l h
-  where
-    at_zero : (l : ℤ) → closes_from l [] ≡ true → closes_from (suc_ℤ l) (right_bracket ∷ []) ≡ true
-    at_zero (ℤ.pos zero) h = refl
-    at_zero (ℤ.pos (suc n)) h = absurd (false≢true h)
-    at_zero (ℤ.negsuc n) h = absurd (false≢true h)
-closes-suc l (t ∷ ts) h =
-    let both = and_parts (is_at_least_0 (after l t)) (closes_from (after l t) ts) h in
-    rw (after-suc l t, high (after l t) both.0) (closes-suc (after l t) ts both.1)
+closes-bracket : (ts : List Token) → closes_from (pos 0) ts ≡ true → closes_from (pos 1) (ts ++ right_bracket ∷ []) ≡ true
+closes-bracket ts h =
+    let end : at_end (pos 1) ts ≡ pos 1 = ends-up 1 ts h in
+    closes-stays (pos 1) (ts ++ right_bracket ∷ [])
+    (stays-both (pos 1) ts (right_bracket ∷ []) (stays-up 1 ts h) (ap (λ l. stays_from l (right_bracket ∷ [])) end))
+    (at_end-append (pos 1) ts (right_bracket ∷ []) ∙ ap (λ l. at_end l (right_bracket ∷ [])) end)
 
 pub is_even-brackets : (ts : List Token) → is_even ts ≡ true → is_even (in_brackets ts) ≡ true
 unfolding in_brackets
 is_even-brackets ts h =
     let both = and_parts (list_all is_whole ts) (closes_from (pos 0) ts) h in
-    and_from _ _ (whole-append ts (right_bracket ∷ []) both.0 refl) (closes-suc (pos 0) ts both.1)
+    and_from _ _ (whole-append ts (right_bracket ∷ []) both.0 refl) (closes-bracket ts both.1)
 
 pub is_balanced-brackets : (ts : List Token) → is_even ts ≡ true → is_balanced (in_brackets ts) ≡ true
 unfolding in_brackets

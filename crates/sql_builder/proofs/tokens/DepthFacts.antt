@@ -1,7 +1,7 @@
 -- Depth and places of tokens in lists that are joined.
-use Rattle.sql_builder.proofs.Imports.{◌≡◌, refl, sym, ◌∙◌, ap, subst, zero, suc, Bool, true, false, cond, List, [], ◌∷◌, ◌++◌, map, ℤ, pos, negsuc, ◌&&◌, ℕ}
-use Rattle.sql_builder.proofs.Imports.{and_parts, and_from, false≢true, suc_ℤ, pred_ℤ, suc-pred, pred-suc, Token, after, at_end, closes_from, is_at_least_0}
-use Rattle.sql_builder.proofs.Imports.{is_zero, placed_from, as_placed, Nested, lowers, raises}
+use Rattle.sql_builder.proofs.Imports.{◌≡◌, refl, sym, ◌∙◌, ap, subst, zero, suc, Bool, true, false, List, [], ◌∷◌, ◌++◌, map, ℤ, pos, negsuc, ℕ}
+use Rattle.sql_builder.proofs.Imports.{and_parts, and_from, false≢true, suc_ℤ, suc-pred, pred-suc, Token, after, all_behind, at_end, change}
+use Rattle.sql_builder.proofs.Imports.{closes_from, closes_from-is, is_at_least_0, is_zero, placed_from, as_placed, Nested, lowers, raises}
 
 pub placed_from-append : (l : ℤ) (a b : List Token) → placed_from l (a ++ b) ≡ placed_from l a ++ placed_from (at_end l a) b
 placed_from-append l [] b = refl
@@ -12,7 +12,7 @@ at_end-append l [] b = refl
 at_end-append l (t ∷ a) b = at_end-append (after l t) a b
 
 -- one deeper
-step_up : (up down : Bool) (l : ℤ) → cond up (suc_ℤ (suc_ℤ l)) (cond down (pred_ℤ (suc_ℤ l)) (suc_ℤ l)) ≡ suc_ℤ (cond up (suc_ℤ l) (cond down (pred_ℤ l) l))
+step_up : (up down : Bool) (l : ℤ) → change up down (suc_ℤ l) ≡ suc_ℤ (change up down l)
 step_up true down l = refl
 step_up false true l = pred-suc l ∙ sym (suc-pred l)
 step_up false false l = refl
@@ -20,7 +20,7 @@ step_up false false l = refl
 pub after-suc : (l : ℤ) (t : Token) → after (suc_ℤ l) t ≡ suc_ℤ (after l t)
 after-suc l t = step_up (raises t) (lowers t) l
 
-pub at_end-suc : (l : ℤ) (a : List Token) → at_end (suc_ℤ l) a ≡ suc_ℤ (at_end l a)
+at_end-suc : (l : ℤ) (a : List Token) → at_end (suc_ℤ l) a ≡ suc_ℤ (at_end l a)
 at_end-suc l [] = refl
 at_end-suc l (t ∷ a) = ap (λ k. at_end k a) (after-suc l t) ∙ at_end-suc (after l t) a
 
@@ -30,8 +30,7 @@ zero_from (pos (suc n)) h = absurd (false≢true h)
 zero_from (negsuc n) h = absurd (false≢true h)
 
 pub at_end-closes : (l : ℤ) (a : List Token) → closes_from l a ≡ true → at_end l a ≡ pos 0
-at_end-closes l [] h = zero_from l h
-at_end-closes l (t ∷ a) h = at_end-closes (after l t) a (and_parts _ _ h).1
+at_end-closes l a h = zero_from (at_end l a) (and_parts _ _ (closes_from-is l a ∙ h)).1
 
 not_top_level : (l : ℤ) → is_at_least_0 l ≡ true → is_zero (suc_ℤ l) ≡ false
 not_top_level (pos n) h = refl
@@ -43,8 +42,7 @@ high (negsuc n) h = absurd (false≢true h)
 
 -- the depth is at least 0 after each token
 abbrev pub stays_from : ℤ → List Token → Bool
-stays_from l [] = true
-stays_from l (t ∷ ts) = is_at_least_0 (after l t) && stays_from (after l t) ts
+stays_from l ts = all_behind is_at_least_0 l ts
 
 pub stays-both : (l : ℤ) (a b : List Token) → stays_from l a ≡ true → stays_from (at_end l a) b ≡ true → stays_from l (a ++ b) ≡ true
 stays-both l [] b h k = k
@@ -58,30 +56,30 @@ stays-parts l (t ∷ a) b h =
     (and_from _ _ both.0 more.0, more.1)
 
 pub stays-closes : (l : ℤ) (a : List Token) → closes_from l a ≡ true → stays_from l a ≡ true
-stays-closes l [] h = refl
-stays-closes l (t ∷ a) h = let both = and_parts _ _ h in and_from _ _ both.0 (stays-closes (after l t) a both.1)
+stays-closes l a h = (and_parts _ _ (closes_from-is l a ∙ h)).0
 
 pub closes-stays : (l : ℤ) (a : List Token) → stays_from l a ≡ true → at_end l a ≡ pos 0 → closes_from l a ≡ true
-closes-stays l [] h ends = ap is_zero ends
-closes-stays l (t ∷ a) h ends = let both = and_parts _ _ h in and_from _ _ both.0 (closes-stays (after l t) a both.1 ends)
+closes-stays l a h ends = sym (closes_from-is l a) ∙ and_from _ _ h (ap is_zero ends)
 
 pub stays-high : (l : ℤ) (a : List Token) → is_at_least_0 l ≡ true → stays_from l a ≡ true → is_at_least_0 (at_end l a) ≡ true
 stays-high l [] h stays = h
 stays-high l (t ∷ a) h stays = let both = and_parts _ _ stays in stays-high (after l t) a both.0 both.1
 
--- one deeper, and any number
-stays-suc : (l : ℤ) (a : List Token) → stays_from l a ≡ true → stays_from (suc_ℤ l) a ≡ true
-stays-suc l [] h = refl
-stays-suc l (t ∷ a) h =
-    let both = and_parts (is_at_least_0 (after l t)) (stays_from (after l t) a) h in
-    rw (after-suc l t, high (after l t) both.0) (stays-suc (after l t) a both.1)
+-- one deeper
+pub behind-suc : (test other : ℤ → Bool) → ((l : ℤ) → test l ≡ true → other (suc_ℤ l) ≡ true)
+    → (l : ℤ) (a : List Token) → all_behind test l a ≡ true → all_behind other (suc_ℤ l) a ≡ true
+behind-suc test other higher l [] h = refl
+behind-suc test other higher l (t ∷ a) h =
+    let both = and_parts (test (after l t)) (all_behind test (after l t) a) h in
+    rw (after-suc l t, higher (after l t) both.0) (behind-suc test other higher (after l t) a both.1)
 
-pub stays-up : (n : ℕ) (a : List Token) → stays_from (pos 0) a ≡ true → stays_from (pos n) a ≡ true
-stays-up zero a h = h
-stays-up (suc n) a h = stays-suc (pos n) a (stays-up n a h)
+-- where all brackets close, at any depth
+pub stays-up : (n : ℕ) (a : List Token) → closes_from (pos 0) a ≡ true → stays_from (pos n) a ≡ true
+stays-up zero a h = stays-closes (pos 0) a h
+stays-up (suc n) a h = behind-suc is_at_least_0 is_at_least_0 high (pos n) a (stays-up n a h)
 
-pub ends-up : (n : ℕ) (a : List Token) → at_end (pos 0) a ≡ pos 0 → at_end (pos n) a ≡ pos n
-ends-up zero a h = h
+pub ends-up : (n : ℕ) (a : List Token) → closes_from (pos 0) a ≡ true → at_end (pos n) a ≡ pos n
+ends-up zero a h = at_end-closes (pos 0) a h
 ends-up (suc n) a h = at_end-suc (pos n) a ∙ ap suc_ℤ (ends-up n a h)
 
 -- above depth 0 no token is top-level

@@ -1,11 +1,11 @@
 -- The truth of what is joined by OR and AND, and of what is in brackets.
 use Rattle.sql_builder.proofs.Imports.{◌≡◌, refl, sym, ◌∙◌, ap, subst, Bool, true, false, List, [], ◌∷◌, ◌++◌, map, pos, ℤ, negsuc, append-nil, ◌||◌, suc_ℤ}
-use Rattle.sql_builder.proofs.Imports.{and_parts, and_from, or_parts, or_from, false≢true, cond-true, cond-false, not_from_false, list_any, Token, after}
+use Rattle.sql_builder.proofs.Imports.{and_from, or_parts, or_from, false≢true, cond-true, cond-false, not_from_false, list_any, Token}
 use Rattle.sql_builder.proofs.Imports.{at_end, closes_from, has_top_level, is_at_least_0, is_at_least_1, placed, placed_from, stays_inside, Nested, TopLevel}
 use Rattle.sql_builder.proofs.Imports.{Placed, is_joining, at_top_level, is_symbol}
 use Rattle.sql_builder.specs.WhereTokens.{in_brackets}
 use Rattle.sql_builder.proofs.tokens.WhereTokenFacts.{and_word, has_clause, left_bracket, not_word, or_word, right_bracket}
-use Rattle.sql_builder.proofs.tokens.DepthFacts.{placed_from-append, at_end-closes, placed_from-suc, after-suc, at_end-suc, at_end-append}
+use Rattle.sql_builder.proofs.tokens.DepthFacts.{placed_from-append, behind-suc, placed_from-suc, stays-closes, ends-up, at_end-append}
 use Rattle.sql_builder.proofs.tokens.PartFacts.{but_last-push, ends_with-push, parts_between-separator, parts-none, tokens-placed_from, tokens-without_owned}
 use Rattle.sql_builder.proofs.tokens.PartFacts.{without_owned-plain, none-inner, none-append, none_narrower, without_owned-append}
 use Rattle.sql_builder.proofs.truth.FormLemmas.{truth_is, is_bracketed, placed_ands}
@@ -131,7 +131,7 @@ pub placed-brackets : (ts : List Token) → closes_from (pos 0) ts ≡ true → 
     ≡ TopLevel left_bracket ∷ (map Nested ts ++ Nested right_bracket ∷ [])
 unfolding in_brackets
 placed-brackets ts h =
-    let last : at_end (pos 1) ts ≡ pos 1 = at_end-suc (pos 0) ts ∙ ap suc_ℤ (at_end-closes (pos 0) ts h) in
+    let last : at_end (pos 1) ts ≡ pos 1 = ends-up 1 ts h in
     let back : placed_from (at_end (pos 1) ts) (right_bracket ∷ []) ≡ Nested right_bracket ∷ [] = ap (λ l. placed_from l (right_bracket ∷ [])) last in
     ap (λ ms. TopLevel left_bracket ∷ ms) (placed_from-append (pos 1) ts (right_bracket ∷ [])
     ∙ ap (λ ms. ms ++ placed_from (at_end (pos 1) ts) (right_bracket ∷ [])) (placed_from-suc (pos 0) ts refl h) ∙ ap (λ ms. map Nested ts ++ ms) back)
@@ -140,7 +140,7 @@ pub at_end-brackets : (ts : List Token) → closes_from (pos 0) ts ≡ true → 
 unfolding in_brackets
 at_end-brackets ts h =
     at_end-append (pos 1) ts (right_bracket ∷ [])
-    ∙ ap (λ l. at_end l (right_bracket ∷ [])) (at_end-suc (pos 0) ts ∙ ap suc_ℤ (at_end-closes (pos 0) ts h))
+    ∙ ap (λ l. at_end l (right_bracket ∷ [])) (ends-up 1 ts h)
 
 -- so no test finds a top-level token there, if it does not pass `(`
 pub none-brackets : (test : Token → Bool) (ts : List Token) → test left_bracket ≡ false → closes_from (pos 0) ts ≡ true → has_top_level test (in_brackets ts)
@@ -152,18 +152,12 @@ one_more : (l : ℤ) → is_at_least_0 l ≡ true → is_at_least_1 (suc_ℤ l) 
 one_more (pos n) h = refl
 one_more (negsuc n) h = absurd (false≢true h)
 
--- one deeper the depth stays at least 1
-stays_inside-suc : (l : ℤ) (ts : List Token) → closes_from l ts ≡ true → stays_inside (suc_ℤ l) ts ≡ true
-stays_inside-suc l [] h = refl
-stays_inside-suc l (t ∷ ts) h =
-    let both = and_parts (is_at_least_0 (after l t)) (closes_from (after l t) ts) h in
-    rw (after-suc l t, one_more (after l t) both.0) (stays_inside-suc (after l t) ts both.1)
-
 bracketed : (ts : List Token) → closes_from (pos 0) ts ≡ true → has_clause ts ≡ false → is_bracketed (in_brackets ts) ≡ true
 unfolding in_brackets
 bracketed ts h no_clause =
     and_from _ _ (ends_with-push (is_symbol 41) (left_bracket ∷ ts) right_bracket)
-    (and_from _ _ (ap (stays_inside (pos 0)) (but_last-push (left_bracket ∷ ts) right_bracket) ∙ stays_inside-suc (pos 0) ts h)
+    (and_from _ _ (ap (stays_inside (pos 0)) (but_last-push (left_bracket ∷ ts) right_bracket)
+    ∙ behind-suc is_at_least_0 is_at_least_1 one_more (pos 0) ts (stays-closes (pos 0) ts h))
     (not_from_false _ (ap has_clause (but_last-push ts right_bracket) ∙ no_clause)))
 
 -- The truth of what is in brackets. The inside must not be a query: else the whole is an atom.

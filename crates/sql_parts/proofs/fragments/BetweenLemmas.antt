@@ -1,12 +1,10 @@
 -- The AND of each BETWEEN, looked for from the front of a list of tokens.
 use Rattle.sql_parts.proofs.Imports.{◌≡◌, refl, sym, ◌∙◌, ℕ, suc, ◌+◌, Bool, true, false, not, ◌&&◌, ◌||◌, ltb, List, [], ◌∷◌}
 use Rattle.sql_parts.proofs.Imports.{ℤ, pos, ◌+ℤ◌, ◌-ℤ◌, codes, arith, int_le, int_eq, list_all, list_any, ints, and-false}
-use Rattle.sql_parts.proofs.Imports.{and-true, list_all-map}
-use Rattle.sql_parts.proofs.Imports.{ltb-true, lt-ltb, le-ltb, same_from_decides, Decides-int_eq, Decides-ltb}
-use Rattle.sql_parts.specs.{Token, any_token, has_ands, is_and_of, is_joining, is_word, depth_at, lowers}
-use Rattle.sql_parts.specs.{places, raises, weight, is_answered}
-use Rattle.sql_parts.proofs.fragments.DepthFacts.{after, change, any_place, each_place, is_at_least_0, is_zero, depth_from, depth_from-start, depth_from-suc, depth_from-zero}
-use Rattle.sql_parts.proofs.fragments.DepthFacts.{zero-is, least-is, after-counted, zero-counted, least-counted}
+use Rattle.sql_parts.proofs.Imports.{and-true, list_all-map, ltb-true, lt-ltb, le-ltb, same_from_decides, Decides-ltb}
+use Rattle.sql_parts.specs.{Token, any_token, has_ands, is_and_of, is_joining, is_word, depth_at, lowers, places, raises, weight, is_answered}
+use Rattle.sql_parts.proofs.fragments.DepthFacts.{after, change, any_place, each_place, is_at_least_0, is_zero, depth_from, depth_from-start, depth_from-suc}
+use Rattle.sql_parts.proofs.fragments.DepthFacts.{depth_from-zero, zero-is, least-is, after-counted, zero-counted, least-counted}
 use Rattle.sql_parts.proofs.fragments.KeywordLemmas.{apart-lowers, apart-raises}
 
 abbrev pub is_and : Token → Bool
@@ -59,15 +57,20 @@ answers-suc l token ts and =
 answered-is : (up down : ℕ) (ts : List Token) → list_any (answers (pos up -ℤ pos down) ts) (places is_and ts) ≡ is_answered up down ts
 answered-is up down [] = refl
 answered-is up down (token ∷ ts) =
-    simp (any_place, answers-zero, answers-suc, any-and, zero-counted, least-counted, after-counted, answered-is (up + weight raises token) (down + weight lowers token) ts)
+    simp (
+      any_place,
+      answers-zero,
+      answers-suc,
+      any-and,
+      zero-counted,
+      least-counted,
+      after-counted,
+      answered-is (up + weight raises token) (down + weight lowers token) ts,
+    )
 
 -- behind a token that precedes both
 eq-shift : (w x y : ℤ) → int_eq (w +ℤ x) (w +ℤ y) ≡ int_eq x y
-eq-shift w x y = same_from_decides (int_eq (w +ℤ x) (w +ℤ y)) (int_eq x y) (Decides-int_eq (w +ℤ x) (w +ℤ y)) (
-  λ e. let same = (Decides-int_eq x y).0 e in omega (arith, ints, same),
-  λ same.
-      (Decides-int_eq x y).1 (omega (arith, ints, same)),
-)
+eq-shift w x y = grind (arith, ints)
 
 le-shift : (w x y : ℤ) → int_le (w +ℤ x) (w +ℤ y) ≡ int_le x y
 le-shift w x y = grind (arith, ints)

@@ -1,9 +1,8 @@
 -- The nesting depth along the tokens, and that it is that of the places.
 use Rattle.sql_parts.proofs.Imports.{◌≡◌, refl, sym, ◌∙◌, ap, ℕ, zero, suc, ◌+◌, Bool, true, false, not, cond, ◌&&◌, eqb, leb, List, [], ◌∷◌, length, map, ℤ}
 use Rattle.sql_parts.proofs.Imports.{pos, negsuc, ◌-ℤ◌, ◌+ℤ◌, codes, arith, int_le, ◌||◌, list_all, list_any, zip, int_eq, ints, take}
-use Rattle.sql_parts.proofs.Imports.{eqb-true, eq-eqb, le-leb, true≢false, and_assoc, and-false, and-true, suc_ℤ, pred_ℤ, +ℤ_one, suc-pred}
-use Rattle.sql_parts.proofs.Imports.{list_all-map, sum_by-cons, same_from_decides, Decides-int_eq, nat_tests}
-use Rattle.std.proofs.Math.IntN.{+ℤ_idl, +ℤ_idr}
+use Rattle.sql_parts.proofs.Imports.{le-leb, true≢false, and_assoc, and-false, and-true, suc_ℤ, pred_ℤ, +ℤ_idl, +ℤ_idr, +ℤ_one, suc-pred}
+use Rattle.sql_parts.proofs.Imports.{list_all-map, sum_by-cons, nat_tests}
 use Rattle.std.proofs.lemmas.Simd.{map-map}
 use Rattle.sql_parts.specs.{Token, begins_with, is_empty, Placed, any_token, as_placed, is_joining, at_top_level, is_whole, is_word, depth_at, lowers, places}
 use Rattle.sql_parts.specs.{raises, weight}
@@ -89,6 +88,7 @@ after-is l t = change-is (raises t) (lowers t) l (raises-alone t)
 abbrev pub depth_from : ℤ → List Token → ℕ → ℤ
 depth_from l ts place = l +ℤ depth_at ts place
 
+-- where the depth of places and the running one meet
 pub depth_from-suc : (l : ℤ) (t : Token) (ts : List Token) (place : ℕ) → depth_from l (t ∷ ts) (suc place) ≡ depth_from (after l t) ts place
 depth_from-suc l t ts place =
     let more = sum_by-cons (weight raises) t (take place ts) in
@@ -143,7 +143,7 @@ top_level_from-is test l [] = refl
 top_level_from-is test l (t ∷ ts) =
     simp (any_place, depth_from-zero l (t ∷ ts), depth_from-suc l t ts, top_level-place test (is_zero l) t, top_level_from-is test (after l t) ts)
 
-pub top_level-is : (ts : List Token) (place : ℕ) → fragments.is_top_level ts place ≡ is_zero (depth_from (pos 0) ts place)
+top_level-is : (ts : List Token) (place : ℕ) → fragments.is_top_level ts place ≡ is_zero (depth_from (pos 0) ts place)
 top_level-is ts place = zero-is (depth_at ts place) ∙ ap is_zero (sym (depth_from-start ts place))
 
 pub has_top_level-is : (test : Token → Bool) (ts : List Token) → fragments.has_top_level test ts ≡ has_top_level test ts
@@ -206,14 +206,10 @@ pub after-counted : (n m : ℕ) (t : Token) → after (pos n -ℤ pos m) t ≡ p
 after-counted n m t = let moved = after-is (pos n -ℤ pos m) t in omega (arith, ints, moved)
 
 pub zero-counted : (n m : ℕ) → is_zero (pos n -ℤ pos m) ≡ eqb n m
-zero-counted n m = sym (zero-is (pos n -ℤ pos m)) ∙ same_from_decides _ (eqb n m) (Decides-int_eq (pos n -ℤ pos m) (pos 0))
-    (λ e. let same = eqb-true n m e in omega (arith, ints, same), λ z. eq-eqb n m (omega (arith, ints, z)))
+zero-counted n m = sym (zero-is (pos n -ℤ pos m)) ∙ grind (arith, ints, nat_tests)
 
 pub least-counted : (n m : ℕ) → is_at_least_0 (pos n -ℤ pos m) ≡ leb m n
-least-counted n m = sym (least-is (pos n -ℤ pos m)) ∙ compared
-  where
-    compared : int_le (pos 0) (pos n -ℤ pos m) ≡ leb m n
-    compared = grind (arith, ints, nat_tests)
+least-counted n m = sym (least-is (pos n -ℤ pos m)) ∙ grind (arith, ints, nat_tests)
 
 pub top_level-read : (test : Token → Bool) (n m : ℕ) (t : Token) (ts behind : List Token) → ts ≡ t ∷ behind
     → has_top_level_from test (pos n -ℤ pos m) ts

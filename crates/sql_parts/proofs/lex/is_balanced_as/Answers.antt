@@ -1,5 +1,4 @@
-use Rattle.sql_parts.proofs.Imports.{◌≡◌, ◌∙◌, ◌+◌, ◌&&◌, Bool, arith, codes, eqb, leb, le-leb, ltb, false, rules, sym, true}
-use Rattle.sql_parts.proofs.Imports.{common_steps}
+use Rattle.sql_parts.proofs.Imports.{◌≡◌, ◌∙◌, ◌+◌, ◌&&◌, Bool, arith, codes, common_steps, eqb, leb, le-leb, ltb, false, rules, sym, true}
 use Rattle.std.proofs.lemmas.Bool.{ltb-false}
 use Rattle.sql_parts.specs.{is_whole, is_word, is_barred, lowers, raises, weight, Token, tokens}
 use Rattle.sql_parts.proofs.fragments.DepthFacts.{balances-end, balances-is, balances-read}
