@@ -228,7 +228,7 @@ impl<K: Begins> Statement<K> {
         Ok(self)
     }
 
-    // One more row, whose texts are balanced.
+    // One more row, whose texts are balanced. (`add` takes a row as a list, which is allocated.)
     pub(crate) fn with_values<V: ToText>(mut self, values: &[V]) -> Result<Statement<K>>
         requires fits { IsTrue (list_all balanced (map V.text values.now)) }
         ensures made { Gives result (adding (Values (map V.text values.now)) self) }
