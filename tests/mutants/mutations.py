@@ -14,10 +14,10 @@ from dataclasses import dataclass
 TOKEN = re.compile(
     r"""//[^\n]*|b?"(?:\\.|[^"\\])*"|b?'(?:\\.|[^'\\])'|'[a-z_]\w*|\w+|::|->|=>|==|!=|<<|>>|<=|>=|&&|\|\||\.\.=?|[-+*/%&|^]=|\S"""
 )
-IMPL = re.compile(r"impl(?:<(.*?)>)? (?:(.*) for )?([^ ].*?) \{$|(?:pub(?:\(crate\))? )?trait (\w+)")
-FN = re.compile(r"( {4})?(?:pub(?:\(crate\))? )?fn (\w+)")
-DECLARED = re.compile(r"(?m)^(?:pub(?:\(crate\))? )?(enum|struct) (\w+)[^\n]*\{\n((?:.*\n)*?)\}")
-ITEM = re.compile(r"(?m)^ {4}(?:pub(?:\(crate\))? )?(\w+)(.*),$")
+IMPL = re.compile(r"impl(?:<(.*?)>)? (?:(.*) for )?([^ ].*?) \{$|(?:pub(?:\(\w+\))? )?trait (\w+)")
+FN = re.compile(r"( {4})?(?:pub(?:\(\w+\))? )?fn (\w+)")
+DECLARED = re.compile(r"(?m)^(?:pub(?:\(\w+\))? )?(enum|struct) (\w+)[^\n]*\{\n((?:.*\n)*?)\}")
+ITEM = re.compile(r"(?m)^ {4}(?:pub(?:\(\w+\))? )?(\w+)(.*),$")
 
 
 # What is replaced in a file, and where.
@@ -41,6 +41,9 @@ class Function:
     body: str
     head: str
     is_specified: bool
+    # With its attributes, unless it is a trait's: where that begins, and the text.
+    begin: int
+    text: str
 
     @functools.cached_property
     def types(self):
@@ -96,23 +99,26 @@ def functions(folder):
     module = {path: re.sub(r"^(lib|main)::$", "", path[4:-3].replace("/", "::") + "::") for path in files}
     homes = {it[2]: module[path] for path, text in files.items() for it in DECLARED.finditer(text)}
     for path, text in files.items():
-        lines, at, owner, is_trait, head = text.split("\n"), 0, "", False, None
+        lines, at, owner, impl, head, above = text.split("\n"), 0, "", None, None, 0
         for line in lines:
-            if impl := IMPL.match(line):
-                owner, is_trait = owner_of(impl, module[path], homes), bool(impl[2])
+            if begun := IMPL.match(line):
+                owner, impl = owner_of(begun, module[path], homes), begun
             elif line == "}" and head is None:
-                owner, is_trait = "", False
+                owner, impl = "", None
             elif head is None and (fn := FN.match(line)) and bool(fn[1]) == bool(owner):
-                head = (fn[1] or "", f"{owner or module[path]}{fn[2]}", at)
+                head = (fn[1] or "", f"{owner or module[path]}{fn[2]}", at, above)
                 body = at + len(line) + 1 if line.endswith(" {") else 0
             elif head and not body and (line == f"{head[0]}{{" or re.match(rf"{head[0]}\).* \{{$", line)):
                 body = at + len(line) + 1
             if head and (line == f"{head[0]}}}" or not body and line.endswith(";")):
                 if body:
                     signature, contract, _ = re.split(r"(\n +ensures|$)", text[head[2] : body], maxsplit=1)
-                    found[head[1]] = Function(head[1], path, body, text[body : max(body, at - 1)], signature, is_trait or bool(contract))
+                    whole = "" if impl and (impl[2] or impl[4]) else text[head[3] : at + len(line) + 1]
+                    is_specified = bool(impl and impl[2] or contract)
+                    found[head[1]] = Function(head[1], path, body, text[body : max(body, at - 1)], signature, is_specified, head[3], whole)
                 head = None
             at += len(line) + 1
+            above = above if line.lstrip().startswith("#[") else at
     return found
 
 

@@ -24,6 +24,7 @@ fn push_closed(out: &mut String, delimiter: char, text: &str) -> Result<(), Allo
 }
 
 /// Appends the text between its delimiters, with each closing delimiter in it written twice.
+#[tactic(auto, using(crate::proofs::bytes::DoublingLemmas::starts_with_front))]
 pub(crate) fn push_enclosed(out: &mut String, quotes: Quotes, text: &str) -> Result<(), AllocError>
     ensures text { OnOk result
         (string_bytes out.new ≡ string_bytes out.old ++ between quotes text.now) }

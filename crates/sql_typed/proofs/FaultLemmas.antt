@@ -52,18 +52,18 @@ marks_more made c = λ i. record {
 }
 
 -- what holds of a statement of a kind holds with one more call
-pub held_more : (kind : Kind) (made now : Made) (c : CallText) (old new : ClauseTexts) (marks : Marks) → now ≡ adding c made → new ≡ with_call c old
+pub made_more : (kind : Kind) (made now : Made) (c : CallText) (old new : ClauseTexts) (marks : Marks) → now ≡ adding c made → new ≡ with_call c old
     → IsFitBy made old × (marks ≡ marks_of made) × (kind_of made.start ≡ kind) → call_fits c ≡ true → Prints kind c
     → IsFitBy now new × (noted c marks ≡ marks_of now) × (kind_of now.start ≡ kind)
-held_more kind made now c old new marks is called held fits prints = (
+made_more kind made now c old new marks is called made_before fits prints = (
   subst (λ (m : Made). IsFitBy m new) (sym is) (record {
-    is_made = called ∙ ap (with_call c) held.0.is_made ∙ sym (clauses-push made.start made.calls c);
-    start_fits = held.0.start_fits;
-    calls_fit = all-more made.calls c held.0.calls_fit fits;
-    prints_conditions = printed_more made c (subst (λ k. Prints k c) (sym held.2) prints) held.0.prints_conditions;
+    is_made = called ∙ ap (with_call c) made_before.0.is_made ∙ sym (clauses-push made.start made.calls c);
+    start_fits = made_before.0.start_fits;
+    calls_fit = all-more made.calls c made_before.0.calls_fit fits;
+    prints_conditions = printed_more made c (subst (λ k. Prints k c) (sym made_before.2) prints) made_before.0.prints_conditions;
   }),
-  ap (noted c) held.1 ∙ marks_more made c ∙ ap marks_of (sym is),
-  ap (λ (m : Made). kind_of m.start) is ∙ held.2,
+  ap (noted c) made_before.1 ∙ marks_more made c ∙ ap marks_of (sym is),
+  ap (λ (m : Made). kind_of m.start) is ∙ made_before.2,
 )
 
 -- ---- how a call fails, where it has no fault

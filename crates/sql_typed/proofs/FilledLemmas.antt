@@ -30,21 +30,21 @@ all_serve (operand ∷ operands) all =
 
 pub one_more : {Z : Type 0} {now : List (String Z)} {operand : List ℕ} (operands : List (String Z)) (text : String Z) → now ≡ operands ++ text ∷ []
     → string_bytes text ≡ operand → texts now ≡ texts operands ++ operand ∷ []
-one_more operands text is held =
-    ap texts is ∙ map-append string_bytes operands (text ∷ []) ∙ ap (λ o. texts operands ++ o ∷ []) held
+one_more operands text is in_its_hole =
+    ap texts is ∙ map-append string_bytes operands (text ∷ []) ∙ ap (λ o. texts operands ++ o ∷ []) in_its_hole
 
 pub all_more : {now : List (List ℕ)} (operands : List (List ℕ)) (operand : List ℕ) → now ≡ operands ++ in_hole operand ∷ []
     → list_all is_bare_operand operands ≡ true → ServesAsOperand operand → list_all is_bare_operand now ≡ true
 all_more operands operand is all one =
-    let held = in_hole-serves operand one in
+    let one_serves = in_hole-serves operand one in
     ap (list_all is_bare_operand) is ∙ list_all-append is_bare_operand operands (in_hole operand ∷ [])
-    ∙ and_from _ _ all (and_from _ _ (and_from _ _ held.is_operand held.no_clause_word) refl)
+    ∙ and_from _ _ all (and_from _ _ (and_from _ _ one_serves.is_operand one_serves.no_clause_word) refl)
 
-pub held_is : (text written : List ℕ) → is_unit text ≡ false → written ≡ in_brackets byte_units text → written ≡ in_hole text
-held_is text written isnt is = rw isnt is
+pub in_hole_is : (text written : List ℕ) → is_unit text ≡ false → written ≡ in_brackets byte_units text → written ≡ in_hole text
+in_hole_is text written isnt is = rw isnt is
 
-pub bracketed_held : {given : List ℕ} (text : List ℕ) → given ≡ in_brackets byte_units text → balanced text ≡ true → in_hole given ≡ in_brackets byte_units text
-bracketed_held text given_is is = ap in_hole given_is
+pub bracketed_in_hole : {given : List ℕ} (text : List ℕ) → given ≡ in_brackets byte_units text → balanced text ≡ true → in_hole given ≡ in_brackets byte_units text
+bracketed_in_hole text given_is is = ap in_hole given_is
     ∙ rw (or_right (is_dotted (tokens (unsigned (in_brackets byte_units text)))) _ (bracketed (in_brackets byte_units text) _ text refl refl ∙ is)) refl
 
 pub condition_balanced : (text : List ℕ) → is_fragment text ≡ true → balanced text ≡ true

@@ -1,7 +1,7 @@
 -- What is known of a statement that a template makes.
 use Rattle.sql_typed.proofs.Imports.{◌≡◌, ◌∙◌, ◌++◌, ap, append_assoc, codes, List, [], ◌∷◌, map, ℕ, Bool, sym, refl, true, false, eqb-true, flat_map, list_any, false≢true, not-true, or_from, or_parts, flat_map-append, map-append, cut}
 use Rattle.sql_typed.proofs.Imports.{filled, holding, holes_apart, Part, Constant, emptied, marks, outer_states, part_bytes, parts_bytes, Token, Word, Str, Name, Symbol, Open, is_semicolon, tokens, balanced_whole, filled-keeps}
-use Rattle.sql_typed.proofs.Imports.{EndsInOneSemicolon, ReadersIgnoreHeldTexts, filled_parts, held_parts, list_all, is_bare_operand, closed, filled-closed, if◌then◌else◌}
+use Rattle.sql_typed.proofs.Imports.{EndsInOneSemicolon, ReadersIgnoreOperandTexts, filled_parts, parts_in_holes, list_all, is_bare_operand, closed, filled-closed, if◌then◌else◌}
 use Rattle.sql_parts.proofs.tokens.ReaderLemmas.{readers-alike}
 use Rattle.sql_typed.proofs.FilledLemmas.{all_serve}
 
@@ -59,30 +59,30 @@ closed_filled operands template is apart all = ap closed is ∙ filled-closed op
 
 -- ---- its readers
 
-held-emptied : (held : List (List Part)) (segments : List (List ℕ)) → map emptied (held_parts held segments) ≡ held_parts (map (map emptied) held) segments
-held-emptied held [] = refl
-held-emptied [] (segment ∷ segments) = ap (λ more. Constant (codes "?" ++ segment) ∷ more) (held-emptied [] segments)
-held-emptied (parts ∷ held) (segment ∷ segments) = map-append emptied parts (Constant segment ∷ held_parts held segments)
-    ∙ ap (λ more. map emptied parts ++ Constant segment ∷ more) (held-emptied held segments)
+holes-emptied : (operands : List (List Part)) (segments : List (List ℕ)) → map emptied (parts_in_holes operands segments) ≡ parts_in_holes (map (map emptied) operands) segments
+holes-emptied operands [] = refl
+holes-emptied [] (segment ∷ segments) = ap (λ more. Constant (codes "?" ++ segment) ∷ more) (holes-emptied [] segments)
+holes-emptied (parts ∷ operands) (segment ∷ segments) = map-append emptied parts (Constant segment ∷ parts_in_holes operands segments)
+    ∙ ap (λ more. map emptied parts ++ Constant segment ∷ more) (holes-emptied operands segments)
 
-abbrev texts_held : List (List ℕ) → List (List ℕ) → List ℕ
-texts_held texts segments = flat_map (λ (part : List ℕ × List ℕ). part.0 ++ part.1) (holding texts segments)
+abbrev texts_in_holes : List (List ℕ) → List (List ℕ) → List ℕ
+texts_in_holes texts segments = flat_map (λ (part : List ℕ × List ℕ). part.0 ++ part.1) (holding texts segments)
 
-held-bytes : (held : List (List Part)) (segments : List (List ℕ)) → parts_bytes (held_parts held segments) ≡ texts_held (map parts_bytes held) segments
-held-bytes held [] = refl
-held-bytes [] (segment ∷ segments) = ap (λ more. (codes "?" ++ segment) ++ more) (held-bytes [] segments)
-held-bytes (parts ∷ held) (segment ∷ segments) = flat_map-append part_bytes parts (Constant segment ∷ held_parts held segments)
-    ∙ ap (λ more. parts_bytes parts ++ (segment ++ more)) (held-bytes held segments)
-    ∙ sym (append_assoc (parts_bytes parts) segment (texts_held (map parts_bytes held) segments))
+holes-bytes : (operands : List (List Part)) (segments : List (List ℕ)) → parts_bytes (parts_in_holes operands segments) ≡ texts_in_holes (map parts_bytes operands) segments
+holes-bytes operands [] = refl
+holes-bytes [] (segment ∷ segments) = ap (λ more. (codes "?" ++ segment) ++ more) (holes-bytes [] segments)
+holes-bytes (parts ∷ operands) (segment ∷ segments) = flat_map-append part_bytes parts (Constant segment ∷ parts_in_holes operands segments)
+    ∙ ap (λ more. parts_bytes parts ++ (segment ++ more)) (holes-bytes operands segments)
+    ∙ sym (append_assoc (parts_bytes parts) segment (texts_in_holes (map parts_bytes operands) segments))
 
-pub readers_ignore_held : (operands : List (List ℕ)) (template : List ℕ) → ReadersIgnoreHeldTexts operands template
-readers_ignore_held operands template = λ next plain state one other is same one_plain other_plain inside.
+pub readers_ignore_operands : (operands : List (List ℕ)) (template : List ℕ) → ReadersIgnoreOperandTexts operands template
+readers_ignore_operands operands template = λ next plain state one other is same one_plain other_plain inside.
     let segments = (cut template).1 in
-    let bytes = λ (held : List (List Part)). ap (λ (t : List ℕ). (cut template).0 ++ t) (held-bytes held segments) in
-    let read = λ (held : List (List Part)) (text : List ℕ). outer_states next state (marks (filled_parts held template)) text in
+    let bytes = λ (operands : List (List Part)). ap (λ (t : List ℕ). (cut template).0 ++ t) (holes-bytes operands segments) in
+    let read = λ (operands : List (List Part)) (text : List ℕ). outer_states next state (marks (filled_parts operands template)) text in
     let alike = readers-alike next plain state (filled_parts one template) (filled_parts other template)
     (ap (λ (more : List Part). Constant (cut template).0 ∷ more)
-    (held-emptied one segments ∙ ap (λ held. held_parts held segments) same ∙ sym (held-emptied other segments)))
+    (holes-emptied one segments ∙ ap (λ operands. parts_in_holes operands segments) same ∙ sym (holes-emptied other segments)))
     one_plain other_plain inside in (
       alike.0,
       ap (read one) (sym (bytes one ∙ ap (λ o. filled o template) is)) ∙ alike.1 ∙ ap (read other) (bytes other),

@@ -8,8 +8,8 @@ pub use Rattle.sql_builder.proofs.fragments.TextTestLemmas.{fit_texts_are_closed
 pub use Rattle.sql_builder.proofs.statements.RunLemmas.{clauses-push, text_of_layout}
 pub use Rattle.sql_builder.proofs.statements.StatementLawLemmas.{builders_print_statements, statements_are_closed, statements_have_truth, statements_keep_tokens, statements_nest, statements_read_back}
 pub use Rattle.sql_builder.proofs.tokens.BalancedFacts.{balanced_closed, even_text, is_balanced-append, is_even-append, is_even-brackets, is_operand-brackets, no_clause-brackets}
-pub use Rattle.sql_builder.proofs.truth.CombinedLemmas.{all_combined, any_combined, condition_fragment, condition_is_atom, fits_as, operands_balanced, combined_fragment, exists_fragment, constant_is_atom, not_exists_truth}
-pub use Rattle.sql_builder.proofs.truth.CombinedLemmas.{negation_fragment, like_fragment, like_is_atom}
+pub use Rattle.sql_builder.proofs.truth.CombinedLemmas.{all_combined, any_combined, condition_fragment, condition_is_atom, fits_as, operands_balanced, combined_fragment, exists_fragment, exists_is_atom, constant_is_atom, not_exists_truth}
+pub use Rattle.sql_builder.proofs.truth.CombinedLemmas.{negation_fragment, negation_truth, like_fragment, like_is_atom}
 pub use Rattle.sql_builder.specs.Builder.{ClauseTexts, started, with_call}
 pub use Rattle.sql_builder.specs.Calls.{CallText, FinishText, is_join, finish_raw_texts, nullary_call, Sql, StartText, kind_of, Select, clauses, Query, SubqueryAs, Subquery, Field, GroupBy, Limit, Offset, OrderAsc, OrderDesc, SelectFrom, SelectValues, QueryValues, condition_in}
 pub use Rattle.sql_builder.specs.Calls.{Union, UnionAll, Cond, DeleteFrom, InsertInto, Join, On, OnEq, Returning, ReturningId, UpdateTable, start_on, Values, finish_view}
@@ -42,7 +42,7 @@ pub use Rattle.sql_parts.specs.Tokens.{tokens, Symbol, Token, closed, Name, Str,
 pub use Rattle.sql_parts.specs.declared.error.SqlBuilderError.{SqlBuilderError}
 pub use Rattle.sql_typed.specs.Conditions.{OperandsServe, list_text, bracket_fronts, may_begin_bracketed, escaped_mask}
 pub use Rattle.sql_typed.specs.Faults.{FailsBy, changes_rows, has_early_constraint, is_constraint, is_filter, is_order, is_returning, is_union, fault_of, following_fault_of}
-pub use Rattle.sql_typed.specs.Filled.{TemplatesFollowTheirOperands, ReadersIgnoreHeldTexts, filled_parts, held_parts}
+pub use Rattle.sql_typed.specs.Filled.{TemplatesFollowTheirOperands, ReadersIgnoreOperandTexts, filled_parts, parts_in_holes}
 pub use Rattle.sql_typed.specs.Fits.{IsFitBy, Made, adding, meaning_all_rows, beginning, made_in}
 pub use Rattle.sql_typed.specs.Marks.{marks_of, noted}
 pub use Rattle.sql_typed.specs.Printed.{FailsWith, IsPrinted, PrintsBehind}

@@ -25,28 +25,28 @@ both-closed (t ∷ ts) (u ∷ us) same all =
     let first : outline t ≡ outline u = cc same in
     let more = both-closed ts us further parts.1 in ((parts.0, more.0), (closed-alike t u first parts.0, more.1))
 
-abbrev held_tokens : List (List ℕ) → List (List ℕ) → List Token
-held_tokens texts segments = part_tokens (λ (text : List ℕ). text) (holding texts segments)
+abbrev tokens_in_holes : List (List ℕ) → List (List ℕ) → List Token
+tokens_in_holes texts segments = part_tokens (λ (text : List ℕ). text) (holding texts segments)
 
-held-outline : (one other segments : List (List ℕ)) → map outline one ≡ map outline other → blank (held_tokens one segments) ≡ blank (held_tokens other segments)
-held-outline one other [] same = refl
-held-outline [] [] (segment ∷ segments) same = refl
-held-outline [] (u ∷ us) segments same = cc same
-held-outline (t ∷ ts) [] segments same = cc same
-held-outline (t ∷ ts) (u ∷ us) (segment ∷ segments) same =
+holes-outline : (one other segments : List (List ℕ)) → map outline one ≡ map outline other → blank (tokens_in_holes one segments) ≡ blank (tokens_in_holes other segments)
+holes-outline one other [] same = refl
+holes-outline [] [] (segment ∷ segments) same = refl
+holes-outline [] (u ∷ us) segments same = cc same
+holes-outline (t ∷ ts) [] segments same = cc same
+holes-outline (t ∷ ts) (u ∷ us) (segment ∷ segments) same =
     let first : outline t ≡ outline u = cc same in
     let further : map outline ts ≡ map outline us = cc same in
-    parted t ts ∙ (λ i. (first i ++ outline segment) ++ held-outline ts us segments further i) ∙ sym (parted u us)
+    parted t ts ∙ (λ i. (first i ++ outline segment) ++ holes-outline ts us segments further i) ∙ sym (parted u us)
   where
     parted : (text : List ℕ) (texts : List (List ℕ))
-        → blank (held_tokens (text ∷ texts) (segment ∷ segments)) ≡ (outline text ++ outline segment) ++ blank (held_tokens texts segments)
-    parted text texts = map-append blank_token (tokens text ++ tokens segment) (held_tokens texts segments)
-        ∙ ap (λ ts. ts ++ blank (held_tokens texts segments)) (map-append blank_token (tokens text) (tokens segment))
+        → blank (tokens_in_holes (text ∷ texts) (segment ∷ segments)) ≡ (outline text ++ outline segment) ++ blank (tokens_in_holes texts segments)
+    parted text texts = map-append blank_token (tokens text ++ tokens segment) (tokens_in_holes texts segments)
+        ∙ ap (λ ts. ts ++ blank (tokens_in_holes texts segments)) (map-append blank_token (tokens text) (tokens segment))
 
 pub templates_follow : TemplatesFollowTheirOperands
 templates_follow template one other apart same all =
     let shut = both-closed one other same all in
-    by one shut.0 ∙ ap (λ ts. outline (cut template).0 ++ ts) (held-outline one other (cut template).1 same) ∙ sym (by other shut.1)
+    by one shut.0 ∙ ap (λ ts. outline (cut template).0 ++ ts) (holes-outline one other (cut template).1 same) ∙ sym (by other shut.1)
   where
-    by : (texts : List (List ℕ)) → AllClosed texts → outline (filled texts template) ≡ outline (cut template).0 ++ blank (held_tokens texts (cut template).1)
-    by texts shut = ap blank (filled-tokens texts template apart shut) ∙ map-append blank_token (tokens (cut template).0) (held_tokens texts (cut template).1)
+    by : (texts : List (List ℕ)) → AllClosed texts → outline (filled texts template) ≡ outline (cut template).0 ++ blank (tokens_in_holes texts (cut template).1)
+    by texts shut = ap blank (filled-tokens texts template apart shut) ∙ map-append blank_token (tokens (cut template).0) (tokens_in_holes texts (cut template).1)

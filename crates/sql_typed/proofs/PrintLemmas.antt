@@ -19,8 +19,8 @@ pub borrowed : {made given : Made} {r lent : ClauseTexts} → made ≡ given →
 borrowed {made} {given} {r} {lent} is lends fit = subst (λ (m : Made). IsFitBy m lent) is (subst (IsFitBy made) (sym lends) fit)
 
 -- what holds of a statement holds of its text
-held : (P : List ℕ → Type 0) {answer : Result (List ℕ) SqlBuilderError} {text : List ℕ} → answer ≡ Ok text → IfOk answer P → P text
-held P is holds = subst (λ answer. IfOk answer P) is holds
+if_printed : (P : List ℕ → Type 0) {answer : Result (List ℕ) SqlBuilderError} {text : List ℕ} → answer ≡ Ok text → IfOk answer P → P text
+if_printed P is holds = subst (λ answer. IfOk answer P) is holds
 
 -- what is printed where there is no error
 printed_text : (finish : FinishText) (r : ClauseTexts) (text : List ℕ) → unless_error (error_at finish r) (text_at finish r) ≡ Ok text
@@ -51,19 +51,19 @@ module _ {made : Made} {r : ClauseTexts} (finish : FinishText) (fit : IsFitBy ma
   pub is_printed : (text : List ℕ) → statement made.start made.calls finish ≡ Ok text → IsPrinted made finish text
   is_printed text is = record {
     is_statement = is;
-    has_tokens = held (λ t. shape made.start made.calls finish ≡ Ok (tokens t)) is (statements_keep_tokens made.start made.calls finish (fit_texts_are_closed made.start made.calls finish texts));
-    is_closed = held (λ t. IsTrue (closed t)) is (statements_are_closed made.start made.calls finish (fit_texts_are_closed made.start made.calls finish texts));
+    has_tokens = if_printed (λ t. shape made.start made.calls finish ≡ Ok (tokens t)) is (statements_keep_tokens made.start made.calls finish (fit_texts_are_closed made.start made.calls finish texts));
+    is_closed = if_printed (λ t. IsTrue (closed t)) is (statements_are_closed made.start made.calls finish (fit_texts_are_closed made.start made.calls finish texts));
     ends_in_one = λ last.
-        held (λ t. EndsInOneSemicolon (tokens t)) is
+        if_printed (λ t. EndsInOneSemicolon (tokens t)) is
         (ends_in_semicolon made.start made.calls finish last (fit_texts_balanced made.start made.calls finish texts));
     reads_back = λ bare.
-        held (λ t. clause_list made.start made.calls finish ≡ Ok (read (tokens t))) is
+        if_printed (λ t. clause_list made.start made.calls finish ≡ Ok (read (tokens t))) is
         (statements_read_back made.start made.calls finish bare (fit_fragments made.start made.calls finish bare texts));
     has_truth = λ shows.
-        held (λ t. HasTruthOf (condition_groups made.calls) t) is (has_its_truth made.calls made.start finish shows fit.prints_conditions texts);
-    nests = held (λ t. IsTrue (is_nested finish t)) is (statements_nest made.start made.calls finish (balanced_fragments made.start made.calls finish texts));
+        if_printed (λ t. HasTruthOf (condition_groups made.calls) t) is (has_its_truth made.calls made.start finish shows fit.prints_conditions texts);
+    nests = if_printed (λ t. IsTrue (is_nested finish t)) is (statements_nest made.start made.calls finish (balanced_fragments made.start made.calls finish texts));
     nests_as_table = λ table.
-        held (λ t. IsTrue (is_fragment t)) is (subqueries_nest made.start made.calls finish table (balanced_fragments made.start made.calls finish texts));
+        if_printed (λ t. IsTrue (is_fragment t)) is (subqueries_nest made.start made.calls finish table (balanced_fragments made.start made.calls finish texts));
     no_interference = λ other same.
         sym (fragments-apart made.start other.start made.calls other.calls finish same (fit_texts_are_closed made.start made.calls finish texts))
         ∙ ap (result_map_both outline (λ error. error)) is;

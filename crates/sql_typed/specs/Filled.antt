@@ -29,19 +29,19 @@ message_text (Violation reason) = violation_text reason
 message_text (Builder error) = builder.message_text error
 
 -- the segments behind holes, with operands of these parts in them
-abbrev pub held_parts : List (List Part) → List (List ℕ) → List Part
-held_parts held [] = []
-held_parts [] (segment ∷ segments) = Constant (codes "?" ++ segment) ∷ held_parts [] segments
-held_parts (parts ∷ held) (segment ∷ segments) = parts ++ Constant segment ∷ held_parts held segments
+abbrev pub parts_in_holes : List (List Part) → List (List ℕ) → List Part
+parts_in_holes operands [] = []
+parts_in_holes [] (segment ∷ segments) = Constant (codes "?" ++ segment) ∷ parts_in_holes [] segments
+parts_in_holes (parts ∷ operands) (segment ∷ segments) = parts ++ Constant segment ∷ parts_in_holes operands segments
 
 -- the parts of a template with such operands in its holes
 abbrev pub filled_parts : List (List Part) → List ℕ → List Part
-filled_parts held template = Constant (cut template).0 ∷ held_parts held (cut template).1
+filled_parts operands template = Constant (cut template).0 ∷ parts_in_holes operands (cut template).1
 
 -- Where operands are cut into parts, and others differ from them only in texts of plain bytes whose delimiters are doubled, any reader
 -- that is inside of a literal at each of these is so in the others, and goes through the same states outside of them.
-abbrev pub ReadersIgnoreHeldTexts : List (List ℕ) → List ℕ → Type 0
-ReadersIgnoreHeldTexts operands template = (next : Reader) (plain : ℕ → Bool) (state : ℕ) (one other : List (List Part))
+abbrev pub ReadersIgnoreOperandTexts : List (List ℕ) → List ℕ → Type 0
+ReadersIgnoreOperandTexts operands template = (next : Reader) (plain : ℕ → Bool) (state : ℕ) (one other : List (List Part))
     → map parts_bytes one ≡ operands → map (map emptied) one ≡ map (map emptied) other
     → IsTrue (list_all (has_plain_text plain) (filled_parts one template)) → IsTrue (list_all (has_plain_text plain) (filled_parts other template))
     → IsInsideAtEach next plain state (filled_parts one template) → IsInsideAtEach next plain state (filled_parts other template)

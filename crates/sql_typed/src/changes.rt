@@ -50,7 +50,6 @@ impl Statement<InsertKind> {
 
     /// Adds a row, whose values are of one type, such as `Literal`. Fails only if memory runs out.
     /// `Insert::into(alloc, Fragment::of("t"))?.field(Operand::of("a"))?.values(&[Literal::Null])?.sql()?` gives `INSERT INTO t (a) VALUES (NULL);`
-    #[tactic(auto, using(sql_builder::proofs::truth::CombinedLemmas::operands_balanced))]
     pub fn values<V: OperandText>(self, values: &[V]) -> Result<Insert>
         ensures made { Gives result (adding (Values (map V.text values.now)) self) }
     {

@@ -485,7 +485,6 @@ fn opened(alloc: Global, words: &str, text: &str) -> crate::Result<String>
 /// Returns the condition `EXISTS (query)`: whether the query has a row. Fails only if memory runs
 /// out.
 /// `exists(alloc, &query)?.text` gives `EXISTS (SELECT b FROM t)`
-#[tactic(auto, using(sql_builder::proofs::truth::CombinedLemmas::exists_is_atom))]
 pub fn exists(alloc: Global, query: &Query) -> Result
     ensures text { Prints result (exists_text false (string_bytes query.now.text)) }
     ensures atom { IfOk result (λ c. IsAtom (tokens (string_bytes c.text))) }
@@ -638,7 +637,6 @@ pub fn any(alloc: Global, conditions: &[Condition]) -> Result
 
 /// Returns NOT of a condition, which is in brackets. Fails only if memory runs out.
 /// `not(alloc, &eq(alloc, Operand::of("a"), 1)?)?.text` gives `NOT (a = 1)`
-#[tactic(auto, using(sql_builder::proofs::truth::CombinedLemmas::negation_truth))]
 pub fn not(alloc: Global, condition: &Condition) -> Result
     ensures text { Prints result (negation_text (string_bytes condition.now.text)) }
     ensures truth { IfOk result (λ c. (facts : Valuation) → truth facts (tokens (string_bytes c.text))

@@ -105,9 +105,8 @@ impl Marks {
     }
 
     // Why a statement isn't printed.
-    #[inline(always)]
-    pub(crate) fn fault(&self) -> Option<Error>
-        ensures { result ≡ fault self.now }
+    pub(crate) fn fault(self) -> Option<Error>
+        ensures { result ≡ fault self }
     {
         if !self.has_filter {
             Some(Error::NoCondition)

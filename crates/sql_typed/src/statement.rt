@@ -127,7 +127,7 @@ pub(crate) struct BoxedBuilder {
     pub(crate) it: Box<SqlBuilder>,
 }
 
-// Each is dropped here: where one function alone drops it, the builder isn't copied from its box.
+// Not inlined: if one function alone drops it, the builder isn't copied from its box first.
 impl Drop for BoxedBuilder {
     #[inline(never)]
     fn drop(self) {

@@ -10,7 +10,7 @@ ghost use Rattle.sql_parts.specs.Tokens.{closed, tokens};
 ghost use Rattle.sql_builder.specs.Layout.{byte_units};
 ghost use Rattle.sql_builder.specs.Phrases.{in_brackets};
 ghost use Rattle.sql_builder.specs.Shape.{EndsInOneSemicolon};
-ghost use Rattle.sql_typed.specs.Filled.{ReadersIgnoreHeldTexts, fault, message_text, takes};
+ghost use Rattle.sql_typed.specs.Filled.{ReadersIgnoreOperandTexts, fault, message_text, takes};
 ghost use Rattle.sql_typed.specs.Results.{Prints};
 ghost use Rattle.sql_typed.specs.declared.template.TemplateError.TheVariants.{HolesTouch};
 
@@ -111,7 +111,7 @@ impl Operands {
         ensures count { IfOk result (λ operands. length operands.written.items ≡ length self.written.items + 1) }
         ensures memory { FailsOnlyByMemory result }
     {
-        let text = held(self.alloc, operand.to_text(self.alloc)?)?;
+        let text = for_hole(self.alloc, operand.to_text(self.alloc)?)?;
         self.written.push(text)?;
         Ok(self)
     }
@@ -119,7 +119,7 @@ impl Operands {
     /// Adds a condition in brackets, as an operand. Fails only if memory runs out.
     /// `Operands::new(alloc).with_condition(&is_null(alloc, Operand::of("a"))?)?.written` gives
     /// `[(a IS NULL)]`
-    #[tactic(auto, using(crate::proofs::FilledLemmas::bracketed_held, crate::proofs::FilledLemmas::condition_balanced))]
+    #[tactic(auto, using(crate::proofs::FilledLemmas::bracketed_in_hole, crate::proofs::FilledLemmas::condition_balanced))]
     pub fn with_condition(self, condition: &Condition) -> Result<Operands>
         ensures texts { IfOk result (λ operands. texts operands.written.items
             ≡ texts self.written.items ++ in_brackets byte_units (string_bytes condition.now.text) ∷ []) }
@@ -133,16 +133,16 @@ impl Operands {
 }
 
 // The text of an operand as it is written in a hole.
-fn held(alloc: Global, text: String) -> Result<String>
+fn for_hole(alloc: Global, text: String) -> Result<String>
     ensures text { IfOk result (λ s. string_bytes s ≡ in_hole (string_bytes text)) }
     ensures memory { FailsOnlyByMemory result }
 {
     if is_unit(text.as_str()) {
         return Ok(text);
     }
-    let mut held = String::with_capacity(alloc, text.len().saturating_add(2))?;
-    push_bracketed(&mut held, text.as_str())?;
-    Ok(held)
+    let mut bracketed = String::with_capacity(alloc, text.len().saturating_add(2))?;
+    push_bracketed(&mut bracketed, text.as_str())?;
+    Ok(bracketed)
 }
 
 /// A text of the program's own with a hole for each operand. A hole is a `?` with a separator or an
@@ -250,7 +250,7 @@ impl<'a> Template<'a> {
         ensures semicolon { EndsInOneSemicolon (tokens self.entry.text.now)
             → IfOk result (λ s. EndsInOneSemicolon (tokens (string_bytes s))) }
         ensures readers { IfOk result (λ s.
-            ReadersIgnoreHeldTexts (texts operands.now.written.items) self.entry.text.now) }
+            ReadersIgnoreOperandTexts (texts operands.now.written.items) self.entry.text.now) }
         ensures memory { FailsOnlyByMemory result }
     {
         let statement = filled(alloc, self.text, &operands.written)?;

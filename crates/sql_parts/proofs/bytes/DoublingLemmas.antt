@@ -96,3 +96,10 @@ starts_with_more text front more h =
     let rest = drop (length front) text in
     subst (λ (whole : List ℕ). StartsWith (whole ++ more) front) (sym (starts_with_rest text front h))
     (subst (λ (whole : List ℕ). StartsWith whole front) (sym (append_assoc front rest more)) (take-append_seam front (rest ++ more)))
+
+-- what a text begins with, it begins with the front of that
+pub starts_with_front : (text front more : List ℕ) → StartsWith text (front ++ more) → StartsWith text front
+starts_with_front text front more h =
+    let rest = drop (length (front ++ more)) text in
+    subst (λ (whole : List ℕ). StartsWith whole front) (sym (starts_with_rest text (front ++ more) h))
+    (subst (λ (whole : List ℕ). StartsWith whole front) (sym (append_assoc front more rest)) (take-append_seam front (more ++ rest)))

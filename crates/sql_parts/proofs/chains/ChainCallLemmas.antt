@@ -1,5 +1,6 @@
 -- A chain call whose body is `release(self.step_x(constants, arguments))`: the constants are variants without fields, and each argument is moved or copied.
 -- The proof of such a call is one use of these. `change` is what the call does.
+-- There is one for each list of arguments: a step of the body is decided by computing on the locals, so their number must be known.
 use Rattle.sql_parts.proofs.chains.Prelude.{lit, join, split, fsplit, use1, ◌⊛◌, ◌≡◌, ℕ, List, [], ◌∷◌, refl, sym, subst, proved_at, leaves, Val, vptr, raw, ‵}
 use Rattle.sql_parts.proofs.chains.Prelude.{tables, ◌$◌, ◌∵◌, !, qed, move, fjoin, nothing, use0, enter, addr, stop, no_more, and_then, returns, alloc_all}
 use Rattle.sql_parts.proofs.chains.Prelude.{pass_all, free_all, look_at, get, through, sets, of_opd, lands_as, plain, calls_at, triple_of, Stays, stay_dropped}

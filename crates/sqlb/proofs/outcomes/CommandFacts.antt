@@ -69,7 +69,7 @@ by_kind InsertInto r = by_table r.table (no_rows_error r.query r.rows) (by_rows 
 by_kind UpdateTable r = by_table r.table (empty_error NoSetFields r.sets) (by_empty NoSetFields (λ is. is) r.sets)
 by_kind DeleteFrom r = by_table r.table None tt
 
-by_finish : (finish : FinishText) (r : Clauses (List ℕ)) → HoldNoMemory (error_at finish r)
+pub by_finish : (finish : FinishText) (r : Clauses (List ℕ)) → HoldNoMemory (error_at finish r)
 by_finish Sql r = by_kind r.kind r
 by_finish Query r = by_query r
 by_finish QueryValues r = tt

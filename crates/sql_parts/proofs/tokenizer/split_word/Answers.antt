@@ -1,4 +1,4 @@
-use Rattle.sql_parts.proofs.Imports.{◌≡◌, ◌<◌, ◌∙◌, length, get_or, take, drop, sym, ap, arith, false, prefix_len, prefix_len_is}
+use Rattle.sql_parts.proofs.Imports.{◌≡◌, ◌<◌, ◌∙◌, below_more, length, get_or, take, drop, sym, ap, arith, false, prefix_len, prefix_len_is}
 use Rattle.sql_parts.specs.{is_word_byte}
 use Rattle.sql_parts.proofs.tokenizer.split_word.Goals as goal
 use Rattle.sql_parts.proofs.tokenizer.split_word.Goals.{After-split_at, then-loop-end-test+else-is_word_byte, else-loop-end-test}
@@ -20,3 +20,9 @@ returns-clause-word c = c.split_at.ensures.front ∙ ap (λ n. take n c.args.tex
 
 pub returns-clause-rest : goal.returns-clause-rest
 returns-clause-rest c = c.split_at.ensures.back ∙ ap (λ n. drop n c.args.text.now) (sym (word c))
+
+pub loop-end-preserved : goal.loop-end-preserved
+loop-end-preserved c = record {
+  within = omega arith;
+  words = below_more _ _ c.loop-end.invariant.words (sym c.is_word_byte.ensures ∙ c.if-is_word_byte.true);
+}
