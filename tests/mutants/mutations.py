@@ -2,7 +2,8 @@
 
 A mutant that is made changes one word: a flag, a variant, a text, a test, a comparison, a field, a number or an argument. A variant or a
 field gives way to its neighbour with the same contents, a text to the empty one. A proof by hand then names what took the word's place.
-More operators gain little: 38 kinds of them reached 491 of 1,170 mutants, and the others need words of their own."""
+These ten operators make some 190 mutants, of functions that have no other. More gain little: 38 kinds reached 491 of 1,170, and the others
+need words of their own. `rt plant` doesn't edit a body: it tries bodies that give up, and calls of the function itself."""
 
 import collections
 import functools

@@ -13,12 +13,12 @@ use std::test::Fail;
 
 type Made<T> = Result<T, SqlBuilderError>;
 
-fn held<V: OperandText>(alloc: Global, operand: V) -> Made<Operands> {
+fn single<V: OperandText>(alloc: Global, operand: V) -> Made<Operands> {
     Operands::new(alloc).with(operand)
 }
 
-fn is_held<V: OperandText>(alloc: Global, operand: V, wanted: &str) -> bool {
-    match held(alloc, operand) {
+fn is_written<V: OperandText>(alloc: Global, operand: V, wanted: &str) -> bool {
+    match single(alloc, operand) {
         Ok(operands) => match operands.written.first() {
             Some(text) => text.as_str() == wanted,
             None => false,
@@ -87,27 +87,33 @@ fn writes_operands_in_holes(rt: HostRuntime) -> Result<(), Fail> {
         style: Style::Dollar,
         number: 1,
     };
-    assert!(rt; is_held(alloc, Value("a + b"), "'a + b'"), "a text");
-    assert!(rt; is_held(alloc, Literal::Null, "NULL"), "NULL");
-    assert!(rt; is_held(alloc, 12, "12"), "a number");
-    assert!(rt; is_held(alloc, -1, "(-1)"), "a negative number");
-    assert!(rt; is_held(alloc, true, "true"), "a truth value");
-    assert!(rt; is_held(alloc, placeholder, "$1"), "a placeholder");
-    assert!(rt; is_held(alloc, Operand::of("b.price"), "b.price"), "a name");
-    assert!(rt; is_held(alloc, Operand::of("a + b"), "(a + b)"), "a sum");
+    assert!(rt; is_written(alloc, Value("a + b"), "'a + b'"), "a text");
+    assert!(rt; is_written(alloc, Literal::Null, "NULL"), "NULL");
+    assert!(rt; is_written(alloc, 12, "12"), "a number");
+    assert!(rt; is_written(alloc, -1, "(-1)"), "a negative number");
+    assert!(rt; is_written(alloc, true, "true"), "a truth value");
+    assert!(rt; is_written(alloc, placeholder, "$1"), "a placeholder");
     assert!(rt;
-        is_held(alloc, Operand::of("(a) + (b)"), "((a) + (b))"),
+        is_written(alloc, Operand::of("b.price"), "b.price"),
+        "a name"
+    );
+    assert!(rt; is_written(alloc, Operand::of("a + b"), "(a + b)"), "a sum");
+    assert!(rt;
+        is_written(alloc, Operand::of("(a) + (b)"), "((a) + (b))"),
         "a sum of brackets"
     );
     let books = Select::from(alloc, Fragment::of("books"))?.subquery()?;
-    assert!(rt; is_held(alloc, &books, "(SELECT * FROM books)"), "a query");
+    assert!(rt;
+        is_written(alloc, &books, "(SELECT * FROM books)"),
+        "a query"
+    );
     Ok(())
 }
 
 #[test]
 fn makes_conditions(rt: HostRuntime) -> Result<(), Fail> {
     let alloc = rt.alloc();
-    let word = held(alloc, Value("it's"))?;
+    let word = single(alloc, Value("it's"))?;
     assert!(rt;
         is_condition(
             alloc,
@@ -134,12 +140,12 @@ fn makes_conditions(rt: HostRuntime) -> Result<(), Fail> {
         is_condition(alloc, "a = ? OR b", &word, "a = 'it''s' OR b"),
         "OR"
     );
-    let query = held(alloc, Select::from(alloc, Fragment::of("t"))?.subquery()?)?;
+    let query = single(alloc, Select::from(alloc, Fragment::of("t"))?.subquery()?)?;
     assert!(rt;
         is_condition(alloc, "EXISTS ?", &query, "EXISTS (SELECT * FROM t)"),
         "EXISTS"
     );
-    let two = held(alloc, Operand::of("a + b"))?.with(2)?;
+    let two = single(alloc, Operand::of("a + b"))?.with(2)?;
     assert!(rt;
         is_condition(alloc, "price * ? > ?", &two, "price * (a + b) > 2"),
         "a product"
@@ -150,7 +156,7 @@ fn makes_conditions(rt: HostRuntime) -> Result<(), Fail> {
 #[test]
 fn makes_operands(rt: HostRuntime) -> Result<(), Fail> {
     let alloc = rt.alloc();
-    let date = held(alloc, Value("2026-01-31"))?;
+    let date = single(alloc, Value("2026-01-31"))?;
     assert!(rt;
         is_operand(
             alloc,
@@ -161,7 +167,7 @@ fn makes_operands(rt: HostRuntime) -> Result<(), Fail> {
         "CAST"
     );
     let case = "CASE WHEN ? THEN 1 ELSE 0 END";
-    let holds = held(alloc, true)?;
+    let holds = single(alloc, true)?;
     assert!(rt;
         is_operand(alloc, case, &holds, "CASE WHEN true THEN 1 ELSE 0 END"),
         "CASE"
@@ -181,7 +187,7 @@ fn makes_operands(rt: HostRuntime) -> Result<(), Fail> {
 #[test]
 fn makes_statements(rt: HostRuntime) -> Result<(), Fail> {
     let alloc = rt.alloc();
-    let both = held(alloc, Value("it's; --"))?.with(-1)?;
+    let both = single(alloc, Value("it's; --"))?.with(-1)?;
     assert!(rt;
         is_statement(
             alloc,
@@ -206,7 +212,7 @@ fn makes_statements(rt: HostRuntime) -> Result<(), Fail> {
 #[test]
 fn fails_by_name(rt: HostRuntime) -> Result<(), Fail> {
     let alloc = rt.alloc();
-    let one = held(alloc, 1)?;
+    let one = single(alloc, 1)?;
     let rows = [
         ("a = ?", "a = 1"),
         ("a = '?'", "HolesTouch"),
@@ -270,7 +276,7 @@ fn holds_attacks(rt: HostRuntime) -> Result<(), Fail> {
     ];
     for (attack, quoted) in rows {
         for (other, other_quoted) in rows {
-            let both = held(alloc, Value(attack))?.with(Value(other))?;
+            let both = single(alloc, Value(attack))?.with(Value(other))?;
             let made = trusted(alloc, "instr(?, title) > 0 AND a = ?", &both)?;
             let wanted = format!(in alloc; "instr({quoted}, title) > 0 AND a = {other_quoted}")?;
             assert!(rt;

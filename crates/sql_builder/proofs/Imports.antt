@@ -1,6 +1,6 @@
 -- The names of std and of the libraries below that the proofs use, passed on.
 pub use Rattle.std.proofs.Common.{Bool, Err, IfErr, IfOk, List, None, Ok, Option, Result, Some, String, [], ap, append-nil, append_assoc, arith, codes, cond}
-pub use Rattle.std.proofs.Common.{drop, false, filter_map, flat_map, get_or, if◌then◌else◌, inl, inr, le_refl, length, length-append, map, negsuc, not}
+pub use Rattle.std.proofs.Common.{drop, false, filter_map, flat_map, get_or, if◌then◌else◌, inl, inr, length, length-append, map, negsuc, not}
 pub use Rattle.std.proofs.Common.{option_map, pos, refl, rules, string_bytes, subst, suc, sym, take, true, zero, ℕ, ℤ, ◌&&◌, ◌++◌, ◌+◌, ◌<◌, ◌==◌, ◌||◌, ◌∙◌}
 pub use Rattle.std.proofs.Common.{◌∷◌, ◌≡◌, ◌≢◌, ◌≤◌, ◌⊎◌}
 pub use Rattle.std.proofs.Math.IntN.{pred-suc, pred_ℤ, suc-pred, suc_ℤ}
@@ -17,8 +17,7 @@ pub use Rattle.std.specs.List.{AllByRecursion, cons_option, last_or, list_all, l
 pub use Rattle.std.specs.Option.{option_or, option_to_list}
 pub use Rattle.std.specs.Prelude.{IfSome, IsNone, IsTrue, is_none, is_ok, is_some, nat_eq}
 pub use Rattle.std.specs.Result.{result_and, result_map_both}
-pub use Rattle.sql_parts.proofs.chains.Prelude.{Logic, MutBor, RattleType, SProp, Ura, a_type, bounded, dcons, dnil, inst_fn, plain}
-pub use Rattle.sql_parts.proofs.chains.VariantLemmas.{variant}
+pub use Rattle.sql_parts.proofs.chains.Prelude.{Logic, RattleType, Ura, a_type, bounded, dcons, dnil, inst_fn, plain}
 pub use Rattle.sql_parts.proofs.fragments.DepthFacts.{after, all_behind, at_end, change, closes_from, closes_from-is, end-is, has_top_level}
 pub use Rattle.sql_parts.proofs.fragments.DepthFacts.{has_top_level-is, inside-is, is_at_least_0, is_at_least_1, is_balanced, is_balanced-is, is_even, is_operand}
 pub use Rattle.sql_parts.proofs.fragments.DepthFacts.{is_operand-is, is_zero, placed, placed-is, placed_from, stays_inside}
@@ -63,6 +62,6 @@ pub use Rattle.sql_builder.specs.declared.steps.BinaryClause.{BinaryClause}
 pub use Prim.Native.Char.{code}
 pub use contract.Running.{Running, tables}
 pub use denote.Param.Send.{IsSend, IsSync, owning_send, part_keyless, sendable}
-pub use denote.RattleType.{Denots, owns}
+pub use denote.RattleType.{owns}
 pub use denote.Signature.{types_at}
 pub use mir.Syntax.{Args, Callee, Dict, Fn, named}

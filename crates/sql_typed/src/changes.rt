@@ -15,10 +15,10 @@ use std::alloc::Global;
 /// An INSERT into a table.
 pub type Insert = Statement<InsertKind>;
 
-/// An UPDATE of a table. It needs a condition, or `all_rows`.
+/// An UPDATE of a table. It needs a filter, or `all_rows`.
 pub type Update = Statement<UpdateKind>;
 
-/// A DELETE from a table. It needs a condition, or `all_rows`.
+/// A DELETE from a table. It needs a filter, or `all_rows`.
 pub type Delete = Statement<DeleteKind>;
 
 impl Statement<InsertKind> {

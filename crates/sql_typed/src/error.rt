@@ -18,7 +18,7 @@ pub enum Error {
     Violation(Violation),
     /// A text is no template, or a template isn't what it is to be, for this reason.
     Template(TemplateError),
-    /// An UPDATE or a DELETE has neither a condition nor `all_rows`.
+    /// An UPDATE or a DELETE has neither a filter nor `all_rows`.
     NoCondition,
     /// The constraint of a join is before the first join.
     NoJoin,

@@ -28,7 +28,6 @@ pub use Rattle.std.specs.Str.{IsAscii, IsCharBoundary, IsUtf8, IsValidUpTo, is_u
 pub use Rattle.sql_builder.specs.Builder.{ClauseTexts}
 pub use Rattle.sql_builder.specs.Filters.{since, until}
 pub use Rattle.sql_builder.specs.SqlBuilderError.TheVariants.{NoGroupBy, NoSetFields, NoTableName, NoValues}
-pub use Rattle.sql_builder.specs.declared.condition.Family.{Family}
 pub use Rattle.sqlb.specs.Output.{Output}
 pub use Rattle.sqlb.specs.declared.fault.Fault.{Fault}
 pub use Rattle.sqlb.specs.declared.fault.Fault.TheVariants.{At, Memory, Read, Write}

@@ -73,9 +73,6 @@ cut-rule style byte behind =
 abbrev pub IsBefore : Style → List ℕ → List ℕ → Type 0
 IsBefore style text rest = (front : List ℕ) × (text ≡ front ++ rest) × (cut style text ≡ (front ++ (cut style rest).0, (cut style rest).1))
 
-pub before-all : (style : Style) (text : List ℕ) → IsBefore style text text
-before-all style text = ([], refl, refl)
-
 pub before-further : (style : Style) (text rest further : List ℕ) → IsBefore style text rest → IsBefore style rest further → IsBefore style text further
 before-further style text rest further before more = (
   before.0 ++ more.0,

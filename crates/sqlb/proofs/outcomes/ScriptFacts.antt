@@ -1,7 +1,5 @@
 -- What a builder was given stands for the open statement.
-use Rattle.sqlb.proofs.Imports.{◌≡◌, [], ◌∷◌, ◌++◌, Option, None, Some, Ok, Err, refl, ap, sym, is_some, ok_or, option_map, Family, WrongArguments}
-use Rattle.sql_builder.specs.Calls.{Cond}
-use Rattle.sql_builder.specs.Condition.{ConditionText}
+use Rattle.sqlb.proofs.Imports.{◌≡◌, [], ◌∷◌, ◌++◌, Option, None, Some, Ok, Err, refl, ap, sym, is_some, option_map}
 use Rattle.sql_builder.proofs.statements.RunLemmas.{clauses-push, clauses_start}
 use Rattle.sql_builder.proofs.statements.StatementLawLemmas.{builders_print_statements}
 use Rattle.sqlb.specs.{CommandResult, Starts, Calls, Finishes, OpenStatement, answer, finish_answer, given, given_after, given_answer}
@@ -34,9 +32,3 @@ given-after (Some inside) (Ok (Calls call)) = ap (λ r. Some r) (clauses-push in
 pub given-is_some : (o : Option OpenStatement) → is_some (option_map given o) ≡ is_some o
 given-is_some None = refl
 given-is_some (Some inside) = refl
-
--- the arguments of a condition that fit make its call
-pub makes_condition : (family : Family) (o : Option ConditionText) (condition : ConditionText) → ok_or o WrongArguments ≡ Ok condition
-    → ok_or (option_map (λ made. Calls (Cond family made)) o) WrongArguments ≡ Ok (Calls (Cond family condition))
-makes_condition family None condition e = cc
-makes_condition family (Some made) condition e = cc
