@@ -68,12 +68,20 @@ fn are_found<N: BindNames + Drop>(alloc: Global, names: N, equation: &str) -> bo
     is_found && is_made(appended(alloc, &names), equation)
 }
 
+fn push_pair(
+    alloc: Global,
+    pairs: &mut Vec<(&str, Box<dyn SqlArg>)>,
+    value: i64,
+) -> Result<(), SqlBuilderError> {
+    Ok(pairs.push(("x", Box::new(alloc, value)?))?)
+}
+
 #[test]
 fn binds_names_of_pairs(rt: HostRuntime) -> Result<(), Fail> {
     let alloc = rt.alloc();
     let mut pairs: Vec<(&str, Box<dyn SqlArg>)> = Vec::new(alloc);
-    pairs.push(("x", Box::new(alloc, 1)?))?;
-    pairs.push(("x", Box::new(alloc, 2)?))?;
+    push_pair(alloc, &mut pairs, 1)?;
+    push_pair(alloc, &mut pairs, 2)?;
     assert!(rt; are_bound(alloc, pairs.as_slice(), "2NULL"), "a slice");
     assert!(rt; are_found(alloc, pairs.as_slice(), "x = 2"), "a slice");
     assert!(rt; are_bound(alloc, &pairs, "2NULL"), "a reference");

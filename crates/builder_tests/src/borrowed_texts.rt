@@ -1,5 +1,6 @@
 //! The calls that take borrowed texts, or none, each once.
 
+use crate::every_call::{Made, is_made};
 use sql_builder::calls::{
     BinaryClause, BorrowedCondition, Family, NullaryClause, TextList, UnaryClause, VariadicClause,
     add_row, make_binary, make_condition, make_nullary, make_order, make_unary, make_variadic,
@@ -30,22 +31,32 @@ fn makes_calls_of_borrowed_texts(rt: HostRuntime) -> Result<(), Fail> {
     let mut builder = SqlBuilder::select_from(rt.alloc(), "t")?;
     add_fields(&mut builder)?;
     add_condition_and_order(&mut builder)?;
-    assert_eq!(rt;
-        builder.sql()?.as_str(),
-        "SELECT DISTINCT a, COUNT(b) AS n, c, d FROM t WHERE a IN (1, 2) ORDER BY a DESC;"
+    assert!(rt;
+        is_made(
+            builder.sql(),
+            "SELECT DISTINCT a, COUNT(b) AS n, c, d FROM t WHERE a IN (1, 2) ORDER BY a DESC;"
+        )
     );
     Ok(())
 }
 
+fn push_texts(alloc: Global, row: &mut TextList) -> Result<(), SqlBuilderError> {
+    row.push_text(alloc, &1)?;
+    row.push_text(alloc, &"b")
+}
+
+fn insert_row(alloc: Global) -> Made {
+    let mut row = TextList::new(alloc);
+    push_texts(alloc, &mut row)?;
+    let mut builder = SqlBuilder::insert_into(alloc, "t")?;
+    add_row(builder.field("a")?, &row)?;
+    builder.sql()
+}
+
 #[test]
 fn makes_a_row_of_texts(rt: HostRuntime) -> Result<(), Fail> {
-    let mut row = TextList::new(rt.alloc());
-    row.push_text(rt.alloc(), &1)?;
-    row.push_text(rt.alloc(), &"b")?;
-    let mut builder = SqlBuilder::insert_into(rt.alloc(), "t")?;
-    builder.field("a")?;
-    add_row(&mut builder, &row)?;
-    assert_eq!(rt; builder.sql()?.as_str(), "INSERT INTO t (a) VALUES (1, b);");
+    let made = insert_row(rt.alloc());
+    assert!(rt; is_made(made, "INSERT INTO t (a) VALUES (1, b);"));
     Ok(())
 }
 
@@ -76,9 +87,9 @@ fn inside_of_quotes(alloc: Global) -> Result<String, SqlBuilderError> {
 #[test]
 fn quotes_borrowed_texts(rt: HostRuntime) -> Result<(), Fail> {
     let alloc = rt.alloc();
-    assert_eq!(rt; equation(alloc)?.as_str(), "a = 'it''s'");
-    assert_eq!(rt; escaped(alloc, "it's")?.as_str(), "it''s");
-    assert_eq!(rt; inside_of_quotes(alloc)?.as_str(), "a = 'it''s");
+    assert!(rt; is_made(equation(alloc), "a = 'it''s'"));
+    assert!(rt; escaped(alloc, "it's")?.as_str() == "it''s");
+    assert!(rt; is_made(inside_of_quotes(alloc), "a = 'it''s"));
     Ok(())
 }
 

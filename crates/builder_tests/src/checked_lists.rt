@@ -142,7 +142,13 @@ fn at_most(alloc: Global, value: &str) -> Result<Call, AllocError> {
     Ok(Call::Cond(Family::And, condition))
 }
 
-/// A SELECT from `t` of `a` where `b` is at most the value.
+/// The field `a`, and that `b` is at most the value.
+fn of_a_field(alloc: Global, value: &str) -> Result<[Call; 2], AllocError> {
+    let field = Call::Field(String::from_str(alloc, "a")?);
+    Ok([field, at_most(alloc, value)?])
+}
+
+/// What comes of a SELECT of them.
 fn run_list(
     alloc: Global,
     table: &str,
@@ -150,9 +156,7 @@ fn run_list(
     finish: &Finish,
 ) -> Result<Result<String, CheckedError>, AllocError> {
     let start = Start::SelectFrom(String::from_str(alloc, table)?);
-    let field = Call::Field(String::from_str(alloc, "a")?);
-    let calls = [field, at_most(alloc, value)?];
-    Ok(run_checked(alloc, &start, &calls, finish))
+    Ok(run_checked(alloc, &start, &of_a_field(alloc, value)?, finish))
 }
 
 /// Whether the error is that this text doesn't fit, as its message says.

@@ -401,18 +401,18 @@ fn changes(rt: HostRuntime) -> Result<(), Fail> {
     Ok(())
 }
 
+fn attacked(alloc: Global) -> Result<String, Error> {
+    Update::table(alloc, Fragment::of("t"))?
+        .set(a(), Value(ATTACK))?
+        .and_where(eq(alloc, a(), Value(ATTACK))?)?
+        .sql()
+}
+
 #[test]
 fn attacks_stay_values(rt: HostRuntime) -> Result<(), Fail> {
     let alloc = rt.alloc();
-    let update = Update::table(alloc, Fragment::of("t"))?
-        .set(a(), Value(ATTACK))?
-        .and_where(eq(alloc, a(), Value(ATTACK))?)?;
-    let mut wanted = String::from_str(alloc, "UPDATE t SET a = ")?;
-    wanted.push_str(QUOTED)?;
-    wanted.push_str(" WHERE a = ")?;
-    wanted.push_str(QUOTED)?;
-    wanted.push_str(";")?;
-    assert_eq!(rt; update.sql()?.as_str(), wanted.as_str());
+    let wanted = format!(in alloc; "UPDATE t SET a = {QUOTED} WHERE a = {QUOTED};")?;
+    assert!(rt; is_made(attacked(alloc), wanted.as_str()));
     Ok(())
 }
 

@@ -17,25 +17,31 @@ fn inserted(alloc: Global) -> Result<String, SqlBuilderError> {
         .sql()
 }
 
-#[test]
-fn takes_values_and_literals(rt: HostRuntime) -> Result<(), Fail> {
-    let alloc = rt.alloc();
-    let select = SqlBuilder::select_from(alloc, "t")?
+fn selected(alloc: Global) -> Result<String, SqlBuilderError> {
+    SqlBuilder::select_from(alloc, "t")?
         .and_where_eq("a", Value("it's"))?
         .and_where_in("b", &[Value("c"), Value("'d")])?
         .and_where_gt("e", Literal::Whole(5))?
-        .sql();
+        .sql()
+}
+
+fn updated(alloc: Global) -> Result<String, SqlBuilderError> {
+    SqlBuilder::update_table(alloc, "t")?
+        .set("a", Value("it's"))?
+        .set("b", Value(None::<i32>))?
+        .sql()
+}
+
+#[test]
+fn takes_values_and_literals(rt: HostRuntime) -> Result<(), Fail> {
+    let alloc = rt.alloc();
     assert!(rt;
         is_made(
-            select,
+            selected(alloc),
             "SELECT * FROM t WHERE (a = 'it''s') AND (b IN ('c', '''d')) AND (e > 5);"
         )
     );
-    let update = SqlBuilder::update_table(alloc, "t")?
-        .set("a", Value("it's"))?
-        .set("b", Value(None::<i32>))?
-        .sql();
-    assert!(rt; is_made(update, "UPDATE t SET a = 'it''s', b = NULL;"));
+    assert!(rt; is_made(updated(alloc), "UPDATE t SET a = 'it''s', b = NULL;"));
     assert!(rt;
         is_made(
             inserted(alloc),
@@ -69,9 +75,11 @@ fn begins_with(alloc: Global, text: &str, escape: LikeEscape) -> Result<String, 
 fn escapes_wildcards(rt: HostRuntime) -> Result<(), Fail> {
     let escape = LikeEscape::Exclamation;
     assert_eq!(rt; escape.character(), '!');
-    assert_eq!(rt;
-        begins_with(rt.alloc(), "50% of_a!", escape)?.as_str(),
-        "title LIKE '50!% of!_a!!%' ESCAPE '!'"
+    assert!(rt;
+        is_made(
+            begins_with(rt.alloc(), "50% of_a!", escape),
+            "title LIKE '50!% of!_a!!%' ESCAPE '!'"
+        )
     );
     Ok(())
 }
