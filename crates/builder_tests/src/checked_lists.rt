@@ -148,7 +148,7 @@ fn of_a_field(alloc: Global, value: &str) -> Result<[Call; 2], AllocError> {
     Ok([field, at_most(alloc, value)?])
 }
 
-/// What comes of a SELECT of them.
+/// What comes of a SELECT from a table by the calls of `of_a_field`.
 fn run_list(
     alloc: Global,
     table: &str,
