@@ -1,5 +1,5 @@
 //! Values by their order in a statement's text, for databases whose placeholders have no numbers.
-ghost use Rattle.std.specs.Prelude.{◌≡◌, IfErr, IfOk, IfSome, MatchResult, None, Some, length, map, string_bytes};
+ghost use Rattle.std.specs.Prelude.{◌≡◌, ◌++◌, IfErr, IfOk, IfSome, MatchResult, None, OnOk, Some, length, map, string_bytes};
 ghost use Rattle.sql_parts.specs.{IsMark, error_of, first_error, marks, positional_text};
 ghost use Rattle.sql_parts.specs.Positional as positional;
 ghost use Rattle.sql_parts.specs.Positional.{IsMemory, message_text, value_of};
@@ -115,6 +115,30 @@ fn count_marks<V>(style: Style, values: &[V], sql: &str) -> Result<usize, Positi
     Ok(count)
 }
 
+impl<'a, V> Positional<'a, V> {
+    // Appends the text with a `?` in place of each mark, and the values of these.
+    fn push_marked(
+        &mut self,
+        style: Style,
+        values: &'a [V],
+        sql: &str,
+    ) -> Result<(), PositionalError>
+        ensures text { OnOk result (string_bytes self.new.text ≡ string_bytes self.old.text ++ positional_text style sql.now) }
+        ensures values { OnOk result (map (λ value. Some value.now) self.new.values.items
+            ≡ map (λ value. Some value.now) self.old.values.items ++ map (value_of values.now) (marks style sql.now)) }
+        ensures memory { first_error values.now (marks style sql.now) ≡ None → IfErr result IsMemory }
+    {
+        let mut rest = sql;
+        while let Some(found) = first_mark(style, rest) {
+            self.text.push_str(found.segment)?;
+            self.text.push('?')?;
+            self.values.push(value_of(values, found.mark)?)?;
+            rest = found.rest;
+        }
+        Ok(self.text.push_str(rest)?)
+    }
+}
+
 impl<V: Drop> Parameters<V> {
     /// Returns the text with a `?` in place of each numbered placeholder, and the values in the
     /// order of these. MySQL, MariaDB and ODBC take them this way. The calls numbered the
@@ -143,19 +167,11 @@ impl<V: Drop> Parameters<V> {
     {
         let values = self.values.as_slice();
         let count = count_marks(self.style, values, sql)?;
-        let mut text = String::with_capacity(alloc, sql.len())?;
-        let mut ordered = Vec::with_capacity(alloc, count)?;
-        let mut rest = sql;
-        while let Some(found) = first_mark(self.style, rest) {
-            text.push_str(found.segment)?;
-            text.push('?')?;
-            ordered.push(value_of(values, found.mark)?)?;
-            rest = found.rest;
-        }
-        text.push_str(rest)?;
-        Ok(Positional {
-            text,
-            values: ordered,
-        })
+        let mut positional = Positional {
+            text: String::with_capacity(alloc, sql.len())?,
+            values: Vec::with_capacity(alloc, count)?,
+        };
+        positional.push_marked(self.style, values, sql)?;
+        Ok(positional)
     }
 }
